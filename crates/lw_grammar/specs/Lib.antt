@@ -1,0 +1,9 @@
+pub mod Named
+pub mod Leaves
+pub mod Nodes
+pub mod Subtypes
+pub mod NameRules
+pub mod Reached
+pub mod Kept
+pub mod Kinds
+pub mod Size

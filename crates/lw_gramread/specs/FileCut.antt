@@ -1,0 +1,17 @@
+-- The cut of a grammar file into its tokens: at each place what is passed over, or the token that stands there.
+use Rattle.std.specs.Prelude.{ℕ, ◌≡◌, ◌+◌, ◌<◌, List, [], ◌∷◌, ◌++◌, drop, length}
+use Rattle.lw_gramread.specs.declared.token.FileKind.{FileKind}
+use Rattle.lw_gramread.specs.declared.token.FileToken.{FileToken}
+use Rattle.lw_gramread.specs.FileTokens.{IsHidden, IsFileToken}
+
+module _ (text : List ℕ) where
+  -- the text up to a place is cut into these tokens
+  pub data IsFileCutTo : ℕ → List FileToken → Type 0 where
+    start : IsFileCutTo 0 []
+    passed : {at n : ℕ} {tokens : List FileToken} → IsFileCutTo at tokens → at < length text → IsHidden (drop at text) n → IsFileCutTo (at + n) tokens
+    then : {at n : ℕ} {tokens : List FileToken} {kind : FileKind} → IsFileCutTo at tokens → at < length text → IsFileToken (drop at text) kind n →
+        IsFileCutTo (at + n) (tokens ++ record { kind = kind; span = record { start = at; end = at + n } } ∷ [])
+
+  -- the whole text is cut into these tokens; every text has one cut
+  abbrev pub IsFileCut : List FileToken → Type 0
+  IsFileCut tokens = IsFileCutTo (length text) tokens

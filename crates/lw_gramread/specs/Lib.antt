@@ -1,0 +1,4 @@
+pub mod Symbols
+pub mod FileTokens
+pub mod FileCut
+pub mod Values

@@ -1,0 +1,11 @@
+//! Reading grammar files: the tokens of a file, and what they say.
+//!
+//! A file is its list of bytes, and its tokens are cut from it as `specs/FileTokens.antt` and
+//! `specs/FileCut.antt` say, by the form that each token has to have. White space and comments are
+//! passed over. Where no token stands, a token of one character does that can follow nowhere, so that
+//! every text has one cut, and a reader refuses at a token.
+#![tactic(auto)]
+
+mod token;
+
+pub use token::{FileKind, FileToken, Symbol};

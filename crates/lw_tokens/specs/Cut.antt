@@ -1,0 +1,35 @@
+-- The cut of a text into tokens: at each place the next token, until the text ends.
+use Rattle.std.specs.Prelude.{ℕ, ◌≡◌, ◌+◌, ◌<◌, List, [], ◌∷◌, ◌++◌, Some, None, Bool, not, filter, map, drop, length}
+use Rattle.lw_base.specs.declared.token.Token.{Token}
+use Rattle.lw_tokens.specs.Lexicon.{Lexicon}
+use Rattle.lw_tokens.specs.NextToken.{Next, IsNext}
+
+-- the token that stands at a place
+abbrev pub token_at : ℕ → Next → Token
+token_at at next = record { kind = record { 0 = next.kind }; span = record { start = at; end = at + next.bytes }; hidden = next.hidden }
+
+module _ (lexicon : Lexicon) (text : List ℕ) where
+  -- the text up to a place is cut into these tokens
+  pub data IsCutTo : ℕ → List Token → Type 0 where
+    start : IsCutTo 0 []
+    then : {at : ℕ} {tokens : List Token} {next : Next} → IsCutTo at tokens → at < length text → IsNext lexicon (drop at text) (Some next) →
+        IsCutTo (at + next.bytes) (tokens ++ token_at at next ∷ [])
+
+  -- the text is cut into these tokens
+  abbrev pub IsCut : List Token → Type 0
+  IsCut tokens = IsCutTo (length text) tokens
+
+  -- no token stands at this place, and the text before it is cut into tokens
+  pub record HasNoTokenAt (at : ℕ) : Type 0 where
+    pub before : List Token
+    pub cut : IsCutTo at before
+    pub inside : at < length text
+    pub none : IsNext lexicon (drop at text) None
+
+-- the tokens that the parser reads
+abbrev pub visible : List Token → List Token
+visible tokens = filter (λ t. not t.hidden) tokens
+
+-- the kinds of these tokens, in order
+abbrev pub kinds : List Token → List ℕ
+kinds tokens = map (λ t. t.kind.0) tokens

@@ -1,0 +1,5 @@
+pub mod Patterns
+pub mod Matching
+pub mod Lexicon
+pub mod NextToken
+pub mod Cut
