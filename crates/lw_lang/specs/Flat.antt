@@ -1,0 +1,23 @@
+-- A grammar of the shape that is built, made ready: its kinds, its patterns and its one row.
+use Rattle.std.specs.Prelude.{ℕ, ◌≡◌, List, map}
+use Rattle.std.specs.List.{AllZip}
+use Rattle.lw_grammar.specs.declared.grammar.Grammar.{Grammar}
+use Rattle.lw_grammar.specs.declared.terminal.Terminal.{Terminal}
+use Rattle.lw_grammar.specs.Kinds.{Kinds, AreKinds}
+use Rattle.lw_tokens.specs.Patterns.{TerminalPattern}
+use Rattle.lw_lang.specs.Rows.{IsOnlyRow}
+use Rattle.lw_lang.specs.declared.flat.Flat.{Flat}
+use Rattle.lw_lang.specs.declared.flat.TerminalSource.{TerminalSource}
+
+-- what a terminal's matcher is made from
+pub record IsSource (g : Grammar) (terminal : Terminal) (source : TerminalSource) : Type 0 where
+  pub name : source.name ≡ terminal.name
+  pub pattern : TerminalPattern g terminal source.pattern
+  pub hidden : source.hidden ≡ terminal.is_hidden
+
+pub record IsFlat (g : Grammar) (flat : Flat) : Type 0 where
+  pub of : Kinds
+  pub kinds : AreKinds g of
+  pub keywords : of.keywords ≡ flat.keywords.items
+  pub terminals : AllZip (IsSource g) of.terminals flat.terminals.items
+  pub row : IsOnlyRow g of (map (λ kind. kind.0) flat.row.items)

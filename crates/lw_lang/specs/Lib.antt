@@ -1,0 +1,5 @@
+pub mod Small
+pub mod Shape
+pub mod Obstacles
+pub mod Rows
+pub mod Flat
