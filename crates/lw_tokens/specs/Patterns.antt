@@ -1,8 +1,7 @@
 -- The regular expression of a terminal, as text: the least relation with these cases.
 -- Held against the Langium documentation, "Grammar language: terminal rules", with its EBNF forms.
-use Rattle.std.specs.Prelude.{ℕ, ◌≡◌, ◌+◌, ◌≤◌, ◌==◌, List, [], ◌∷◌, ◌++◌, map, codes, if◌then◌else◌, encode_utf8_all, Option, Some, None}
-use Rattle.std.specs.Char.{digit_char, to_ascii_uppercase}
-use Rattle.std.specs.Int.Digits.{digits_of}
+use Rattle.std.specs.Prelude.{ℕ, ◌≡◌, ◌+◌, ◌≤◌, ◌==◌, List, [], ◌∷◌, ◌++◌, true, codes, if◌then◌else◌, encode_utf8_all, Option, Some, None}
+use Rattle.std.specs.Fmt.{digits}
 use Rattle.std.specs.Str.{chars}
 use Rattle.regex.specs.Patterns.{escaped_text}
 use Rattle.lw_base.specs.declared.token.Span.{Span}
@@ -28,11 +27,8 @@ abbrev pub escaped : List ℕ → List ℕ
 escaped text = encode_utf8_all (escaped_text (chars text))
 
 -- a character by its number in upper-case hexadecimal without leading zeros
-abbrev pub hexadecimal : ℕ → List ℕ
-hexadecimal c = if c == 0 then codes "0" else map (λ d. to_ascii_uppercase (digit_char d)) (digits_of 16 c)
-
 abbrev pub by_number : ℕ → List ℕ
-by_number c = codes "\\x{" ++ hexadecimal c ++ codes "}"
+by_number c = codes "\\x{" ++ digits 16 true c ++ codes "}"
 
 -- the one regular expression, the parts of a row and the alternatives that an element is, where it is that
 abbrev pub as_pattern : TermElement-F TermElement → Option (List ℕ)

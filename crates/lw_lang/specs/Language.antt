@@ -1,0 +1,7 @@
+-- What callers see of a language: its grammar, and how messages name its kinds.
+use Rattle.std.specs.Prelude.{ℕ, List}
+use Rattle.lw_grammar.specs.declared.grammar.Grammar.{Grammar}
+
+pub record LanguageView : Type 0 where
+  pub grammar : Grammar
+  pub texts : List (List ℕ)
