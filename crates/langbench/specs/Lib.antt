@@ -1,4 +1,5 @@
 pub mod Words
-pub mod Notes
 pub mod Checked
+pub mod Notes
+pub mod Reports
 pub mod Run

@@ -24,11 +24,16 @@ pub record HoldsText (files : List (List ℕ × List ℕ)) (path text : List ℕ
   pub short : length text ≤ longest_file
   pub utf8 : IsUtf8 text
 
+-- the text of a file at this path says this grammar and no other
+pub record Says (path text : List ℕ) (g : Grammar) : Type 0 where
+  pub says : SaysSmall path text g
+  pub only : (other : Grammar) → SaysSmall path text other → other ≡ g
+
 -- the path holds a file that says this grammar
 pub record HoldsGrammar (files : List (List ℕ × List ℕ)) (path : List ℕ) (g : Grammar) : Type 0 where
   pub text : List ℕ
   pub holds : HoldsText files path text
-  pub says : SaysSmall path text g
+  pub says : Says path text g
 
 -- a grammar with none of the listed conditions
 abbrev pub IsClear : Grammar → Type 0
@@ -37,7 +42,7 @@ IsClear g = (¬ HasObstacle g) × (¬ MatchesEmpty g)
 -- why a text is not built: no grammar is said, or one with a condition, which is told at the file's start
 pub data IsNotBuilt (path text : List ℕ) (s : Span) : Type 0 where
   says_nothing : ((g : Grammar) → ¬ SaysSmall path text g) → IsNotBuilt path text s
-  has_condition : (g : Grammar) → SaysSmall path text g → HasObstacle g ⊎ MatchesEmpty g → s ≡ record { start = 0; end = 0 } → IsNotBuilt path text s
+  has_condition : (g : Grammar) → Says path text g → HasObstacle g ⊎ MatchesEmpty g → s ≡ record { start = 0; end = 0 } → IsNotBuilt path text s
 
 -- the terminal of this number, which is counted behind the rules, has this pattern
 abbrev pub IsNumberedPattern : Grammar → ℕ → List ℕ → Type 0

@@ -1,7 +1,28 @@
--- What callers see of a language: its grammar, and how messages name its kinds.
-use Rattle.std.specs.Prelude.{ℕ, List}
+-- What callers see of a language: its grammar, and the texts by which messages name its kinds.
+use Rattle.std.specs.Prelude.{ℕ, ◌<◌, ◌≤◌, List, length}
 use Rattle.lw_grammar.specs.declared.grammar.Grammar.{Grammar}
+use Rattle.lw_reading.specs.declared.issue.Issue.{Issue}
+use Rattle.lw_reading.specs.declared.issue.Issue.TheVariants.{Lexical, Syntax, End, TooLarge}
+use Rattle.lw_reading.specs.declared.issue.Parsed.{Parsed}
+use Rattle.lw_reading.specs.declared.issue.Parsed.TheVariants.{Whole, Broken}
 
 pub record LanguageView : Type 0 where
   pub grammar : Grammar
   pub texts : List (List ℕ)
+
+-- the kind that a fault names is one of these
+abbrev pub IsNamed : List (List ℕ) → Issue → Type 0
+IsNamed texts (Syntax s kind) = kind.0 < length texts
+IsNamed texts _ = Unit {0}
+
+-- the place of a fault is in the text or at its end
+abbrev pub IsWithin : List ℕ → Issue → Type 0
+IsWithin text (Lexical s) = s.start ≤ length text
+IsWithin text (Syntax s kind) = s.start ≤ length text
+IsWithin text (End at) = at ≤ length text
+IsWithin text TooLarge = Unit {0}
+
+-- a fact of the fault, where there is one
+abbrev pub IfBroken : Parsed → (Issue → Type 0) → Type 0
+IfBroken (Broken issue) P = P issue
+IfBroken Whole P = Unit {0}

@@ -1,0 +1,73 @@
+// A language: what a grammar was made into, and reading by it.
+ghost use Rattle.std.specs.Prelude.{◌≡◌, ◌≤◌, ◌<◌, IfOk, Some, length, slice_get};
+ghost use Rattle.lw_reading.specs.Reading.{Reads};
+ghost use Rattle.lw_lang.specs.KindTexts.{AreKindTexts};
+ghost use Rattle.lw_lang.specs.Language.{IfBroken, IsNamed, IsWithin};
+
+use crate::recogniser::recognise;
+use lw_base::{KindId, Name, NoMemory};
+use lw_grammar::Grammar;
+use lw_lexer::{LexFault, lex};
+use lw_reading::{Issue, Parsed};
+use lw_terminals::TokenSet;
+use std::alloc::Global;
+use std::marker::Model;
+
+/// The longest document that is read, in bytes.
+pub const LONGEST_DOCUMENT: usize = 2_097_152;
+
+/// A grammar made ready to read texts. It is seen as its grammar, and the texts by which messages name
+/// its kinds.
+#[derive(Drop)]
+pub struct Language {
+    grammar: Grammar,
+    tokens: TokenSet,
+    row: Vec<KindId>,
+}
+
+impl Model for Language {
+    ghost use Rattle.lw_lang.specs.Language.{LanguageView};
+
+    ghost Value = { LanguageView };
+
+    ghost use Rattle.lw_lang.specs.Ready.{view, IsReady};
+
+    ghost view = { view };
+
+    ghost invariant = { IsReady };
+}
+
+impl Language {
+    /// The grammar.
+    pub fn grammar(&self) -> &Grammar
+        ensures { result.now ≡ self.now.grammar }
+    {
+        &self.grammar
+    }
+
+    /// How messages name a kind: a keyword in single quotes, a terminal by its name.
+    pub fn kind_text(&self, kind: KindId) -> &Name
+        requires { kind.0 < length self.now.texts }
+        ensures text { slice_get self.now.texts kind.0 ≡ Some result.now }
+        ensures all { AreKindTexts self.now.grammar self.now.texts }
+    {
+        self.tokens.kind_text(kind)
+    }
+
+    /// What the text reads as. It takes time linear in the length of the text.
+    pub fn read(&self, alloc: Global, text: &Name) -> Result<Parsed, NoMemory>
+        ensures reads { IfOk result (Reads self.now.grammar text.now) }
+        ensures named { IfOk result (λ parsed. IfBroken parsed (IsNamed self.now.texts)) }
+        ensures within { IfOk result (λ parsed. IfBroken parsed (IsWithin text.now)) }
+    {
+        let length = text.bytes().len();
+        if length > LONGEST_DOCUMENT {
+            return Ok(Parsed::Broken(Issue::TooLarge));
+        }
+        match lex(alloc, &self.tokens, text) {
+            Ok(tokens) => Ok(recognise(&self.row, &tokens, length as u32)),
+            Err(LexFault::NoToken(span)) => Ok(Parsed::Broken(Issue::Lexical(span))),
+            Err(LexFault::NoMemory) => Err(NoMemory),
+        }
+    }
+}
