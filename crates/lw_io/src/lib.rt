@@ -18,26 +18,32 @@
 
 mod calls;
 mod content;
+mod file_store;
 mod mem_patterns;
 mod mem_sink;
 mod mem_source;
 mod mem_store;
 mod patterns;
-mod real;
+mod real_patterns;
 mod refusals;
 mod sink;
 mod source;
+mod std_sink;
+mod std_source;
 mod store;
 mod whole;
 
+pub use file_store::FileStore;
 pub use mem_patterns::MemPatterns;
 pub use mem_sink::MemSink;
 pub use mem_source::MemSource;
 pub use mem_store::MemStore;
 pub use patterns::{MakeFault, Patterns};
-pub use real::{FileStore, RealPatterns, StdSink, StdSource};
+pub use real_patterns::RealPatterns;
 pub use sink::{Sink, Wrote};
 pub use source::{Read, Source};
+pub use std_sink::StdSink;
+pub use std_source::StdSource;
 pub use store::{Found, Store};
 pub use whole::{ReadFault, WriteFault, read_all, write_all};
 

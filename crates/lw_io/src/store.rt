@@ -6,7 +6,7 @@ use lw_base::Name;
 use std::alloc::Global;
 
 /// What a store answers for a path.
-#[derive(Debug, Drop)]
+#[derive(Debug, PartialEq, Eq, Drop)]
 pub enum Found {
     /// The text of the file.
     Text(Name),
