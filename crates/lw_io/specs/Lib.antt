@@ -1,0 +1,12 @@
+pub mod Causes
+pub mod Source
+pub mod Sink
+pub mod Store
+pub mod Patterns
+pub mod Calls
+pub mod Pieces
+pub mod MemSource
+pub mod MemSink
+pub mod MemStore
+pub mod MemPatterns
+pub mod Whole

@@ -1,0 +1,21 @@
+-- What a maker of patterns answers for a text, and what it does to the count of faults and to the text last refused.
+use Rattle.std.specs.Prelude.{◌≡◌, ℕ, List, [], ◌∷◌, ◌++◌, codes, Option, Some, Result, Ok, Err}
+use Rattle.lw_io.specs.Causes.{Faulted}
+use Rattle.lw_io.specs.declared.patterns.MakeFault.{MakeFault}
+use Rattle.lw_io.specs.declared.patterns.MakeFault.TheVariants.{Refused, NoMemory}
+
+-- the text that is handed to `regex`: `\A(?:text)`, so that the pattern matches at the start of what it is tried on
+abbrev pub anchored : List ℕ → List ℕ
+anchored text = codes "\\A(?:" ++ text ++ codes ")"
+
+-- the count rises at `Refused`, and stands still at every other answer
+abbrev pub Counts : {T : Type 0} → ℕ → ℕ → Result T MakeFault → Type 0
+Counts before now (Ok pattern) = now ≡ before
+Counts before now (Err Refused) = Faulted before now
+Counts before now (Err NoMemory) = now ≡ before
+
+-- the text last refused is this one at `Refused`, and stays what it was at every other answer
+abbrev pub Remembers : {T : Type 0} → Option (List ℕ) → Option (List ℕ) → List ℕ → Result T MakeFault → Type 0
+Remembers old new text (Ok pattern) = new ≡ old
+Remembers old new text (Err Refused) = new ≡ Some text
+Remembers old new text (Err NoMemory) = new ≡ old

@@ -1,0 +1,45 @@
+// What makes regular expressions.
+ghost use Rattle.std.specs.Prelude.{◌≡◌, List, ℕ, Option, IfOk, option_map};
+ghost use Rattle.regex.specs.Patterns.{default_config};
+ghost use Rattle.regex.specs.Strings.{regex_source, regex_config, IsReadFromSource};
+ghost use Rattle.lw_io.specs.Patterns.{anchored, Counts, Remembers};
+
+use lw_base::Name;
+use regex::Regex;
+use std::alloc::Global;
+
+/// Why a pattern was not made.
+#[derive(Clone, Copy, Debug, PartialEq, Eq)]
+pub enum MakeFault {
+    /// The text is refused, as no pattern or as one that is too large. The fault is counted, and the text
+    /// is kept.
+    Refused,
+    /// There was no memory for the pattern. Nothing has changed.
+    NoMemory,
+}
+
+/// What makes regular expressions, and remembers the text that it refused last.
+pub trait Patterns {
+    /// The text of the last call that was refused, None before the first.
+    ghost last_refused: { Self → Option (List ℕ) };
+
+    /// How many calls were refused.
+    ghost count: { Self → ℕ };
+
+    /// How many calls were refused. The count never falls.
+    fn faults(&self) -> u64
+        ensures { result ≡ count self.now };
+
+    /// The text of the last call that was refused, None before the first.
+    fn refused(&self) -> Option<&Name>
+        ensures { option_map (λ text. text.now) result ≡ last_refused self.now };
+
+    /// Makes the pattern `\A(?:text)` under the default options of `regex`, which matches at the start of
+    /// what it is tried on alone.
+    fn make(&mut self, alloc: Global, text: Name) -> Result<Regex, MakeFault>
+        ensures source { IfOk result (λ pattern. regex_source pattern ≡ anchored text) }
+        ensures config { IfOk result (λ pattern. regex_config pattern ≡ default_config) }
+        ensures read { IfOk result IsReadFromSource }
+        ensures refused { Remembers (last_refused self.old) (last_refused self.new) text result }
+        ensures cause { Counts (count self.old) (count self.new) result };
+}
