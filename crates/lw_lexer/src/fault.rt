@@ -13,6 +13,7 @@ pub enum LexFault {
 
 impl From<NoMemory> for LexFault {
     ghost use Rattle.std.specs.Prelude.{◌≡◌};
+    ghost use Rattle.lw_lexer.specs.declared.fault.LexFault.{LexFault};
 
     ghost from_gives = { λ _ fault. fault ≡ LexFault.NoMemory };
 
@@ -23,6 +24,7 @@ impl From<NoMemory> for LexFault {
 
 impl<T: Drop> From<AllocFailed<T>> for LexFault {
     ghost use Rattle.std.specs.Prelude.{◌≡◌};
+    ghost use Rattle.lw_lexer.specs.declared.fault.LexFault.{LexFault};
 
     ghost from_gives = { λ _ fault. fault ≡ LexFault.NoMemory };
 

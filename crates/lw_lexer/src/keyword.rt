@@ -6,7 +6,7 @@ ghost use Rattle.lw_lexer.specs.Longer.{is_longer, longer_of};
 use lw_base::Name;
 
 /// The longest of the keywords that the text begins with: its place among them and its length.
-#[tactic(auto, using(crate::proofs::KeywordLemmas::below))]
+#[tactic(auto, using(crate::proofs::KeywordLemmas::best))]
 pub(crate) fn longest_keyword(keywords: &[Name], text: &str) -> Option<(usize, usize)>
     ensures longest { MatchOption result (HasNone keywords.now text.now) (λ found.
         IsLongest keywords.now text.now found.0 found.1) }

@@ -1,6 +1,7 @@
 // The token at the start of a text.
 ghost use Rattle.std.specs.Prelude.{◌≡◌, ◌<◌, IfSome, IsCharBoundary, option_map};
 ghost use Rattle.lw_tokens.specs.NextToken.{IsNext};
+ghost use Rattle.lw_lexer.specs.Longer.{length_or_zero, keyword_token};
 ghost use Rattle.lw_lexer.specs.Place.{next_of};
 
 use crate::keyword::longest_keyword;
@@ -29,12 +30,37 @@ pub(crate) fn next_token(
     ensures same { matchers.new.items ≡ matchers.old.items }
 {
     let keyword = longest_keyword(set.keywords(), text);
-    match first_terminal(matchers, text, length_of(&keyword)) {
+    match first_terminal(matchers, text, length_or_zero(&keyword)) {
         Some((i, bytes)) => Some(Next {
             kind: KindId((set.keywords().len() + i) as u16),
             bytes,
             hidden: matchers[i].is_hidden(),
         }),
         None => keyword_token(&keyword),
+    }
+}
+
+// The longest keyword as a token.
+fn keyword_token(keyword: &Option<(usize, usize)>) -> Option<Next>
+    requires { IfSome keyword.now (λ found. found.0 < 65536) }
+    ensures { option_map next_of result ≡ option_map keyword_token keyword.now }
+{
+    match keyword {
+        Some((k, bytes)) => Some(Next {
+            kind: KindId(*k as u16),
+            bytes: *bytes,
+            hidden: false,
+        }),
+        None => None,
+    }
+}
+
+// The length of the longest keyword, or 0 where there is none.
+fn length_or_zero(keyword: &Option<(usize, usize)>) -> usize
+    ensures { result ≡ length_or_zero keyword.now }
+{
+    match keyword {
+        Some((_, bytes)) => *bytes,
+        None => 0,
     }
 }
