@@ -1,14 +1,13 @@
 -- What a text reads as by a grammar: whole, or broken at the first fault.
 -- The size, the tokens and the sentence are looked at in this order, and one fault is told.
-use Rattle.std.specs.Prelude.{ℕ, ◌≡◌, ◌+◌, ◌<◌, ◌≤◌, ◌⊎◌, List, [], ◌∷◌, ◌++◌, length, drop, encode_utf8}
-use Rattle.std.specs.Char.{IsScalar}
+use Rattle.std.specs.Prelude.{ℕ, ◌≡◌, ◌<◌, ◌≤◌, ◌⊎◌, List, [], ◌∷◌, ◌++◌, length}
 use Rattle.lw_base.specs.declared.token.Span.{Span}
 use Rattle.lw_base.specs.declared.token.Token.{Token}
 use Rattle.lw_grammar.specs.declared.grammar.Grammar.{Grammar}
 use Rattle.lw_grammar.specs.Kinds.{Kinds, AreKinds}
 use Rattle.lw_sentences.specs.Sentences.{IsWhole, Starts}
 use Rattle.lw_tokens.specs.Lexicon.{Lexicon, IsLexicon}
-use Rattle.lw_tokens.specs.Cut.{IsCut, HasNoTokenAt, visible, kinds}
+use Rattle.lw_tokens.specs.Cut.{IsCut, HasNoTokenAt, IsCharacterAt, visible, kinds}
 use Rattle.lw_reading.specs.declared.issue.Issue.TheVariants.{Lexical, Syntax, End, TooLarge}
 use Rattle.lw_reading.specs.declared.issue.Parsed.{Parsed}
 use Rattle.lw_reading.specs.declared.issue.Parsed.TheVariants.{Whole, Broken}
@@ -16,10 +15,6 @@ use Rattle.lw_reading.specs.declared.issue.Parsed.TheVariants.{Whole, Broken}
 -- the longest text that is read, in bytes
 abbrev pub longest_document : ℕ
 longest_document = 2097152
-
--- the character that begins at a place
-abbrev pub IsCharacterAt : List ℕ → Span → Type 0
-IsCharacterAt text s = (c : ℕ) × IsScalar c × (rest : List ℕ) × (drop s.start text ≡ encode_utf8 c ++ rest) × (s.end ≡ s.start + length (encode_utf8 c))
 
 module _ (g : Grammar) (of : Kinds) where
   -- `unexpected` is the first of the tokens that no sentence has after those before it

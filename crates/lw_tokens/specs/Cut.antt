@@ -1,5 +1,7 @@
 -- The cut of a text into tokens: at each place the next token, until the text ends.
-use Rattle.std.specs.Prelude.{ℕ, ◌≡◌, ◌+◌, ◌<◌, List, [], ◌∷◌, ◌++◌, Some, None, Bool, not, filter, map, drop, length}
+use Rattle.std.specs.Prelude.{ℕ, ◌≡◌, ◌+◌, ◌<◌, List, [], ◌∷◌, ◌++◌, Some, None, Bool, not, filter, map, drop, length, encode_utf8}
+use Rattle.std.specs.Char.{IsScalar}
+use Rattle.lw_base.specs.declared.token.Span.{Span}
 use Rattle.lw_base.specs.declared.token.Token.{Token}
 use Rattle.lw_tokens.specs.Lexicon.{Lexicon}
 use Rattle.lw_tokens.specs.NextToken.{Next, IsNext}
@@ -25,6 +27,10 @@ module _ (lexicon : Lexicon) (text : List ℕ) where
     pub cut : IsCutTo at before
     pub inside : at < length text
     pub none : IsNext lexicon (drop at text) None
+
+-- the character that begins at a place
+abbrev pub IsCharacterAt : List ℕ → Span → Type 0
+IsCharacterAt text s = (c : ℕ) × IsScalar c × (rest : List ℕ) × (drop s.start text ≡ encode_utf8 c ++ rest) × (s.end ≡ s.start + length (encode_utf8 c))
 
 -- the tokens that the parser reads
 abbrev pub visible : List Token → List Token

@@ -1,0 +1,13 @@
+use Rattle.std.proofs.Common.{◌≡◌, ◌-◌, length, IsCharBoundary}
+use Rattle.lw_tokens.specs.Cut.{IsCutTo}
+use Rattle.lw_lexer.proofs.lexer.lex.Given as goal
+
+abbrev pub invariant-cutting : goal.invariant-cutting
+invariant-cutting l = record {
+  matchers : l.matchers.items ≡ l.set.lexicon.terminals;
+  boundary : IsCharBoundary l.text l.at;
+  cut : IsCutTo l.set.lexicon l.text l.at l.tokens.items;
+}
+
+abbrev pub decreases-cutting : goal.decreases-cutting
+decreases-cutting l = length l.text - l.at

@@ -1,0 +1,9 @@
+use Rattle.std.proofs.Common.{◌≡◌, ℕ, ◌<◌, ◌≤◌, Some, slice_get, take}
+use Rattle.lw_tokens.specs.NextToken.{NoneOver, lengths}
+use Rattle.lw_lexer.proofs.terminal.first_terminal.Given as goal
+
+abbrev pub invariant-loop-i : goal.invariant-loop-i
+invariant-loop-i l = record {
+  same : l.matchers.items ≡ l.fn.matchers.items;
+  none : (j o : ℕ) → j < l.i → slice_get (lengths l.fn.matchers.items l.text) j ≡ Some (Some o) → o ≤ l.least;
+}

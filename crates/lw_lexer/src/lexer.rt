@@ -1,0 +1,59 @@
+// A text cut into tokens.
+ghost use Rattle.std.specs.Prelude.{◌≡◌, ◌+◌, ◌<◌, ◌≤◌, List, IfOk, Err, ℕ, ◌++◌, length, encode_utf8, drop};
+ghost use Rattle.std.specs.Char.{IsScalar};
+ghost use Rattle.lw_base.specs.declared.token.Span.{Span};
+ghost use Rattle.lw_tokens.specs.Cut.{IsCut, HasNoTokenAt, IsCharacterAt};
+
+use crate::LexFault;
+use crate::next::next_token;
+use lw_base::{Name, Span, Token};
+use lw_terminals::TokenSet;
+use std::alloc::Global;
+
+/// The tokens of the text. Where the text has no token at some place, the first such place is refused.
+pub fn lex(alloc: Global, set: &TokenSet, text: &Name) -> Result<Vec<Token>, LexFault>
+    requires { length text.now ≤ 67108864 }
+    ensures cut { IfOk result (λ tokens. IsCut set.now.lexicon text.now tokens.items) }
+    ensures no_token { (s : Span) → result ≡ Err (LexFault.NoToken s) → HasNoTokenAt set.now.lexicon text.now s.start }
+    ensures character { (s : Span) → result ≡ Err (LexFault.NoToken s) → IsCharacterAt text.now s }
+{
+    let mut matchers = set.matchers(alloc)?;
+    let text = text.text();
+    let mut tokens = Vec::new(alloc);
+    let mut at = 0;
+    'cutting: while at < text.len() {
+        let rest = &text[at..];
+        let Some(next) = next_token(set, &mut matchers, rest) else {
+            return Err(LexFault::NoToken(span_of(at, first_character(rest))));
+        };
+        let token = Token {
+            kind: next.kind,
+            span: span_of(at, next.bytes),
+            hidden: next.hidden,
+        };
+        tokens.push(token)?;
+        at += next.bytes;
+    }
+    Ok(tokens)
+}
+
+fn span_of(start: usize, bytes: usize) -> Span
+    requires { start + bytes ≤ 67108864 }
+    ensures { result ≡ record { start = start; end = start + bytes } }
+{
+    Span {
+        start: start as u32,
+        end: (start + bytes) as u32,
+    }
+}
+
+// How many bytes the first character of the text takes.
+fn first_character(text: &str) -> usize
+    requires { 0 < length text.now }
+    ensures { (c : ℕ) × IsScalar c × (rest : List ℕ) × (text.now ≡ encode_utf8 c ++ rest) × (result ≡ length (encode_utf8 c)) }
+{
+    match text.chars().next() {
+        Some(c) => c.len_utf8(),
+        None => 0,
+    }
+}

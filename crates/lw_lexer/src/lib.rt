@@ -1,0 +1,18 @@
+//! A text cut into tokens.
+//!
+//! [`lex`] cuts a text by the keywords and terminals of a [`TokenSet`](lw_terminals::TokenSet). Its model
+//! is the cut itself, the list of tokens that `specs/Cut.antt` of `lw_tokens` defines by the rest of the
+//! text at each place; the code keeps a place and goes over the text once.
+//!
+//! It promises that the tokens are the one cut of the text, and that a text without one is refused at
+//! the one place where no token stands.
+#![tactic(auto)]
+
+mod fault;
+mod keyword;
+mod lexer;
+mod next;
+mod terminal;
+
+pub use fault::LexFault;
+pub use lexer::lex;

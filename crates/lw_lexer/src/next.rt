@@ -1,0 +1,66 @@
+// The token at the start of a text.
+ghost use Rattle.std.specs.Prelude.{◌≡◌, ◌<◌, IfSome, IsCharBoundary, option_map};
+ghost use Rattle.lw_tokens.specs.NextToken.{IsNext};
+ghost use Rattle.lw_lexer.specs.Longer.{length_or_zero, keyword_token};
+ghost use Rattle.lw_lexer.specs.Place.{next_of};
+
+use crate::keyword::longest_keyword;
+use crate::terminal::first_terminal;
+use lw_base::KindId;
+use lw_terminals::{TerminalMatcher, TokenSet};
+
+/// A token at the start of a text: its kind, how many bytes it takes, and whether the parser skips it.
+#[derive(Clone, Copy)]
+pub(crate) struct Next {
+    pub(crate) kind: KindId,
+    pub(crate) bytes: usize,
+    pub(crate) hidden: bool,
+}
+
+/// The token at the start of the text.
+pub(crate) fn next_token(
+    set: &TokenSet,
+    matchers: &mut Vec<TerminalMatcher<'_>>,
+    text: &str,
+) -> Option<Next>
+    requires { matchers.old.items ≡ set.now.lexicon.terminals }
+    ensures next { IsNext set.now.lexicon text.now (option_map next_of result) }
+    ensures boundary { IfSome result (λ next. IsCharBoundary text.now next.bytes) }
+    ensures some { IfSome result (λ next. 0 < next.bytes) }
+    ensures same { matchers.new.items ≡ matchers.old.items }
+{
+    let keyword = longest_keyword(set.keywords(), text);
+    match first_terminal(matchers, text, length_or_zero(&keyword)) {
+        Some((i, bytes)) => Some(Next {
+            kind: KindId((set.keywords().len() + i) as u16),
+            bytes,
+            hidden: matchers[i].is_hidden(),
+        }),
+        None => keyword_token(&keyword),
+    }
+}
+
+// The longest keyword as a token.
+fn keyword_token(keyword: &Option<(usize, usize)>) -> Option<Next>
+    requires { IfSome keyword.now (λ found. found.0 < 65536) }
+    ensures { option_map next_of result ≡ option_map keyword_token keyword.now }
+{
+    match keyword {
+        Some((k, bytes)) => Some(Next {
+            kind: KindId(*k as u16),
+            bytes: *bytes,
+            hidden: false,
+        }),
+        None => None,
+    }
+}
+
+// The length of the longest keyword, or 0 where there is none.
+fn length_or_zero(keyword: &Option<(usize, usize)>) -> usize
+    ensures { result ≡ length_or_zero keyword.now }
+{
+    match keyword {
+        Some((_, bytes)) => *bytes,
+        None => 0,
+    }
+}

@@ -1,0 +1,50 @@
+// A terminal with its compiled pattern.
+use crate::TerminalMatcher;
+use lw_base::{Name, NoMemory};
+use regex::Regex;
+use std::alloc::Global;
+use std::marker::Model;
+
+/// A terminal with its compiled pattern, seen as the text of the pattern and whether its tokens are
+/// hidden.
+#[derive(Drop)]
+pub struct Terminal {
+    pattern: Name,
+    regex: Regex,
+    hidden: bool,
+}
+
+impl Model for Terminal {
+    ghost use Rattle.lw_tokens.specs.Lexicon.{TerminalForm};
+    ghost use Rattle.lw_terminals.specs.Compiled.{IsCompiled};
+
+    ghost Value = { TerminalForm };
+
+    ghost view = { λ t. record { pattern = t.pattern; hidden = t.hidden } };
+
+    ghost invariant = { λ t. IsCompiled t.pattern t.regex };
+}
+
+impl Terminal {
+    ghost use Rattle.std.specs.Prelude.{◌≡◌, IfOk};
+    ghost use Rattle.lw_terminals.specs.Compiled.{IsCompiled};
+
+    /// The terminal of a pattern that is compiled.
+    pub fn new(pattern: Name, regex: Regex, hidden: bool) -> Terminal
+        requires { IsCompiled pattern regex }
+        ensures { result ≡ record { pattern = pattern; hidden = hidden } }
+    {
+        Terminal {
+            pattern,
+            regex,
+            hidden,
+        }
+    }
+
+    /// What finds the terminal's matches.
+    pub fn matcher(&self, alloc: Global) -> Result<TerminalMatcher<'_>, NoMemory>
+        ensures { IfOk result (λ matcher. matcher ≡ self.now) }
+    {
+        TerminalMatcher::new(alloc, &self.pattern, &self.regex, self.hidden)
+    }
+}
