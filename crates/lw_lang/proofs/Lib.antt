@@ -1,2 +1,3 @@
+pub mod FirstUses
 pub mod RowLemmas
 pub mod RowReading

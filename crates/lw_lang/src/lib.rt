@@ -2,4 +2,5 @@
 #![tactic(auto)]
 
 mod flat;
+mod flat_parts;
 mod recogniser;
