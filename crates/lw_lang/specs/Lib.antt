@@ -3,3 +3,4 @@ pub mod Shape
 pub mod Obstacles
 pub mod Rows
 pub mod Flat
+pub mod FlatParts

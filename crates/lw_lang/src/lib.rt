@@ -2,3 +2,5 @@
 #![tactic(auto)]
 
 mod flat;
+mod flat_parts;
+mod recogniser;

@@ -1,0 +1,3 @@
+pub mod FirstUses
+pub mod RowLemmas
+pub mod RowReading

@@ -1,0 +1,61 @@
+-- What a row's parts read, which terminals are kinds beside it, and the kind that each part reads.
+use Rattle.std.specs.Prelude.{ℕ, ◌≡◌, ◌+◌, ◌||◌, ◌&&◌, List, Option, Some, None, Bool, not, length, position, option_map, option_and_then, bytes_eq}
+use Rattle.std.specs.List.{filter_map, list_any}
+use Rattle.lw_grammar.specs.declared.rule.Element.{Element, out-Element}
+use Rattle.lw_grammar.specs.declared.rule.Element.TheOpen.{Element-F, Keyword, Assign}
+use Rattle.lw_grammar.specs.declared.rule.Value0.{Value0, out-Value0}
+use Rattle.lw_grammar.specs.declared.rule.Value0.TheOpen as value
+use Rattle.lw_grammar.specs.declared.rule.Value0.TheOpen.{Value0-F}
+use Rattle.lw_grammar.specs.declared.terminal.Terminal.{Terminal}
+use Rattle.lw_grammar.specs.declared.terminal.TermElement.{out-TermElement}
+use Rattle.lw_tokens.specs.Patterns.{unescaped, as_pattern}
+use Rattle.lw_lang.specs.declared.flat.TerminalSource.{TerminalSource}
+
+-- the text of a part that is a keyword
+abbrev pub layer_keyword : Element-F Element → Option (List ℕ)
+layer_keyword (Keyword text s) = Some text
+layer_keyword _ = None
+
+abbrev pub keyword_of : Element → Option (List ℕ)
+keyword_of part = layer_keyword (out-Element part)
+
+-- the name that a part assigns a call of
+abbrev pub value_call : Value0-F Value0 → Option (List ℕ)
+value_call (value.Call name s) = Some name
+value_call _ = None
+
+abbrev pub layer_call : Element-F Element → Option (List ℕ)
+layer_call (Assign p op v s) = value_call (out-Value0 v)
+layer_call _ = None
+
+abbrev pub call_of : Element → Option (List ℕ)
+call_of part = layer_call (out-Element part)
+
+-- the keywords and the called names of a row, each as often as it stands there
+abbrev pub keywords_of : List Element → List (List ℕ)
+keywords_of parts = filter_map keyword_of parts
+
+abbrev pub calls_of : List Element → List (List ℕ)
+calls_of parts = filter_map call_of parts
+
+-- a terminal is a kind where it is hidden or one of these names is its own
+abbrev pub is_kind : List (List ℕ) → Terminal → Bool
+is_kind calls terminal = terminal.is_hidden || list_any (bytes_eq terminal.name) calls
+
+-- what the matcher of a terminal that is one regular expression is made from
+pub record IsPlainSource (terminal : Terminal) (source : TerminalSource) : Type 0 where
+  pub name : source.name ≡ terminal.name
+  pub pattern : option_map unescaped (as_pattern (out-TermElement terminal.body)) ≡ Some source.pattern
+  pub hidden : source.hidden ≡ terminal.is_hidden
+
+-- the place of the terminal that a call of this name means
+abbrev pub terminal_place : List TerminalSource → List ℕ → Option ℕ
+terminal_place terminals name = position (λ t. not t.hidden && bytes_eq t.name name) terminals
+
+-- the kind that a part reads, where there is one
+abbrev pub layer_kind : List (List ℕ) → List TerminalSource → Option (List ℕ) → Option (List ℕ) → Option ℕ
+layer_kind keywords terminals (Some text) call = position (bytes_eq text) keywords
+layer_kind keywords terminals None call = option_map (λ i. length keywords + i) (option_and_then (terminal_place terminals) call)
+
+abbrev pub kind_of : List (List ℕ) → List TerminalSource → Element → Option ℕ
+kind_of keywords terminals part = layer_kind keywords terminals (keyword_of part) (call_of part)

@@ -1,0 +1,68 @@
+// The parts of a row, and what they read.
+ghost use Rattle.std.specs.Prelude.{◌≡◌, [], IfOk};
+ghost use Rattle.std.specs.Option.{option_copied};
+ghost use Rattle.lw_grammar.specs.Kinds.{first_uses};
+ghost use Rattle.lw_lang.specs.Shape.{parts_of};
+ghost use Rattle.lw_lang.specs.FlatParts.{keyword_of, call_of, keywords_of, calls_of};
+
+use indexmap::IndexSet;
+use lw_base::{Name, NoMemory};
+use lw_grammar::{Element, Value0};
+use std::alloc::Global;
+use std::slice;
+
+/// The parts of a body: those of its row, or itself.
+pub(crate) fn parts(body: &Element) -> &[Element]
+    ensures { result.now ≡ parts_of body.now }
+{
+    match body {
+        Element::Group(parts, _) => parts.as_slice(),
+        _ => slice::from_ref(body),
+    }
+}
+
+/// The text of a part that is a keyword.
+pub(crate) fn keyword(part: &Element) -> Option<&Name>
+    ensures { option_copied result ≡ keyword_of part.now }
+{
+    match part {
+        Element::Keyword(text, _) => Some(text),
+        _ => None,
+    }
+}
+
+/// The name that a part assigns a call of.
+pub(crate) fn call(part: &Element) -> Option<&Name>
+    ensures { option_copied result ≡ call_of part.now }
+{
+    match part {
+        Element::Assign(_, _, Value0::Call(name, _), _) => Some(name),
+        _ => None,
+    }
+}
+
+/// The keywords, each at its first use.
+pub(crate) fn keywords(alloc: Global, parts: &[Element]) -> Result<IndexSet<Name>, NoMemory>
+    ensures { IfOk result (λ texts. texts.keys ≡ first_uses [] (keywords_of parts.now)) }
+{
+    let mut texts = IndexSet::new(alloc);
+    for part in parts {
+        if let Some(text) = keyword(part) {
+            texts.insert(text.copy(alloc)?)?;
+        }
+    }
+    Ok(texts)
+}
+
+/// The called names, each at its first use.
+pub(crate) fn calls(alloc: Global, parts: &[Element]) -> Result<IndexSet<Name>, NoMemory>
+    ensures { IfOk result (λ names. names.keys ≡ first_uses [] (calls_of parts.now)) }
+{
+    let mut names = IndexSet::new(alloc);
+    for part in parts {
+        if let Some(name) = call(part) {
+            names.insert(name.copy(alloc)?)?;
+        }
+    }
+    Ok(names)
+}
