@@ -1,3 +1,5 @@
 pub mod FirstUses
 pub mod RowLemmas
 pub mod RowReading
+pub mod CutPlaces
+pub mod ReadLemmas

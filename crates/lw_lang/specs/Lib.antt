@@ -4,3 +4,6 @@ pub mod Obstacles
 pub mod Rows
 pub mod Flat
 pub mod FlatParts
+pub mod Language
+pub mod KindTexts
+pub mod Ready

@@ -7,8 +7,8 @@ use Rattle.lw_lang.specs.KindTexts.{texts_of}
 use Rattle.lw_lang.specs.Language.{LanguageView}
 use Rattle.lw_lang.specs.declared.language.Language.TheInside.{Inside}
 
-abbrev pub view : Inside → LanguageView
-view l = record { grammar = l.grammar; texts = l.tokens.texts }
+abbrev pub seen_as : Inside → LanguageView
+seen_as l = record { grammar = l.grammar; texts = l.tokens.texts }
 
 pub record IsReady (l : Inside) : Type 0 where
   pub of : Kinds

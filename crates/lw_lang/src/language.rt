@@ -30,9 +30,16 @@ impl Model for Language {
 
     ghost Value = { LanguageView };
 
-    ghost use Rattle.lw_lang.specs.Ready.{view, IsReady};
+    ghost use Rattle.std.specs.Coded.{codes};
+    ghost use Rattle.lw_grammar.specs.contracts.rule.Element as element;
+    ghost use Rattle.lw_grammar.specs.contracts.rule.Value0 as value;
+    ghost use Rattle.lw_grammar.specs.contracts.terminal.TermElement as term;
 
-    ghost view = { view };
+    ghost coded = { Prim.hlevel (codes, element.the_row.coded, value.the_row.coded, term.the_row.coded) };
+
+    ghost use Rattle.lw_lang.specs.Ready.{seen_as, IsReady};
+
+    ghost view = { seen_as };
 
     ghost invariant = { IsReady };
 }

@@ -3,4 +3,8 @@
 
 mod flat;
 mod flat_parts;
+mod language;
 mod recogniser;
+
+pub use language::{LONGEST_DOCUMENT, Language};
+pub use lw_reading::{Issue, Parsed};
