@@ -1,0 +1,2 @@
+-- A place has one position.
+use Rattle.std.proofs.Common.{◌≡◌}
