@@ -1,5 +1,6 @@
 -- The lines of a text, as the Language Server Protocol 3.17 has them ("Text Documents"): a line ends with `\n`, `\r\n` or `\r`.
-use Rattle.std.specs.Prelude.{ℕ, ◌≡◌, ◌≢◌, ◌+◌, List, [], ◌∷◌, ◌++◌, length, sum_by, All}
+use Rattle.std.specs.Prelude.{ℕ, ◌≡◌, ◌≢◌, ◌+◌, ◌⊎◌, List, [], ◌∷◌, ◌++◌, length, sum_by, All, Some, slice_get}
+use Rattle.std.specs.List.{flat_map}
 
 -- a carriage return is 13, a line feed 10
 abbrev pub IsNoBreak : ℕ → Type 0
@@ -22,9 +23,17 @@ pub data AreLines : List ℕ → List Line → Type 0 where
   next : {content ending rest : List ℕ} {lines : List Line} → All IsNoBreak content → IsEnding rest ending → AreLines rest lines →
       AreLines (content ++ ending ++ rest) (record { content = content; ending = ending } ∷ lines)
 
+-- the lines one after the other, each with what ends it
+abbrev pub joined : List Line → List ℕ
+joined lines = flat_map (λ line. line.content ++ line.ending) lines
+
 -- how many bytes a line takes, with what ends it
 abbrev pub bytes_of : Line → ℕ
 bytes_of line = length line.content + length line.ending
 
 abbrev pub bytes_of_all : List Line → ℕ
 bytes_of_all lines = sum_by bytes_of lines
+
+-- the byte at i is the last of what ends a line: a `\n`, or a `\r` with no `\n` behind it
+abbrev pub EndsLine : List ℕ → ℕ → Type 0
+EndsLine text i = (slice_get text i ≡ Some 10) ⊎ ((slice_get text i ≡ Some 13) × (slice_get text (i + 1) ≢ Some 10))

@@ -3,7 +3,7 @@
 use Rattle.std.specs.Prelude.{ℕ, ◌≡◌, ◌+◌, ◌<◌, ◌≤◌, ◌⊎◌, List, [], ◌∷◌, ◌++◌, length, sum_by, nat_lt, if◌then◌else◌, encode_utf8, encode_utf8_all, All}
 use Rattle.std.specs.Char.{IsScalar}
 use Rattle.lw_text.specs.Lines.{Line, AreLines, bytes_of, bytes_of_all}
-use Rattle.lw_text.specs.declared.position.Pos.{Pos}
+use Rattle.lw_text.specs.declared.place.Pos.{Pos}
 
 -- how many UTF-16 units a character takes
 abbrev pub utf16_len : ℕ → ℕ
@@ -24,6 +24,16 @@ pub record AreCharsBefore (bytes : List ℕ) (n : ℕ) (cs : List ℕ) : Type 0 
 -- the place is in this line, which begins at `start`: before the next line, or anywhere after its start where it is the last
 abbrev pub IsInLine : ℕ → ℕ → Line → List Line → Type 0
 IsInLine offset start line after = (start ≤ offset) × ((offset < start + bytes_of line) ⊎ (after ≡ []))
+
+-- the line that the byte offset is in: how many lines come before it, and where it begins
+pub record IsLineOf (text : List ℕ) (offset count start : ℕ) : Type 0 where
+  pub before : List Line
+  pub line : Line
+  pub after : List Line
+  pub cut : AreLines text (before ++ line ∷ after)
+  pub begins : start ≡ bytes_of_all before
+  pub inside : IsInLine offset start line after
+  pub number : count ≡ length before
 
 -- The position of the byte offset. A place inside what ends a line is the end of that line.
 pub record IsPosition (text : List ℕ) (offset : ℕ) (at : Pos) : Type 0 where

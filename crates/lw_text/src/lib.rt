@@ -3,8 +3,15 @@
 //! A text is its list of bytes, which are UTF-8. `specs/Lines.antt` cuts it into lines and
 //! `specs/Position.antt` says which line and character a place has, both in the words of the Language
 //! Server Protocol 3.17.
+//!
+//! It promises that each place of a text has one position, and that [`position`] gives it, in one pass
+//! over the text up to the place and without memory of its own.
 #![tactic(auto)]
 
-mod position;
+mod line;
+mod place;
 
-pub use position::Pos;
+pub use place::{Pos, position};
+
+#[cfg(test)]
+mod tests;

@@ -1,0 +1,94 @@
+-- A place has one position.
+use Rattle.std.proofs.Common.{◌≡◌, ◌≢◌, ℕ, ◌+◌, ◌<◌, ◌≤◌, ◌⊎◌, inl, inr, ⊎_elim, List, [], ◌∷◌, ◌++◌, length, refl, sym, ap, ap₂, ◌∙◌, subst, append_assoc, arith, length-append, encode_utf8, encode_utf8_all}
+use Rattle.std.specs.Char.{IsScalar}
+use Rattle.std.proofs.lemmas.List.{append_cancel_left}
+use Rattle.std.proofs.lemmas.List.Sums.{sum_by-cons}
+use Rattle.std.proofs.lemmas.Str.{encode_same, length-encode, len_utf8_bounds}
+use Rattle.lw_text.specs.Lines.{Line, AreLines, bytes_of, bytes_of_all}
+use Rattle.lw_text.specs.Position.{AreCharsBefore, IsInLine, IsPosition, utf16_units}
+use Rattle.lw_text.specs.declared.place.Pos.{Pos}
+use Rattle.lw_text.proofs.Lines.{AreLines-only}
+
+-- ---- the line
+not_over : (before : List Line) (line : Line) (after : List Line) → [] ≢ before ++ line ∷ after
+not_over [] line after e = cc
+not_over (first ∷ before) line after e = cc
+
+-- a place in the first of some lines is in no later one
+not_later : (first : Line) (before : List Line) (line other : Line) (after others : List Line) (offset start : ℕ) →
+    line ∷ after ≡ (first ∷ before) ++ other ∷ others → IsInLine offset (start + 0) line after → ¬ (start + bytes_of_all (first ∷ before) ≤ offset)
+not_later first before line other after others offset start e inside beyond =
+    let same : line ≡ first = cc in
+    let more : after ≡ before ++ other ∷ others = cc in
+    let sizes : bytes_of line ≡ bytes_of first = ap bytes_of same in
+    let size : bytes_of_all (first ∷ before) ≡ bytes_of first + bytes_of_all before = sum_by-cons bytes_of first before in
+    ⊎_elim (λ short. let below : offset < start + 0 + bytes_of line = short in omega arith) (λ over. not_over before other others (sym over ∙ more)) inside.1
+
+same_before : (before befores : List Line) (line other : Line) (after others : List Line) (offset start : ℕ) →
+    before ++ line ∷ after ≡ befores ++ other ∷ others → IsInLine offset (start + bytes_of_all before) line after →
+    IsInLine offset (start + bytes_of_all befores) other others → before ≡ befores
+same_before [] [] line other after others offset start e a b = refl
+same_before [] (first ∷ befores) line other after others offset start e a b = absurd (not_later first befores line other after others offset start e a b.0)
+same_before (first ∷ before) [] line other after others offset start e a b = absurd (not_later first before other line others after offset start (sym e) b a.0)
+same_before (first ∷ before) (second ∷ befores) line other after others offset start e a b =
+    let same : first ≡ second = cc in
+    let rest : before ++ line ∷ after ≡ befores ++ other ∷ others = cc in
+    let sizes : bytes_of first ≡ bytes_of second = ap bytes_of same in
+    let p : start + bytes_of_all (first ∷ before) ≡ start + bytes_of first + bytes_of_all before = omega (arith, sum_by-cons bytes_of first before) in
+    let q : start + bytes_of_all (second ∷ befores) ≡ start + bytes_of first + bytes_of_all befores = omega (arith, sizes, sum_by-cons bytes_of second befores) in
+    ap₂ (λ x xs. x ∷ xs) same (same_before before befores line other after others offset (start + bytes_of first) rest (subst (λ n. IsInLine offset n line after) p a) (subst (λ n. IsInLine offset n other others) q b))
+
+-- ---- the characters
+-- the next character, if there is one, ends behind the byte n
+abbrev EndsBehind : ℕ → ℕ → List ℕ → Type 0
+EndsBehind n base rest = (rest ≡ []) ⊎ ((c : ℕ) × IsScalar c × (more : List ℕ) × (rest ≡ encode_utf8 c ++ more) × (n < base + length (encode_utf8 c)))
+
+some_bytes : (c : ℕ) → 1 ≤ length (encode_utf8 c)
+some_bytes c = let bounds = len_utf8_bounds c in let is = length-encode c in omega arith
+
+-- a character that is whole before n does not end behind n
+not_behind : (d : ℕ) (ds r s : List ℕ) (n base : ℕ) → r ≡ (encode_utf8 d ++ encode_utf8_all ds) ++ s → base + length (encode_utf8 d ++ encode_utf8_all ds) ≤ n → ¬ (EndsBehind n (base + 0) r)
+not_behind d ds r s n base e within (inl none) =
+    let sizes : 0 ≡ length ((encode_utf8 d ++ encode_utf8_all ds) ++ s) = ap length (sym none ∙ e) in
+    omega (arith, some_bytes d, length-append (encode_utf8 d ++ encode_utf8_all ds) s, length-append (encode_utf8 d) (encode_utf8_all ds))
+not_behind d ds r s n base e within (inr (c, scalar, more, is, behind)) =
+    let same = encode_same c d more (encode_utf8_all ds ++ s) (sym is ∙ e ∙ append_assoc (encode_utf8 d) (encode_utf8_all ds) s) in
+    let sizes : length (encode_utf8 c) ≡ length (encode_utf8 d) = ap (λ x. length (encode_utf8 x)) same.0 in
+    omega (arith, length-append (encode_utf8 d) (encode_utf8_all ds))
+
+same_chars : (cs ds r s : List ℕ) (n base : ℕ) → encode_utf8_all cs ++ r ≡ encode_utf8_all ds ++ s → base + length (encode_utf8_all cs) ≤ n → base + length (encode_utf8_all ds) ≤ n →
+    EndsBehind n (base + length (encode_utf8_all cs)) r → EndsBehind n (base + length (encode_utf8_all ds)) s → cs ≡ ds
+same_chars [] [] r s n base e a b p q = refl
+same_chars [] (d ∷ ds) r s n base e a b p q = absurd (not_behind d ds r s n base e b p)
+same_chars (c ∷ cs) [] r s n base e a b p q = absurd (not_behind c cs s r n base (sym e) a q)
+same_chars (c ∷ cs) (d ∷ ds) r s n base e a b p q =
+    let same = encode_same c d (encode_utf8_all cs ++ r) (encode_utf8_all ds ++ s) (sym (append_assoc (encode_utf8 c) (encode_utf8_all cs) r) ∙ e ∙ append_assoc (encode_utf8 d) (encode_utf8_all ds) s) in
+    let sizes : length (encode_utf8 c) ≡ length (encode_utf8 d) = ap (λ x. length (encode_utf8 x)) same.0 in
+    let here : base + length (encode_utf8 c ++ encode_utf8_all cs) ≡ base + length (encode_utf8 c) + length (encode_utf8_all cs) = omega (arith, length-append (encode_utf8 c) (encode_utf8_all cs)) in
+    let there : base + length (encode_utf8 d ++ encode_utf8_all ds) ≡ base + length (encode_utf8 c) + length (encode_utf8_all ds) = omega (arith, sizes, length-append (encode_utf8 d) (encode_utf8_all ds)) in
+    ap₂ (λ x xs. x ∷ xs) same.0
+    (same_chars cs ds r s n (base + length (encode_utf8 c)) same.1 (subst (λ k. k ≤ n) here a) (subst (λ k. k ≤ n) there b) (subst (λ k. EndsBehind n k r) here p) (subst (λ k. EndsBehind n k s) there q))
+
+-- the whole characters among the first n bytes are these alone
+pub AreCharsBefore-only : (bytes : List ℕ) (n : ℕ) (cs ds : List ℕ) → AreCharsBefore bytes n cs → AreCharsBefore bytes n ds → cs ≡ ds
+AreCharsBefore-only bytes n cs ds a b =
+    let zeroth : (k : ℕ) → k ≡ 0 + k = λ k. omega arith in
+    same_chars cs ds a.rest b.rest n 0 (sym a.parts ∙ b.parts) (omega (arith, a.within)) (omega (arith, b.within))
+    (subst (λ k. EndsBehind n k a.rest) (zeroth (length (encode_utf8_all cs))) a.whole)
+    (subst (λ k. EndsBehind n k b.rest) (zeroth (length (encode_utf8_all ds))) b.whole)
+
+-- ---- the position
+pub IsPosition-only : (text : List ℕ) (offset : ℕ) (a b : Pos) → IsPosition text offset a → IsPosition text offset b → a ≡ b
+IsPosition-only text offset a b p q =
+    let zeroth : (k : ℕ) → k ≡ 0 + k = λ k. omega arith in
+    let lines = AreLines-only p.cut q.cut in
+    let before = same_before p.before q.before p.line q.line p.after q.after offset 0 lines
+        (subst (λ k. IsInLine offset k p.line p.after) (zeroth (bytes_of_all p.before)) p.inside)
+        (subst (λ k. IsInLine offset k q.line q.after) (zeroth (bytes_of_all q.before)) q.inside) in
+    let rest = append_cancel_left q.before (p.line ∷ p.after) (q.line ∷ q.after) (ap (λ xs. xs ++ p.line ∷ p.after) (sym before) ∙ lines) in
+    let line : p.line ≡ q.line = cc in
+    let starts : bytes_of_all p.before ≡ bytes_of_all q.before = ap bytes_of_all before in
+    let into : p.into ≡ q.into = omega (arith, p.far, q.far) in
+    let moved = subst (λ n. AreCharsBefore q.line.content n p.chars) into (subst (λ l. AreCharsBefore l.content p.into p.chars) line p.chars_before) in
+    let chars = AreCharsBefore-only q.line.content q.into p.chars q.chars moved q.chars_before in
+    ap₂ (λ line character. record { line = line; character = character }) (p.number ∙ ap length before ∙ sym q.number) (p.character ∙ ap utf16_units chars ∙ sym q.character)

@@ -1,0 +1,19 @@
+-- A text takes no more UTF-16 units than it has bytes.
+use Rattle.std.proofs.Common.{◌≡◌, ℕ, ◌+◌, ◌<◌, ◌≤◌, List, [], ◌∷◌, ◌++◌, length, length-append, subst, encode_utf8, encode_utf8_all, chars, IsUtf8, arith, zero-le}
+use Rattle.std.proofs.lemmas.List.Sums.{sum_by-cons}
+use Rattle.std.proofs.lemmas.Str.{length-encode, encodes-chars}
+use Rattle.std.proofs.lemmas.Bool.Decides.{nat_tests}
+use Rattle.lw_text.specs.Position.{utf16_len, utf16_units}
+
+utf16_len-le : (c : ℕ) → utf16_len c ≤ length (encode_utf8 c)
+utf16_len-le c = let is = length-encode c in grind (arith, nat_tests)
+
+utf16_units-le : (cs : List ℕ) → utf16_units cs ≤ length (encode_utf8_all cs)
+utf16_units-le [] = zero-le
+utf16_units-le (c ∷ cs) =
+    let units : utf16_units (c ∷ cs) ≡ utf16_len c + utf16_units cs = sum_by-cons utf16_len c cs in
+    let bytes : length (encode_utf8_all (c ∷ cs)) ≡ length (encode_utf8 c) + length (encode_utf8_all cs) = length-append (encode_utf8 c) (encode_utf8_all cs) in
+    omega (arith, utf16_len-le c, utf16_units-le cs)
+
+pub utf16_units-chars-le : (text : List ℕ) → IsUtf8 text → utf16_units (chars text) ≤ length text
+utf16_units-chars-le text utf8 = subst (λ bytes. utf16_units (chars text) ≤ length bytes) (encodes-chars text utf8) (utf16_units-le (chars text))

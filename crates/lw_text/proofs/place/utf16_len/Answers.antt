@@ -1,0 +1,13 @@
+use Rattle.std.proofs.Common.{◌<◌, ◌≤◌, ◌^◌, ℕ, length, rules, tests, arith}
+use Rattle.std.proofs.lemmas.Iterator.{YieldsList-from_chars, YieldsList-from_map}
+use Rattle.std.proofs.lemmas.Iterator.Consumers.{YieldsList-at, fits_by_from_yields_list}
+use Rattle.lw_text.specs.Position.{utf16_len, utf16_units}
+use Rattle.lw_text.proofs.Units.{utf16_units-chars-le}
+use Rattle.lw_text.proofs.place.utf16_len.Goals as goal
+
+-- the sum fits, since it is at most the number of bytes
+pub sum-requires-clause-fits : goal.sum-requires-clause-fits
+sum-requires-clause-fits c =
+    fits_by_from_yields_list utf16_len _ c.map.result _
+    (YieldsList-from_map _ utf16_len (YieldsList-at c.map.ensures.source (YieldsList-from_chars c.args.text.now c.utf8.text cc)) c.map.ensures.closure (λ x r q k. search (rules, tests)))
+    (omega (arith, utf16_units-chars-le c.args.text.now c.utf8.text, c.requires))
