@@ -1,10 +1,11 @@
 -- What `check` prints for the bytes of a document.
 use Rattle.std.specs.Prelude.{ℕ, ◌≡◌, ◌+◌, ◌≤◌, List, [], ◌∷◌, ◌++◌, length, codes}
-use Rattle.std.specs.Int.{decimal}
+use Rattle.std.specs.Fmt.{decimal}
 use Rattle.std.specs.Str.{IsUtf8}
+use Rattle.lw_base.specs.declared.numbers.KindId.{KindId}
 use Rattle.lw_base.specs.declared.token.Span.{Span}
 use Rattle.lw_grammar.specs.declared.grammar.Grammar.{Grammar}
-use Rattle.lw_text.specs.declared.position.Pos.{Pos}
+use Rattle.lw_text.specs.declared.place.Pos.{Pos}
 use Rattle.lw_text.specs.Position.{IsPosition}
 use Rattle.lw_reading.specs.Reading.{Reads, longest_document}
 use Rattle.lw_reading.specs.declared.issue.Issue.{Issue}
@@ -39,7 +40,7 @@ module _ (g : Grammar) (text : List ℕ) where
   -- the line of a fault
   pub data IsIssueLine : Issue → List ℕ → Type 0 where
     lexical : {s : Span} {output : List ℕ} → IsErrorLine text s.start 1 (codes "Unexpected character.") output → IsIssueLine (Lexical s) output
-    syntax_ : {s : Span} {k : _} {output : List ℕ} (kind : List ℕ) → IsKindText g k.0 kind → IsErrorLine text s.start 2 (unexpected kind) output →
+    syntax_ : {s : Span} {k : KindId} {output : List ℕ} (kind : List ℕ) → IsKindText g k.0 kind → IsErrorLine text s.start 2 (unexpected kind) output →
         IsIssueLine (Syntax s k) output
     end_ : {at : ℕ} {output : List ℕ} → IsErrorLine text at 2 (codes "Unexpected end of text.") output → IsIssueLine (End at) output
     too_large : {output : List ℕ} → IsErrorLine text 0 7 (codes "Document is longer than 2097152 bytes.") output → IsIssueLine TooLarge output

@@ -1,5 +1,5 @@
 pub mod Words
 pub mod Checked
-pub mod Notes
 pub mod Reports
 pub mod Run
+pub mod Stops

@@ -2,16 +2,12 @@
 use Rattle.std.specs.Prelude.{ℕ, ◌≡◌, ◌≢◌, ◌+◌, ◌<◌, ◌≤◌, ◌⊎◌, List, [], ◌∷◌, Option, Result, Ok, Err, take, length}
 use Rattle.std.specs.Io.KnownBytes.{Appends, Keeps}
 use Rattle.lw_grammar.specs.declared.grammar.Grammar as data
-use Rattle.lw_io.specs.Causes.{Rose, Faulted}
+use Rattle.lw_io.specs.Causes.{Rose}
 use Rattle.lw_io.specs.Whole.{WritesFront}
 use Rattle.lw_reading.specs.Reading.{longest_document}
 use Rattle.lw_lang.specs.Compiled.{HoldsGrammar, IsClear, Causes}
 use Rattle.lw_lang.specs.declared.fault.CompileFault.{CompileFault}
 use Rattle.lw_lang.specs.declared.fault.CompileFault.TheVariants as fault
-use Rattle.langbench.specs.declared.report.Verdict.{Verdict}
-use Rattle.langbench.specs.declared.report.Verdict.TheVariants.{Whole, Broken}
-use Rattle.langbench.specs.declared.stop.Stop.{Stop}
-use Rattle.langbench.specs.declared.stop.Stop.TheVariants.{Words, Grammar, Read, Write, Memory}
 use Rattle.langbench.specs.Checked.{Checked, ok_line}
 
 -- how many bytes of a document are read at most: one more than it may have
@@ -87,43 +83,3 @@ pub data CheckDone (g : data.Grammar) (held : List ℕ) (old new : Option (List 
   whole : Checked g (take most_read held) ok_line → Appends old new ok_line → CheckDone g held old new 0
   broken : (output : List ℕ) → Checked g (take most_read held) output → output ≢ ok_line → Appends old new output → CheckDone g held old new 1
   no_memory : CheckDone g held old new 7
-
--- ---- the same by what the work answers, before it is turned into a status
-
--- the status of each stop
-abbrev pub code_of : Stop → ℕ
-code_of Words = 2
-code_of (Grammar found) = fault_code found
-code_of Read = 4
-code_of Write = 5
-code_of Memory = 7
-
--- the count of the source rises at `Read`, and stands still at every other answer
-abbrev pub SourceCounts : {T : Type 0} → ℕ → ℕ → Result T Stop → Type 0
-SourceCounts before now (Err Read) = Faulted before now
-SourceCounts before now _ = now ≡ before
-
--- that of the sink at `Write`
-abbrev pub OutCounts : {T : Type 0} → ℕ → ℕ → Result T Stop → Type 0
-OutCounts before now (Err Write) = Faulted before now
-OutCounts before now _ = now ≡ before
-
--- that of the store at a grammar that it failed to read
-abbrev pub StoreCounts : {T : Type 0} → ℕ → ℕ → Result T Stop → Type 0
-StoreCounts before now (Err (Grammar (fault.StoreFault path))) = Faulted before now
-StoreCounts before now _ = now ≡ before
-
--- that of the patterns at a terminal whose pattern they refused
-abbrev pub PatternCounts : {T : Type 0} → ℕ → ℕ → Result T Stop → Type 0
-PatternCounts before now (Err (Grammar (fault.PatternRefused rule name at))) = Faulted before now
-PatternCounts before now _ = now ≡ before
-
--- what was printed and why it stopped
-abbrev pub Works : Files → List ℕ → List ℕ → Option (List ℕ) → Option (List ℕ) → Option (List ℕ) → Result Verdict Stop → Type 0
-Works files path held refused old new (Ok Whole) = Prints files path held ok_line × Appends old new ok_line
-Works files path held refused old new (Ok Broken) = (output : List ℕ) × Prints files path held output × (output ≢ ok_line) × Appends old new output
-Works files path held refused old new (Err Words) = ⊥
-Works files path held refused old new (Err (Grammar found)) = Causes files path refused found × Keeps old new
-Works files path held refused old new (Err Read) = Keeps old new
-Works files path held refused old new (Err Write) = WritesSome files path held old new
-Works files path held refused old new (Err Memory) = Keeps old new ⊎ WritesSome files path held old new

@@ -39,7 +39,7 @@ impl Report {
 }
 
 /// The report on the first bytes of a document: all of them, or one more than may be read.
-pub(crate) fn report(alloc: Global, language: &Language, bytes: &[u8]) -> Result<Report, NoMemory>
+pub(crate) fn report_on(alloc: Global, language: &Language, bytes: &[u8]) -> Result<Report, NoMemory>
     requires { length bytes.now ≤ longest_document + 1 }
     ensures { IfOk result (IsReport language.now.grammar bytes.now) }
 {
@@ -49,10 +49,7 @@ pub(crate) fn report(alloc: Global, language: &Language, bytes: &[u8]) -> Result
     }
     match Name::from_bytes(alloc, bytes)? {
         Some(text) => report_text(alloc, language, &text),
-        None => Ok(Report::broken(String::from_str(
-            alloc,
-            "text is not UTF-8\n",
-        )?)),
+        None => Ok(Report::broken(String::from_str(alloc, "text is not UTF-8\n")?)),
     }
 }
 
@@ -60,19 +57,20 @@ fn report_text(alloc: Global, language: &Language, text: &Name) -> Result<Report
     requires { length text.now ≤ longest_document }
     ensures { IfOk result (IsReport language.now.grammar text.now) }
 {
+    let shown = text.text();
     match language.read(alloc, text)? {
         Parsed::Whole => Ok(Report {
             line: String::from_str(alloc, "ok\n")?,
             verdict: Verdict::Whole,
         }),
-        Parsed::Broken(issue) => Ok(Report::broken(issue_line(alloc, language, text, issue)?)),
+        Parsed::Broken(issue) => Ok(Report::broken(issue_line(alloc, language, shown, issue)?)),
     }
 }
 
 fn issue_line(
     alloc: Global,
     language: &Language,
-    text: &Name,
+    text: &str,
     issue: Issue,
 ) -> Result<String, NoMemory>
     requires short { length text.now ≤ longest_document }
@@ -81,9 +79,7 @@ fn issue_line(
     ensures { IfOk result (λ output. IsIssueLine language.now.grammar text.now issue (string_bytes output)) }
 {
     match issue {
-        Issue::Lexical(span) => {
-            error_line(alloc, text, span.start, 1, "Unexpected character.")
-        }
+        Issue::Lexical(span) => error_line(alloc, text, span.start, 1, "Unexpected character."),
         Issue::Syntax(span, kind) => {
             let kind = language.kind_text(kind);
             let message = format!(in alloc; "Unexpected {kind}.")?;
@@ -99,7 +95,7 @@ fn issue_line(
 // `LINE:COL: error CODE: MESSAGE`, for the position of a byte offset.
 fn error_line(
     alloc: Global,
-    text: &Name,
+    text: &str,
     offset: u32,
     code: u8,
     message: &str,
@@ -108,7 +104,7 @@ fn error_line(
     requires within { offset ≤ length text.now }
     ensures { IfOk result (λ output. IsErrorLine text.now offset code message.now (string_bytes output)) }
 {
-    let at = position(text.text(), offset as usize);
+    let at = position(text, offset as usize);
     let line = u64::from(at.line) + 1;
     let column = u64::from(at.character) + 1;
     Ok(format!(in alloc; "{line}:{column}: error {code}: {message}\n")?)

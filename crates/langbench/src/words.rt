@@ -1,5 +1,5 @@
 // The words of the command line.
-ghost use Rattle.std.specs.Prelude.{◌≡◌, MatchOption, ℕ, List};
+ghost use Rattle.std.specs.Prelude.{◌↔◌, IsTrue, MatchOption, ℕ, List};
 ghost use Rattle.langbench.specs.Words.{IsCheck, IsOperand};
 
 use lw_base::Name;
@@ -15,7 +15,7 @@ pub(crate) fn checked_grammar(words: &[Name]) -> Option<&Name>
 }
 
 fn is_operand(word: &str) -> bool
-    ensures { result ≡ true → IsOperand word.now }
+    ensures { IsTrue result ↔ IsOperand word.now }
 {
     !word.starts_with('-')
 }

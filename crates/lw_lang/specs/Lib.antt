@@ -7,3 +7,4 @@ pub mod FlatParts
 pub mod Language
 pub mod KindTexts
 pub mod Ready
+pub mod Compiled

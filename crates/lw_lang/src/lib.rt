@@ -1,10 +1,14 @@
 //! A grammar made ready: a grammar file becomes a language, and a text is read by it.
 #![tactic(auto)]
 
+mod compiler;
+mod fault;
 mod flat;
 mod flat_parts;
 mod language;
 mod recogniser;
 
+pub use compiler::compile;
+pub use fault::CompileFault;
 pub use language::{LONGEST_DOCUMENT, Language};
 pub use lw_reading::{Issue, Parsed};

@@ -1,0 +1,15 @@
+use Rattle.std.proofs.Common.{◌≡◌, ℕ, List, ◌∙◌, sym, subst, string_bytes, arith}
+use Rattle.langbench.specs.Checked as checked
+use Rattle.langbench.specs.Checked.{Checked}
+use Rattle.langbench.proofs.ReportLemmas.{issue_line_is_not_ok}
+use Rattle.langbench.proofs.report.report_text.Goals as goal
+
+pub returns-in_ok-from_str-in-Whole : goal.returns-in_ok-from_str-in-Whole
+returns-in_ok-from_str-in-Whole c = record {
+  printed = subst (Checked c.args.language.now.grammar c.args.text.now) (sym c.in_ok-from_str-in-Whole.ensures.ok)
+      (checked.ok c.requires c.text-shown.ensures.utf8 (rw c.in-Whole.is at c.in_ok-read.ensures.reads));
+  verdict = c.in_ok-from_str-in-Whole.ensures.ok;
+}
+
+pub returns-in_ok-issue_line-in-Broken : goal.returns-in_ok-issue_line-in-Broken
+returns-in_ok-issue_line-in-Broken c = ?

@@ -1,0 +1,68 @@
+-- Why a run stops: the status of each stop, which counts rise, and what the work answers before it is turned into a status.
+use Rattle.std.specs.Prelude.{ℕ, ◌≡◌, ◌≢◌, ◌⊎◌, List, Option, Result, Ok, Err}
+use Rattle.std.specs.Io.KnownBytes.{Appends, Keeps}
+use Rattle.lw_io.specs.Causes.{Faulted}
+use Rattle.lw_io.specs.declared.whole.ReadFault.{ReadFault}
+use Rattle.lw_io.specs.declared.whole.ReadFault.TheVariants as reading
+use Rattle.lw_io.specs.declared.whole.WriteFault.{WriteFault}
+use Rattle.lw_io.specs.declared.whole.WriteFault.TheVariants as writing
+use Rattle.lw_lang.specs.Compiled.{Causes}
+use Rattle.lw_lang.specs.declared.fault.CompileFault.{CompileFault}
+use Rattle.lw_lang.specs.declared.fault.CompileFault.TheVariants as fault
+use Rattle.langbench.specs.declared.report.Verdict.{Verdict}
+use Rattle.langbench.specs.declared.report.Verdict.TheVariants.{Whole, Broken}
+use Rattle.langbench.specs.declared.stop.Stop.{Stop}
+use Rattle.langbench.specs.declared.stop.Stop.TheVariants.{Words, Grammar, Read, Write, Memory}
+use Rattle.langbench.specs.Checked.{ok_line}
+use Rattle.langbench.specs.Run.{Files, Prints, WritesSome, fault_code}
+
+-- the status of each stop
+abbrev pub code_of : Stop → ℕ
+code_of Words = 2
+code_of (Grammar found) = fault_code found
+code_of Read = 4
+code_of Write = 5
+code_of Memory = 7
+
+-- why a run stops where a read, a write or the compiling of a grammar failed
+abbrev pub stop_of_read : ReadFault → Stop
+stop_of_read reading.Failed = Read
+stop_of_read reading.NoMemory = Memory
+
+abbrev pub stop_of_write : WriteFault → Stop
+stop_of_write writing.Failed = Write
+stop_of_write writing.NoMemory = Memory
+
+abbrev pub stop_of_fault : CompileFault → Stop
+stop_of_fault fault.NoMemory = Memory
+stop_of_fault found = Grammar found
+
+-- the count of the source rises at `Read`, and stands still at every other answer
+abbrev pub SourceCounts : {T : Type 0} → ℕ → ℕ → Result T Stop → Type 0
+SourceCounts before now (Err Read) = Faulted before now
+SourceCounts before now _ = now ≡ before
+
+-- that of the sink at `Write`
+abbrev pub OutCounts : {T : Type 0} → ℕ → ℕ → Result T Stop → Type 0
+OutCounts before now (Err Write) = Faulted before now
+OutCounts before now _ = now ≡ before
+
+-- that of the store at a grammar that it failed to read
+abbrev pub StoreCounts : {T : Type 0} → ℕ → ℕ → Result T Stop → Type 0
+StoreCounts before now (Err (Grammar (fault.StoreFault path))) = Faulted before now
+StoreCounts before now _ = now ≡ before
+
+-- that of the patterns at a terminal whose pattern they refused
+abbrev pub PatternCounts : {T : Type 0} → ℕ → ℕ → Result T Stop → Type 0
+PatternCounts before now (Err (Grammar (fault.PatternRefused rule name at))) = Faulted before now
+PatternCounts before now _ = now ≡ before
+
+-- what was printed, and why it stopped
+abbrev pub Works : Files → List ℕ → List ℕ → Option (List ℕ) → Option (List ℕ) → Option (List ℕ) → Result Verdict Stop → Type 0
+Works files path held refused old new (Ok Whole) = Prints files path held ok_line × Appends old new ok_line
+Works files path held refused old new (Ok Broken) = (output : List ℕ) × Prints files path held output × (output ≢ ok_line) × Appends old new output
+Works files path held refused old new (Err Words) = ⊥
+Works files path held refused old new (Err (Grammar found)) = Causes files path refused found × Keeps old new
+Works files path held refused old new (Err Read) = Keeps old new
+Works files path held refused old new (Err Write) = WritesSome files path held old new
+Works files path held refused old new (Err Memory) = Keeps old new ⊎ WritesSome files path held old new

@@ -1,0 +1,72 @@
+-- What compiling a root file answers, by what the store holds.
+use Rattle.std.specs.Prelude.{ℕ, ◌≡◌, ◌+◌, ◌≤◌, ◌<◌, ◌⊎◌, List, Option, Some, None, Result, Ok, Err, IfSome, length, slice_get}
+use Rattle.std.specs.Str.{IsUtf8}
+use Rattle.lw_base.specs.declared.token.Span.{Span}
+use Rattle.lw_grammar.specs.declared.grammar.Grammar.{Grammar}
+use Rattle.lw_grammar.specs.declared.terminal.Terminal.{Terminal}
+use Rattle.lw_io.specs.Causes.{Faulted}
+use Rattle.lw_io.specs.Store.{file_at}
+use Rattle.lw_text.specs.Position.{IsPosition}
+use Rattle.lw_text.specs.declared.place.Pos.{Pos}
+use Rattle.lw_tokens.specs.Patterns.{TerminalPattern}
+use Rattle.lw_lang.specs.Small.{SaysSmall}
+use Rattle.lw_lang.specs.Obstacles.{HasObstacle, MatchesEmpty, HasKindPattern}
+use Rattle.lw_lang.specs.declared.fault.CompileFault.{CompileFault}
+use Rattle.lw_lang.specs.declared.fault.CompileFault.TheVariants.{Absent, NotUtf8, TooLong, StoreFault, Unbuilt, PatternRefused, NoMemory}
+
+-- the longest file that is read, in bytes
+abbrev pub longest_file : ℕ
+longest_file = 67108864
+
+-- the path holds this text
+pub record HoldsText (files : List (List ℕ × List ℕ)) (path text : List ℕ) : Type 0 where
+  pub held : file_at files path ≡ Some text
+  pub short : length text ≤ longest_file
+  pub utf8 : IsUtf8 text
+
+-- the text of a file at this path says this grammar and no other
+pub record Says (path text : List ℕ) (g : Grammar) : Type 0 where
+  pub says : SaysSmall path text g
+  pub only : (other : Grammar) → SaysSmall path text other → other ≡ g
+
+-- the path holds a file that says this grammar
+pub record HoldsGrammar (files : List (List ℕ × List ℕ)) (path : List ℕ) (g : Grammar) : Type 0 where
+  pub text : List ℕ
+  pub holds : HoldsText files path text
+  pub says : Says path text g
+
+-- a grammar with none of the listed conditions
+abbrev pub IsClear : Grammar → Type 0
+IsClear g = (¬ HasObstacle g) × (¬ MatchesEmpty g)
+
+-- why a text is not built: no grammar is said, or one with a condition, which is told at the file's start
+pub data IsNotBuilt (path text : List ℕ) (s : Span) : Type 0 where
+  says_nothing : ((g : Grammar) → ¬ SaysSmall path text g) → IsNotBuilt path text s
+  has_condition : (g : Grammar) → Says path text g → HasObstacle g ⊎ MatchesEmpty g → s ≡ record { start = 0; end = 0 } → IsNotBuilt path text s
+
+-- the terminal of this number, which is counted behind the rules, has this pattern
+abbrev pub IsNumberedPattern : Grammar → ℕ → List ℕ → Type 0
+IsNumberedPattern g number pattern =
+    (t : ℕ) × (terminal : Terminal) × (slice_get g.terminals t ≡ Some terminal) × (number ≡ length g.rules + t) × TerminalPattern g terminal pattern
+
+-- why each fault comes, by the files and the text that the patterns refused last
+abbrev pub Causes : List (List ℕ × List ℕ) → List ℕ → Option (List ℕ) → CompileFault → Type 0
+Causes files root refused (Absent path) = (path ≡ root) × (file_at files root ≡ None)
+Causes files root refused (NotUtf8 path) = (path ≡ root) × ((bytes : List ℕ) × (file_at files root ≡ Some bytes) × (length bytes ≤ longest_file) × ¬ (IsUtf8 bytes))
+Causes files root refused (TooLong path) = (path ≡ root) × ((bytes : List ℕ) × (file_at files root ≡ Some bytes) × (longest_file < length bytes))
+Causes files root refused (StoreFault path) = path ≡ root
+Causes files root refused (Unbuilt s at) = (text : List ℕ) × HoldsText files root text × IsNotBuilt root text s × IsPosition text s.start at
+Causes files root refused (PatternRefused rule name at) =
+    (g : Grammar) × HoldsGrammar files root g × (¬ HasObstacle g) × (pattern : List ℕ) × (refused ≡ Some pattern) × HasKindPattern g pattern
+    × IsNumberedPattern g rule.0 pattern
+Causes files root refused NoMemory = Unit {0}
+
+-- the count of the store rises at `StoreFault`, and stands still at every other answer
+abbrev pub StoreCounts : {T : Type 0} → ℕ → ℕ → Result T CompileFault → Type 0
+StoreCounts before now (Err (StoreFault path)) = Faulted before now
+StoreCounts before now _ = now ≡ before
+
+-- the count of the patterns rises at `PatternRefused`, and stands still at every other answer
+abbrev pub PatternCounts : {T : Type 0} → ℕ → ℕ → Result T CompileFault → Type 0
+PatternCounts before now (Err (PatternRefused rule name at)) = Faulted before now
+PatternCounts before now _ = now ≡ before
