@@ -1,7 +1,7 @@
 //! Where the next line break stands.
-ghost use Rattle.std.specs.Prelude.{◌≡◌, ◌+◌, ◌≤◌, ◌<◌, ℕ, length, position};
+ghost use Rattle.std.specs.Prelude.{◌≡◌, ◌+◌, ◌≤◌, ◌<◌, ℕ, length, position, IfSome, IfNone};
 ghost use Rattle.std.specs.List.{position_or_len};
-ghost use Rattle.lw_lanes.specs.LineBreak.{is_break, next_break};
+ghost use Rattle.lw_lanes.specs.LineBreak.{is_break, next_break, IsLeastBreak, NoBreakBetween};
 
 use crate::block::{BLOCK, break_marks};
 use std::simd::prelude::*;
@@ -10,7 +10,9 @@ use std::simd::prelude::*;
 /// Language Server Protocol 3.17. None exactly where no such byte follows.
 pub fn next_break(bytes: &[u8], from: usize) -> Option<usize>
     requires { from ≤ length bytes.now }
-    ensures { result ≡ next_break bytes.now from }
+    ensures value { result ≡ next_break bytes.now from }
+    ensures least { IfSome result (IsLeastBreak bytes.now from) }
+    ensures none { IfNone result (NoBreakBetween bytes.now from (length bytes.now)) }
 {
     let mut at = from;
     'whole: while bytes.len() - at >= BLOCK {
@@ -25,7 +27,6 @@ pub fn next_break(bytes: &[u8], from: usize) -> Option<usize>
 
 /// The lane of the block's first break, or the number of lanes where it has none.
 fn first_break_in(block: u8x32) -> usize
-    requires { length block ≡ 32 }
     ensures { result ≡ position_or_len is_break block }
 {
     let marks = break_marks(block);
@@ -40,5 +41,7 @@ fn first_break_in(block: u8x32) -> usize
 fn first_break(bytes: &[u8]) -> Option<usize>
     ensures { result ≡ position is_break bytes.now }
 {
-    bytes.iter().position(|byte| *byte == b'\n' || *byte == b'\r')
+    bytes
+        .iter()
+        .position(|byte| *byte == b'\n' || *byte == b'\r')
 }

@@ -1,11 +1,12 @@
 //! Counts over all bytes.
-ghost use Rattle.std.specs.Prelude.{◌≡◌, ◌+◌, ◌*◌, ◌≤◌, ◌<◌, ℕ, if◌then◌else◌, length, sum_by};
+ghost use Rattle.std.specs.Prelude.{◌≡◌, ◌+◌, ◌*◌, ◌≤◌, ◌<◌, ℕ, if◌then◌else◌, length, sum_by, IsUtf8};
+ghost use Rattle.std.specs.Str.{chars};
 ghost use Rattle.std.proofs.Common.{arith};
 ghost use Rattle.std.proofs.lemmas.Grind.{common_steps};
-ghost use Rattle.lw_lanes.specs.Utf8.{begins_character, begins_pair, characters, utf16_units};
+ghost use Rattle.lw_lanes.specs.Utf8.{begins_character, begins_pair, characters, utf16_units, in_utf16};
 ghost use Rattle.lw_lanes.specs.LineBreak.{is_break, breaks};
 
-use crate::block::{BLOCK, below, break_marks};
+use crate::block::{BLOCK, at_least, below, break_marks, raised};
 use std::simd::prelude::*;
 
 /// The most bytes that one call counts: 64 MiB, so that every count fits.
@@ -18,7 +19,8 @@ pub const MAX_BYTES: usize = 67_108_864;
 /// plus the number of those that are 240 or more. After The Unicode Standard, section 3.9.
 pub fn utf16_len(bytes: &[u8]) -> u32
     requires { length bytes.now ≤ MAX_BYTES }
-    ensures { result ≡ utf16_units bytes.now }
+    ensures bytewise { result ≡ utf16_units bytes.now }
+    ensures of_text { IsUtf8 bytes.now → result ≡ length (in_utf16 bytes.now) }
 {
     total::<Utf16Unit>(bytes)
 }
@@ -29,7 +31,8 @@ pub fn utf16_len(bytes: &[u8]) -> u32
 /// After The Unicode Standard, section 3.9.
 pub fn char_count(bytes: &[u8]) -> u32
     requires { length bytes.now ≤ MAX_BYTES }
-    ensures { result ≡ characters bytes.now }
+    ensures bytewise { result ≡ characters bytes.now }
+    ensures of_text { IsUtf8 bytes.now → result ≡ length (chars bytes.now) }
 {
     total::<Character>(bytes)
 }
@@ -52,7 +55,6 @@ trait Counted {
         ensures { result ≡ at byte };
 
     fn in_block(block: u8x32) -> u32
-        requires { length block ≡ 32 }
         ensures { result ≡ sum_by at block };
 
     ghost at_most_two: { (byte : ℕ) → at byte ≤ 2 };
@@ -70,7 +72,8 @@ impl Counted for Character {
     }
 
     fn in_block(block: u8x32) -> u32 {
-        below(block, 128) + (32 - below(block, 192))
+        // Of the raised bytes, those that were 128 to 191 are the ones from 192 on.
+        below(raised(block, 64), 192)
     }
 }
 
@@ -86,7 +89,7 @@ impl Counted for Utf16Unit {
     }
 
     fn in_block(block: u8x32) -> u32 {
-        Character::in_block(block) + (32 - below(block, 240))
+        Character::in_block(block) + at_least(block, 240)
     }
 }
 

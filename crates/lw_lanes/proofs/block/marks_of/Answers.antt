@@ -3,4 +3,4 @@ use Rattle.std.proofs.lemmas.Simd.{bitmask_splat}
 use Rattle.lw_lanes.proofs.block.marks_of.Goals as goal
 
 pub returns : goal.returns
-returns c = bitmask_splat w8 nat_eq c.args.block 32 c.args.byte c.requires (omega arith)
+returns c = bitmask_splat w8 nat_eq c.args.block 32 c.args.byte c.fits-block.0 (omega arith)

@@ -1,4 +1,4 @@
-use Rattle.std.proofs.Common.{◌≡◌, ◌<◌, ◌∙◌, sym, ap, arith, map}
+use Rattle.std.proofs.Common.{◌<◌, ◌∙◌, sym, ap, arith, map}
 use lib.Count.{count_trailing_zeros}
 use Rattle.std.specs.Simd.Lanes.{mask_l}
 use Rattle.std.proofs.lemmas.Simd.{leading_from_mask_l, trailing_mask_l}
@@ -7,7 +7,7 @@ use Rattle.lw_lanes.proofs.breaks.first_break_in.Goals as goal
 
 pub returns-then-marks-eq0 : goal.returns-then-marks-eq0
 returns-then-marks-eq0 c =
-    sym (leading_from_mask_l is_break c.args.block (sym c.break_marks-marks.ensures ∙ c.if-marks-eq0.true) ∙ c.requires)
+    sym (leading_from_mask_l is_break c.args.block (sym c.break_marks-marks.ensures ∙ c.if-marks-eq0.true) ∙ c.fits-block.0)
 
 pub returns-else-marks-eq0 : goal.returns-else-marks-eq0
 returns-else-marks-eq0 c =

@@ -1,4 +1,4 @@
-use Rattle.std.proofs.Common.{◌≡◌, ◌≤◌, ℕ, List, [], length, get_or, sum_by, arith}
+use Rattle.std.proofs.Common.{ℕ, List, [], get_or, sum_by, arith}
 use Rattle.std.proofs.lemmas.List.Sums.{sum_by_more}
 use Rattle.lw_lanes.proofs.Counting.{sum-at_most_two}
 use Rattle.lw_lanes.proofs.counts.in_blocks.Goals as goal
