@@ -8,12 +8,11 @@ use Rattle.std.specs.Char.Escape.{encode_utf16}
 abbrev pub is_continuation : ℕ → Bool
 is_continuation byte = nat_le 128 byte && nat_le byte 191
 
--- a byte that begins a character, as every character has one
+-- a byte that begins a character, of which every character has one. Bytes that stand in no UTF-8 text, as 255, count as beginnings too
 abbrev pub begins_character : ℕ → Bool
 begins_character byte = not (is_continuation byte)
 
--- a byte that begins a character of four bytes, `11110xxx`: these are the characters from U+10000 on,
--- which take two units in UTF-16
+-- a byte that begins a character of four bytes, `11110xxx`: these are the characters from U+10000 on, which take a pair of units in UTF-16
 abbrev pub begins_pair : ℕ → Bool
 begins_pair byte = nat_le 240 byte
 

@@ -1,4 +1,4 @@
-//! One block of bytes in the lanes of a vector.
+//! One byte, and one block of bytes in the lanes of a vector.
 ghost use Rattle.std.specs.Prelude.{◌≡◌, ◌==◌, ◌+◌, ◌%◌, map, nat_lt, nat_le, count_by};
 ghost use Rattle.std.specs.Simd.Lanes.{mask_l};
 ghost use Rattle.lw_lanes.specs.LineBreak.{is_break};
@@ -27,6 +27,13 @@ pub(crate) fn raised(block: u8x32, step: u8) -> u8x32
     ensures { result ≡ map (λ byte. (byte + step) % 256) block }
 {
     block + u8x32::splat(step)
+}
+
+/// Whether the byte ends a line.
+pub(crate) fn is_break(byte: u8) -> bool
+    ensures { result ≡ is_break byte }
+{
+    byte == b'\n' || byte == b'\r'
 }
 
 /// The places of the block's breaks: bit k is set where byte k is one.

@@ -3,7 +3,7 @@ ghost use Rattle.std.specs.Prelude.{◌≡◌, ◌+◌, ◌≤◌, ◌<◌, ℕ,
 ghost use Rattle.std.specs.List.{position_or_len};
 ghost use Rattle.lw_lanes.specs.LineBreak.{is_break, next_break, IsLeastBreak, NoBreakBetween};
 
-use crate::block::{BLOCK, break_marks};
+use crate::block::{BLOCK, break_marks, is_break};
 use std::simd::prelude::*;
 
 /// The least place from `from` on where a byte ends a line: `\n` or `\r`, by the line ends of the
@@ -41,7 +41,5 @@ fn first_break_in(block: u8x32) -> usize
 fn first_break(bytes: &[u8]) -> Option<usize>
     ensures { result ≡ position is_break bytes.now }
 {
-    bytes
-        .iter()
-        .position(|byte| *byte == b'\n' || *byte == b'\r')
+    bytes.iter().position(|byte| is_break(*byte))
 }

@@ -6,17 +6,17 @@ ghost use Rattle.std.proofs.lemmas.Grind.{common_steps};
 ghost use Rattle.lw_lanes.specs.Utf8.{begins_character, begins_pair, characters, utf16_units, in_utf16};
 ghost use Rattle.lw_lanes.specs.LineBreak.{is_break, breaks};
 
-use crate::block::{BLOCK, at_least, below, break_marks, raised};
+use crate::block::{BLOCK, at_least, below, break_marks, is_break, raised};
 use std::simd::prelude::*;
 
 /// The most bytes that one call counts: 64 MiB, so that every count fits.
 pub const MAX_BYTES: usize = 67_108_864;
 
-/// How many units of UTF-16 the characters of a UTF-8 text take: one for each, and two for a
-/// character of four bytes, from U+10000 on.
+/// How many units a UTF-8 text takes in UTF-16: one for each character, and one more for each of four
+/// bytes, from U+10000 on.
 ///
-/// Of bytes that are no text it is the number of those that are no continuation byte (128 to 191)
-/// plus the number of those that are 240 or more. After The Unicode Standard, section 3.9.
+/// Of any bytes it is the number of those that are no continuation byte (128 to 191) plus the number
+/// of those that are 240 or more. After The Unicode Standard, section 3.9.
 pub fn utf16_len(bytes: &[u8]) -> u32
     requires { length bytes.now ≤ MAX_BYTES }
     ensures bytewise { result ≡ utf16_units bytes.now }
@@ -27,7 +27,7 @@ pub fn utf16_len(bytes: &[u8]) -> u32
 
 /// How many characters a UTF-8 text has.
 ///
-/// Of bytes that are no text it is the number of those that are no continuation byte (128 to 191).
+/// Of any bytes it is the number of those that are no continuation byte (128 to 191).
 /// After The Unicode Standard, section 3.9.
 pub fn char_count(bytes: &[u8]) -> u32
     requires { length bytes.now ≤ MAX_BYTES }
@@ -101,7 +101,7 @@ impl Counted for Break {
     ghost at_most_two = { λ byte. Prim.grind (arith, common_steps) };
 
     fn at_byte(byte: u8) -> u32 {
-        u32::from(byte == b'\n' || byte == b'\r')
+        u32::from(is_break(byte))
     }
 
     fn in_block(block: u8x32) -> u32 {

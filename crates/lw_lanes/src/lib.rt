@@ -5,8 +5,9 @@
 //! UTF-8. Each byte counts by itself, so counts of neighbouring pieces add up, wherever they are cut.
 //!
 //! It promises that every answer is the plain count, byte by byte, over the whole list, at every
-//! length that is allowed, and that no call takes memory. That vectors make it fast is measured and
-//! not proved.
+//! length that is allowed; that of a UTF-8 text the counts are those of its characters and of its
+//! units in UTF-16; and that no call takes memory. That vectors make it fast is measured and not
+//! proved.
 #![tactic(auto)]
 
 mod block;
