@@ -1,0 +1,4 @@
+pub mod Counting
+pub mod Masks
+pub mod FirstBreak
+pub mod Texts

@@ -1,0 +1,2 @@
+pub mod LineBreak
+pub mod Utf8
