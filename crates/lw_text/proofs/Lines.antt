@@ -97,7 +97,7 @@ cut_after_return : (rest : List ℕ) → Cut rest → ((more : List ℕ) → res
 cut_after_return rest cut behind =
     ⊎_elim
     (λ feed. let cut = behind feed.0 feed.1 in
-        (_, subst (λ bytes. AreLines (13 ∷ bytes) (record { content = []; ending = 13 ∷ 10 ∷ [] } ∷ cut.0)) (sym feed.1) (next {content = []} (All-nil IsNoBreak) both cut.1)))
+    (_, subst (λ bytes. AreLines (13 ∷ bytes) (record { content = []; ending = 13 ∷ 10 ∷ [] } ∷ cut.0)) (sym feed.1) (next {content = []} (All-nil IsNoBreak) both cut.1)))
     (λ none. (_, next {content = []} {rest = rest} (All-nil IsNoBreak) (carriage_return none) cut.1))
     (begins_with 10 rest)
 
@@ -105,9 +105,9 @@ cut_step : (c : ℕ) (rest : List ℕ) → Cut rest → ((more : List ℕ) → r
 cut_step c rest cut behind =
     ⊎_elim (λ return. subst (λ b. Cut (b ∷ rest)) (sym return) (cut_after_return rest cut behind))
     (λ no_return. ⊎_elim
-        (λ feed. subst (λ b. Cut (b ∷ rest)) (sym feed) (_, next {content = []} {rest = rest} (All-nil IsNoBreak) line_feed cut.1))
-        (λ no_feed. (_, AreLines-lengthened (c ∷ []) (All-cons IsNoBreak c [] (no_return, no_feed) (All-nil IsNoBreak)) cut.1))
-        (cases_eq c 10))
+    (λ feed. subst (λ b. Cut (b ∷ rest)) (sym feed) (_, next {content = []} {rest = rest} (All-nil IsNoBreak) line_feed cut.1))
+    (λ no_feed. (_, AreLines-lengthened (c ∷ []) (All-cons IsNoBreak c [] (no_return, no_feed) (All-nil IsNoBreak)) cut.1))
+    (cases_eq c 10))
     (cases_eq c 13)
 
 -- with the cut of what follows the first byte

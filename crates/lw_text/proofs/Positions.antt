@@ -4,7 +4,7 @@ use Rattle.std.specs.Char.{IsScalar}
 use Rattle.std.proofs.lemmas.List.{append_cancel_left}
 use Rattle.std.proofs.lemmas.List.Sums.{sum_by-cons}
 use Rattle.std.proofs.lemmas.Str.{encode_same, length-encode, len_utf8_bounds}
-use Rattle.lw_text.specs.Lines.{Line, AreLines, bytes_of, bytes_of_all}
+use Rattle.lw_text.specs.Lines.{Line, bytes_of, bytes_of_all}
 use Rattle.lw_text.specs.Position.{AreCharsBefore, IsInLine, IsPosition, utf16_units}
 use Rattle.lw_text.specs.declared.place.Pos.{Pos}
 use Rattle.lw_text.proofs.Lines.{AreLines-only}
@@ -83,8 +83,8 @@ IsPosition-only text offset a b p q =
     let zeroth : (k : ℕ) → k ≡ 0 + k = λ k. omega arith in
     let lines = AreLines-only p.cut q.cut in
     let before = same_before p.before q.before p.line q.line p.after q.after offset 0 lines
-        (subst (λ k. IsInLine offset k p.line p.after) (zeroth (bytes_of_all p.before)) p.inside)
-        (subst (λ k. IsInLine offset k q.line q.after) (zeroth (bytes_of_all q.before)) q.inside) in
+    (subst (λ k. IsInLine offset k p.line p.after) (zeroth (bytes_of_all p.before)) p.inside)
+    (subst (λ k. IsInLine offset k q.line q.after) (zeroth (bytes_of_all q.before)) q.inside) in
     let rest = append_cancel_left q.before (p.line ∷ p.after) (q.line ∷ q.after) (ap (λ xs. xs ++ p.line ∷ p.after) (sym before) ∙ lines) in
     let line : p.line ≡ q.line = cc in
     let starts : bytes_of_all p.before ≡ bytes_of_all q.before = ap bytes_of_all before in
