@@ -9,6 +9,11 @@ pub AreLines-joined : {text : List ℕ} {lines : List Line} → AreLines text li
 AreLines-joined (last {content} _) = sym (append-nil (content ++ []) ∙ append-nil content)
 AreLines-joined (next {content} {ending} _ _ rest) = ap (λ bytes. content ++ ending ++ bytes) (AreLines-joined rest)
 
+-- lines among which one stands are not none
+pub not_none : (before : List Line) (line : Line) (after : List Line) → [] ≢ before ++ line ∷ after
+not_none [] line after e = cc
+not_none (first ∷ before) line after e = cc
+
 -- ---- at most one cut
 -- the text is over, or goes on with what ends a line
 abbrev IsBreak : List ℕ → Type 0

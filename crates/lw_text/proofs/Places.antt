@@ -9,7 +9,7 @@ use Rattle.std.proofs.lemmas.List.Sums.{sum_by-cons}
 use Rattle.std.proofs.lemmas.Str.{IsUtf8-drop, IsCharBoundary-from_drop, IsCharBoundary-from_rest, IsCharBoundary-before_ascii, IsCharBoundary-past_char, inside_one, length-encode, len_utf8_ascii, len_utf8_bounds, encodes-chars, scalars-chars}
 use Rattle.lw_text.specs.Lines.{IsNoBreak, Line, IsEnding, line_feed, both, carriage_return, AreLines, last, next, joined, bytes_of, bytes_of_all}
 use Rattle.lw_text.specs.Position.{AreCharsBefore, IsInLine, IsLineOf, IsPosition, utf16_units}
-use Rattle.lw_text.proofs.Lines.{AreLines-joined}
+use Rattle.lw_text.proofs.Lines.{AreLines-joined, not_none}
 
 -- ---- a line among the lines of a text
 -- these bytes begin with the line, and go on with the lines after it
@@ -22,10 +22,6 @@ some_lines : {text : List ℕ} {lines : List Line} → AreLines text lines → l
 some_lines (last _) e = cc
 some_lines (next _ _ _) e = cc
 
-over_not_cons : (before : List Line) (line : Line) (after : List Line) → [] ≢ before ++ line ∷ after
-over_not_cons [] line after e = cc
-over_not_cons (first ∷ before) line after e = cc
-
 line_in : (before : List Line) {text : List ℕ} {lines : List Line} → AreLines text lines → (line : Line) (after : List Line) → lines ≡ before ++ line ∷ after → BeginsWith (drop (bytes_of_all before) text) line after
 line_in [] (last {content} bare) line after e =
     let first : record { content = content; ending = [] } ≡ line = cc in
@@ -37,7 +33,7 @@ line_in [] (next {content} {ending} {rest} {lines} bare ends more) line after e 
     let whole : content ++ ending ++ rest ≡ content ++ (ending ++ joined lines) = append_assoc content ending rest ∙ ap (λ bytes. content ++ (ending ++ bytes)) (AreLines-joined more) in
     subst₂ (λ l ls. BeginsWith (content ++ ending ++ rest) l ls) first others
     (record { bare = bare; parts = whole; ends = inr (subst (λ bytes. IsEnding bytes ending) (AreLines-joined more) ends, some_lines more) })
-line_in (first ∷ before) (last _) line after e = let over : [] ≡ before ++ line ∷ after = cc in absurd (over_not_cons before line after over)
+line_in (first ∷ before) (last _) line after e = let over : [] ≡ before ++ line ∷ after = cc in absurd (not_none before line after over)
 line_in (first ∷ before) (next {content} {ending} {rest} {lines} bare ends more) line after e =
     let same : record { content = content; ending = ending } ≡ first = cc in
     let others : lines ≡ before ++ line ∷ after = cc in
