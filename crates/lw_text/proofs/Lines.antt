@@ -9,6 +9,11 @@ pub AreLines-joined : {text : List ℕ} {lines : List Line} → AreLines text li
 AreLines-joined (last {content} _) = sym (append-nil (content ++ []) ∙ append-nil content)
 AreLines-joined (next {content} {ending} _ _ rest) = ap (λ bytes. content ++ ending ++ bytes) (AreLines-joined rest)
 
+-- lines among which one stands are not none
+pub not_none : (before : List Line) (line : Line) (after : List Line) → [] ≢ before ++ line ∷ after
+not_none [] line after e = cc
+not_none (first ∷ before) line after e = cc
+
 -- ---- at most one cut
 -- the text is over, or goes on with what ends a line
 abbrev IsBreak : List ℕ → Type 0
@@ -97,7 +102,7 @@ cut_after_return : (rest : List ℕ) → Cut rest → ((more : List ℕ) → res
 cut_after_return rest cut behind =
     ⊎_elim
     (λ feed. let cut = behind feed.0 feed.1 in
-        (_, subst (λ bytes. AreLines (13 ∷ bytes) (record { content = []; ending = 13 ∷ 10 ∷ [] } ∷ cut.0)) (sym feed.1) (next {content = []} (All-nil IsNoBreak) both cut.1)))
+    (_, subst (λ bytes. AreLines (13 ∷ bytes) (record { content = []; ending = 13 ∷ 10 ∷ [] } ∷ cut.0)) (sym feed.1) (next {content = []} (All-nil IsNoBreak) both cut.1)))
     (λ none. (_, next {content = []} {rest = rest} (All-nil IsNoBreak) (carriage_return none) cut.1))
     (begins_with 10 rest)
 
@@ -105,9 +110,9 @@ cut_step : (c : ℕ) (rest : List ℕ) → Cut rest → ((more : List ℕ) → r
 cut_step c rest cut behind =
     ⊎_elim (λ return. subst (λ b. Cut (b ∷ rest)) (sym return) (cut_after_return rest cut behind))
     (λ no_return. ⊎_elim
-        (λ feed. subst (λ b. Cut (b ∷ rest)) (sym feed) (_, next {content = []} {rest = rest} (All-nil IsNoBreak) line_feed cut.1))
-        (λ no_feed. (_, AreLines-lengthened (c ∷ []) (All-cons IsNoBreak c [] (no_return, no_feed) (All-nil IsNoBreak)) cut.1))
-        (cases_eq c 10))
+    (λ feed. subst (λ b. Cut (b ∷ rest)) (sym feed) (_, next {content = []} {rest = rest} (All-nil IsNoBreak) line_feed cut.1))
+    (λ no_feed. (_, AreLines-lengthened (c ∷ []) (All-cons IsNoBreak c [] (no_return, no_feed) (All-nil IsNoBreak)) cut.1))
+    (cases_eq c 10))
     (cases_eq c 13)
 
 -- with the cut of what follows the first byte

@@ -1,5 +1,5 @@
 -- What stands in the line of a place before the place.
-use Rattle.std.proofs.Common.{◌≡◌, ◌≢◌, ℕ, ◌+◌, ◌-◌, ◌<◌, ◌≤◌, ◌⊎◌, inl, inr, ⊎_elim, Bool, true, List, [], ◌∷◌, ◌++◌, length, take, drop, get_or, All, Option, Some, None, MatchOption, unwrap_or, Bor, refl, sym, ap, ◌∙◌, subst, subst₂, append_assoc, append-nil, arith, length-append, length-drop, length-take-le, take-append-drop, encode_utf8, encode_utf8_all, chars, IsUtf8, IsCharBoundary}
+use Rattle.std.proofs.Common.{◌≡◌, ◌≢◌, ℕ, ◌+◌, ◌-◌, ◌<◌, ◌≤◌, ◌⊎◌, inl, inr, ⊎_elim, true, List, [], ◌∷◌, ◌++◌, length, take, drop, get_or, All, Option, Some, None, MatchOption, unwrap_or, Bor, refl, sym, ap, ◌∙◌, subst, subst₂, append_assoc, append-nil, arith, length-append, length-drop, length-take-le, take-append-drop, encode_utf8, encode_utf8_all, chars, IsUtf8, IsCharBoundary}
 use Rattle.std.specs.Char.{IsScalar}
 use Rattle.std.specs.Str.{all_scalars}
 use Rattle.std.proofs.lemmas.Bool.{and_parts}
@@ -9,7 +9,7 @@ use Rattle.std.proofs.lemmas.List.Sums.{sum_by-cons}
 use Rattle.std.proofs.lemmas.Str.{IsUtf8-drop, IsCharBoundary-from_drop, IsCharBoundary-from_rest, IsCharBoundary-before_ascii, IsCharBoundary-past_char, inside_one, length-encode, len_utf8_ascii, len_utf8_bounds, encodes-chars, scalars-chars}
 use Rattle.lw_text.specs.Lines.{IsNoBreak, Line, IsEnding, line_feed, both, carriage_return, AreLines, last, next, joined, bytes_of, bytes_of_all}
 use Rattle.lw_text.specs.Position.{AreCharsBefore, IsInLine, IsLineOf, IsPosition, utf16_units}
-use Rattle.lw_text.proofs.Lines.{AreLines-joined}
+use Rattle.lw_text.proofs.Lines.{AreLines-joined, not_none}
 
 -- ---- a line among the lines of a text
 -- these bytes begin with the line, and go on with the lines after it
@@ -22,10 +22,6 @@ some_lines : {text : List ℕ} {lines : List Line} → AreLines text lines → l
 some_lines (last _) e = cc
 some_lines (next _ _ _) e = cc
 
-over_not_cons : (before : List Line) (line : Line) (after : List Line) → [] ≢ before ++ line ∷ after
-over_not_cons [] line after e = cc
-over_not_cons (first ∷ before) line after e = cc
-
 line_in : (before : List Line) {text : List ℕ} {lines : List Line} → AreLines text lines → (line : Line) (after : List Line) → lines ≡ before ++ line ∷ after → BeginsWith (drop (bytes_of_all before) text) line after
 line_in [] (last {content} bare) line after e =
     let first : record { content = content; ending = [] } ≡ line = cc in
@@ -37,15 +33,15 @@ line_in [] (next {content} {ending} {rest} {lines} bare ends more) line after e 
     let whole : content ++ ending ++ rest ≡ content ++ (ending ++ joined lines) = append_assoc content ending rest ∙ ap (λ bytes. content ++ (ending ++ bytes)) (AreLines-joined more) in
     subst₂ (λ l ls. BeginsWith (content ++ ending ++ rest) l ls) first others
     (record { bare = bare; parts = whole; ends = inr (subst (λ bytes. IsEnding bytes ending) (AreLines-joined more) ends, some_lines more) })
-line_in (first ∷ before) (last _) line after e = let over : [] ≡ before ++ line ∷ after = cc in absurd (over_not_cons before line after over)
+line_in (first ∷ before) (last _) line after e = let over : [] ≡ before ++ line ∷ after = cc in absurd (not_none before line after over)
 line_in (first ∷ before) (next {content} {ending} {rest} {lines} bare ends more) line after e =
     let same : record { content = content; ending = ending } ≡ first = cc in
     let others : lines ≡ before ++ line ∷ after = cc in
     let sizes : length content + length ending ≡ bytes_of first = ap bytes_of same in
     let past : bytes_of_all (first ∷ before) ≡ length (content ++ ending) + bytes_of_all before = omega (arith, sizes, sum_by-cons bytes_of first before, length-append content ending) in
     let left : drop (bytes_of_all (first ∷ before)) (content ++ ending ++ rest) ≡ drop (bytes_of_all before) rest =
-        ap (λ n. drop n (content ++ ending ++ rest)) past ∙ sym (drop-drop (bytes_of_all before) (length (content ++ ending)) (content ++ ending ++ rest))
-        ∙ ap (λ bytes. drop (bytes_of_all before) bytes) (drop_at (content ++ ending) rest (length (content ++ ending)) refl) in
+    ap (λ n. drop n (content ++ ending ++ rest)) past ∙ sym (drop-drop (bytes_of_all before) (length (content ++ ending)) (content ++ ending ++ rest))
+    ∙ ap (λ bytes. drop (bytes_of_all before) bytes) (drop_at (content ++ ending) rest (length (content ++ ending)) refl) in
     subst (λ bytes. BeginsWith bytes line after) (sym left) (line_in before more line after others)
 
 -- ---- the character boundary at or before a place
@@ -68,7 +64,7 @@ IsFloor-drop text start offset place utf8 starts within floor =
     record {
       bound = omega arith;
       boundary = IsCharBoundary-from_drop (drop start text) (place - start) (omega (arith, length-drop start text, floor.boundary.0)) (subst IsUtf8 (sym rest) (IsUtf8-drop text place utf8 floor.boundary));
-      nearest = λ j past within at. floor.nearest (start + j) (omega arith) (omega arith) (IsCharBoundary-from_rest text start j starts.0 at)
+      nearest = λ j past within at. floor.nearest (start + j) (omega arith) (omega arith) (IsCharBoundary-from_rest text start j starts.0 at);
     }
 
 -- ---- the characters before a place
@@ -95,9 +91,9 @@ module _ (content tail : List ℕ) (into place : ℕ) (utf8 : IsUtf8 (content ++
       let at : get_or (rest ++ b ∷ bs) (length rest) 0 ≡ b = get_or_at rest b bs 0 (length rest) refl in
       ⊎_elim (λ le. le)
       (λ lt. let is = inside_one c (encode_utf8_all cs) (rest ++ b ∷ bs) (length rest) (sym e) lt (omega (arith, at)) in
-          let size = length-encode c in
-          let one = len_utf8_ascii c (omega (arith, is, at)) in
-          omega arith)
+      let size = length-encode c in
+      let one = len_utf8_ascii c (omega (arith, is, at)) in
+      omega arith)
       split
 
   next_char : (cs : List ℕ) → all_scalars cs ≡ true → encode_utf8_all cs ≡ drop place content ++ tail →
@@ -111,15 +107,15 @@ module _ (content tail : List ℕ) (into place : ℕ) (utf8 : IsUtf8 (content ++
       let split : (length rest ≡ 0) ⊎ (0 < length rest) = grind arith in
       ⊎_elim (λ none. inl (nil_from_length rest none))
       (λ some.
-        let room : n ≤ length rest = fits tail low c cs rest e some in
-        let first : take n rest ≡ encode_utf8 c = sym (take-append-le n rest tail room) ∙ ap (take n) (sym e) ∙ take_at (encode_utf8 c) (encode_utf8_all cs) n refl in
-        let cut : (into < place + n) ⊎ (place + n ≤ into) = grind arith in
-        let behind : into < place + n = ⊎_elim (λ lt. lt)
-          (λ le. let size = length-encode c in let bytes = len_utf8_bounds c in
-              let at = IsCharBoundary-past_char (content ++ tail) (encode_utf8_all cs) place c floor.boundary.0 (IsUtf8-drop (content ++ tail) place utf8 floor.boundary) (left ∙ sym e) in
-              absurd (floor.nearest _ (omega arith) (omega arith) at))
-          cut in
-        inr (c, (and_parts _ _ scalars).0, drop n rest, sym (take-append-drop n rest) ∙ ap (λ bytes. bytes ++ drop n rest) first, behind))
+      let room : n ≤ length rest = fits tail low c cs rest e some in
+      let first : take n rest ≡ encode_utf8 c = sym (take-append-le n rest tail room) ∙ ap (take n) (sym e) ∙ take_at (encode_utf8 c) (encode_utf8_all cs) n refl in
+      let cut : (into < place + n) ⊎ (place + n ≤ into) = grind arith in
+      let behind : into < place + n = ⊎_elim (λ lt. lt)
+      (λ le. let size = length-encode c in let bytes = len_utf8_bounds c in
+      let at = IsCharBoundary-past_char (content ++ tail) (encode_utf8_all cs) place c floor.boundary.0 (IsUtf8-drop (content ++ tail) place utf8 floor.boundary) (left ∙ sym e) in
+      absurd (floor.nearest _ (omega arith) (omega arith) at))
+      cut in
+      inr (c, (and_parts _ _ scalars).0, drop n rest, sym (take-append-drop n rest) ∙ ap (λ bytes. bytes ++ drop n rest) first, behind))
       split
 
   before_place : (held : List ℕ) → IsUtf8 held → held ≡ take place content → AreCharsBefore content into (chars held)
@@ -132,7 +128,7 @@ module _ (content tail : List ℕ) (into place : ℕ) (utf8 : IsUtf8 (content ++
         rest = drop place content;
         parts = sym (take-append-drop place content) ∙ ap (λ bytes. bytes ++ drop place content) (sym spelled);
         within = omega (arith, floor.bound);
-        whole = subst (λ n. (drop place content ≡ []) ⊎ ((c : ℕ) × IsScalar c × (more : List ℕ) × (drop place content ≡ encode_utf8 c ++ more) × (into < n + length (encode_utf8 c)))) (sym size) (next_char rest.0 rest.1.0 (rest.1.1 ∙ left))
+        whole = subst (λ n. (drop place content ≡ []) ⊎ ((c : ℕ) × IsScalar c × (more : List ℕ) × (drop place content ≡ encode_utf8 c ++ more) × (into < n + length (encode_utf8 c)))) (sym size) (next_char rest.0 rest.1.0 (rest.1.1 ∙ left));
       }
 
 -- all of what stands in the line, where the place is behind it
@@ -145,7 +141,7 @@ all_before content into held utf8 is behind =
       rest = [];
       parts = sym (append-nil (encode_utf8_all (chars held)) ∙ spelled);
       within = omega arith;
-      whole = inl refl
+      whole = inl refl;
     }
 
 -- held is the piece without the `\r` at its end
@@ -180,9 +176,9 @@ module _ (bytes : List ℕ) (line : Line) (after : List Line) (into place : ℕ)
       let low : IsLow tail = ⊎_elim (λ over. subst₂ (λ ending lines. IsLow (ending ++ joined lines)) (sym over.0) (sym over.1) tt) (λ ends. low_ending (joined after) ends.0) begins.ends in
       let cut : take place bytes ≡ take place line.content = ap (take place) begins.parts ∙ take-append-le place line.content tail (omega (arith, floor.bound)) in
       let is : held ≡ take place line.content = ⊎_elim
-          (λ return. absurd (no_return_last (take place line.content) held (All-take IsNoBreak place line.content begins.bare) (sym cut ∙ return)))
-          (λ same. same.0 ∙ cut)
-          strip in
+      (λ return. absurd (no_return_last (take place line.content) held (All-take IsNoBreak place line.content begins.bare) (sym cut ∙ return)))
+      (λ same. same.0 ∙ cut)
+      strip in
       before_place line.content tail into place (subst IsUtf8 begins.parts utf8) (subst (λ bs. IsFloor bs into place) begins.parts floor) within low held text is
 
   in_ending : line.ending ≡ 13 ∷ 10 ∷ [] → into ≡ length line.content + 1 → AreCharsBefore line.content into (chars held)
@@ -206,9 +202,9 @@ module _ (bytes : List ℕ) (line : Line) (after : List Line) (into place : ℕ)
       let sizes : length bytes ≡ length line.content + length (line.ending ++ joined after) = ap length begins.parts ∙ length-append line.content (line.ending ++ joined after) in
       ⊎_elim in_content
       (λ behind. ⊎_elim
-        (λ over. let none : length (line.ending ++ joined after) ≡ 0 = subst₂ (λ ending lines. length (ending ++ joined lines) ≡ 0) (sym over.0) (sym over.1) refl in absurd (omega arith))
-        (λ ends. ⊎_elim (λ before. let two = inside_ending (length line.content) into ends.0 behind before in in_ending two.0 two.1) (λ over. absurd (ends.1 over)) inside)
-        begins.ends)
+      (λ over. let none : length (line.ending ++ joined after) ≡ 0 = subst₂ (λ ending lines. length (ending ++ joined lines) ≡ 0) (sym over.0) (sym over.1) refl in absurd (omega arith))
+      (λ ends. ⊎_elim (λ before. let two = inside_ending (length line.content) into ends.0 behind before in in_ending two.0 two.1) (λ over. absurd (ends.1 over)) inside)
+      begins.ends)
       split
 
 pub position_at : (text : List ℕ) (offset count start place : ℕ) (held : List ℕ) (units : ℕ) → IsUtf8 text → offset ≤ length text → IsLineOf text offset count start → IsCharBoundary text start → place ≤ offset → IsCharBoundary text place → ((j : ℕ) → place < j → j ≤ offset → ¬ (IsCharBoundary text j)) → IsUtf8 held → IsStripped (take (place - start) (drop start text)) held → units ≡ utf16_units (chars held) → IsPosition text offset (record { line = count; character = units })
@@ -228,5 +224,5 @@ position_at text offset count start place held units utf8 within at starts bound
       far = far;
       chars_before = chars_at (drop start text) at.line at.after (offset - start) (place - start) held begins (IsUtf8-drop text start utf8 starts) piece (IsFloor-drop text start offset place utf8 starts at.inside.0 floor) strip (omega (arith, length-drop start text)) inside;
       number = at.number;
-      character = is
+      character = is;
     }

@@ -1,19 +1,15 @@
 -- A place has one position.
-use Rattle.std.proofs.Common.{◌≡◌, ◌≢◌, ℕ, ◌+◌, ◌<◌, ◌≤◌, ◌⊎◌, inl, inr, ⊎_elim, List, [], ◌∷◌, ◌++◌, length, refl, sym, ap, ap₂, ◌∙◌, subst, append_assoc, arith, length-append, encode_utf8, encode_utf8_all}
+use Rattle.std.proofs.Common.{◌≡◌, ℕ, ◌+◌, ◌<◌, ◌≤◌, ◌⊎◌, inl, inr, ⊎_elim, List, [], ◌∷◌, ◌++◌, length, refl, sym, ap, ap₂, ◌∙◌, subst, append_assoc, arith, length-append, encode_utf8, encode_utf8_all}
 use Rattle.std.specs.Char.{IsScalar}
 use Rattle.std.proofs.lemmas.List.{append_cancel_left}
 use Rattle.std.proofs.lemmas.List.Sums.{sum_by-cons}
 use Rattle.std.proofs.lemmas.Str.{encode_same, length-encode, len_utf8_bounds}
-use Rattle.lw_text.specs.Lines.{Line, AreLines, bytes_of, bytes_of_all}
+use Rattle.lw_text.specs.Lines.{Line, bytes_of, bytes_of_all}
 use Rattle.lw_text.specs.Position.{AreCharsBefore, IsInLine, IsPosition, utf16_units}
 use Rattle.lw_text.specs.declared.place.Pos.{Pos}
-use Rattle.lw_text.proofs.Lines.{AreLines-only}
+use Rattle.lw_text.proofs.Lines.{AreLines-only, not_none}
 
 -- ---- the line
-not_over : (before : List Line) (line : Line) (after : List Line) → [] ≢ before ++ line ∷ after
-not_over [] line after e = cc
-not_over (first ∷ before) line after e = cc
-
 -- a place in the first of some lines is in no later one
 not_later : (first : Line) (before : List Line) (line other : Line) (after others : List Line) (offset start : ℕ) →
     line ∷ after ≡ (first ∷ before) ++ other ∷ others → IsInLine offset (start + 0) line after → ¬ (start + bytes_of_all (first ∷ before) ≤ offset)
@@ -22,7 +18,7 @@ not_later first before line other after others offset start e inside beyond =
     let more : after ≡ before ++ other ∷ others = cc in
     let sizes : bytes_of line ≡ bytes_of first = ap bytes_of same in
     let size : bytes_of_all (first ∷ before) ≡ bytes_of first + bytes_of_all before = sum_by-cons bytes_of first before in
-    ⊎_elim (λ short. let below : offset < start + 0 + bytes_of line = short in omega arith) (λ over. not_over before other others (sym over ∙ more)) inside.1
+    ⊎_elim (λ short. let below : offset < start + 0 + bytes_of line = short in omega arith) (λ over. not_none before other others (sym over ∙ more)) inside.1
 
 same_before : (before befores : List Line) (line other : Line) (after others : List Line) (offset start : ℕ) →
     before ++ line ∷ after ≡ befores ++ other ∷ others → IsInLine offset (start + bytes_of_all before) line after →
@@ -83,8 +79,8 @@ IsPosition-only text offset a b p q =
     let zeroth : (k : ℕ) → k ≡ 0 + k = λ k. omega arith in
     let lines = AreLines-only p.cut q.cut in
     let before = same_before p.before q.before p.line q.line p.after q.after offset 0 lines
-        (subst (λ k. IsInLine offset k p.line p.after) (zeroth (bytes_of_all p.before)) p.inside)
-        (subst (λ k. IsInLine offset k q.line q.after) (zeroth (bytes_of_all q.before)) q.inside) in
+    (subst (λ k. IsInLine offset k p.line p.after) (zeroth (bytes_of_all p.before)) p.inside)
+    (subst (λ k. IsInLine offset k q.line q.after) (zeroth (bytes_of_all q.before)) q.inside) in
     let rest = append_cancel_left q.before (p.line ∷ p.after) (q.line ∷ q.after) (ap (λ xs. xs ++ p.line ∷ p.after) (sym before) ∙ lines) in
     let line : p.line ≡ q.line = cc in
     let starts : bytes_of_all p.before ≡ bytes_of_all q.before = ap bytes_of_all before in

@@ -1,5 +1,5 @@
 -- A text takes no more UTF-16 units than it has bytes.
-use Rattle.std.proofs.Common.{◌≡◌, ℕ, ◌+◌, ◌<◌, ◌≤◌, List, [], ◌∷◌, ◌++◌, length, length-append, subst, encode_utf8, encode_utf8_all, chars, IsUtf8, arith, zero-le}
+use Rattle.std.proofs.Common.{◌≡◌, ℕ, ◌+◌, ◌≤◌, List, [], ◌∷◌, length, length-append, subst, encode_utf8, encode_utf8_all, chars, IsUtf8, arith, zero-le}
 use Rattle.std.proofs.lemmas.List.Sums.{sum_by-cons}
 use Rattle.std.proofs.lemmas.Str.{length-encode, encodes-chars}
 use Rattle.std.proofs.lemmas.Bool.Decides.{nat_tests}

@@ -1,8 +1,8 @@
 -- A walk over the bytes of a text that counts its lines.
-use Rattle.std.proofs.Common.{◌≡◌, ◌≢◌, ℕ, zero, suc, ◌+◌, ◌-◌, ◌<◌, ◌≤◌, ◌⊎◌, inl, inr, ⊎_elim, List, [], ◌∷◌, ◌++◌, length, get_or, drop, All, Option, Some, None, slice_get, refl, sym, ap, ◌∙◌, subst, append_assoc, append-nil, arith, length-append, length-drop}
+use Rattle.std.proofs.Common.{◌≡◌, ◌≢◌, ℕ, zero, suc, ◌+◌, ◌<◌, ◌⊎◌, inl, inr, ⊎_elim, List, [], ◌∷◌, ◌++◌, length, get_or, drop, All, Option, Some, None, slice_get, refl, sym, ap, ◌∙◌, subst, append_assoc, append-nil, arith, length-append}
 use Rattle.std.proofs.lemmas.Bool.{cases_eq}
 use Rattle.std.proofs.lemmas.List.{drop_more}
-use Rattle.std.proofs.lemmas.List.Elements.{All-nil, All-push, All-append}
+use Rattle.std.proofs.lemmas.List.Elements.{All-nil, All-push}
 use Rattle.std.proofs.lemmas.List.Sums.{sum_by_push}
 use Rattle.std.proofs.lemmas.Option.{get_or_from_slice_get, slice_get-get_or, slice_get_within}
 use Rattle.lw_text.specs.Lines.{IsNoBreak, Line, IsEnding, line_feed, both, carriage_return, AreLines, last, next, EndsLine, bytes_of, bytes_of_all}
@@ -33,7 +33,7 @@ Walked-start text = record {
   bare = All-nil IsNoBreak;
   waits = inl refl;
   parts = refl;
-  far = refl
+  far = refl;
 }
 
 drop_at_byte : (text : List ℕ) (i c : ℕ) → slice_get text i ≡ Some c → drop i text ≡ c ∷ drop (i + 1) text
@@ -63,7 +63,7 @@ module _ (text : List ℕ) (i count start : ℕ) (w : Walked text i count start)
         bare = All-nil IsNoBreak;
         waits = inl refl;
         parts = refl;
-        far = omega arith
+        far = omega arith;
       }
 
   -- the byte at i after what the line has so far
@@ -85,7 +85,7 @@ module _ (text : List ℕ) (i count start : ℕ) (w : Walked text i count start)
   by_return at alone =
       ⊎_elim
       (λ none. let few : length w.waiting ≡ 0 = ap length none in
-          closed (13 ∷ []) (carriage_return (λ more e. alone (byte_at_drop text (i + 1) 10 more e))) (parts_at 13 [] at none) (omega (arith, w.far, few)))
+      closed (13 ∷ []) (carriage_return (λ more e. alone (byte_at_drop text (i + 1) 10 more e))) (parts_at 13 [] at none) (omega (arith, w.far, few)))
       (λ return. let feed = return.1 in absurd cc)
       w.waits
 
@@ -106,7 +106,7 @@ module _ (text : List ℕ) (i count start : ℕ) (w : Walked text i count start)
         bare = All-push IsNoBreak w.content c w.bare bare;
         waits = inl refl;
         parts = parts_at c [] at none ∙ ap (λ content. content ++ drop (i + 1) text) (sym (append-nil (w.content ++ c ∷ [])));
-        far = omega (arith, length-append w.content (c ∷ []), w.far, few)
+        far = omega (arith, length-append w.content (c ∷ []), w.far, few);
       }
 
   -- a `\r` before its `\n`
@@ -123,7 +123,7 @@ module _ (text : List ℕ) (i count start : ℕ) (w : Walked text i count start)
         bare = w.bare;
         waits = inr (refl, feed);
         parts = parts_at 13 [] at none;
-        far = omega (arith, w.far, few)
+        far = omega (arith, w.far, few);
       }
 
   is_feed : (o : Option ℕ) → (o ≡ Some 10) ⊎ (o ≢ Some 10)
@@ -137,7 +137,7 @@ module _ (text : List ℕ) (i count start : ℕ) (w : Walked text i count start)
       let none : w.waiting ≡ [] = ⊎_elim (λ e. e) (λ return. absurd (goes (inl return.1))) w.waits in
       ⊎_elim
       (λ return. let here : slice_get text i ≡ Some 13 = at ∙ ap (λ x. Some x) return in
-          ⊎_elim (λ feed. held_back here feed none) (λ alone. absurd (goes (inr (here, alone)))) (is_feed (slice_get text (i + 1))))
+      ⊎_elim (λ feed. held_back here feed none) (λ alone. absurd (goes (inr (here, alone)))) (is_feed (slice_get text (i + 1))))
       (λ no_return. longer c (no_return, λ feed. goes (inl (at ∙ ap (λ x. Some x) feed))) at none)
       (cases_eq c 13)
 
@@ -161,7 +161,7 @@ module _ (text : List ℕ) (i count start : ℕ) (w : Walked text i count start)
         cut = w.opens (line ∷ []) (subst (λ bytes. AreLines bytes (line ∷ [])) (sym (parts_now content at none)) (AreLines-lengthened w.content w.bare (last bare)));
         begins = w.begins;
         inside = (omega (arith, w.far, few), inr refl);
-        number = w.number
+        number = w.number;
       }
   in_line (next {content} {ending} {rest} {lines} bare ends more) at none =
       let few : length w.waiting ≡ 0 = ap length none in
@@ -173,7 +173,7 @@ module _ (text : List ℕ) (i count start : ℕ) (w : Walked text i count start)
         cut = w.opens (line ∷ lines) (subst (λ bytes. AreLines bytes (line ∷ lines)) (sym (parts_now (content ++ ending ++ rest) at none)) (AreLines-lengthened w.content w.bare (next bare ends more)));
         begins = w.begins;
         inside = (omega (arith, w.far, few), inl (omega (arith, w.far, few, length-append w.content content, some_ending ends)));
-        number = w.number
+        number = w.number;
       }
 
   -- between a `\r` and its `\n`
@@ -190,7 +190,7 @@ module _ (text : List ℕ) (i count start : ℕ) (w : Walked text i count start)
         cut = w.opens (line ∷ cut.0) whole;
         begins = w.begins;
         inside = (omega (arith, w.far), inl (omega (arith, w.far, one)));
-        number = w.number
+        number = w.number;
       }
 
   pub Walked-line : IsLineOf text i count start

@@ -4,8 +4,8 @@
 //! `specs/Position.antt` says which line and character a place has, both in the words of the Language
 //! Server Protocol 3.17.
 //!
-//! It promises that each place of a text has one position, and that [`position`] gives it, in one pass
-//! over the text up to the place and without memory of its own.
+//! It promises that each place of a text has one position, and that [`position`] gives it, in work linear
+//! in the bytes before the place and without memory of its own.
 #![tactic(auto)]
 
 mod line;

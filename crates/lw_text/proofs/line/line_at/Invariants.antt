@@ -7,5 +7,5 @@ abbrev pub invariant-loop-i : goal.invariant-loop-i
 invariant-loop-i l = record {
   walked : Walked l.text l.i l.number l.start;
   few : l.number ≤ l.i;
-  boundary : IsCharBoundary l.text l.start
+  boundary : IsCharBoundary l.text l.start;
 }

@@ -1,6 +1,5 @@
-use Rattle.std.proofs.Common.{◌≡◌, ◌-◌, take, drop, refl, sym, ap, subst, subst₂, arith}
+use Rattle.std.proofs.Common.{refl, sym, ap, subst₂, arith}
 use Rattle.std.proofs.lemmas.Str.Pattern.{strip_suffix_char}
-use Rattle.lw_text.specs.Position.{IsPosition}
 use Rattle.lw_text.proofs.Places.{position_at, IsStripped, stripped}
 use Rattle.lw_text.proofs.Positions.{IsPosition-only}
 use Rattle.lw_text.proofs.place.position.Goals as goal

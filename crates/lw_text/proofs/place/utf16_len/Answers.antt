@@ -1,7 +1,7 @@
-use Rattle.std.proofs.Common.{◌<◌, ◌≤◌, ◌^◌, ℕ, length, rules, tests, arith}
+use Rattle.std.proofs.Common.{rules, tests, arith}
 use Rattle.std.proofs.lemmas.Iterator.{YieldsList-from_chars, YieldsList-from_map}
 use Rattle.std.proofs.lemmas.Iterator.Consumers.{YieldsList-at, fits_by_from_yields_list}
-use Rattle.lw_text.specs.Position.{utf16_len, utf16_units}
+use Rattle.lw_text.specs.Position.{utf16_len}
 use Rattle.lw_text.proofs.Units.{utf16_units-chars-le}
 use Rattle.lw_text.proofs.place.utf16_len.Goals as goal
 
