@@ -1,1 +1,4 @@
 pub mod ReportLemmas
+pub mod Grammars
+pub mod Ends
+pub mod Working

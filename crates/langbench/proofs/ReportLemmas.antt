@@ -1,9 +1,12 @@
 -- What a report prints, and that a line of a fault is not `ok`.
-use Rattle.std.proofs.Common.{◌≡◌, ◌≢◌, ℕ, ◌+◌, ◌≤◌, List, [], ◌∷◌, ◌++◌, Bool, true, false, ◌||◌, ◌==◌, Result, Ok, Err, IfOk, codes, decimal, get_or, length, refl, sym, ap, subst, ◌∙◌, arith}
+use Rattle.std.proofs.Common.{◌≡◌, ◌≢◌, ℕ, ◌+◌, ◌≤◌, List, [], ◌∷◌, ◌++◌, Bool, true, false, ◌||◌, ◌==◌, Result, Ok, Err, IfOk, codes, decimal, get_or, length, refl, sym, ap, subst, ◌∙◌, arith, string_bytes}
 use Rattle.std.specs.List.{list_any}
 use Rattle.std.proofs.lemmas.List.Folds.{list_any-append}
 use Rattle.lw_grammar.specs.declared.grammar.Grammar.{Grammar}
 use Rattle.lw_reading.specs.declared.issue.Issue.{Issue}
+use Rattle.langbench.specs.declared.report.Report.{Report}
+use Rattle.langbench.specs.declared.report.Verdict.TheVariants.{Broken}
+use Rattle.langbench.specs.Reports.{IsReport, IsVerdict}
 use Rattle.langbench.specs.Checked as checked
 use Rattle.langbench.specs.Checked.{IsErrorLine, IsIssueLine, Checked, line, printed, ok_line, not_text_line}
 
@@ -15,9 +18,6 @@ module _ {S E : Type 0} (bytes : S → List ℕ) (g : Grammar) (text : List ℕ)
   IfOk-issue offset code message f (Err e) made = tt
 
 -- ---- no line of a fault is `ok`: it has a colon
-
-is_colon : ℕ → Bool
-is_colon c = c == 58
 
 true_right : (xs ys : List ℕ) → list_any (λ c. c == 58) ys ≡ true → list_any (λ c. c == 58) (xs ++ ys) ≡ true
 true_right xs ys h = list_any-append (λ c. c == 58) xs ys ∙ or_true _ _ h
@@ -31,8 +31,9 @@ true_left xs ys h = list_any-append (λ c. c == 58) xs ys ∙ ap (λ a. a || lis
 
 pub error_line_is_not_ok : (text : List ℕ) (offset code : ℕ) (message output : List ℕ) → IsErrorLine text offset code message output → output ≢ ok_line
 error_line_is_not_ok text offset code message output made same =
-    let colon : list_any (λ c. c == 58) (line (printed made.at ++ codes ": error " ++ decimal code ++ codes ": " ++ message)) ≡ true =
-        true_left _ _ (true_left _ _ (true_right _ _ refl)) in
+    let head = printed made.at ++ codes ": error " ++ decimal code in
+    let colon : list_any (λ c. c == 58) (line (head ++ codes ": " ++ message)) ≡ true =
+    true_left (head ++ codes ": " ++ message) (10 ∷ []) (true_left (head ++ codes ": ") message (true_right head (codes ": ") refl)) in
     let none : list_any (λ c. c == 58) ok_line ≡ true = ap (list_any (λ c. c == 58)) (sym same ∙ made.is) ∙ colon in
     cc
 
@@ -47,3 +48,11 @@ not_text_is_not_ok same = let first : 116 ≡ 111 = ap (λ xs. get_or xs 0 0) sa
 
 pub too_large_is_not_ok : line (codes "1:1: error 7: Document is longer than 2097152 bytes.") ≢ ok_line
 too_large_is_not_ok same = let first : 49 ≡ 111 = ap (λ xs. get_or xs 0 0) same in omega (arith, first)
+
+-- a report that is not `ok`
+pub broken_report : (g : Grammar) (bytes output : List ℕ) (report : Report) → Checked g bytes output → output ≢ ok_line → string_bytes report.line ≡ output → report.verdict ≡ Broken →
+    IsReport g bytes report
+broken_report g bytes output report printed other is verdict = record {
+  printed = subst (Checked g bytes) (sym is) printed;
+  verdict = subst (λ v. IsVerdict (string_bytes report.line) v) (sym verdict) (λ same. other (sym is ∙ same));
+}

@@ -1,7 +1,7 @@
 -- How a run ends, by what the store and the source held.
 use Rattle.std.specs.Prelude.{ℕ, ◌≡◌, ◌≢◌, ◌+◌, ◌<◌, ◌≤◌, ◌⊎◌, List, [], ◌∷◌, Option, Result, Ok, Err, take, length}
 use Rattle.std.specs.Io.KnownBytes.{Appends, Keeps}
-use Rattle.lw_grammar.specs.declared.grammar.Grammar as data
+use Rattle.lw_grammar.specs.declared.grammar.Grammar as plain
 use Rattle.lw_io.specs.Causes.{Rose}
 use Rattle.lw_io.specs.Whole.{WritesFront}
 use Rattle.lw_reading.specs.Reading.{longest_document}
@@ -20,7 +20,7 @@ Files = List (List ℕ × List ℕ)
 
 -- the path holds a grammar that is built, and this is what `check` prints for what the source held
 pub record Prints (files : Files) (path held output : List ℕ) : Type 0 where
-  pub grammar : data.Grammar
+  pub grammar : plain.Grammar
   pub holds : HoldsGrammar files path grammar
   pub clear : IsClear grammar
   pub printed : Checked grammar (take most_read held) output
@@ -79,7 +79,7 @@ pub data CheckEnds (files : Files) (path held : List ℕ) (refused old new : Opt
   no_memory : Keeps old new ⊎ WritesSome files path held old new → CheckEnds files path held refused old new faults 7
 
 -- a document of a grammar that is built is read to its end, and its line is written, where nothing fails and there is memory
-pub data CheckDone (g : data.Grammar) (held : List ℕ) (old new : Option (List ℕ)) : ℕ → Type 0 where
+pub data CheckDone (g : plain.Grammar) (held : List ℕ) (old new : Option (List ℕ)) : ℕ → Type 0 where
   whole : Checked g (take most_read held) ok_line → Appends old new ok_line → CheckDone g held old new 0
   broken : (output : List ℕ) → Checked g (take most_read held) output → output ≢ ok_line → Appends old new output → CheckDone g held old new 1
   no_memory : CheckDone g held old new 7

@@ -66,3 +66,9 @@ Works files path held refused old new (Err (Grammar found)) = Causes files path 
 Works files path held refused old new (Err Read) = Keeps old new
 Works files path held refused old new (Err Write) = WritesSome files path held old new
 Works files path held refused old new (Err Memory) = Keeps old new ⊎ WritesSome files path held old new
+
+-- the status that an answer ends with: for a stop its own, or 7 where there was no memory for the note
+abbrev pub EndsWith : Result Verdict Stop → ℕ → Type 0
+EndsWith (Ok Whole) code = code ≡ 0
+EndsWith (Ok Broken) code = code ≡ 1
+EndsWith (Err stop) code = (code ≡ code_of stop) ⊎ (code ≡ 7)

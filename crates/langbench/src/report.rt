@@ -39,7 +39,11 @@ impl Report {
 }
 
 /// The report on the first bytes of a document: all of them, or one more than may be read.
-pub(crate) fn report_on(alloc: Global, language: &Language, bytes: &[u8]) -> Result<Report, NoMemory>
+pub(crate) fn report_on(
+    alloc: Global,
+    language: &Language,
+    bytes: &[u8],
+) -> Result<Report, NoMemory>
     requires { length bytes.now ≤ longest_document + 1 }
     ensures { IfOk result (IsReport language.now.grammar bytes.now) }
 {

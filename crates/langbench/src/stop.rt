@@ -1,6 +1,7 @@
 // Why a run stops before its work is done.
 ghost use Rattle.std.specs.Prelude.{◌≡◌};
 ghost use Rattle.langbench.specs.Stops.{code_of, stop_of_read, stop_of_write, stop_of_fault};
+ghost use Rattle.langbench.specs.Run.{fault_code};
 ghost use Rattle.langbench.specs.declared.stop.Stop.TheVariants.{Memory as memory};
 
 use lw_base::NoMemory;
@@ -33,6 +34,61 @@ impl Stop {
             Stop::Read => 4,
             Stop::Write => 5,
             Stop::Memory => 7,
+        }
+    }
+}
+
+// The status that each fault of a grammar ends with.
+fn fault_code(fault: &CompileFault) -> u8
+    ensures { result ≡ fault_code fault.now }
+{
+    match fault {
+        CompileFault::Absent(_)
+        | CompileFault::NotUtf8(_)
+        | CompileFault::TooLong(_)
+        | CompileFault::StoreFault(_) => 6,
+        CompileFault::Unbuilt(_, _) | CompileFault::PatternRefused(_, _, _) => 3,
+        CompileFault::NoMemory => 7,
+    }
+}
+
+impl From<NoMemory> for Stop {
+    ghost from_gives = { λ _ stop. stop ≡ memory };
+
+    fn from(_: NoMemory) -> Self {
+        Stop::Memory
+    }
+}
+
+impl From<ReadFault> for Stop {
+    ghost from_gives = { λ fault stop. stop ≡ stop_of_read fault };
+
+    fn from(fault: ReadFault) -> Self {
+        match fault {
+            ReadFault::Failed => Stop::Read,
+            ReadFault::NoMemory => Stop::Memory,
+        }
+    }
+}
+
+impl From<WriteFault> for Stop {
+    ghost from_gives = { λ fault stop. stop ≡ stop_of_write fault };
+
+    fn from(fault: WriteFault) -> Self {
+        match fault {
+            WriteFault::Failed => Stop::Write,
+            WriteFault::NoMemory => Stop::Memory,
+        }
+    }
+}
+
+impl From<CompileFault> for Stop {
+    ghost from_gives = { λ fault stop. stop ≡ stop_of_fault fault };
+
+    fn from(fault: CompileFault) -> Self {
+        match fault {
+            CompileFault::NoMemory => Stop::Memory,
+            found => Stop::Grammar(found),
         }
     }
 }

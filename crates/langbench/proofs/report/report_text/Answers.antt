@@ -1,7 +1,7 @@
 use Rattle.std.proofs.Common.{◌≡◌, ℕ, List, ◌∙◌, sym, subst, string_bytes, arith}
 use Rattle.langbench.specs.Checked as checked
-use Rattle.langbench.specs.Checked.{Checked}
-use Rattle.langbench.proofs.ReportLemmas.{issue_line_is_not_ok}
+use Rattle.langbench.specs.Checked.{Checked, IsIssueLine}
+use Rattle.langbench.proofs.ReportLemmas.{issue_line_is_not_ok, broken_report}
 use Rattle.langbench.proofs.report.report_text.Goals as goal
 
 pub returns-in_ok-from_str-in-Whole : goal.returns-in_ok-from_str-in-Whole
@@ -12,4 +12,9 @@ returns-in_ok-from_str-in-Whole c = record {
 }
 
 pub returns-in_ok-issue_line-in-Broken : goal.returns-in_ok-issue_line-in-Broken
-returns-in_ok-issue_line-in-Broken c = ?
+returns-in_ok-issue_line-in-Broken c =
+    let made : IsIssueLine c.args.language.now.grammar c.args.text.now c.in-Broken.issue (string_bytes c.in_ok-issue_line-in-Broken.field-0) =
+    rw c.text-shown.ensures.text at c.in_ok-issue_line-in-Broken.ensures in
+    broken_report _ _ (string_bytes c.in_ok-issue_line-in-Broken.field-0) _
+    (checked.broken c.requires c.text-shown.ensures.utf8 (rw c.in-Broken.is at c.in_ok-read.ensures.reads) made)
+    (issue_line_is_not_ok _ _ _ _ made) c.broken.ensures.line c.broken.ensures.verdict

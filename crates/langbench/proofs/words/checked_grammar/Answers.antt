@@ -13,6 +13,6 @@ pair_of (a ∷ b ∷ c ∷ xs) x y h e f = absurd (omega (arith, h))
 pub returns-in-len2 : goal.returns-in-len2
 returns-in-len2 c =
     let words = pair_of c.args.words.now c.command-item.result c.path-item.result (omega (arith, c.in-len2.len_at_least, c.in-len2.len_below)) c.command-item.is c.path-item.is in
-    let same : true ≡ bytes_eq c.text.result.now (codes "check") = c.if-eq.ensures tt in
+    let same : true ≡ bytes_eq c.text.result.now (codes "check") = c.if-eq.ensures in
     let command : c.command-item.result ≡ codes "check" = sym c.text.ensures.text ∙ (bytes_eq-Decides c.text.result.now (codes "check")).0 (sym same) in
     (words ∙ ap (λ w. w ∷ c.path-item.result ∷ []) command, λ rest is. c.is_operand.ensures.0 c.if-is_operand.true rest (c.text-then-eq.ensures.text ∙ is))

@@ -1,0 +1,18 @@
+-- A path holds one grammar at most.
+use Rattle.std.proofs.Common.{◌≡◌, ℕ, List, Some, sym, subst, ◌∙◌}
+use Rattle.std.proofs.lemmas.Option.{same_Some}
+use Rattle.lw_grammar.specs.declared.grammar.Grammar.{Grammar}
+use Rattle.lw_lang.specs.Small.{SaysSmall}
+use Rattle.lw_lang.specs.Compiled.{HoldsGrammar, HoldsText}
+use Rattle.langbench.specs.Run.{Files}
+
+module _ (files : Files) (path : List ℕ) (g : Grammar) (holds : HoldsGrammar files path g) where
+  -- what the path holds is the text that says g
+  pub same_text : (text : List ℕ) → HoldsText files path text → text ≡ holds.text
+  same_text text other = same_Some _ _ (sym other.held ∙ holds.holds.held)
+
+  pub says_same : (text : List ℕ) (h : Grammar) → HoldsText files path text → SaysSmall path text h → h ≡ g
+  says_same text h other says = holds.says.only h (subst (λ t. SaysSmall path t h) (same_text text other) says)
+
+  pub same_grammar : (h : Grammar) → HoldsGrammar files path h → h ≡ g
+  same_grammar h other = says_same other.text h other.holds other.says.says

@@ -1,0 +1,168 @@
+// The top call: what the words name is done, and how it ended is told.
+ghost use Rattle.std.specs.Prelude.{◌≡◌, ◌⊎◌, ◌<◌, ◌≤◌, List, ℕ, IfOk, IfSome, Err, OnOk, OnErr, take, string_bytes};
+ghost use Rattle.std.specs.Io.KnownBytes.{Appends, Keeps};
+ghost use Rattle.lw_grammar.specs.declared.grammar.Grammar as plain;
+ghost use Rattle.lw_io.specs.Causes.{Rose};
+ghost use Rattle.lw_io.specs.Whole.{WritesFront};
+ghost use Rattle.lw_lang.specs.Compiled.{HoldsGrammar, IsClear};
+ghost use Rattle.langbench.specs.Words.{IsCheck};
+ghost use Rattle.langbench.specs.Reports.{IsReport};
+ghost use Rattle.langbench.specs.Run.{CheckEnds, CheckDone, NoneRose, most_read};
+ghost use Rattle.langbench.specs.Stops.{EndsWith, Works, SourceCounts, OutCounts, StoreCounts, PatternCounts};
+
+use crate::notes::note;
+use crate::report::{Report, Verdict, report_on};
+use crate::stop::Stop;
+use crate::words::checked_grammar;
+use lw_base::Name;
+use lw_io::{Patterns, Sink, Source, Store, read_all, write_all};
+use lw_lang::{LONGEST_DOCUMENT, Language, compile};
+use std::alloc::Global;
+
+/// How a run ends, as a process tells it.
+#[derive(Clone, Copy, Debug, PartialEq, Eq)]
+pub struct Status {
+    /// 0: the work was done. 1: `check` printed anything but `ok`. 2: the words are no command. 3: the
+    /// grammar has a fault. 4, 5: the source, the sink failed. 6: the grammar could not be read. 7: there
+    /// was no memory.
+    pub code: u8,
+}
+
+/// Runs the command that the words name.
+///
+/// `check GRAMMAR` reads the grammar from the store and a document from the source, and writes one
+/// line: `ok`, or the document's fault. The first that is met in this order ends the run: the words, the
+/// grammar, the source, the sink. From status 2 on one line of why goes to `notes`; that a note fails
+/// changes nothing.
+pub fn run<S: Source, K: Sink, N: Sink, F: Store, P: Patterns>(
+    alloc: Global,
+    words: &[Name],
+    source: &mut S,
+    out: &mut K,
+    notes: &mut N,
+    store: &mut F,
+    patterns: &mut P,
+) -> Status
+    // What `check` does and how it ends, by what the store and the source held.
+    ensures ended { (path : List ℕ) → IsCheck words.now path → IfSome (F.files store.old) (λ files. IfSome (S.left source.old) (λ held.
+        CheckEnds files path held (P.last_refused patterns.new) (K.written out.old) (K.written out.new) (record {
+          source = (S.count source.old, S.count source.new);
+          out = (K.count out.old, K.count out.new);
+          store = (F.count store.old, F.count store.new);
+          patterns = (P.count patterns.old, P.count patterns.new);
+        }) result.code)) }
+
+    // Where the grammar is built and nothing fails, the document is read and its line is written, or memory was refused.
+    ensures done { (path : List ℕ) → IsCheck words.now path → IfSome (F.files store.old) (λ files. IfSome (S.left source.old) (λ held.
+        (g : plain.Grammar) → HoldsGrammar files path g → IsClear g → NoneRose (record {
+          source = (S.count source.old, S.count source.new);
+          out = (K.count out.old, K.count out.new);
+          store = (F.count store.old, F.count store.new);
+          patterns = (P.count patterns.old, P.count patterns.new);
+        }) → CheckDone g held (K.written out.old) (K.written out.new) result.code)) }
+
+    // Which words are refused, and that nothing is written then.
+    ensures words { result.code ≡ 2 → (path : List ℕ) → ¬ IsCheck words.now path }
+    ensures other_words { ((path : List ℕ) → ¬ IsCheck words.now path) → ((result.code ≡ 2) ⊎ (result.code ≡ 7)) × Keeps (K.written out.old) (K.written out.new) }
+
+    // A fault is told only where its count rose, and where that grew, no other status but 7.
+    ensures read { result.code ≡ 4 → Rose (S.count source.old) (S.count source.new) }
+    ensures read_told { S.count source.old < S.count source.new → (result.code ≡ 4) ⊎ (result.code ≡ 7) }
+    ensures write { result.code ≡ 5 → Rose (K.count out.old) (K.count out.new) }
+    ensures write_told { K.count out.old < K.count out.new → (result.code ≡ 5) ⊎ (result.code ≡ 7) }
+    ensures store_told { F.count store.old < F.count store.new → (result.code ≡ 6) ⊎ (result.code ≡ 7) }
+    ensures patterns_told { P.count patterns.old < P.count patterns.new → (result.code ≡ 3) ⊎ (result.code ≡ 7) }
+    ensures status { result.code ≤ 7 }
+{
+    let outcome = act(alloc, words, source, out, store, patterns);
+    finish(alloc, notes, words, outcome)
+}
+
+// Turns what the work answered into a status, and notes why it stopped.
+fn finish<N: Sink>(
+    alloc: Global,
+    notes: &mut N,
+    words: &[Name],
+    outcome: Result<Verdict, Stop>,
+) -> Status
+    ensures { EndsWith outcome result.code }
+{
+    let stop = match outcome {
+        Ok(Verdict::Whole) => return Status { code: 0 },
+        Ok(Verdict::Broken) => return Status { code: 1 },
+        Err(stop) => stop,
+    };
+    let code = stop.code();
+    if note(alloc, notes, words, &stop) {
+        Status { code }
+    } else {
+        Status { code: 7 }
+    }
+}
+
+fn act<S: Source, K: Sink, F: Store, P: Patterns>(
+    alloc: Global,
+    words: &[Name],
+    source: &mut S,
+    out: &mut K,
+    store: &mut F,
+    patterns: &mut P,
+) -> Result<Verdict, Stop>
+    ensures works { (path : List ℕ) → IsCheck words.now path → IfSome (F.files store.old) (λ files. IfSome (S.left source.old) (λ held.
+        Works files path held (P.last_refused patterns.new) (K.written out.old) (K.written out.new) result)) }
+    ensures words { result ≡ Err Stop.Words → (path : List ℕ) → ¬ IsCheck words.now path }
+    ensures other_words { ((path : List ℕ) → ¬ IsCheck words.now path) → (result ≡ Err Stop.Words) × Keeps (K.written out.old) (K.written out.new) }
+    ensures source { SourceCounts (S.count source.old) (S.count source.new) result }
+    ensures out { OutCounts (K.count out.old) (K.count out.new) result }
+    ensures store { StoreCounts (F.count store.old) (F.count store.new) result }
+    ensures patterns { PatternCounts (P.count patterns.old) (P.count patterns.new) result }
+{
+    match checked_grammar(words) {
+        Some(path) => check(alloc, path, source, out, store, patterns),
+        None => Err(Stop::Words),
+    }
+}
+
+// Reads the grammar, then the document to its end, and prints the document's line.
+fn check<S: Source, K: Sink, F: Store, P: Patterns>(
+    alloc: Global,
+    path: &Name,
+    source: &mut S,
+    out: &mut K,
+    store: &mut F,
+    patterns: &mut P,
+) -> Result<Verdict, Stop>
+    ensures works { IfSome (F.files store.old) (λ files. IfSome (S.left source.old) (λ held.
+        Works files path.now held (P.last_refused patterns.new) (K.written out.old) (K.written out.new) result)) }
+    ensures not_words { ¬ (result ≡ Err Stop.Words) }
+    ensures source { SourceCounts (S.count source.old) (S.count source.new) result }
+    ensures out { OutCounts (K.count out.old) (K.count out.new) result }
+    ensures store { StoreCounts (F.count store.old) (F.count store.new) result }
+    ensures patterns { PatternCounts (P.count patterns.old) (P.count patterns.new) result }
+{
+    let language = compile(alloc, path, 2, store, patterns)?;
+    let report = reported(alloc, &language, source)?;
+    print(out, &report)
+}
+
+// The report on what the source holds.
+fn reported<S: Source>(alloc: Global, language: &Language, source: &mut S) -> Result<Report, Stop>
+    ensures report { IfOk result (λ report. IfSome (S.left source.old) (λ held. IsReport language.now.grammar (take most_read held) report)) }
+    ensures fault { OnErr result ((result ≡ Err Stop.Read) ⊎ (result ≡ Err Stop.Memory)) }
+    ensures source { SourceCounts (S.count source.old) (S.count source.new) result }
+{
+    let bytes = read_all(alloc, source, LONGEST_DOCUMENT + 1)?;
+    Ok(report_on(alloc, language, &bytes)?)
+}
+
+// Prints the line of a report.
+fn print<K: Sink>(out: &mut K, report: &Report) -> Result<Verdict, Stop>
+    ensures verdict { IfOk result (λ verdict. verdict ≡ report.now.verdict) }
+    ensures whole { OnOk result (Appends (K.written out.old) (K.written out.new) (string_bytes report.now.line)) }
+    ensures fault { OnErr result ((result ≡ Err Stop.Write) ⊎ (result ≡ Err Stop.Memory)) }
+    ensures front { OnErr result (WritesFront (K.written out.old) (K.written out.new) (string_bytes report.now.line)) }
+    ensures out { OutCounts (K.count out.old) (K.count out.new) result }
+{
+    write_all(out, report.line.as_bytes())?;
+    Ok(report.verdict)
+}
