@@ -1,15 +1,15 @@
 -- What compiling a root file answers, by what the store holds.
-use Rattle.std.specs.Prelude.{ℕ, ◌≡◌, ◌+◌, ◌≤◌, ◌<◌, ◌⊎◌, List, Option, Some, None, Result, Ok, Err, IfSome, length, slice_get}
+use Rattle.std.specs.Prelude.{ℕ, ◌≡◌, ◌≤◌, ◌<◌, ◌⊎◌, List, Option, Some, None, Result, Ok, Err, IfSome, length}
 use Rattle.std.specs.Str.{IsUtf8}
 use Rattle.lw_base.specs.declared.token.Span.{Span}
 use Rattle.lw_grammar.specs.declared.grammar.Grammar.{Grammar}
-use Rattle.lw_grammar.specs.declared.terminal.Terminal.{Terminal}
 use Rattle.lw_io.specs.Causes.{Faulted}
 use Rattle.lw_io.specs.Store.{file_at}
 use Rattle.lw_text.specs.Position.{IsPosition}
 use Rattle.lw_text.specs.declared.place.Pos.{Pos}
-use Rattle.lw_tokens.specs.Patterns.{TerminalPattern}
-use Rattle.lw_lang.specs.Small.{SaysSmall}
+use Rattle.lw_gramread.specs.declared.token.FileToken.{FileToken}
+use Rattle.lw_gramread.specs.FileCut.{IsFileCut}
+use Rattle.lw_lang.specs.Small.{SaysSmall, IsUnexpected}
 use Rattle.lw_lang.specs.Obstacles.{HasObstacle, MatchesEmpty, HasKindPattern}
 use Rattle.lw_lang.specs.declared.fault.CompileFault.{CompileFault}
 use Rattle.lw_lang.specs.declared.fault.CompileFault.TheVariants.{Absent, NotUtf8, TooLong, StoreFault, Unbuilt, PatternRefused, NoMemory}
@@ -39,15 +39,12 @@ pub record HoldsGrammar (files : List (List ℕ × List ℕ)) (path : List ℕ) 
 abbrev pub IsClear : Grammar → Type 0
 IsClear g = (¬ HasObstacle g) × (¬ MatchesEmpty g)
 
--- why a text is not built: no grammar is said, or one with a condition, which is told at the file's start
+-- Why a text is not built: it says no grammar, which is told at the first token that cannot follow or at the file's end where it
+-- ends too early, or it says one with a condition, which is told at the file's start.
 pub data IsNotBuilt (path text : List ℕ) (s : Span) : Type 0 where
-  says_nothing : ((g : Grammar) → ¬ SaysSmall path text g) → IsNotBuilt path text s
+  says_nothing : ((g : Grammar) → ¬ SaysSmall path text g) → (tokens : List FileToken) → IsFileCut text tokens → IsUnexpected text tokens s →
+      IsNotBuilt path text s
   has_condition : (g : Grammar) → Says path text g → HasObstacle g ⊎ MatchesEmpty g → s ≡ record { start = 0; end = 0 } → IsNotBuilt path text s
-
--- the terminal of this number, which is counted behind the rules, has this pattern
-abbrev pub IsNumberedPattern : Grammar → ℕ → List ℕ → Type 0
-IsNumberedPattern g number pattern =
-    (t : ℕ) × (terminal : Terminal) × (slice_get g.terminals t ≡ Some terminal) × (number ≡ length g.rules + t) × TerminalPattern g terminal pattern
 
 -- why each fault comes, by the files and the text that the patterns refused last
 abbrev pub Causes : List (List ℕ × List ℕ) → List ℕ → Option (List ℕ) → CompileFault → Type 0
@@ -58,8 +55,44 @@ Causes files root refused (StoreFault path) = path ≡ root
 Causes files root refused (Unbuilt s at) = (text : List ℕ) × HoldsText files root text × IsNotBuilt root text s × IsPosition text s.start at
 Causes files root refused (PatternRefused rule name at) =
     (g : Grammar) × HoldsGrammar files root g × (¬ HasObstacle g) × (pattern : List ℕ) × (refused ≡ Some pattern) × HasKindPattern g pattern
-    × IsNumberedPattern g rule.0 pattern
 Causes files root refused NoMemory = Unit {0}
+
+-- the same by the text of the file, where it is one
+abbrev pub FileCauses : List ℕ → List ℕ → Option (List ℕ) → CompileFault → Type 0
+FileCauses root text refused (Absent path) = ⊥
+FileCauses root text refused (NotUtf8 path) = ⊥
+FileCauses root text refused (TooLong path) = ⊥
+FileCauses root text refused (StoreFault path) = ⊥
+FileCauses root text refused (Unbuilt s at) = IsNotBuilt root text s × IsPosition text s.start at
+FileCauses root text refused (PatternRefused rule name at) =
+    (g : Grammar) × Says root text g × (¬ HasObstacle g) × (pattern : List ℕ) × (refused ≡ Some pattern) × HasKindPattern g pattern
+FileCauses root text refused NoMemory = Unit {0}
+
+-- the same by the grammar that a text says
+abbrev pub GrammarCauses : Grammar → List ℕ → Option (List ℕ) → CompileFault → Type 0
+GrammarCauses g text refused (Absent path) = ⊥
+GrammarCauses g text refused (NotUtf8 path) = ⊥
+GrammarCauses g text refused (TooLong path) = ⊥
+GrammarCauses g text refused (StoreFault path) = ⊥
+GrammarCauses g text refused (Unbuilt s at) = (HasObstacle g ⊎ MatchesEmpty g) × (s ≡ record { start = 0; end = 0 }) × IsPosition text 0 at
+GrammarCauses g text refused (PatternRefused rule name at) = (¬ HasObstacle g) × (pattern : List ℕ) × (refused ≡ Some pattern) × HasKindPattern g pattern
+GrammarCauses g text refused NoMemory = Unit {0}
+
+-- a text that says no grammar
+abbrev pub NothingSaid : List ℕ → List ℕ → CompileFault → Type 0
+NothingSaid root text (Unbuilt s at) = IsNotBuilt root text s × IsPosition text s.start at
+NothingSaid root text NoMemory = Unit {0}
+NothingSaid root text _ = ⊥
+
+-- the fault that a file is not built, told at this place
+abbrev pub IsUnbuiltAt : List ℕ → Span → CompileFault → Type 0
+IsUnbuiltAt text span (Unbuilt s at) = (s ≡ span) × IsPosition text span.start at
+IsUnbuiltAt text span _ = ⊥
+
+-- the fault that a pattern was refused
+abbrev pub IsPatternFault : CompileFault → Type 0
+IsPatternFault (PatternRefused rule name at) = Unit {0}
+IsPatternFault _ = ⊥
 
 -- the count of the store rises at `StoreFault`, and stands still at every other answer
 abbrev pub StoreCounts : {T : Type 0} → ℕ → ℕ → Result T CompileFault → Type 0

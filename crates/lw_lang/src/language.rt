@@ -3,6 +3,7 @@ ghost use Rattle.std.specs.Prelude.{◌≡◌, ◌≤◌, ◌<◌, IfOk, Some, l
 ghost use Rattle.lw_reading.specs.Reading.{Reads};
 ghost use Rattle.lw_lang.specs.KindTexts.{AreKindTexts};
 ghost use Rattle.lw_lang.specs.Language.{IfBroken, IsNamed, IsWithin};
+ghost use Rattle.lw_lang.specs.Prepared.{IsPrepared};
 
 use crate::recogniser::recognise;
 use lw_base::{KindId, Name, NoMemory};
@@ -45,6 +46,18 @@ impl Model for Language {
 }
 
 impl Language {
+    // The language of a grammar, by its kinds and its one row.
+    pub(crate) fn new(grammar: Grammar, tokens: TokenSet, row: Vec<KindId>) -> Language
+        requires { IsPrepared grammar tokens row.items }
+        ensures { result ≡ record { grammar = grammar; texts = tokens.texts } }
+    {
+        Language {
+            grammar,
+            tokens,
+            row,
+        }
+    }
+
     /// The grammar.
     pub fn grammar(&self) -> &Grammar
         ensures { result.now ≡ self.now.grammar }

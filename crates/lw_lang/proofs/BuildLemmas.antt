@@ -1,0 +1,93 @@
+-- A grammar that was made ready, and its patterns.
+use Rattle.std.proofs.Common.{◌≡◌, ◌≢◌, ◌⊎◌, inl, inr, ℕ, ◌+◌, List, [], ◌∷◌, ◌++◌, Some, All, Contains, map, slice_get, option_map, refl, sym, ap, subst, ◌∙◌}
+use Rattle.std.specs.List.{AllZip}
+use Rattle.std.proofs.lemmas.List.Elements.{All-contains}
+use Rattle.std.proofs.lemmas.Option.{same_Some}
+use Rattle.lw_grammar.specs.declared.grammar.Grammar.{Grammar}
+use Rattle.lw_grammar.specs.declared.terminal.Terminal.{Terminal}
+use Rattle.lw_grammar.specs.declared.terminal.TermElement.{out-TermElement}
+use Rattle.lw_grammar.specs.Kept as keep
+use Rattle.lw_grammar.specs.Kept.{KeepsFrom}
+use Rattle.lw_grammar.specs.Kinds.{Kinds, AreKinds, IsKindTerminal}
+use Rattle.lw_tokens.specs.Lexicon.{Lexicon, HasForm, IsLexicon}
+use Rattle.lw_tokens.specs.Matching.{match_length}
+use Rattle.lw_tokens.specs.Patterns.{TerminalPattern, as_pattern, unescaped}
+use Rattle.lw_terminals.specs.declared.source.TerminalSource.{TerminalSource}
+use Rattle.lw_terminals.specs.TokenKinds.{TokenKinds}
+use Rattle.lw_terminals.specs.Made.{kinds_of, form_of, IsUsable, MatchesEmptyAt}
+use Rattle.lw_lang.specs.Shape.{HasShape, IsPlainTerminal}
+use Rattle.lw_lang.specs.Obstacles.{HasKindPattern, MatchesEmpty}
+use Rattle.lw_lang.specs.KindTexts.{texts_of, quoted}
+use Rattle.lw_lang.specs.Flat.{IsSource, IsFlat}
+use Rattle.lw_lang.specs.Prepared.{IsPrepared}
+use Rattle.lw_lang.specs.declared.flat.Flat.{Flat}
+use Rattle.lw_lang.proofs.Lists.{here, there, in_cons, in_nothing, at_place, zip_left, zip_at}
+use Rattle.lw_lang.proofs.FlatKinds.{kept_once}
+use Rattle.lw_lang.proofs.FlatObstacles.{pattern_once}
+
+-- what was kept was there
+module _ {X : Type 0} (passes : ℕ → Type 0) where
+  kept_from : {i : ℕ} {xs ys : List X} (x : X) → KeepsFrom passes i xs ys → Contains ys x → Contains xs x
+  kept_from x keep.nothing h = h
+  kept_from x (keep.kept {x = y} {xs} {ys} p k) h = by (in_cons y ys h)
+    where
+      by : (y ≡ x) ⊎ Contains ys x → Contains (y ∷ xs) x
+      by (inl is) = subst (Contains (y ∷ xs)) is (here y xs)
+      by (inr later) = there y xs (kept_from x k later)
+  kept_from x (keep.left_out {x = y} {xs} n k) h = there y xs (kept_from x k h)
+
+-- what a terminal is made from is its form, and has its name
+forms : (g : Grammar) (terminals : List Terminal) (sources : List TerminalSource) → AllZip (IsSource g) terminals sources → AllZip (HasForm g) terminals (map form_of sources)
+forms g [] [] all = tt
+forms g [] (s ∷ sources) all = absurd all
+forms g (t ∷ terminals) [] all = absurd all
+forms g (t ∷ terminals) (s ∷ sources) all = (record { pattern = all.0.pattern; hidden = all.0.hidden }, forms g terminals sources all.1)
+
+source_names : (g : Grammar) (terminals : List Terminal) (sources : List TerminalSource) → AllZip (IsSource g) terminals sources →
+    map (λ s. s.name) sources ≡ map (λ t. t.name) terminals
+source_names g [] [] all = refl
+source_names g [] (s ∷ sources) all = absurd all
+source_names g (t ∷ terminals) [] all = absurd all
+source_names g (t ∷ terminals) (s ∷ sources) all = let rest = source_names g terminals sources all.1 in let first = all.0.name in cc
+
+module _ (g : Grammar) (shape : HasShape g) (flat : Flat) (is : IsFlat g flat) where
+  -- the kinds are settled
+  kinds_once : (other : Kinds) → AreKinds g other → other.terminals ≡ is.of.terminals
+  kinds_once other are = kept_once (IsKindTerminal g) are.terminals is.kinds.terminals
+
+  -- a terminal that is a kind has one pattern
+  one_pattern : (terminal : Terminal) (p q : List ℕ) → Contains is.of.terminals terminal → TerminalPattern g terminal p → TerminalPattern g terminal q → p ≡ q
+  one_pattern terminal p q in' tp tq =
+      let plain : IsPlainTerminal terminal = All-contains IsPlainTerminal g.terminals terminal shape.terminals (kept_from (IsKindTerminal g) terminal is.kinds.terminals in') in
+      let written : option_map unescaped (as_pattern (out-TermElement terminal.body)) ≡ Some (unescaped plain.1) = ap (λ f. option_map unescaped (as_pattern f)) plain.3 in
+      pattern_once g terminal (unescaped plain.1) written p tp ∙ sym (pattern_once g terminal (unescaped plain.1) written q tq)
+
+  -- the pattern of a source is that of a kind
+  pub has_kind : (i : ℕ) (source : TerminalSource) → slice_get flat.terminals.items i ≡ Some source → HasKindPattern g source.pattern
+  has_kind i source at =
+      let z = zip_at (IsSource g) is.of.terminals flat.terminals.items i source is.terminals at in
+      (is.of, is.kinds, z.0, at_place is.of.terminals i z.1, z.2.pattern)
+
+  pub matches_empty : (i : ℕ) → MatchesEmptyAt flat.terminals.items i → MatchesEmpty g
+  matches_empty i at = (at.terminal.pattern, has_kind i at.terminal at.reached.there, at.matches_empty)
+
+  pub none_empty : All IsUsable flat.terminals.items → MatchesEmpty g → ⊥
+  none_empty usable empty =
+      let has = empty.1 in
+      let in' : Contains is.of.terminals has.2 = subst (λ ts. Contains ts has.2) (kinds_once has.0 has.1) has.3 in
+      let z = zip_left (IsSource g) is.of.terminals flat.terminals.items has.2 is.terminals in' in
+      let same : empty.0 ≡ z.0.pattern = one_pattern has.2 empty.0 z.0.pattern in' has.4 z.2.pattern in
+      (All-contains IsUsable flat.terminals.items z.0 usable z.1).not_empty (subst (λ p. match_length p [] ≡ Some 0) same empty.2)
+
+  -- what a language keeps of it
+  pub is_prepared : (tokens : TokenKinds) → tokens ≡ kinds_of flat.keywords.items flat.terminals.items → IsPrepared g tokens flat.row.items
+  is_prepared tokens made = subst (λ t. IsPrepared g t flat.row.items) (sym made) (record {
+    of = is.of;
+    kinds = is.kinds;
+    lexicon = record { keywords = sym is.keywords; terminals = forms g is.of.terminals flat.terminals.items is.terminals };
+    texts = texts;
+    row = is.row;
+  })
+    where
+      texts : map quoted flat.keywords.items ++ map (λ s. s.name) flat.terminals.items ≡ texts_of is.of
+      texts = let keywords = ap (map quoted) is.keywords in let names = source_names g is.of.terminals flat.terminals.items is.terminals in cc
