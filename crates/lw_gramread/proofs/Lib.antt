@@ -1,0 +1,4 @@
+pub mod Answers
+pub mod WordLemmas
+pub mod StringLemmas
+pub mod RegexLemmas
