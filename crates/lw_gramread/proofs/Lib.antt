@@ -2,3 +2,4 @@ pub mod Answers
 pub mod WordLemmas
 pub mod StringLemmas
 pub mod RegexLemmas
+pub mod HiddenLemmas

@@ -1,7 +1,7 @@
 -- A text begins with at most one regular expression, whose end a scan from the left finds.
-use Rattle.std.proofs.Math.Seq.{drop-cons}
+use Rattle.std.proofs.Math.Seq.{drop-cons, drop-append-add}
 use Rattle.std.proofs.Math.ListN.{drop_of_length-le}
-use Rattle.std.proofs.Common.{◌≡◌, ◌≢◌, ◌⊎◌, ◌<◌, ◌≤◌, drop, get_or, ℕ, suc, ◌+◌, List, [], ◌∷◌, ◌++◌, length, take_while, Bool, true, false, not, ◌&&◌, ◌||◌, Option, Some, None, refl, sym, ap, ◌∙◌, subst, inl, inr, arith, add-zero, append_assoc, length-append, if◌then◌else◌, ◌==◌}
+use Rattle.std.proofs.Common.{◌≡◌, ◌≢◌, ◌⊎◌, ◌<◌, ◌≤◌, drop, get_or, ℕ, suc, ◌+◌, List, [], ◌∷◌, ◌++◌, length, take_while, Bool, true, false, not, ◌&&◌, ◌||◌, Option, Some, None, refl, sym, ap, ◌∙◌, subst, inl, inr, arith, add-zero, zero-add, append_assoc, length-append, if◌then◌else◌, ◌==◌}
 use Rattle.std.specs.Char.{is_ascii_lowercase}
 use Rattle.std.proofs.lemmas.Bool.{eqb-true, eqb-false, eq-eqb, ne_eqb}
 use Rattle.lw_gramread.specs.FileTokens.{is_line_end, NoLineEnd, IsClassInside, IsPart, AreParts, AreClosed, IsRegex}
@@ -188,3 +188,126 @@ module _ (at : ℕ) (cs : List ℕ) (e k : Bool) where
 
 pub scan_closes : (at : ℕ) (cs : List ℕ) → at < length cs → is_line_end (get_or cs at 0) ≡ false → get_or cs at 0 ≡ 47 → body_end 0 false false cs ≡ body_end at false false (drop at cs) → body_end 0 false false cs ≡ Some at
 scan_closes at cs le in_line is so_far = so_far ∙ ap (body_end at false false) (drop-cons cs at 0 le) ∙ (rw (in_line, eq-eqb (get_or cs at 0) 47 is) refl)
+
+-- ---- regular expressions
+
+-- a part begins with no slash, and one that begins with a star is the star
+pub record HasHead (part : List ℕ) : Type 0 where
+  pub head : ℕ
+  pub tail : List ℕ
+  pub split : part ≡ head ∷ tail
+  pub no_slash : head ≢ 47
+  pub star : head ≡ 42 → part ≡ 42 ∷ []
+
+part_head : (part : List ℕ) → IsPart part → HasHead part
+part_head _ (IsPart.one {c = c} in_line not_open not_slash not_backslash) =
+    record { head = c; tail = []; split = refl; no_slash = not_slash; star = λ e. ap (λ x. x ∷ []) e }
+part_head _ (IsPart.pair {c = c} in_line) =
+    record { head = 92; tail = c ∷ []; split = refl; no_slash = λ e. omega arith; star = λ e. absurd (omega arith) }
+part_head _ (IsPart.class {cs = cs} within) =
+    record { head = 91; tail = cs ++ 93 ∷ []; split = refl; no_slash = λ e. omega arith; star = λ e. absurd (omega arith) }
+
+-- what the text behind the first slash of a regular expression is
+pub record IsBehindSlash (cs : List ℕ) (flags n : ℕ) : Type 0 where
+  pub count : ℕ
+  pub closed : body_end 0 false false cs ≡ Some count
+  pub some : 0 < count
+  pub no_star : get_or cs 0 0 ≢ 42
+  pub flags_are : flags ≡ length (take_while is_ascii_lowercase (drop (count + 1) cs))
+  pub bytes : n ≡ count + 2 + flags
+
+pub regex_parts : (t cs : List ℕ) (c flags n : ℕ) → t ≡ c ∷ cs → IsRegex t flags n → (c ≡ 47) × IsBehindSlash cs flags n
+regex_parts t cs c flags n e r = (
+  slash,
+  record {
+    count = length body;
+    closed = ap (body_end 0 false false) (sym rest) ∙ body_end_finds 0 body r.after are_parts ∙ ap Some (zero-add (length body));
+    some = omega (arith, length-append r.first r.others, ap length h.split);
+    no_star = λ star. r.no_star (h.star (sym at ∙ star));
+    flags_are = r.count ∙ ap (λ x. length (take_while is_ascii_lowercase x)) (sym dropped);
+    bytes = omega (arith, r.bytes, length-append r.first r.others);
+  },
+)
+  where
+    body : List ℕ
+    body = r.first ++ r.others
+    f : 47 ∷ (body ++ 47 ∷ r.after) ≡ c ∷ cs
+    f = sym r.parts ∙ e
+    slash : c ≡ 47
+    slash = cc
+    rest : body ++ 47 ∷ r.after ≡ cs
+    rest = cc
+    are_parts : AreParts body
+    are_parts = AreParts.more r.is_part r.are_parts
+    h : HasHead r.first
+    h = part_head r.first r.is_part
+    at : get_or cs 0 0 ≡ h.head
+    at = ap (λ x. get_or x 0 0) (sym rest) ∙ ap (λ p. get_or ((p ++ r.others) ++ 47 ∷ r.after) 0 0) h.split
+    dropped : drop (length body + 1) cs ≡ r.after
+    dropped = ap (drop (length body + 1)) (sym rest) ∙ drop-append-add body (47 ∷ r.after) 1
+
+behind_same : (cs : List ℕ) (f g m n : ℕ) → IsBehindSlash cs f m → IsBehindSlash cs g n → (f ≡ g) × (m ≡ n)
+behind_same cs f g m n a b =
+    let e : a.count ≡ b.count = (let h : Some a.count ≡ Some b.count = sym a.closed ∙ b.closed in cc) in
+    let i : f ≡ g = a.flags_are ∙ ap (λ k. length (take_while is_ascii_lowercase (drop (k + 1) cs))) e ∙ sym b.flags_are in
+    (i, omega (arith, a.bytes, b.bytes))
+
+pub regex_same : (t : List ℕ) (f g m n : ℕ) → IsRegex t f m → IsRegex t g n → (f ≡ g) × (m ≡ n)
+regex_same t f g m n p q =
+    let cs = (p.first ++ p.others) ++ 47 ∷ p.after in
+    behind_same cs f g m n (regex_parts t cs 47 f m p.parts p).1 (regex_parts t cs 47 g n p.parts q).1
+
+-- none stands at the end, and none begins with another byte
+pub regex_none_empty : (flags n : ℕ) → ¬ IsRegex [] flags n
+regex_none_empty flags n r = let e : [] ≡ 47 ∷ ((r.first ++ r.others) ++ 47 ∷ r.after) = r.parts in cc
+
+pub regex_none_other : (t cs : List ℕ) (c : ℕ) → t ≡ c ∷ cs → c ≢ 47 → (flags n : ℕ) → ¬ IsRegex t flags n
+regex_none_other t cs c e apart flags n r = apart (regex_parts t cs c flags n e r).0
+
+pub regex_none_open : (t cs : List ℕ) (c : ℕ) → t ≡ c ∷ cs → ((m : ℕ) → ¬ AreClosed cs m) → (flags n : ℕ) → ¬ IsRegex t flags n
+regex_none_open t cs c e none flags n r = let b = (regex_parts t cs c flags n e r).1 in none b.count (closed_some cs b.count b.closed)
+
+pub regex_none_star : (t cs : List ℕ) (c : ℕ) → t ≡ c ∷ cs → get_or cs 0 0 ≡ 42 → (flags n : ℕ) → ¬ IsRegex t flags n
+regex_none_star t cs c e star flags n r = (regex_parts t cs c flags n e r).1.no_star star
+
+pub regex_none_bare : (t cs : List ℕ) (c m : ℕ) → t ≡ c ∷ cs → AreClosed cs m → m ≡ 0 → (flags n : ℕ) → ¬ IsRegex t flags n
+regex_none_bare t cs c m e closed bare flags n r =
+    let b = (regex_parts t cs c flags n e r).1 in
+    let same : b.count ≡ m = (let h : Some b.count ≡ Some m = sym b.closed ∙ closed_end cs m closed in cc) in
+    omega (arith, b.some)
+
+-- a body that is not empty has a first part
+pub record IsSplit (body : List ℕ) : Type 0 where
+  pub first : List ℕ
+  pub others : List ℕ
+  pub split : body ≡ first ++ others
+  pub is_part : IsPart first
+  pub are_parts : AreParts others
+
+split_body : (body : List ℕ) → AreParts body → 0 < length body → IsSplit body
+split_body _ AreParts.none some = absurd (omega arith)
+split_body _ (AreParts.more {part = part} {parts = parts} is_part are_parts) some =
+    record { first = part; others = parts; split = refl; is_part = is_part; are_parts = are_parts }
+
+pub regex_some : (t cs : List ℕ) (c m : ℕ) → t ≡ c ∷ cs → c ≡ 47 → AreClosed cs m → m ≢ 0 → get_or cs 0 0 ≢ 42 →
+    (flags n : ℕ) → flags ≡ length (take_while is_ascii_lowercase (drop (m + 1) cs)) → n ≡ m + 2 + flags → IsRegex t flags n
+regex_some t cs c m e slash closed not_bare no_star flags n flags_are bytes = record {
+  first = s.first;
+  others = s.others;
+  after = closed.after;
+  parts = e ∙ ap (λ x. x ∷ cs) slash ∙ ap (λ x. 47 ∷ x) parts;
+  is_part = s.is_part;
+  no_star = λ star. no_star (ap (λ x. get_or x 0 0) parts ∙ ap (λ p. get_or ((p ++ s.others) ++ 47 ∷ closed.after) 0 0) star);
+  are_parts = s.are_parts;
+  count = flags_are ∙ ap (λ x. length (take_while is_ascii_lowercase x)) dropped;
+  bytes = omega (arith, bytes, closed.bytes, ap length s.split, length-append s.first s.others);
+}
+  where
+    some : 0 < length closed.body
+    some = omega (arith, closed.bytes, not_bare)
+    s : IsSplit closed.body
+    s = split_body closed.body closed.are_parts some
+    parts : cs ≡ (s.first ++ s.others) ++ 47 ∷ closed.after
+    parts = closed.parts ∙ ap (λ b. b ++ 47 ∷ closed.after) s.split
+    dropped : drop (m + 1) cs ≡ closed.after
+    dropped = ap (λ k. drop (k + 1) cs) closed.bytes ∙ ap (drop (length closed.body + 1)) closed.parts ∙ drop-append-add closed.body (47 ∷ closed.after) 1
