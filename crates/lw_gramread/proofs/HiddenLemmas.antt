@@ -23,7 +23,7 @@ begins_from t rest c (d ∷ ds, u) e =
     let same : d ≡ c = (encode_same d c (encodes ds) rest (u.1 ∙ e)).0 in
     record { scalar = subst IsScalar same (and_parts _ _ u.0).0; after = rest; parts = e }
 
-some_begun : (t : List ℕ) (c : ℕ) → BeginsWith t c → 0 < length t
+pub some_begun : (t : List ℕ) (c : ℕ) → BeginsWith t c → 0 < length t
 some_begun t c p = omega (arith, ap length p.parts, length-append (encode_utf8 c) p.after, length-encode c, (len_utf8_bounds c).0)
 
 -- a text that begins with an ASCII byte begins with that character

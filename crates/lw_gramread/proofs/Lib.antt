@@ -3,3 +3,4 @@ pub mod WordLemmas
 pub mod StringLemmas
 pub mod RegexLemmas
 pub mod HiddenLemmas
+pub mod StepLemmas

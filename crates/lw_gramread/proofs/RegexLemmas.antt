@@ -213,6 +213,7 @@ pub record IsBehindSlash (cs : List ℕ) (flags n : ℕ) : Type 0 where
   pub closed : body_end 0 false false cs ≡ Some count
   pub some : 0 < count
   pub no_star : get_or cs 0 0 ≢ 42
+  pub no_slash : get_or cs 0 0 ≢ 47
   pub flags_are : flags ≡ length (take_while is_ascii_lowercase (drop (count + 1) cs))
   pub bytes : n ≡ count + 2 + flags
 
@@ -224,6 +225,7 @@ regex_parts t cs c flags n e r = (
     closed = ap (body_end 0 false false) (sym rest) ∙ body_end_finds 0 body r.after are_parts ∙ ap Some (zero-add (length body));
     some = omega (arith, length-append r.first r.others, ap length h.split);
     no_star = λ star. r.no_star (h.star (sym at ∙ star));
+    no_slash = λ is. h.no_slash (sym at ∙ is);
     flags_are = r.count ∙ ap (λ x. length (take_while is_ascii_lowercase x)) (sym dropped);
     bytes = omega (arith, r.bytes, length-append r.first r.others);
   },
