@@ -4,3 +4,4 @@ pub mod StringLemmas
 pub mod RegexLemmas
 pub mod HiddenLemmas
 pub mod StepLemmas
+pub mod PlaceLemmas

@@ -31,7 +31,7 @@ class_of (b ∷ bs) =
     else if (b == 39) || (b == 34) then 3
     else 5
 
-word_start_ascii : (b : ℕ) → is_word_start b ≡ true → b < 128
+pub word_start_ascii : (b : ℕ) → is_word_start b ≡ true → b < 128
 word_start_ascii b starts = elim (or_cases (is_ascii_alphabetic b) (b == 95) starts) [
   | inl letter ↦ elim (or_cases (is_in_range 65 90 b) (is_in_range 97 122 b) letter) [
       | inl upper ↦ omega (arith, leb-true b 90 (and_parts (nat_le 65 b) (nat_le b 90) upper).1)
