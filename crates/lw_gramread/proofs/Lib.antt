@@ -5,3 +5,4 @@ pub mod RegexLemmas
 pub mod HiddenLemmas
 pub mod StepLemmas
 pub mod PlaceLemmas
+pub mod CutLemmas

@@ -1,9 +1,10 @@
 // The cut of a grammar file into its tokens.
-ghost use Rattle.std.specs.Prelude.{◌≡◌, ℕ, ◌<◌, ◌≤◌, ◌-◌, List, length, drop, IfOk, All};
+ghost use Rattle.std.specs.Prelude.{◌≡◌, ℕ, ◌<◌, ◌≤◌, List, length, IfOk, All};
 ghost use Rattle.lw_gramread.specs.declared.token.FileToken.{FileToken};
 ghost use Rattle.lw_gramread.specs.FileTokens.{IsHidden, IsFileToken};
 ghost use Rattle.lw_gramread.specs.FileCut.{IsFileCut};
-ghost use Rattle.lw_gramread.specs.Places.{IsPlace};
+ghost use Rattle.lw_gramread.specs.Places.{IsPlace, IsOfKind};
+ghost use Rattle.lw_gramread.specs.Values.{part_of};
 
 use crate::hidden::hidden_length;
 use crate::regex::regex_length;
@@ -22,7 +23,7 @@ pub fn file_tokens(alloc: Global, text: &Name) -> Result<Vec<FileToken>, NoMemor
         (λ tokens. (other : List FileToken) → IsFileCut text.now other → other ≡ tokens.items) }
     ensures places { IfOk result (λ tokens. All (λ t. IsPlace text.now t.span) tokens.items) }
     ensures forms { IfOk result
-        (λ tokens. All (λ t. IsFileToken (drop t.span.start text.now) t.kind (t.span.end - t.span.start)) tokens.items) }
+        (λ tokens. All (λ t. IsOfKind t.kind (part_of text.now t.span)) tokens.items) }
 {
     let text = text.text();
     let mut tokens = Vec::new(alloc);

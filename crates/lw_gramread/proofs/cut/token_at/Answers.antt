@@ -3,7 +3,6 @@ use Rattle.std.proofs.lemmas.Str.{length-encode}
 use Rattle.lw_gramread.specs.FileTokens.{BeginsWith, IsFileToken}
 use Rattle.lw_gramread.specs.declared.token.FileKind.TheVariants as kind
 use Rattle.lw_gramread.proofs.HiddenLemmas.{begins_from}
-use Rattle.lw_gramread.proofs.PlaceLemmas as step
 use Rattle.lw_gramread.proofs.cut.token_at.Goals as goal
 
 pub returns-in-Some : goal.returns-in-Some
