@@ -6,3 +6,4 @@ pub mod HiddenLemmas
 pub mod StepLemmas
 pub mod PlaceLemmas
 pub mod CutLemmas
+pub mod ValueLemmas

@@ -41,10 +41,10 @@ line_end_ascii b h = elim (or_cases (b == 10) (b == 13) h) [ inl feed ↦ omega 
 
 -- ---- where a text may be cut
 
-before_ascii : (t : List ℕ) (n : ℕ) → n ≤ length t → (n < length t → get_or t n 0 < 128) → IsCharBoundary t n
+pub before_ascii : (t : List ℕ) (n : ℕ) → n ≤ length t → (n < length t → get_or t n 0 < 128) → IsCharBoundary t n
 before_ascii t n le ascii = (le, λ lt above. absurd (omega (arith, ascii lt)))
 
-behind_byte : (t xs ys : List ℕ) (b : ℕ) → IsUtf8 t → t ≡ xs ++ b ∷ ys → b < 128 → IsCharBoundary t (length xs + 1)
+pub behind_byte : (t xs ys : List ℕ) (b : ℕ) → IsUtf8 t → t ≡ xs ++ b ∷ ys → b < 128 → IsCharBoundary t (length xs + 1)
 behind_byte t xs ys b utf8 e ascii =
     let at : get_or t (length xs) 0 ≡ b = ap (λ x. get_or x (length xs) 0) e ∙ get_or-append_seam xs b ys 0 in
     IsCharBoundary-after_ascii t (length xs) utf8 (omega (arith, ap length e, length-append xs (b ∷ ys))) (omega (arith, at))

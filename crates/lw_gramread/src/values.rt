@@ -22,20 +22,23 @@ pub fn token_text<'t>(token: &FileToken, file: &'t Name) -> &'t str
 pub fn word_name(token: &str) -> &str
     ensures { result.now ≡ word_name token.now }
 {
-    token.strip_prefix('^').unwrap_or(token)
+    match token.strip_prefix('^') {
+        Some(name) => name,
+        None => token,
+    }
 }
 
 /// Whether a word's token is a reserved word. One that is written with `^` is not.
 pub fn is_reserved(token: &str) -> bool
     ensures { result ≡ is_reserved token.now }
 {
-    RESERVED_WORDS.iter().any(|word| *word == token)
+    match token {
+        "entry" | "extends" | "fragment" | "grammar" | "hidden" | "import" | "infer" | "infers"
+        | "interface" | "returns" | "terminal" | "type" | "current" | "string" | "number"
+        | "boolean" | "bigint" | "Date" => true,
+        _ => false,
+    }
 }
-
-const RESERVED_WORDS: [&str; 18] = [
-    "entry", "extends", "fragment", "grammar", "hidden", "import", "infer", "infers", "interface",
-    "returns", "terminal", "type", "current", "string", "number", "boolean", "bigint", "Date",
-];
 
 /// The value of a string's token: what stands between its quotes, with its escapes read.
 pub fn string_value(alloc: Global, token: &str) -> Result<Name, NoMemory>
