@@ -2,7 +2,7 @@
 ghost use Rattle.std.specs.Prelude.{◌≡◌, length, IfOk};
 ghost use Rattle.lw_gramread.specs.FileTokens.{IsString, IsRegex};
 ghost use Rattle.lw_gramread.specs.Places.{IsPlace};
-ghost use Rattle.lw_gramread.specs.Values.{part_of, word_name, is_reserved, escape, string_value, regex_text};
+ghost use Rattle.lw_gramread.specs.Values.{part_of, word_name, is_reserved, escape, string_value, with_escapes_read, regex_text};
 
 use crate::token::FileToken;
 use lw_base::{Name, NoMemory};
@@ -32,12 +32,27 @@ pub fn word_name(token: &str) -> &str
 pub fn is_reserved(token: &str) -> bool
     ensures { result ≡ is_reserved token.now }
 {
-    match token {
-        "entry" | "extends" | "fragment" | "grammar" | "hidden" | "import" | "infer" | "infers"
-        | "interface" | "returns" | "terminal" | "type" | "current" | "string" | "number"
-        | "boolean" | "bigint" | "Date" => true,
-        _ => false,
-    }
+    matches!(
+        token,
+        "entry"
+            | "extends"
+            | "fragment"
+            | "grammar"
+            | "hidden"
+            | "import"
+            | "infer"
+            | "infers"
+            | "interface"
+            | "returns"
+            | "terminal"
+            | "type"
+            | "current"
+            | "string"
+            | "number"
+            | "boolean"
+            | "bigint"
+            | "Date"
+    )
 }
 
 /// The value of a string's token: what stands between its quotes, with its escapes read.
@@ -45,12 +60,19 @@ pub fn string_value(alloc: Global, token: &str) -> Result<Name, NoMemory>
     requires { IsString token.now (length token.now) }
     ensures { IfOk result (λ name. name ≡ string_value token.now) }
 {
-    let inside = &token[1..token.len() - 1];
+    read_escapes(alloc, &token[1..token.len() - 1])
+}
+
+/// The text with its escapes read: a backslash and a character mean one character, and a backslash at
+/// the end means itself.
+pub fn read_escapes(alloc: Global, text: &str) -> Result<Name, NoMemory>
+    ensures { IfOk result (λ name. name ≡ with_escapes_read text.now) }
+{
     let mut value = String::new(alloc);
     let mut escaped = false;
-    'inside: for c in inside.chars() {
+    'reading: for c in text.chars() {
         if escaped {
-            value.push(escape(c))?;
+            value.push(escape_char(c))?;
             escaped = false;
         } else if c == '\\' {
             escaped = true;
@@ -58,11 +80,14 @@ pub fn string_value(alloc: Global, token: &str) -> Result<Name, NoMemory>
             value.push(c)?;
         }
     }
+    if escaped {
+        value.push('\\')?;
+    }
     Name::from_text(alloc, value.as_str())
 }
 
 // The character that a backslash and this one mean.
-fn escape(c: char) -> char
+fn escape_char(c: char) -> char
     ensures { result ≡ escape c }
 {
     match c {
