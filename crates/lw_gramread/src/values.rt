@@ -55,7 +55,8 @@ pub fn is_reserved(token: &str) -> bool
     )
 }
 
-/// The value of a string's token: what stands between its quotes, with its escapes read.
+/// The value of a string's token: what stands between its quotes, with its escapes read. The one
+/// error is want of memory.
 pub fn string_value(alloc: Global, token: &str) -> Result<Name, NoMemory>
     requires { IsString token.now (length token.now) }
     ensures { IfOk result (λ name. name ≡ string_value token.now) }
@@ -64,7 +65,7 @@ pub fn string_value(alloc: Global, token: &str) -> Result<Name, NoMemory>
 }
 
 /// The text with its escapes read: a backslash and a character mean one character, and a backslash at
-/// the end means itself.
+/// the end means itself. The one error is want of memory.
 pub fn read_escapes(alloc: Global, text: &str) -> Result<Name, NoMemory>
     ensures { IfOk result (λ name. name ≡ with_escapes_read text.now) }
 {
