@@ -22,7 +22,7 @@ mod word;
 
 pub use cut::file_tokens;
 pub use token::{FileKind, FileToken, Symbol};
-pub use values::{is_reserved, read_escapes, regex_text, string_value, token_text, word_name};
+pub use values::{is_reserved, read_escapes, regex_text, string_value, word_name};
 
 #[cfg(test)]
 mod tests;

@@ -1,6 +1,6 @@
 use crate::{
     FileKind, FileToken, Symbol, file_tokens, is_reserved, read_escapes, regex_text, string_value,
-    token_text, word_name,
+    word_name,
 };
 use lw_base::{Name, Span};
 use std::process::Abort;
@@ -121,7 +121,7 @@ fn says(rt: &(impl Abort + AllocGlobal), text: &str, wanted: &[&str]) {
     let tokens = file_tokens(rt.alloc(), &file).expect(rt, "memory");
     assert_eq!(rt; tokens.len(), wanted.len(), "{text:?}");
     for k in 0..tokens.len() {
-        let token = token_text(&tokens[k], &file);
+        let token = tokens[k].text(&file);
         let said = match tokens[k].kind {
             FileKind::Word => Name::from_text(rt.alloc(), word_name(token)),
             FileKind::Text => string_value(rt.alloc(), token),

@@ -8,14 +8,16 @@ use crate::token::FileToken;
 use lw_base::{Name, NoMemory};
 use std::alloc::Global;
 
-/// The text of a token of this file.
-pub fn token_text<'t>(token: &FileToken, file: &'t Name) -> &'t str
-    requires { IsPlace file.now token.now.span }
-    ensures { result.now ≡ part_of file.now token.now.span }
-{
-    let start = token.span.start as usize;
-    let end = token.span.end as usize;
-    &file.text()[start..end]
+impl FileToken {
+    /// The text of the token, in the file that it was cut from.
+    pub fn text<'t>(&self, file: &'t Name) -> &'t str
+        requires { IsPlace file.now self.now.span }
+        ensures { result.now ≡ part_of file.now self.now.span }
+    {
+        let start = self.span.start as usize;
+        let end = self.span.end as usize;
+        &file.text()[start..end]
+    }
 }
 
 /// The name that a word's token means: what stands behind the `^`, where there is one.
