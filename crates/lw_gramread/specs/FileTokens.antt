@@ -1,7 +1,7 @@
 -- The tokens of a grammar file, each by the form that the text before it has to have. In bytes: ' is 39, " is 34, * is 42,
 -- / is 47, [ is 91, \ is 92, ] is 93, ^ is 94, _ is 95, a line feed is 10, a carriage return 13.
 -- Held against the Langium documentation, "Grammar language", whose grammar files these are a stated part of.
-use Rattle.std.specs.Prelude.{ℕ, ◌≡◌, ◌≢◌, ◌+◌, ◌<◌, ◌⊎◌, ◌&&◌, ◌||◌, ◌==◌, List, [], ◌∷◌, ◌++◌, Bool, not, true, false, length, drop, codes, encode_utf8, take_while}
+use Rattle.std.specs.Prelude.{ℕ, ◌≡◌, ◌≢◌, ◌+◌, ◌<◌, ◌⊎◌, ◌||◌, ◌==◌, List, [], ◌∷◌, ◌++◌, Bool, not, true, false, length, drop, codes, encode_utf8, take_while}
 use Rattle.std.specs.Char.{IsScalar, is_whitespace, is_ascii_alphabetic, is_ascii_alphanumeric, is_ascii_lowercase}
 use Rattle.lw_gramread.specs.declared.token.Symbol.{Symbol}
 use Rattle.lw_gramread.specs.declared.token.FileKind.{FileKind}
@@ -86,6 +86,14 @@ pub data IsPart : List ℕ → Type 0 where
 pub data AreParts : List ℕ → Type 0 where
   none : AreParts []
   more : {part parts : List ℕ} → IsPart part → AreParts parts → AreParts (part ++ parts)
+
+-- the first n bytes are parts, and the slash that closes them follows
+pub record AreClosed (text : List ℕ) (n : ℕ) : Type 0 where
+  pub body : List ℕ
+  pub after : List ℕ
+  pub parts : text ≡ body ++ 47 ∷ after
+  pub are_parts : AreParts body
+  pub bytes : n ≡ length body
 
 -- `/`, a part that is not `*`, further parts, `/`, and as many lower-case ASCII letters, the flags, as there are
 pub record IsRegex (text : List ℕ) (flags n : ℕ) : Type 0 where
