@@ -9,11 +9,14 @@
 //! twice.
 #![tactic(auto)]
 
+mod fault;
+mod make;
 mod matcher;
 mod source;
 mod terminal;
 mod token_set;
 
+pub use fault::MakeTokensFault;
 pub use matcher::TerminalMatcher;
 pub use source::TerminalSource;
 pub use terminal::Terminal;

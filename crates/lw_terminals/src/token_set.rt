@@ -1,6 +1,8 @@
 // The kinds of tokens of a language.
-use crate::{Terminal, TerminalMatcher};
+use crate::make::{keyword_texts, make_terminals};
+use crate::{MakeTokensFault, Terminal, TerminalMatcher, TerminalSource};
 use lw_base::{KindId, Name, NoMemory};
+use lw_io::Patterns;
 use std::alloc::Global;
 use std::marker::Model;
 
@@ -30,8 +32,38 @@ impl Model for TokenSet {
 }
 
 impl TokenSet {
-    ghost use Rattle.std.specs.Prelude.{◌≡◌, ◌<◌, IfOk, length, slice_get, Some};
-    ghost use Rattle.lw_terminals.specs.TokenKinds.{AreTokenKinds};
+    ghost use Rattle.std.specs.Prelude.{◌≡◌, ℕ, ◌+◌, ◌<◌, ◌≤◌, All, IfOk, OnOk, Err, length, slice_get, Some};
+    ghost use Rattle.lw_terminals.specs.TokenKinds.{AreKeywords, AreTokenKinds};
+    ghost use Rattle.lw_terminals.specs.Made.{kinds_of, IsUsable, IsRefusedAt, MatchesEmptyAt, Counts, Keeps};
+
+    /// The kinds of these keywords and terminals. The patterns are made in order, and the first that is
+    /// refused or matches the empty text decides. Where the answer is not `Refused`, the count of refusals
+    /// and the text last refused are as they were.
+    pub fn make<P: Patterns>(
+        alloc: Global,
+        keywords: Vec<Name>,
+        terminals: Vec<TerminalSource>,
+        patterns: &mut P,
+    ) -> Result<TokenSet, MakeTokensFault>
+        requires keywords { AreKeywords keywords.items }
+        requires few { length keywords.items + length terminals.items ≤ 65535 }
+        ensures made { IfOk result (λ set. set ≡ kinds_of keywords.items terminals.items) }
+        ensures usable { OnOk result (All IsUsable terminals.items) }
+        ensures refused { (i : ℕ) → result ≡ Err (MakeTokensFault.Refused i)
+            → IsRefusedAt terminals.items (P.last_refused patterns.new) i }
+        ensures empty_match { (i : ℕ) → result ≡ Err (MakeTokensFault.EmptyMatch i)
+            → MatchesEmptyAt terminals.items i }
+        ensures count { Counts (P.count patterns.old) (P.count patterns.new) result }
+        ensures last { Keeps (P.last_refused patterns.old) (P.last_refused patterns.new) result }
+    {
+        let mut texts = keyword_texts(alloc, keywords.as_slice(), terminals.len())?;
+        let terminals = make_terminals(alloc, terminals, &mut texts, patterns)?;
+        Ok(TokenSet {
+            keywords,
+            terminals,
+            texts,
+        })
+    }
 
     /// The keywords, in the order of kinds.
     pub fn keywords(&self) -> &[Name]
