@@ -13,6 +13,7 @@ mod fault;
 mod make;
 mod matcher;
 mod source;
+mod starting;
 mod terminal;
 mod token_set;
 

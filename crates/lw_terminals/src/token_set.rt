@@ -1,7 +1,8 @@
 // The kinds of tokens of a language.
 use crate::make::{keyword_texts, make_terminals};
+use crate::starting::by_first_byte;
 use crate::{MakeTokensFault, Terminal, TerminalMatcher, TerminalSource};
-use lw_base::{KindId, Name, NoMemory};
+use lw_base::{Items, KindId, Name, NoMemory};
 use lw_io::Patterns;
 use std::alloc::Global;
 use std::marker::Model;
@@ -13,10 +14,13 @@ pub struct TokenSet {
     keywords: Vec<Name>,
     terminals: Vec<Terminal>,
     texts: Vec<Name>,
+    // for each byte the places of the keywords that begin with it
+    starting: Vec<Items<usize>>,
 }
 
 impl Model for TokenSet {
     ghost use Rattle.lw_terminals.specs.TokenKinds.{TokenKinds, AreTokenKinds};
+    ghost use Rattle.lw_terminals.specs.Starting.{IsByFirstByte};
 
     ghost Value = { TokenKinds };
 
@@ -28,12 +32,13 @@ impl Model for TokenSet {
     ghost invariant = { λ s. AreTokenKinds (record {
         lexicon = record { keywords = s.keywords.items; terminals = s.terminals.items };
         texts = s.texts.items
-    }) };
+    }) × IsByFirstByte s.keywords.items s.starting.items };
 }
 
 impl TokenSet {
     ghost use Rattle.std.specs.Prelude.{◌≡◌, ℕ, ◌+◌, ◌<◌, ◌≤◌, All, IfOk, OnOk, Err, length, slice_get, Some};
     ghost use Rattle.lw_terminals.specs.TokenKinds.{AreKeywords, AreTokenKinds};
+    ghost use Rattle.lw_terminals.specs.Starting.{AreStarting};
     ghost use Rattle.lw_terminals.specs.Made.{kinds_of, IsUsable, IsRefusedAt, MatchesEmptyAt, Counts, Keeps};
 
     /// The kinds of these keywords and terminals. The patterns are made in order, and the first that is
@@ -56,12 +61,14 @@ impl TokenSet {
         ensures count { Counts (P.count patterns.old) (P.count patterns.new) result }
         ensures last { Keeps (P.last_refused patterns.old) (P.last_refused patterns.new) result }
     {
+        let starting = by_first_byte(alloc, keywords.as_slice())?;
         let mut texts = keyword_texts(alloc, keywords.as_slice(), terminals.len())?;
         let terminals = make_terminals(alloc, terminals, &mut texts, patterns)?;
         Ok(TokenSet {
             keywords,
             terminals,
             texts,
+            starting,
         })
     }
 
@@ -71,6 +78,14 @@ impl TokenSet {
         ensures kinds { AreTokenKinds self.now }
     {
         self.keywords.as_slice()
+    }
+
+    /// The places of the keywords that begin with this byte.
+    pub fn keywords_starting(&self, byte: u8) -> &[usize]
+        ensures starting { AreStarting self.now.lexicon.keywords byte result.now }
+        ensures within { All (λ k. k < length self.now.lexicon.keywords) result.now }
+    {
+        self.starting[byte as usize].as_slice()
     }
 
     /// What finds the matches of the terminals, in the order of kinds.
