@@ -90,7 +90,8 @@ impl TokenSet {
 
     /// What finds the matches of the terminals, in the order of kinds.
     pub fn matchers(&self, alloc: Global) -> Result<Vec<TerminalMatcher<'_>>, NoMemory>
-        ensures { IfOk result (λ matchers. matchers.items ≡ self.now.lexicon.terminals) }
+        ensures terminals { IfOk result (λ matchers. matchers.items ≡ self.now.lexicon.terminals) }
+        ensures kinds { AreTokenKinds self.now }
     {
         let mut matchers = Vec::with_capacity(alloc, self.terminals.len())?;
         for terminal in &self.terminals {
