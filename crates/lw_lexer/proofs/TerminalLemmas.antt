@@ -49,17 +49,9 @@ pub keyword_is_next : (lexicon : Lexicon) (text : List ℕ) (found : Option (ℕ
 keyword_is_next lexicon text None none others = no_token none others
 keyword_is_next lexicon text (Some k) longest others = keyword longest others
 
--- a keyword that is the longest has a byte, where no keyword is empty
-pub longest_has_bytes : (lexicon : Lexicon) (text : List ℕ) (found : Option (ℕ × ℕ)) → All (λ word. 0 < length word) lexicon.keywords →
-    IsLongestKeyword lexicon text found → (next : Option token.Next) → next ≡ option_map keyword_token found → IfSome next (λ n. 0 < n.bytes)
-longest_has_bytes lexicon text None filled none next is = rw is tt
-longest_has_bytes lexicon text (Some (k, n)) filled longest next is =
-    let within = slice_get_within lexicon.keywords k longest.keyword longest.there in
-    let here = get_or_from_slice_get lexicon.keywords k longest.keyword longest.keyword longest.there in
-    let some : 0 < length longest.keyword = subst (λ word. 0 < length word) here (filled k longest.keyword within) in
-    rw (is, ← longest.bytes) some
-
 -- the same of the code's token
-pub has_bytes : (next : Option Next) → IfSome (option_map next_of next) (λ n. 0 < n.bytes) → IfSome next (λ n. 0 < n.bytes)
-has_bytes None h = tt
-has_bytes (Some next) h = h
+pub has_bytes : (next : Option Next) (found : Option (ℕ × ℕ)) → option_map next_of next ≡ option_map keyword_token found → IfSome found (λ k. 0 < k.1) →
+    IfSome next (λ n. 0 < n.bytes)
+has_bytes None found e h = tt
+has_bytes (Some next) None e h = absurd cc
+has_bytes (Some next) (Some (k, n)) e h = let same : next_of next ≡ keyword_token (k, n) = cc in let bytes : next.bytes ≡ n = ap (λ (t : token.Next). t.bytes) same in rw bytes h

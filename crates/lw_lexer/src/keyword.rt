@@ -1,20 +1,25 @@
 // The longest keyword at the start of a text.
-ghost use Rattle.std.specs.Prelude.{◌≡◌, IfSome, IsCharBoundary, MatchOption};
+ghost use Rattle.std.specs.Prelude.{◌≡◌, ◌<◌, IfSome, IsCharBoundary, MatchOption};
 ghost use Rattle.lw_tokens.specs.NextToken.{IsLongest, HasNone};
 ghost use Rattle.lw_lexer.specs.Longer.{is_longer, longer_of};
 
 use lw_base::Name;
+use lw_terminals::TokenSet;
 
-/// The longest of the keywords that the text begins with: its place among them and its length.
-#[tactic(auto, using(crate::proofs::KeywordLemmas::best))]
-pub(crate) fn longest_keyword(keywords: &[Name], text: &str) -> Option<(usize, usize)>
-    ensures longest { MatchOption result (HasNone keywords.now text.now) (λ found.
-        IsLongest keywords.now text.now found.0 found.1) }
+/// The longest of the keywords that the text begins with: its place among them and its length. Only
+/// those that begin with the text's first byte are looked at.
+pub(crate) fn longest_keyword(set: &TokenSet, text: &str) -> Option<(usize, usize)>
+    ensures longest { MatchOption result (HasNone set.now.lexicon.keywords text.now) (λ found.
+        IsLongest set.now.lexicon.keywords text.now found.0 found.1) }
     ensures boundary { IfSome result (λ found. IsCharBoundary text.now found.1) }
+    ensures filled { IfSome result (λ found. 0 < found.1) }
+    ensures numbered { IfSome result (λ found. found.0 < 65535) }
 {
+    let keywords = set.keywords();
+    let first = text.as_bytes().first()?;
     let mut best: Option<(usize, usize)> = None;
-    for k in 0..keywords.len() {
-        best = longer(best, k, &keywords[k], text);
+    for place in set.keywords_starting(*first) {
+        best = longer(best, *place, &keywords[*place], text);
     }
     best
 }

@@ -2,6 +2,7 @@
 ghost use Rattle.std.specs.Prelude.{◌≡◌, ◌+◌, ◌<◌, ◌≤◌, List, IfOk, Err, ℕ, ◌++◌, length, encode_utf8, drop};
 ghost use Rattle.std.specs.Char.{IsScalar};
 ghost use Rattle.lw_base.specs.declared.token.Span.{Span};
+ghost use Rattle.lw_base.specs.declared.token.Token.{Token};
 ghost use Rattle.lw_tokens.specs.Cut.{IsCut, HasNoTokenAt, IsCharacterAt};
 
 use crate::LexFault;
@@ -16,6 +17,13 @@ pub fn lex(alloc: Global, set: &TokenSet, text: &Name) -> Result<Vec<Token>, Lex
     ensures cut { IfOk result (λ tokens. IsCut set.now.lexicon text.now tokens.items) }
     ensures no_token { (s : Span) → result ≡ Err (LexFault.NoToken s) → HasNoTokenAt set.now.lexicon text.now s.start }
     ensures character { (s : Span) → result ≡ Err (LexFault.NoToken s) → IsCharacterAt text.now s }
+
+    // The cut is the only one, and no text has both a cut and a place without a token.
+    ensures one_cut { IfOk result (λ tokens. (others : List Token) → IsCut set.now.lexicon text.now others → others ≡ tokens.items) }
+    ensures no_fault { IfOk result (λ _. (at : ℕ) → ¬ HasNoTokenAt set.now.lexicon text.now at) }
+    ensures no_cut { (s : Span) → result ≡ Err (LexFault.NoToken s) → (tokens : List Token) → ¬ IsCut set.now.lexicon text.now tokens }
+    ensures one_place { (s : Span) → result ≡ Err (LexFault.NoToken s) → (at : ℕ)
+        → HasNoTokenAt set.now.lexicon text.now at → at ≡ s.start }
 {
     let mut matchers = set.matchers(alloc)?;
     let text = text.text();

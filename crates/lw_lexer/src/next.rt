@@ -29,7 +29,7 @@ pub(crate) fn next_token(
     ensures some { IfSome result (λ next. 0 < next.bytes) }
     ensures same { matchers.new.items ≡ matchers.old.items }
 {
-    let keyword = longest_keyword(set.keywords(), text);
+    let keyword = longest_keyword(set, text);
     match first_terminal(matchers, text, length_or_zero(&keyword)) {
         Some((i, bytes)) => Some(Next {
             kind: KindId((set.keywords().len() + i) as u16),

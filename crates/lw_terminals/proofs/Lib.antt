@@ -1,1 +1,3 @@
 pub mod CompiledLemmas
+pub mod MadeLemmas
+pub mod StartingLemmas

@@ -9,11 +9,15 @@
 //! twice.
 #![tactic(auto)]
 
+mod fault;
+mod make;
 mod matcher;
 mod source;
+mod starting;
 mod terminal;
 mod token_set;
 
+pub use fault::MakeTokensFault;
 pub use matcher::TerminalMatcher;
 pub use source::TerminalSource;
 pub use terminal::Terminal;

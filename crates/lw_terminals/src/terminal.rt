@@ -26,13 +26,15 @@ impl Model for Terminal {
 }
 
 impl Terminal {
-    ghost use Rattle.std.specs.Prelude.{◌≡◌, IfOk};
+    ghost use Rattle.std.specs.Prelude.{◌≡◌, ◌↔◌, [], IfOk, IsTrue, IsSome, Some};
+    ghost use Rattle.lw_tokens.specs.Matching.{anchored, pattern_of, match_length};
     ghost use Rattle.lw_terminals.specs.Compiled.{IsCompiled};
 
     /// The terminal of a pattern that is compiled.
     pub fn new(pattern: Name, regex: Regex, hidden: bool) -> Terminal
         requires { IsCompiled pattern regex }
-        ensures { result ≡ record { pattern = pattern; hidden = hidden } }
+        ensures value { result ≡ record { pattern = pattern; hidden = hidden } }
+        ensures readable { IsSome (pattern_of (anchored pattern)) }
     {
         Terminal {
             pattern,
@@ -46,5 +48,13 @@ impl Terminal {
         ensures { IfOk result (λ matcher. matcher ≡ self.now) }
     {
         TerminalMatcher::new(alloc, &self.pattern, &self.regex, self.hidden)
+    }
+
+    /// Whether the pattern matches the empty text.
+    pub fn matches_empty(&self, alloc: Global) -> Result<bool, NoMemory>
+        ensures { IfOk result (λ empty. IsTrue empty ↔ (match_length self.now.pattern [] ≡ Some 0)) }
+    {
+        let mut matcher = self.matcher(alloc)?;
+        Ok(matcher.match_length("") == Some(0))
     }
 }

@@ -1,6 +1,9 @@
 // The kinds of tokens of a language.
-use crate::{Terminal, TerminalMatcher};
-use lw_base::{KindId, Name, NoMemory};
+use crate::make::{keyword_texts, make_terminals};
+use crate::starting::by_first_byte;
+use crate::{MakeTokensFault, Terminal, TerminalMatcher, TerminalSource};
+use lw_base::{Items, KindId, Name, NoMemory};
+use lw_io::Patterns;
 use std::alloc::Global;
 use std::marker::Model;
 
@@ -11,10 +14,13 @@ pub struct TokenSet {
     keywords: Vec<Name>,
     terminals: Vec<Terminal>,
     texts: Vec<Name>,
+    // for each byte the places of the keywords that begin with it
+    starting: Vec<Items<usize>>,
 }
 
 impl Model for TokenSet {
     ghost use Rattle.lw_terminals.specs.TokenKinds.{TokenKinds, AreTokenKinds};
+    ghost use Rattle.lw_terminals.specs.Starting.{IsByFirstByte};
 
     ghost Value = { TokenKinds };
 
@@ -26,12 +32,45 @@ impl Model for TokenSet {
     ghost invariant = { λ s. AreTokenKinds (record {
         lexicon = record { keywords = s.keywords.items; terminals = s.terminals.items };
         texts = s.texts.items
-    }) };
+    }) × IsByFirstByte s.keywords.items s.starting.items };
 }
 
 impl TokenSet {
-    ghost use Rattle.std.specs.Prelude.{◌≡◌, ◌<◌, IfOk, length, slice_get, Some};
-    ghost use Rattle.lw_terminals.specs.TokenKinds.{AreTokenKinds};
+    ghost use Rattle.std.specs.Prelude.{◌≡◌, ℕ, ◌+◌, ◌<◌, ◌≤◌, All, IfOk, OnOk, Err, length, slice_get, Some};
+    ghost use Rattle.lw_terminals.specs.TokenKinds.{AreKeywords, AreTokenKinds};
+    ghost use Rattle.lw_terminals.specs.Starting.{AreStarting};
+    ghost use Rattle.lw_terminals.specs.Made.{kinds_of, IsUsable, IsRefusedAt, MatchesEmptyAt, Counts, Keeps};
+
+    /// The kinds of these keywords and terminals. The patterns are made in order, and the first that is
+    /// refused or matches the empty text decides. Where the answer is not `Refused`, the count of refusals
+    /// and the text last refused are as they were.
+    pub fn make<P: Patterns>(
+        alloc: Global,
+        keywords: Vec<Name>,
+        terminals: Vec<TerminalSource>,
+        patterns: &mut P,
+    ) -> Result<TokenSet, MakeTokensFault>
+        requires keywords { AreKeywords keywords.items }
+        requires few { length keywords.items + length terminals.items ≤ 65535 }
+        ensures made { IfOk result (λ set. set ≡ kinds_of keywords.items terminals.items) }
+        ensures usable { OnOk result (All IsUsable terminals.items) }
+        ensures refused { (i : ℕ) → result ≡ Err (MakeTokensFault.Refused i)
+            → IsRefusedAt terminals.items (P.last_refused patterns.new) i }
+        ensures empty_match { (i : ℕ) → result ≡ Err (MakeTokensFault.EmptyMatch i)
+            → MatchesEmptyAt terminals.items i }
+        ensures count { Counts (P.count patterns.old) (P.count patterns.new) result }
+        ensures last { Keeps (P.last_refused patterns.old) (P.last_refused patterns.new) result }
+    {
+        let starting = by_first_byte(alloc, keywords.as_slice())?;
+        let mut texts = keyword_texts(alloc, keywords.as_slice(), terminals.len())?;
+        let terminals = make_terminals(alloc, terminals, &mut texts, patterns)?;
+        Ok(TokenSet {
+            keywords,
+            terminals,
+            texts,
+            starting,
+        })
+    }
 
     /// The keywords, in the order of kinds.
     pub fn keywords(&self) -> &[Name]
@@ -41,9 +80,18 @@ impl TokenSet {
         self.keywords.as_slice()
     }
 
+    /// The places of the keywords that begin with this byte.
+    pub fn keywords_starting(&self, byte: u8) -> &[usize]
+        ensures starting { AreStarting self.now.lexicon.keywords byte result.now }
+        ensures within { All (λ k. k < length self.now.lexicon.keywords) result.now }
+    {
+        self.starting[byte as usize].as_slice()
+    }
+
     /// What finds the matches of the terminals, in the order of kinds.
     pub fn matchers(&self, alloc: Global) -> Result<Vec<TerminalMatcher<'_>>, NoMemory>
-        ensures { IfOk result (λ matchers. matchers.items ≡ self.now.lexicon.terminals) }
+        ensures terminals { IfOk result (λ matchers. matchers.items ≡ self.now.lexicon.terminals) }
+        ensures kinds { AreTokenKinds self.now }
     {
         let mut matchers = Vec::with_capacity(alloc, self.terminals.len())?;
         for terminal in &self.terminals {

@@ -1,13 +1,16 @@
-use Rattle.std.proofs.Common.{◌≡◌, ◌<◌, ◌∙◌, length, drop, Some, IsCharBoundary, arith}
+use Rattle.std.proofs.Common.{◌≡◌, ◌<◌, ◌∙◌, length, drop, Some, IsCharBoundary, sym, ap, subst, arith}
 use Rattle.std.proofs.lemmas.Str.{IsCharBoundary-start, IsCharBoundary-from_rest}
+use Rattle.lw_base.specs.declared.token.Span.{Span}
 use Rattle.lw_tokens.specs.Cut as cut
+use Rattle.lw_tokens.specs.Cut.{IsCut, IsCutTo, HasNoTokenAt}
 use Rattle.lw_tokens.specs.NextToken.{IsNext}
 use Rattle.lw_lexer.specs.Place.{next_of}
+use Rattle.lw_lexer.proofs.OneCut.{one_cut, no_cut, one_place}
 use Rattle.lw_lexer.proofs.lexer.lex.Goals as goal
 
 pub cutting-init : goal.cutting-init
 cutting-init c = record {
-  matchers = c.in_ok-matchers.ensures;
+  matchers = c.in_ok-matchers.ensures.terminals;
   boundary = IsCharBoundary-start c.text-text.result.now c.text-text.utf8;
   cut = rw c.new-tokens.ensures.items cut.start;
 }
@@ -26,3 +29,46 @@ cutting-preserved c =
       boundary = IsCharBoundary-from_rest text at next.bytes (omega (arith, below)) boundary;
       cut = rw (c.in_ok-push.ensures.items, c.span_of-in-cutting.ensures) (cut.then inv.cut below is_next);
     }
+
+pub returns-in_default-clause-no_cut : goal.returns-in_default-clause-no_cut
+returns-in_default-clause-no_cut c =
+    let lexicon = c.args.set.now.lexicon in
+    let held = c.text-text.result.now in
+    let fault : HasNoTokenAt lexicon held c.cutting.at = record {
+      before = c.cutting.tokens.items;
+      cut = c.cutting.invariant.cut;
+      inside = omega (arith, c.cutting-test.true);
+      none = rw c.range_from-rest.ensures.value at c.in_default.ensures.next;
+    } in
+    λ s e tokens cut. no_cut lexicon c.matchers.ensures.kinds.keywords c.args.text.now c.cutting.at tokens (rw c.text-text.ensures.text at fault) cut
+
+pub returns-in_default-clause-one_place : goal.returns-in_default-clause-one_place
+returns-in_default-clause-one_place c =
+    let lexicon = c.args.set.now.lexicon in
+    let held = c.text-text.result.now in
+    let fault : HasNoTokenAt lexicon held c.cutting.at = record {
+      before = c.cutting.tokens.items;
+      cut = c.cutting.invariant.cut;
+      inside = omega (arith, c.cutting-test.true);
+      none = rw c.range_from-rest.ensures.value at c.in_default.ensures.next;
+    } in
+    λ s e at other.
+    let same : c.span_of.result ≡ s = cc in
+    one_place lexicon c.matchers.ensures.kinds.keywords c.args.text.now at c.cutting.at other (rw c.text-text.ensures.text at fault)
+    ∙ ap (λ (x : Span). x.start) (sym c.span_of.ensures ∙ same)
+
+pub returns-clause-one_cut : goal.returns-clause-one_cut
+returns-clause-one_cut c =
+    let lexicon = c.args.set.now.lexicon in
+    let held = c.text-text.result.now in
+    let end : c.cutting.at ≡ length held = omega (arith, c.cutting-test.false, c.cutting.invariant.boundary.0) in
+    let cut : IsCut lexicon held c.cutting.tokens.items = subst (λ n. IsCutTo lexicon held n c.cutting.tokens.items) end c.cutting.invariant.cut in
+    λ others other. one_cut lexicon c.matchers.ensures.kinds.keywords c.args.text.now c.cutting.tokens.items others (rw c.text-text.ensures.text at cut) other
+
+pub returns-clause-no_fault : goal.returns-clause-no_fault
+returns-clause-no_fault c =
+    let lexicon = c.args.set.now.lexicon in
+    let held = c.text-text.result.now in
+    let end : c.cutting.at ≡ length held = omega (arith, c.cutting-test.false, c.cutting.invariant.boundary.0) in
+    let cut : IsCut lexicon held c.cutting.tokens.items = subst (λ n. IsCutTo lexicon held n c.cutting.tokens.items) end c.cutting.invariant.cut in
+    λ at fault. no_cut lexicon c.matchers.ensures.kinds.keywords c.args.text.now at c.cutting.tokens.items fault (rw c.text-text.ensures.text at cut)

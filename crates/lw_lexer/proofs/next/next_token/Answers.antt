@@ -1,37 +1,28 @@
 use Rattle.std.proofs.Common.{◌≡◌, ◌<◌, List, length, slice_get, Some, refl, subst, ap, ◌∙◌, arith}
 use Rattle.std.proofs.lemmas.Option.{slice_get_read}
 use Rattle.lw_tokens.specs.Lexicon.{TerminalForm}
-use Rattle.lw_lexer.proofs.TerminalLemmas.{IsLongestKeyword, terminal_is_next, keyword_is_next, longest_has_bytes, has_bytes}
+use Rattle.lw_lexer.proofs.TerminalLemmas.{terminal_is_next, keyword_is_next, has_bytes}
 use Rattle.lw_lexer.proofs.next.next_token.Goals as goal
 
 pub returns-in-Some-clause-next : goal.returns-in-Some-clause-next
 returns-in-Some-clause-next c =
     let lexicon = c.args.set.now.lexicon in
-    let text = c.args.text.now in
-    let found = c.longest_keyword-keyword.result in
-    let longest : IsLongestKeyword lexicon text found = rw c.keywords.ensures.keywords at c.longest_keyword-keyword.ensures.longest in
     let held = c.first_terminal.ensures.same ∙ c.requires in
     let items = c.first_terminal.new.matchers.items in
     let inside : c.in-Some.i < length items = omega (arith, c.in-Some.ensures.inside, ap length c.first_terminal.ensures.same) in
     let there : slice_get lexicon.terminals c.in-Some.i ≡ Some c.index.result.now =
     subst (λ (forms : List TerminalForm). slice_get forms c.in-Some.i ≡ Some c.index.result.now) held
     (slice_get_read items (length items) c.in-Some.i c.index.result.now refl inside c.index.ensures) in
-    rw (c.keywords-in-Some.ensures.keywords, c.is_hidden.ensures)
-    (terminal_is_next lexicon text found c.in-Some.i c.in-Some.bytes c.index.result.now longest
-    (rw (c.requires, c.length_or_zero.ensures) at c.in-Some.ensures.first) there)
+    rw (c.keywords.ensures.keywords, c.is_hidden.ensures)
+    (terminal_is_next lexicon c.args.text.now c.longest_keyword-keyword.result c.in-Some.i c.in-Some.bytes c.index.result.now
+    c.longest_keyword-keyword.ensures.longest (rw (c.requires, c.length_or_zero.ensures) at c.in-Some.ensures.first) there)
 
 pub returns-in-None-clause-next : goal.returns-in-None-clause-next
 returns-in-None-clause-next c =
-    let lexicon = c.args.set.now.lexicon in
-    let text = c.args.text.now in
-    let found = c.longest_keyword-keyword.result in
-    let longest : IsLongestKeyword lexicon text found = rw c.keywords.ensures.keywords at c.longest_keyword-keyword.ensures.longest in
-    rw c.keyword_token.ensures (keyword_is_next lexicon text found longest (rw (c.requires, c.length_or_zero.ensures) at c.in-None.ensures.first))
+    rw c.keyword_token.ensures
+    (keyword_is_next c.args.set.now.lexicon c.args.text.now c.longest_keyword-keyword.result c.longest_keyword-keyword.ensures.longest
+    (rw (c.requires, c.length_or_zero.ensures) at c.in-None.ensures.first))
 
 pub returns-in-None-clause-some : goal.returns-in-None-clause-some
 returns-in-None-clause-some c =
-    let lexicon = c.args.set.now.lexicon in
-    let text = c.args.text.now in
-    let found = c.longest_keyword-keyword.result in
-    let longest : IsLongestKeyword lexicon text found = rw c.keywords.ensures.keywords at c.longest_keyword-keyword.ensures.longest in
-    has_bytes c.keyword_token.result (longest_has_bytes lexicon text found c.keywords.ensures.kinds.keywords.not_empty longest _ c.keyword_token.ensures)
+    has_bytes c.keyword_token.result c.longest_keyword-keyword.result c.keyword_token.ensures c.longest_keyword-keyword.ensures.filled
