@@ -1,3 +1,4 @@
 pub mod FirstUses
 pub mod RowLemmas
 pub mod RowReading
+pub mod Unescaping

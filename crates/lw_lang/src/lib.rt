@@ -3,4 +3,5 @@
 
 mod flat;
 mod flat_parts;
+mod flat_terminals;
 mod recogniser;

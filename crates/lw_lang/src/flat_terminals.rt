@@ -1,0 +1,89 @@
+// The terminals that are kinds, and what their matchers are made from.
+ghost use Rattle.std.specs.Prelude.{◌≡◌, ◌∷◌, [], ◌++◌, IfOk, OnOk, All, filter};
+ghost use Rattle.std.specs.List.{AllZip};
+ghost use Rattle.lw_tokens.specs.Patterns.{unescaped};
+ghost use Rattle.lw_lang.specs.Shape.{IsPlainTerminal};
+ghost use Rattle.lw_lang.specs.FlatParts.{is_kind, IsPlainSource};
+
+use crate::flat::TerminalSource;
+use indexmap::IndexSet;
+use lw_base::{Name, NoMemory};
+use lw_grammar::{TermElement, Terminal};
+use std::alloc::Global;
+
+/// What the matchers of the kinds among the terminals are made from, where these names are called.
+pub(crate) fn sources(
+    alloc: Global,
+    terminals: &[Terminal],
+    called: &IndexSet<Name>,
+) -> Result<Vec<TerminalSource>, NoMemory>
+    requires { All IsPlainTerminal terminals.now }
+    ensures { IfOk result (λ sources. AllZip IsPlainSource (filter (is_kind called.now.keys) terminals.now) sources.items) }
+{
+    let mut sources = Vec::new(alloc);
+    for terminal in terminals {
+        if terminal.is_hidden || called.contains(&terminal.name) {
+            sources.push(source(alloc, terminal)?)?;
+        }
+    }
+    Ok(sources)
+}
+
+/// What the matcher of a terminal is made from.
+fn source(alloc: Global, terminal: &Terminal) -> Result<TerminalSource, NoMemory>
+    requires { IsPlainTerminal terminal.now }
+    ensures { IfOk result (IsPlainSource terminal.now) }
+{
+    let TermElement::Pattern(pattern, _) = &terminal.body else {
+        unreachable!();
+    };
+    Ok(TerminalSource {
+        name: terminal.name.copy(alloc)?,
+        pattern: unescaped(alloc, pattern)?,
+        hidden: terminal.is_hidden,
+    })
+}
+
+/// The text between the slashes of a regular expression, with each `\/` turned into `/`.
+fn unescaped(alloc: Global, pattern: &Name) -> Result<Name, NoMemory>
+    ensures { IfOk result (λ text. text ≡ unescaped pattern.now) }
+{
+    let bytes = unescaped_bytes(alloc, pattern.bytes())?;
+    match Name::from_bytes(alloc, &bytes)? {
+        Some(text) => Ok(text),
+        None => unreachable!(),
+    }
+}
+
+/// The bytes are read pair by pair from the left, where a backslash begins a pair.
+fn unescaped_bytes(alloc: Global, pattern: &[u8]) -> Result<Vec<u8>, NoMemory>
+    ensures { IfOk result (λ bytes. bytes.items ≡ unescaped pattern.now) }
+{
+    let mut bytes = Vec::new(alloc);
+    let mut after_backslash = false;
+    for byte in pattern {
+        if after_backslash {
+            push_pair(&mut bytes, *byte)?;
+            after_backslash = false;
+        } else if *byte == b'\\' {
+            after_backslash = true;
+        } else {
+            bytes.push(*byte)?;
+        }
+    }
+    if after_backslash {
+        bytes.push(b'\\')?;
+    }
+    Ok(bytes)
+}
+
+/// Puts a pair in: a backslash and this byte, or the slash alone.
+fn push_pair(bytes: &mut Vec<u8>, second: u8) -> Result<(), NoMemory>
+    ensures { OnOk result (bytes.new.items ≡ bytes.old.items ++ unescaped (92 ∷ second ∷ [])) }
+{
+    if second != b'/' {
+        bytes.push(b'\\')?;
+    }
+    bytes.push(second)?;
+    Ok(())
+}
