@@ -2,3 +2,4 @@ pub mod FirstUses
 pub mod RowLemmas
 pub mod RowReading
 pub mod Unescaping
+pub mod Zips

@@ -1,7 +1,9 @@
 // The terminals that are kinds, and what their matchers are made from.
 ghost use Rattle.std.specs.Prelude.{◌≡◌, ◌∷◌, [], ◌++◌, IfOk, OnOk, All, filter};
 ghost use Rattle.std.specs.List.{AllZip};
-ghost use Rattle.lw_tokens.specs.Patterns.{unescaped};
+ghost use Rattle.std.specs.Option.{option_copied};
+ghost use Rattle.lw_grammar.specs.declared.terminal.TermElement.{out-TermElement};
+ghost use Rattle.lw_tokens.specs.Patterns.{unescaped, as_pattern};
 ghost use Rattle.lw_lang.specs.Shape.{IsPlainTerminal};
 ghost use Rattle.lw_lang.specs.FlatParts.{is_kind, IsPlainSource};
 
@@ -22,11 +24,18 @@ pub(crate) fn sources(
 {
     let mut sources = Vec::new(alloc);
     for terminal in terminals {
-        if terminal.is_hidden || called.contains(&terminal.name) {
+        if is_kind(terminal, called) {
             sources.push(source(alloc, terminal)?)?;
         }
     }
     Ok(sources)
+}
+
+/// Whether a terminal is a kind, where these names are called.
+fn is_kind(terminal: &Terminal, called: &IndexSet<Name>) -> bool
+    ensures { result ≡ is_kind called.now.keys terminal.now }
+{
+    terminal.is_hidden || called.contains(&terminal.name)
 }
 
 /// What the matcher of a terminal is made from.
@@ -34,7 +43,7 @@ fn source(alloc: Global, terminal: &Terminal) -> Result<TerminalSource, NoMemory
     requires { IsPlainTerminal terminal.now }
     ensures { IfOk result (IsPlainSource terminal.now) }
 {
-    let TermElement::Pattern(pattern, _) = &terminal.body else {
+    let Some(pattern) = regex(&terminal.body) else {
         unreachable!();
     };
     Ok(TerminalSource {
@@ -42,6 +51,16 @@ fn source(alloc: Global, terminal: &Terminal) -> Result<TerminalSource, NoMemory
         pattern: unescaped(alloc, pattern)?,
         hidden: terminal.is_hidden,
     })
+}
+
+/// The text between the slashes of a body that is one regular expression.
+fn regex(body: &TermElement) -> Option<&Name>
+    ensures { option_copied result ≡ as_pattern (out-TermElement body.now) }
+{
+    match body {
+        TermElement::Pattern(pattern, _) => Some(pattern),
+        _ => None,
+    }
 }
 
 /// The text between the slashes of a regular expression, with each `\/` turned into `/`.
