@@ -3,3 +3,5 @@ pub mod RowLemmas
 pub mod RowReading
 pub mod Unescaping
 pub mod Zips
+pub mod FlatTexts
+pub mod FlatSize

@@ -11,6 +11,13 @@ module _ {A B : Type 0} (R : A → B → Type 0) where
   zip_push (a ∷ xs) [] x y all r = absurd all
   zip_push (a ∷ xs) (b ∷ ys) x y all r = (all.0, zip_push xs ys x y all.1 r)
 
+  -- item by item
+  pub zip_more : (xs : List A) (i : ℕ) (x : A) → i < length xs → x ≡ get_or xs i x → (ys : List B) → AllZip R (take i xs) ys → {new : List B} (y : B) → R x y →
+      new ≡ ys ++ y ∷ [] → AllZip R (take (i + 1) xs) new
+  zip_more xs i x inside there ys so_far y tied put =
+      let one = take_more xs i x inside ∙ ap (λ y. take i xs ++ y ∷ []) (sym there) in
+      subst (λ zs. AllZip R (take (i + 1) xs) zs) (sym put) (subst (λ zs. AllZip R zs (ys ++ y ∷ [])) (sym one) (zip_push (take i xs) ys x y so_far tied))
+
   -- the items that pass a test, item by item
   module _ (test : A → Bool) (xs : List A) (i : ℕ) (x : A) (inside : i < length xs) (there : x ≡ get_or xs i x) (ys : List B)
       (so_far : AllZip R (filter test (take i xs)) ys) where

@@ -1,8 +1,8 @@
 -- What a row's parts read, which terminals are kinds beside it, and the kind that each part reads.
-use Rattle.std.specs.Prelude.{ℕ, ◌≡◌, ◌+◌, ◌||◌, ◌&&◌, List, Option, Some, None, Bool, not, length, position, option_map, option_and_then, bytes_eq}
+use Rattle.std.specs.Prelude.{ℕ, ◌≡◌, ◌+◌, ◌||◌, ◌&&◌, List, Option, Some, None, Bool, true, false, not, ◌<◌, length, slice_get, position, option_map, option_and_then, bytes_eq}
 use Rattle.std.specs.List.{filter_map, list_any}
 use Rattle.lw_grammar.specs.declared.rule.Element.{Element, out-Element}
-use Rattle.lw_grammar.specs.declared.rule.Element.TheOpen.{Element-F, Keyword, Assign}
+use Rattle.lw_grammar.specs.declared.rule.Element.TheOpen.{Element-F, Keyword, Assign, Group}
 use Rattle.lw_grammar.specs.declared.rule.Value0.{Value0, out-Value0}
 use Rattle.lw_grammar.specs.declared.rule.Value0.TheOpen as value
 use Rattle.lw_grammar.specs.declared.rule.Value0.TheOpen.{Value0-F}
@@ -10,6 +10,14 @@ use Rattle.lw_grammar.specs.declared.terminal.Terminal.{Terminal}
 use Rattle.lw_grammar.specs.declared.terminal.TermElement.{out-TermElement}
 use Rattle.lw_tokens.specs.Patterns.{unescaped, as_pattern}
 use Rattle.lw_lang.specs.declared.flat.TerminalSource.{TerminalSource}
+
+-- whether a body is a row of parts
+abbrev pub layer_is_group : Element-F Element → Bool
+layer_is_group (Group parts s) = true
+layer_is_group _ = false
+
+abbrev pub is_group : Element → Bool
+is_group body = layer_is_group (out-Element body)
 
 -- the text of a part that is a keyword
 abbrev pub layer_keyword : Element-F Element → Option (List ℕ)
@@ -59,3 +67,7 @@ layer_kind keywords terminals None call = option_map (λ i. length keywords + i)
 
 abbrev pub kind_of : List (List ℕ) → List TerminalSource → Element → Option ℕ
 kind_of keywords terminals part = layer_kind keywords terminals (keyword_of part) (call_of part)
+
+-- an item stands at two places
+abbrev pub HasRepeat : {X : Type 0} → List X → Type 0
+HasRepeat {X} xs = (i : ℕ) × (j : ℕ) × (x : X) × (i < j) × (slice_get xs i ≡ Some x) × (slice_get xs j ≡ Some x)

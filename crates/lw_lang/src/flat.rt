@@ -1,5 +1,23 @@
 // A grammar whose one rule is a row of keywords and assignments of calls.
-use lw_base::{KindId, Name};
+ghost use Rattle.std.specs.Prelude.{◌≡◌, ◌<◌, ◌↔◌, ◌∷◌, [], IsTrue, IfOk, MatchBool, AllPairs, Any, ◌≢◌, length, nat_lt, is_some, count_by};
+ghost use Rattle.std.specs.List.{list_any};
+ghost use Rattle.lw_grammar.specs.Size.{size};
+ghost use Rattle.lw_lang.specs.Shape.{HasShape};
+ghost use Rattle.lw_lang.specs.Obstacles.{names, IsBlank};
+ghost use Rattle.lw_lang.specs.FlatParts.{call_of, HasRepeat};
+
+use crate::flat_parts::{call, calls, is_group, keywords, parts};
+use indexmap::IndexSet;
+use lw_base::{KindId, Name, NoMemory};
+use lw_grammar::{Element, Grammar, Rule};
+use std::alloc::{AllocError, AllocFailed, Global};
+
+/// The size of the largest grammar that is read.
+const LARGEST_SIZE: usize = 65_535;
+const MOST_TERMINALS: usize = 32;
+const MOST_KINDS: usize = 256;
+/// In bytes.
+const LONGEST_PATTERN: usize = 1_000;
 
 /// What the matcher of a terminal is made from.
 #[derive(Drop)]
@@ -15,4 +33,120 @@ pub struct Flat {
     pub keywords: Vec<Name>,
     pub terminals: Vec<TerminalSource>,
     pub row: Vec<KindId>,
+}
+
+/// Why a grammar of the shape that is built is not made ready.
+#[derive(Clone, Copy, Debug, PartialEq, Eq)]
+pub(crate) enum FlatFault {
+    /// Something keeps it from being built.
+    Obstacle,
+    NoMemory,
+}
+
+impl From<NoMemory> for FlatFault {
+    ghost use Rattle.lw_lang.specs.declared.flat.FlatFault.TheVariants as fault;
+
+    ghost from_gives = { λ _ e. e ≡ fault.NoMemory };
+
+    fn from(_: NoMemory) -> FlatFault {
+        FlatFault::NoMemory
+    }
+}
+
+impl From<AllocError> for FlatFault {
+    ghost use Rattle.lw_lang.specs.declared.flat.FlatFault.TheVariants as fault;
+
+    ghost from_gives = { λ _ e. e ≡ fault.NoMemory };
+
+    fn from(_: AllocError) -> FlatFault {
+        FlatFault::NoMemory
+    }
+}
+
+impl<T: Drop> From<AllocFailed<T>> for FlatFault {
+    ghost use Rattle.lw_lang.specs.declared.flat.FlatFault.TheVariants as fault;
+
+    ghost from_gives = { λ _ e. e ≡ fault.NoMemory };
+
+    fn from(_: AllocFailed<T>) -> FlatFault {
+        FlatFault::NoMemory
+    }
+}
+
+/// The one rule.
+fn rule(g: &Grammar) -> &Rule
+    requires { HasShape g.now }
+    ensures { g.now.rules ≡ result.now ∷ [] }
+{
+    match g.rules.as_slice() {
+        [rule] => rule,
+        _ => unreachable!(),
+    }
+}
+
+/// How many parts are assignments.
+fn assignments(parts: &[Element]) -> usize
+    ensures { result ≡ count_by (λ part. is_some (call_of part)) parts.now }
+{
+    let mut count = 0;
+    for part in parts {
+        if call(part).is_some() {
+            count += 1;
+        }
+    }
+    count
+}
+
+/// Whether the grammar is larger than what is read: its rule, its row, each part with the value that
+/// it assigns, and each terminal with its pattern.
+fn is_too_large(g: &Grammar) -> bool
+    requires { HasShape g.now }
+    ensures { IsTrue result ↔ (65535 < size g.now) }
+{
+    let body = &rule(g).body;
+    let row = usize::from(is_group(body));
+    let parts = parts(body);
+    let terminals = g.terminals.as_slice();
+    1 + row + parts.len() + assignments(parts) + 2 * terminals.len() > LARGEST_SIZE
+}
+
+/// Whether two of the names of rules and terminals are equal.
+fn has_same_names(alloc: Global, g: &Grammar) -> Result<bool, NoMemory>
+    requires { HasShape g.now }
+    ensures { IfOk result (λ same. MatchBool same (HasRepeat (names g.now)) (AllPairs (λ a b. a ≢ b) (names g.now))) }
+{
+    let mut seen = IndexSet::new(alloc);
+    seen.insert(rule(g).name.copy(alloc)?)?;
+    for terminal in g.terminals.as_slice() {
+        if !seen.insert(terminal.name.copy(alloc)?)? {
+            return Ok(true);
+        }
+    }
+    Ok(false)
+}
+
+/// Whether one of the texts is empty or begins with white space.
+fn has_blank(texts: &[Name]) -> bool
+    ensures { IsTrue result ↔ Any IsBlank texts.now }
+{
+    texts.iter().any(|text| is_blank(text))
+}
+
+/// Whether a text is empty or begins with white space.
+fn is_blank(text: &Name) -> bool
+    ensures { IsTrue result ↔ IsBlank text.now }
+{
+    match text.text().chars().next() {
+        Some(c) => c.is_whitespace(),
+        None => true,
+    }
+}
+
+/// Whether one of the patterns is longer than what is read.
+fn has_long_pattern(terminals: &[TerminalSource]) -> bool
+    ensures { result ≡ list_any (λ t. nat_lt 1000 (length t.pattern)) terminals.now }
+{
+    terminals
+        .iter()
+        .any(|t| t.pattern.bytes().len() > LONGEST_PATTERN)
 }

@@ -3,5 +3,6 @@
 
 mod flat;
 mod flat_parts;
+mod flat_row;
 mod flat_terminals;
 mod recogniser;
