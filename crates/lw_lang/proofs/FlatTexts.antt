@@ -14,8 +14,8 @@ not_nothing c rest is = omega (arith, ap length is, length-append (encode_utf8 c
 
 -- what a text begins with is a character
 pub scalar_first : (text rest : List ℕ) (c : ℕ) → IsUtf8 text → text ≡ encode_utf8 c ++ rest → IsScalar c
-scalar_first text rest c ([], _, spells) is = absurd (not_nothing c rest (sym (spells ∙ is)))
-scalar_first text rest c (d ∷ ds, scalars, spells) is = subst IsScalar (encode_same d c (encode_utf8_all ds) rest (spells ∙ is)).0 (both (scalar d) _ scalars).0
+scalar_first text rest c ([], (_, spells)) is = absurd (not_nothing c rest (sym (spells ∙ is)))
+scalar_first text rest c (d ∷ ds, (scalars, spells)) is = subst IsScalar (encode_same d c (encode_utf8_all ds) rest (spells ∙ is)).0 (both (scalar d) _ scalars).0
   where
     both : (a b : Bool) → (a && b) ≡ true → (a ≡ true) × (b ≡ true)
     both true b h = (refl, h)
