@@ -3,7 +3,7 @@ use Rattle.std.proofs.Common.{◌≡◌, ◌≢◌, ◌↔◌, ℕ, ◌+◌, ◌
 use Rattle.std.specs.Char.{IsScalar, is_whitespace, encode_utf8}
 use Rattle.std.specs.Str.{IsUtf8, encode_utf8_all}
 use Rattle.std.proofs.Math.Utf8.{scalar}
-use Rattle.std.proofs.lemmas.List.{get_or_at, get_or_append_left, length-append}
+use Rattle.std.proofs.lemmas.List.{get_or_at, get_or_append_left, length-append, take-append-drop, drop_more, map-append, append_assoc}
 use Rattle.std.proofs.lemmas.Option.{slice_get-get_or}
 use Rattle.std.proofs.lemmas.Str.{encode_same, length-encode, len_utf8_bounds}
 use Rattle.lw_lang.specs.Obstacles.{IsBlank}
@@ -37,3 +37,12 @@ HasRepeat-from_contains front rest x (k, inside, there) =
     let long = length-append front (x ∷ rest) in
     (k, n, x, inside, slice_get-get_or whole k x (omega arith) ∙ ap Some (get_or_append_left front (x ∷ rest) x k inside ∙ there),
     slice_get-get_or whole n x (omega arith) ∙ ap Some (get_or_at front x rest x n refl))
+
+-- names that were put into a set one after the other: another one, that the set had, stands twice among them all
+module _ {X Y : Type 0} (name : X → Y) (front : List Y) (xs : List X) (i : ℕ) (x : X) (inside : i < length xs) (there : x ≡ get_or xs i x) where
+  pub HasRepeat-next : Contains (front ++ map name (take i xs)) (name x) → HasRepeat (front ++ map name xs)
+  HasRepeat-next has =
+      let rest = drop (i + 1) xs in
+      let split = sym (take-append-drop i xs) ∙ ap (λ ys. take i xs ++ ys) (drop_more xs i x inside ∙ ap (λ y. y ∷ rest) (sym there)) in
+      let whole = ap (λ ys. front ++ ys) (ap (map name) split ∙ map-append name (take i xs) (x ∷ rest)) ∙ sym (append_assoc front (map name (take i xs)) (name x ∷ map name rest)) in
+      subst HasRepeat (sym whole) (HasRepeat-from_contains (front ++ map name (take i xs)) (map name rest) (name x) has)
