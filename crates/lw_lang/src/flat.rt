@@ -1,12 +1,14 @@
 // A grammar whose one rule is a row of keywords and assignments of calls.
-ghost use Rattle.std.specs.Prelude.{◌≡◌, ◌<◌, ◌↔◌, ◌∷◌, [], IsTrue, IfOk, MatchBool, AllPairs, Any, ◌≢◌, length, nat_lt, is_some, count_by};
-ghost use Rattle.std.specs.List.{list_any};
+ghost use Rattle.std.specs.Prelude.{◌≡◌, ◌≢◌, ◌<◌, ◌↔◌, ◌∷◌, [], IsTrue, IsOk, IfOk, OnOk, IsErrOf, MatchBool, AllPairs, Any, length, is_some, count_by};
 ghost use Rattle.lw_grammar.specs.Size.{size};
 ghost use Rattle.lw_lang.specs.Shape.{HasShape};
-ghost use Rattle.lw_lang.specs.Obstacles.{names, IsBlank};
-ghost use Rattle.lw_lang.specs.FlatParts.{call_of, HasRepeat};
+ghost use Rattle.lw_lang.specs.Obstacles.{HasObstacle, names, IsBlank};
+ghost use Rattle.lw_lang.specs.Flat.{IsFlat, IsReady};
+ghost use Rattle.lw_lang.specs.FlatParts.{call_of, HasRepeat, AreWithinLimits, PassesLimit, HasSoundNames, HasUnsoundNames};
 
 use crate::flat_parts::{call, calls, is_group, keywords, parts};
+use crate::flat_row::row;
+use crate::flat_terminals::sources;
 use indexmap::IndexSet;
 use lw_base::{KindId, Name, NoMemory};
 use lw_grammar::{Element, Grammar, Rule};
@@ -71,6 +73,60 @@ impl<T: Drop> From<AllocFailed<T>> for FlatFault {
     fn from(_: AllocFailed<T>) -> FlatFault {
         FlatFault::NoMemory
     }
+}
+
+/// Makes a grammar of the shape that is built ready.
+///
+/// It is refused exactly where something keeps it from being built: no part is an assignment, two
+/// names are equal, a called name is no visible terminal's, a keyword is empty or begins with white
+/// space, or there are more kinds, a larger grammar or a longer pattern than are read.
+pub(crate) fn make_flat(alloc: Global, g: &Grammar) -> Result<Flat, FlatFault>
+    requires { HasShape g.now }
+    ensures flat { IfOk result (IsFlat g.now) }
+    ensures ready { IfOk result IsReady }
+    ensures clear { IsOk result → ¬ HasObstacle g.now }
+    ensures obstacle { IsErrOf result FlatFault.Obstacle → HasObstacle g.now }
+{
+    let parts = parts(&rule(g).body);
+    check_names(alloc, g, parts)?;
+    let keywords = keywords(alloc, parts)?;
+    let called = calls(alloc, parts)?;
+    let terminals = sources(alloc, g.terminals.as_slice(), &called)?;
+    if !are_within_limits(keywords.as_slice(), &terminals) {
+        return Err(FlatFault::Obstacle);
+    }
+    let row = row(alloc, parts, &keywords, &terminals)?;
+    Ok(Flat {
+        keywords: keywords.into_iter().collect(alloc)?,
+        terminals,
+        row,
+    })
+}
+
+/// What is looked at before there are kinds: that a part is an assignment, the size, and that names
+/// differ.
+fn check_names(alloc: Global, g: &Grammar, parts: &[Element]) -> Result<(), FlatFault>
+    requires { HasShape g.now }
+    ensures ok { OnOk result (HasSoundNames g.now parts.now) }
+    ensures obstacle { IsErrOf result FlatFault.Obstacle → HasUnsoundNames g.now parts.now }
+{
+    if assignments(parts) == 0 || is_too_large(g) {
+        return Err(FlatFault::Obstacle);
+    }
+    if has_same_names(alloc, g)? {
+        return Err(FlatFault::Obstacle);
+    }
+    Ok(())
+}
+
+/// Whether keywords and terminals are neither blank nor too many, and no pattern is too long.
+fn are_within_limits(keywords: &[Name], terminals: &[TerminalSource]) -> bool
+    ensures { MatchBool result (AreWithinLimits keywords.now terminals.now) (PassesLimit keywords.now terminals.now) }
+{
+    terminals.len() <= MOST_TERMINALS
+        && keywords.len() + terminals.len() <= MOST_KINDS
+        && !has_blank(keywords)
+        && !has_long_pattern(terminals)
 }
 
 /// The one rule.
@@ -144,7 +200,7 @@ fn is_blank(text: &Name) -> bool
 
 /// Whether one of the patterns is longer than what is read.
 fn has_long_pattern(terminals: &[TerminalSource]) -> bool
-    ensures { result ≡ list_any (λ t. nat_lt 1000 (length t.pattern)) terminals.now }
+    ensures { IsTrue result ↔ Any (λ t. 1000 < length t.pattern) terminals.now }
 {
     terminals
         .iter()
