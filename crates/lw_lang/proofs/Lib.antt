@@ -5,3 +5,5 @@ pub mod Unescaping
 pub mod Zips
 pub mod FlatTexts
 pub mod FlatSize
+pub mod Lists
+pub mod FlatLeaves
