@@ -90,9 +90,9 @@ module _ (body : Element) (plain : All IsPlainPart (parts_of body)) where
   module _ (g : Grammar) (rule : Rule) (its_body : rule.body ≡ body) where
     pub called_name : (name : List ℕ) → RuleCalls g rule name → Contains (calls_of (parts_of body)) name
     called_name name (reached.calls s h) = absurd (no_calls name s (subst (λ b. Contains (leaves b) (Call name s)) its_body h))
-    called_name name (reached.assigns p op v s h calls) =
+    called_name name (reached.assigns p op v s h value) =
         let found = assigned p op v s (subst (λ b. Contains (leaves b) (Assign p op v s)) its_body h) in
-        filter_map_has call_of (parts_of body) found.2 name found.3 (found.4 ∙ ap Some (by found.0 found.1 found.5 calls))
+        filter_map_has call_of (parts_of body) found.2 name found.3 (found.4 ∙ ap Some (by found.0 found.1 found.5 value))
       where
         by : (own : List ℕ) (t : Span) → value_leaves v ≡ Calls own t ∷ [] → ValueCalls g v name → own ≡ name
         by own t is (reached.calls u h) = let same : Calls own t ≡ Calls name u = in_one (Calls own t) (subst (λ ls. Contains ls (Calls name u)) is h) in cc

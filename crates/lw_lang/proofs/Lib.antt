@@ -7,3 +7,4 @@ pub mod FlatTexts
 pub mod FlatSize
 pub mod Lists
 pub mod FlatLeaves
+pub mod FlatKinds
