@@ -49,7 +49,7 @@ module _ {X : Type 0} (passes : ℕ → Type 0) where
       by false is rest = keep.left_out (λ p. lacks 0 x refl is (subst passes (sym (add-zero i)) p)) rest
 
 -- no two places of a list without repeats have the same item
-no_repeat : {X : Type 0} (xs : List X) (i j : ℕ) (x : X) → AllPairs (λ a b. a ≢ b) xs → i < j → slice_get xs i ≡ Some x → slice_get xs j ≡ Some x → ⊥
+pub no_repeat : {X : Type 0} (xs : List X) (i j : ℕ) (x : X) → AllPairs (λ a b. a ≢ b) xs → i < j → slice_get xs i ≡ Some x → slice_get xs j ≡ Some x → ⊥
 no_repeat xs i j x differ below at_i at_j =
     differ i j x below (slice_get_within xs j x at_j) (get_or_from_slice_get xs i x x at_i ∙ sym (get_or_from_slice_get xs j x x at_j))
 

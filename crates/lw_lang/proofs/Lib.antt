@@ -8,3 +8,4 @@ pub mod FlatSize
 pub mod Lists
 pub mod FlatLeaves
 pub mod FlatKinds
+pub mod FlatRow
