@@ -151,3 +151,126 @@ module _ (g : Grammar) (rule : Rule) (shape : HasShape g) (only : g.rules ≡ ru
       let place = place_of g.terminals (in_filter (is_kind (called rule)) g.terminals means.terminal (at_place of.terminals means.place means.there)).0 in
       absurd (not_the_rule g rule shape only differ place.0 means.terminal place.1
       (ap (λ x. x.name) (only_rule g.rules rule other r only is.there).1 ∙ is.does ∙ sym means.named))
+
+  -- what a keyword reads is its text, and what an assignment reads is a call
+  word_reads : (part : Element) (text : List ℕ) (s : Span) → out-Element part ≡ layer.Keyword text s → (k : ℕ) → Reads1 part k →
+      position (bytes_eq text) of.keywords ≡ Some k
+  word_reads part text s is k reads = ap (λ f. layer_kind of.keywords terminals (layer_keyword f) (layer_call f)) (sym is) ∙ reads
+
+  call_reads : (part : Element) (p : List ℕ) (v : Value0) (name : List ℕ) (s t : Span) → out-Element part ≡ layer.Assign p One v s →
+      out-Value0 v ≡ value.Call name t → (k : ℕ) → Reads1 part k → IsCalled name k
+  call_reads part p v name s t is calls k reads =
+      call_means name k
+      (ap (λ f. layer_kind of.keywords terminals None (value_call f)) (sym calls)
+      ∙ ap (λ f. layer_kind of.keywords terminals (layer_keyword f) (layer_call f)) (sym is) ∙ reads)
+
+  -- the marks that a part yields have one token, of its kind
+  part_gives : (part : Element) → IsPlainPart part → (k : ℕ) → Reads1 part k → (m : List Mark) → Yields g of part m → kinds_of m ≡ k ∷ []
+  part_gives part (keyword text s is) k reads m (y.yields gives) = inside (subst (λ f. Gives g of f m) is gives)
+    where
+      inside : {m : List Mark} → Gives g of (layer.Keyword text s) m → kinds_of m ≡ k ∷ []
+      inside (y.keyword {k = l} at) = ap (λ n. n ∷ []) (word_once text l k at (word_kind text k (word_reads part text s is k reads)))
+  part_gives part (assignment p v name s t is calls) k reads m (y.yields gives) = inside (subst (λ f. Gives g of f m) is gives)
+    where
+      in_value : {w c : Value0} {m : List Mark} → ReadsLayer g of w (value.Call name t) c m → kinds_of m ≡ k ∷ []
+      in_value (y.call_value {m} made) = call_gives name k (call_reads part p v name s t is calls k reads) m made
+      read : {c : Value0} {m : List Mark} → Reads g of v c m → kinds_of m ≡ k ∷ []
+      read {c} {m} (y.reads layered) = in_value (subst (λ f. ReadsLayer g of v f c m) calls layered)
+      inside : {m : List Mark} → Gives g of (layer.Assign p One v s) m → kinds_of m ≡ k ∷ []
+      inside (y.assigned {m} values) = kinds_join m (mark.End ∷ []) ∙ append-nil (kinds_of m) ∙ read values
+
+  -- and there are such marks
+  part_can : (part : Element) → IsPlainPart part → (k : ℕ) → Reads1 part k → (m : List Mark) × Yields g of part m × (kinds_of m ≡ k ∷ [])
+  part_can part (keyword text s is) k reads =
+      (mark.Token k ∷ [],
+      y.yields (subst (λ f. Gives g of f (mark.Token k ∷ [])) (sym is) (y.keyword (word_kind text k (word_reads part text s is k reads)))),
+      refl)
+  part_can part (assignment p v name s t is calls) k reads =
+      let m = mark.Put p One v ∷ (mark.Token k ∷ []) ++ mark.End ∷ [] in
+      let made : Calls g of name (mark.Token k ∷ []) = y.terminal (call_kind name k (call_reads part p v name s t is calls k reads)) in
+      let values : Reads g of v v (mark.Token k ∷ []) =
+          y.reads (subst (λ f. ReadsLayer g of v f v (mark.Token k ∷ [])) (sym calls) (y.call_value made)) in
+      (m, y.yields (subst (λ f. Gives g of f m) (sym is) (y.assigned values)), refl)
+
+  abbrev Tied : Element → KindId → Type 0
+  Tied part kind = Reads1 part kind.0
+
+  parts_give : (parts : List Element) → All IsPlainPart parts → (row : List KindId) → AllZip Tied parts row → (m : List Mark) → YieldsAll g of parts m →
+      kinds_of m ≡ map (λ kind. kind.0) row
+  parts_give [] plain [] all m y.none = refl
+  parts_give [] plain (k ∷ row) all m _ = absurd all
+  parts_give (part ∷ parts) plain [] all m _ = absurd all
+  parts_give (part ∷ parts) plain (k ∷ row) all m (y.more {m = here} {n = later} p ps) =
+      let first = part_gives part (All-head IsPlainPart part parts plain) k.0 all.0 here p in
+      let rest = parts_give parts (All-tail IsPlainPart part parts plain) row all.1 later ps in
+      kinds_join here later ∙ ap (λ ks. ks ++ kinds_of later) first ∙ ap (λ ks. k.0 ∷ ks) rest
+
+  parts_can : (parts : List Element) → All IsPlainPart parts → (row : List KindId) → AllZip Tied parts row →
+      (m : List Mark) × YieldsAll g of parts m × (kinds_of m ≡ map (λ kind. kind.0) row)
+  parts_can [] plain [] all = ([], y.none, refl)
+  parts_can [] plain (k ∷ row) all = absurd all
+  parts_can (part ∷ parts) plain [] all = absurd all
+  parts_can (part ∷ parts) plain (k ∷ row) all =
+      let first = part_can part (All-head IsPlainPart part parts plain) k.0 all.0 in
+      let rest = parts_can parts (All-tail IsPlainPart part parts plain) row all.1 in
+      (first.0 ++ rest.0, y.more first.1 rest.1, kinds_join first.0 rest.0 ∙ ap (λ ks. ks ++ kinds_of rest.0) first.2 ∙ ap (λ ks. k.0 ∷ ks) rest.2)
+
+  -- a body yields what its parts yield
+  body_parts : (f : Element-F Element) (body : Element) → out-Element body ≡ f → (m : List Mark) → Yields g of body m → YieldsAll g of (layer_parts f body) m
+  body_parts (layer.Group parts s) body is m (y.yields gives) = inside (subst (λ f. Gives g of f m) is gives)
+    where
+      inside : {m : List Mark} → Gives g of (layer.Group parts s) m → YieldsAll g of parts m
+      inside (y.grouped all) = all
+  body_parts f body is m yields = subst (YieldsAll g of (body ∷ [])) (append-nil m) (y.more yields y.none)
+
+  parts_body : (f : Element-F Element) (body : Element) → out-Element body ≡ f → (m : List Mark) → YieldsAll g of (layer_parts f body) m → Yields g of body m
+  parts_body (layer.Group parts s) body is m all = y.yields (subst (λ f. Gives g of f m) (sym is) (y.grouped all))
+  parts_body f body is m all = alone all
+    where
+      nothing : {n : List Mark} → YieldsAll g of [] n → n ≡ []
+      nothing y.none = refl
+      alone : {m : List Mark} → YieldsAll g of (body ∷ []) m → Yields g of body m
+      alone (y.more {m} {n} p ps) = subst (Yields g of body) (sym (append-nil m) ∙ ap (λ x. m ++ x) (sym (nothing ps))) p
+
+  -- the rule makes nodes, since a part is an assignment
+  pub makes_nodes : 0 < count_by (λ part. is_some (call_of part)) (parts_of rule.body) → MakesNodes g rule
+  makes_nodes some =
+      let found = from_count (λ part. is_some (call_of part)) (parts_of rule.body) some in
+      let plain = plain_parts g rule shape only in
+      by found.0 found.1 found.2 (one_leaf found.0 (All-contains IsPlainPart (parts_of rule.body) found.0 plain found.1))
+    where
+      by : (part : Element) → Contains (parts_of rule.body) part → is_some (call_of part) ≡ true → OneLeaf part → MakesNodes g rule
+      by part at calls (leaf.text _ _ _ _ none) = absurd (true≢false (sym calls ∙ ap is_some none))
+      by part at calls (leaf.call p v name s t one _ _ _) = assigns p One v s (leaf_of rule.body (plain_parts g rule shape only) part _ at one)
+
+  module _ (makes : MakesNodes g rule) (row : List KindId) (all : AllZip Tied (parts_of rule.body) row) where
+    abbrev numbers : List ℕ
+    numbers = map (λ kind. kind.0) row
+
+    rule_gives : {r : ℕ} {m : List Mark} → RuleGives g of r rule m → kinds_of m ≡ numbers
+    rule_gives (y.fragment is _) = absurd (true≢false (sym is ∙ ap (λ r. r.is_fragment) (sym (its_rule g rule shape only)) ∙ shape.whole))
+    rule_gives (y.data_type _ none _) = absurd (none makes)
+    rule_gives (y.node {m} _ _ yields) =
+        kinds_join m (mark.Shut ∷ []) ∙ append-nil (kinds_of m)
+        ∙ parts_give (parts_of rule.body) (plain_parts g rule shape only) row all m (body_parts (out-Element rule.body) rule.body refl m yields)
+
+    -- the kinds of every sentence are those of the row
+    pub is_only_row : IsOnlyRow g of numbers
+    is_only_row ks = (every, there)
+      where
+        every : IsWhole g of ks → ks ≡ numbers
+        every (marks, sentence, is) =
+            let entry = only_rule g.rules rule sentence.rule sentence.number only sentence.entry.there in
+            sym is ∙ rule_gives (subst (λ r. RuleGives g of sentence.number r marks) (sym entry.1) sentence.gives)
+        there : ks ≡ numbers → IsWhole g of ks
+        there is =
+            let made = parts_can (parts_of rule.body) (plain_parts g rule shape only) row all in
+            let whole = ap (λ r. r.is_fragment) (sym (its_rule g rule shape only)) ∙ shape.whole in
+            (mark.Open 0 ∷ made.0 ++ mark.Shut ∷ [],
+            record {
+              number = 0;
+              rule = rule;
+              entry = is_entry g rule shape only;
+              gives = y.node whole makes (parts_body (out-Element rule.body) rule.body refl made.0 made.1);
+            },
+            kinds_join made.0 (mark.Shut ∷ []) ∙ append-nil (kinds_of made.0) ∙ made.2 ∙ sym is)
