@@ -221,7 +221,7 @@ module _ (g : Grammar) (rule : Rule) (shape : HasShape g) (only : g.rules ≡ ru
     where
       inside : {m : List Mark} → Gives g of (layer.Group parts s) m → YieldsAll g of parts m
       inside (y.grouped all) = all
-  body_parts f body is m yields = subst (YieldsAll g of (body ∷ [])) (append-nil m) (y.more yields y.none)
+  body_parts f body is m p = subst (YieldsAll g of (body ∷ [])) (append-nil m) (y.more p y.none)
 
   parts_body : (f : Element-F Element) (body : Element) → out-Element body ≡ f → (m : List Mark) → YieldsAll g of (layer_parts f body) m → Yields g of body m
   parts_body (layer.Group parts s) body is m all = y.yields (subst (λ f. Gives g of f m) (sym is) (y.grouped all))
@@ -250,9 +250,9 @@ module _ (g : Grammar) (rule : Rule) (shape : HasShape g) (only : g.rules ≡ ru
     rule_gives : {r : ℕ} {m : List Mark} → RuleGives g of r rule m → kinds_of m ≡ numbers
     rule_gives (y.fragment is _) = absurd (true≢false (sym is ∙ ap (λ r. r.is_fragment) (sym (its_rule g rule shape only)) ∙ shape.whole))
     rule_gives (y.data_type _ none _) = absurd (none makes)
-    rule_gives (y.node {m} _ _ yields) =
+    rule_gives (y.node {m} _ _ p) =
         kinds_join m (mark.Shut ∷ []) ∙ append-nil (kinds_of m)
-        ∙ parts_give (parts_of rule.body) (plain_parts g rule shape only) row all m (body_parts (out-Element rule.body) rule.body refl m yields)
+        ∙ parts_give (parts_of rule.body) (plain_parts g rule shape only) row all m (body_parts (out-Element rule.body) rule.body refl m p)
 
     -- the kinds of every sentence are those of the row
     pub is_only_row : IsOnlyRow g of numbers

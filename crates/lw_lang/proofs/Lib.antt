@@ -9,3 +9,4 @@ pub mod Lists
 pub mod FlatLeaves
 pub mod FlatKinds
 pub mod FlatRow
+pub mod FlatObstacles

@@ -182,3 +182,15 @@ module _ {X Y : Type 0} where
     zip_at (a ∷ xs) [] i y all is = absurd all
     zip_at (a ∷ xs) (b ∷ ys) zero y all is = (a, refl, subst (R a) (same_Some b y is) all.0)
     zip_at (a ∷ xs) (b ∷ ys) (suc i) y all is = zip_at xs ys i y all.1 is
+
+    pub zip_length : (xs : List X) (ys : List Y) → AllZip R xs ys → length xs ≡ length ys
+    zip_length [] [] all = refl
+    zip_length [] (b ∷ ys) all = absurd all
+    zip_length (a ∷ xs) [] all = absurd all
+    zip_length (a ∷ xs) (b ∷ ys) all = ap suc (zip_length xs ys all.1)
+
+    pub zip_weaker : (S : X → Y → Type 0) → ((x : X) (y : Y) → R x y → S x y) → (xs : List X) (ys : List Y) → AllZip R xs ys → AllZip S xs ys
+    zip_weaker S gives [] [] all = tt
+    zip_weaker S gives [] (b ∷ ys) all = absurd all
+    zip_weaker S gives (a ∷ xs) [] all = absurd all
+    zip_weaker S gives (a ∷ xs) (b ∷ ys) all = (gives a b all.0, zip_weaker S gives xs ys all.1)
