@@ -1,6 +1,9 @@
 -- What a row's parts read, which terminals are kinds beside it, and the kind that each part reads.
 use Rattle.std.specs.Prelude.{ℕ, ◌≡◌, ◌+◌, ◌||◌, ◌&&◌, List, Option, Some, None, Bool, true, false, not, ◌<◌, ◌≤◌, ◌≢◌, All, Any, AllPairs, count_by, is_some, length, slice_get, position, option_map, option_and_then, bytes_eq}
-use Rattle.std.specs.List.{filter_map, list_any}
+use Rattle.std.specs.List.{filter_map, list_any, AllZip}
+use Rattle.std.specs.declared.vec.Vec.{Vec}
+use Rattle.std.specs.declared.alloc.Global.{Global}
+use Rattle.lw_base.specs.declared.numbers.KindId.{KindId}
 use Rattle.lw_grammar.specs.declared.rule.Element.{Element, out-Element}
 use Rattle.lw_grammar.specs.declared.rule.Element.TheOpen.{Element-F, Keyword, Assign, Group}
 use Rattle.lw_grammar.specs.declared.rule.Value0.{Value0, out-Value0}
@@ -75,6 +78,14 @@ kind_of keywords terminals part = layer_kind keywords terminals (keyword_of part
 abbrev pub HasRepeat : {X : Type 0} → List X → Type 0
 HasRepeat {X} xs = (i : ℕ) × (j : ℕ) × (x : X) × (i < j) × (slice_get xs i ≡ Some x) × (slice_get xs j ≡ Some x)
 
+-- the kinds of the parts, in order
+abbrev pub AreKindsOf : List (List ℕ) → List TerminalSource → List Element → Vec KindId Global → Type 0
+AreKindsOf keywords terminals parts row = AllZip (λ part kind. kind_of keywords terminals part ≡ Some kind.0) parts row.items
+
+-- one of them has none
+abbrev pub HasNoKind : List (List ℕ) → List TerminalSource → List Element → Type 0
+HasNoKind keywords terminals parts = Any (λ part. kind_of keywords terminals part ≡ None) parts
+
 -- what a grammar has before there are kinds: an assignment among these parts, a size that is read, and names that differ
 pub record HasSoundNames (g : Grammar) (parts : List Element) : Type 0 where
   pub assigns : 0 < count_by (λ part. is_some (call_of part)) parts
@@ -100,3 +111,8 @@ pub data PassesLimit (keywords : List (List ℕ)) (terminals : List TerminalSour
   many_terminals : 32 < length terminals → PassesLimit keywords terminals
   many_kinds : 256 < length keywords + length terminals → PassesLimit keywords terminals
   long : Any (λ t. 1000 < length t.pattern) terminals → PassesLimit keywords terminals
+
+-- kinds by which the row is not read
+pub data HasUnsoundKinds (keywords : List (List ℕ)) (terminals : List TerminalSource) (parts : List Element) : Type 0 where
+  limit : PassesLimit keywords terminals → HasUnsoundKinds keywords terminals parts
+  no_kind : HasNoKind keywords terminals parts → HasUnsoundKinds keywords terminals parts

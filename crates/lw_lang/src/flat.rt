@@ -4,9 +4,11 @@ ghost use Rattle.lw_grammar.specs.Size.{size};
 ghost use Rattle.lw_lang.specs.Shape.{HasShape};
 ghost use Rattle.lw_lang.specs.Obstacles.{HasObstacle, names, IsBlank};
 ghost use Rattle.lw_lang.specs.Flat.{IsFlat, IsReady};
-ghost use Rattle.lw_lang.specs.FlatParts.{call_of, HasRepeat, AreWithinLimits, PassesLimit, HasSoundNames, HasUnsoundNames};
+ghost use Rattle.lw_lang.specs.FlatParts.{call_of, HasRepeat, AreWithinLimits, PassesLimit, HasSoundNames, HasUnsoundNames, HasUnsoundKinds, AreKindsOf};
+ghost use Rattle.std.specs.List.{IsDistinct};
+ghost use Rattle.std.specs.Str.{bytes_eq};
 
-use crate::flat_parts::{call, calls, is_group, keywords, parts};
+use crate::flat_parts::{call, is_group, keywords, parts};
 use crate::flat_row::row;
 use crate::flat_terminals::sources;
 use indexmap::IndexSet;
@@ -90,12 +92,8 @@ pub(crate) fn make_flat(alloc: Global, g: &Grammar) -> Result<Flat, FlatFault>
     let parts = parts(&rule(g).body);
     check_names(alloc, g, parts)?;
     let keywords = keywords(alloc, parts)?;
-    let called = calls(alloc, parts)?;
-    let terminals = sources(alloc, g.terminals.as_slice(), &called)?;
-    if !are_within_limits(keywords.as_slice(), &terminals) {
-        return Err(FlatFault::Obstacle);
-    }
-    let row = row(alloc, parts, &keywords, &terminals)?;
+    let terminals = sources(alloc, g.terminals.as_slice(), parts)?;
+    let row = row_within_limits(alloc, parts, &keywords, &terminals)?;
     Ok(Flat {
         keywords: keywords.into_iter().collect(alloc)?,
         terminals,
@@ -117,6 +115,24 @@ fn check_names(alloc: Global, g: &Grammar, parts: &[Element]) -> Result<(), Flat
         return Err(FlatFault::Obstacle);
     }
     Ok(())
+}
+
+/// The kinds of the row, where these are kinds that a language may have.
+fn row_within_limits(
+    alloc: Global,
+    parts: &[Element],
+    keywords: &IndexSet<Name>,
+    terminals: &[TerminalSource],
+) -> Result<Vec<KindId>, FlatFault>
+    ensures limits { OnOk result (AreWithinLimits keywords.now.keys terminals.now) }
+    ensures differ { OnOk result (IsDistinct bytes_eq keywords.now.keys) }
+    ensures row { IfOk result (AreKindsOf keywords.now.keys terminals.now parts.now) }
+    ensures obstacle { IsErrOf result FlatFault.Obstacle → HasUnsoundKinds keywords.now.keys terminals.now parts.now }
+{
+    if !are_within_limits(keywords.as_slice(), terminals) {
+        return Err(FlatFault::Obstacle);
+    }
+    row(alloc, parts, keywords, terminals)
 }
 
 /// Whether keywords and terminals are neither blank nor too many, and no pattern is too long.

@@ -1,7 +1,6 @@
 // The kinds that the parts of a row read.
-ghost use Rattle.std.specs.Prelude.{◌≡◌, ◌+◌, ◌≤◌, None, Some, length, option_map, Any, IfOk, IsErrOf};
-ghost use Rattle.std.specs.List.{AllZip};
-ghost use Rattle.lw_lang.specs.FlatParts.{kind_of, terminal_place};
+ghost use Rattle.std.specs.Prelude.{◌≡◌, ◌+◌, ◌≤◌, length, option_map, IfOk, IsErrOf};
+ghost use Rattle.lw_lang.specs.FlatParts.{kind_of, terminal_place, AreKindsOf, HasNoKind};
 
 use crate::flat::{FlatFault, TerminalSource};
 use crate::flat_parts::{call, keyword};
@@ -18,8 +17,8 @@ pub(crate) fn row(
     terminals: &[TerminalSource],
 ) -> Result<Vec<KindId>, FlatFault>
     requires { length keywords.now.keys + length terminals.now ≤ 256 }
-    ensures ok { IfOk result (λ row. AllZip (λ part kind. kind_of keywords.now.keys terminals.now part ≡ Some kind.0) parts.now row.items) }
-    ensures obstacle { IsErrOf result FlatFault.Obstacle → Any (λ part. kind_of keywords.now.keys terminals.now part ≡ None) parts.now }
+    ensures ok { IfOk result (AreKindsOf keywords.now.keys terminals.now parts.now) }
+    ensures obstacle { IsErrOf result FlatFault.Obstacle → HasNoKind keywords.now.keys terminals.now parts.now }
 {
     let mut row = Vec::new(alloc);
     for part in parts {

@@ -5,16 +5,31 @@ ghost use Rattle.std.specs.Option.{option_copied};
 ghost use Rattle.lw_grammar.specs.declared.terminal.TermElement.{out-TermElement};
 ghost use Rattle.lw_tokens.specs.Patterns.{unescaped, as_pattern};
 ghost use Rattle.lw_lang.specs.Shape.{IsPlainTerminal};
-ghost use Rattle.lw_lang.specs.FlatParts.{is_kind, IsPlainSource};
+ghost use Rattle.lw_grammar.specs.Kinds.{first_uses};
+ghost use Rattle.lw_lang.specs.FlatParts.{calls_of, is_kind, IsPlainSource};
 
 use crate::flat::TerminalSource;
+use crate::flat_parts::calls;
 use indexmap::IndexSet;
 use lw_base::{Name, NoMemory};
-use lw_grammar::{TermElement, Terminal};
+use lw_grammar::{Element, TermElement, Terminal};
 use std::alloc::Global;
 
-/// What the matchers of the kinds among the terminals are made from, where these names are called.
+/// What the matchers of the terminals are made from that are kinds beside these parts.
 pub(crate) fn sources(
+    alloc: Global,
+    terminals: &[Terminal],
+    parts: &[Element],
+) -> Result<Vec<TerminalSource>, NoMemory>
+    requires { All IsPlainTerminal terminals.now }
+    ensures { IfOk result (λ sources. AllZip IsPlainSource (filter (is_kind (first_uses [] (calls_of parts.now))) terminals.now) sources.items) }
+{
+    let called = calls(alloc, parts)?;
+    sources_of_kinds(alloc, terminals, &called)
+}
+
+/// The same, where these names are called.
+fn sources_of_kinds(
     alloc: Global,
     terminals: &[Terminal],
     called: &IndexSet<Name>,

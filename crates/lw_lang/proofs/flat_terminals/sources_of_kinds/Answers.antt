@@ -4,8 +4,8 @@ use Rattle.std.proofs.lemmas.List.Elements.{All-get_or}
 use Rattle.lw_lang.specs.Shape.{IsPlainTerminal}
 use Rattle.lw_lang.specs.FlatParts.{is_kind, IsPlainSource}
 use Rattle.lw_lang.proofs.Zips.{zip_kept, zip_left_out}
-use Rattle.lw_lang.proofs.flat_terminals.sources.Goals as goal
-use Rattle.lw_lang.proofs.flat_terminals.sources.Goals.{then-is_kind+in_ok-source+in_ok-push, else-is_kind}
+use Rattle.lw_lang.proofs.flat_terminals.sources_of_kinds.Goals as goal
+use Rattle.lw_lang.proofs.flat_terminals.sources_of_kinds.Goals.{then-is_kind+in_ok-source+in_ok-push, else-is_kind}
 
 pub source-requires : goal.source-requires
 source-requires c =
