@@ -3,3 +3,13 @@ pub mod RowLemmas
 pub mod RowReading
 pub mod CutPlaces
 pub mod ReadLemmas
+pub mod Unescaping
+pub mod Zips
+pub mod FlatTexts
+pub mod FlatSize
+pub mod Lists
+pub mod FlatLeaves
+pub mod FlatKinds
+pub mod FlatRow
+pub mod FlatObstacles
+pub mod BuildLemmas

@@ -1,15 +1,29 @@
 -- What a row's parts read, which terminals are kinds beside it, and the kind that each part reads.
-use Rattle.std.specs.Prelude.{ℕ, ◌≡◌, ◌+◌, ◌||◌, ◌&&◌, List, Option, Some, None, Bool, not, length, position, option_map, option_and_then, bytes_eq}
-use Rattle.std.specs.List.{filter_map, list_any}
+use Rattle.std.specs.Prelude.{ℕ, ◌≡◌, ◌+◌, ◌||◌, ◌&&◌, List, Option, Some, None, Bool, true, false, not, ◌<◌, ◌≤◌, ◌≢◌, All, Any, AllPairs, count_by, is_some, length, slice_get, position, option_map, option_and_then, bytes_eq}
+use Rattle.std.specs.List.{filter_map, list_any, AllZip}
+use Rattle.std.specs.declared.vec.Vec.{Vec}
+use Rattle.std.specs.declared.alloc.Global.{Global}
+use Rattle.lw_base.specs.declared.numbers.KindId.{KindId}
 use Rattle.lw_grammar.specs.declared.rule.Element.{Element, out-Element}
-use Rattle.lw_grammar.specs.declared.rule.Element.TheOpen.{Element-F, Keyword, Assign}
+use Rattle.lw_grammar.specs.declared.rule.Element.TheOpen.{Element-F, Keyword, Assign, Group}
 use Rattle.lw_grammar.specs.declared.rule.Value0.{Value0, out-Value0}
 use Rattle.lw_grammar.specs.declared.rule.Value0.TheOpen as value
 use Rattle.lw_grammar.specs.declared.rule.Value0.TheOpen.{Value0-F}
 use Rattle.lw_grammar.specs.declared.terminal.Terminal.{Terminal}
 use Rattle.lw_grammar.specs.declared.terminal.TermElement.{out-TermElement}
 use Rattle.lw_tokens.specs.Patterns.{unescaped, as_pattern}
-use Rattle.lw_lang.specs.declared.flat.TerminalSource.{TerminalSource}
+use Rattle.lw_terminals.specs.declared.source.TerminalSource.{TerminalSource}
+use Rattle.lw_lang.specs.Obstacles.{IsBlank, names}
+use Rattle.lw_grammar.specs.declared.grammar.Grammar.{Grammar}
+use Rattle.lw_grammar.specs.Size.{size}
+
+-- whether a body is a row of parts
+abbrev pub layer_is_group : Element-F Element → Bool
+layer_is_group (Group parts s) = true
+layer_is_group _ = false
+
+abbrev pub is_group : Element → Bool
+is_group body = layer_is_group (out-Element body)
 
 -- the text of a part that is a keyword
 abbrev pub layer_keyword : Element-F Element → Option (List ℕ)
@@ -59,3 +73,46 @@ layer_kind keywords terminals None call = option_map (λ i. length keywords + i)
 
 abbrev pub kind_of : List (List ℕ) → List TerminalSource → Element → Option ℕ
 kind_of keywords terminals part = layer_kind keywords terminals (keyword_of part) (call_of part)
+
+-- an item stands at two places
+abbrev pub HasRepeat : {X : Type 0} → List X → Type 0
+HasRepeat {X} xs = (i : ℕ) × (j : ℕ) × (x : X) × (i < j) × (slice_get xs i ≡ Some x) × (slice_get xs j ≡ Some x)
+
+-- the kinds of the parts, in order
+abbrev pub AreKindsOf : List (List ℕ) → List TerminalSource → List Element → Vec KindId Global → Type 0
+AreKindsOf keywords terminals parts row = AllZip (λ part kind. kind_of keywords terminals part ≡ Some kind.0) parts row.items
+
+-- one of them has none
+abbrev pub HasNoKind : List (List ℕ) → List TerminalSource → List Element → Type 0
+HasNoKind keywords terminals parts = Any (λ part. kind_of keywords terminals part ≡ None) parts
+
+-- what a grammar has before there are kinds: an assignment among these parts, a size that is read, and names that differ
+pub record HasSoundNames (g : Grammar) (parts : List Element) : Type 0 where
+  pub assigns : 0 < count_by (λ part. is_some (call_of part)) parts
+  pub sized : size g ≤ 65535
+  pub differ : AllPairs (λ a b. a ≢ b) (names g)
+
+-- it lacks one of them
+pub data HasUnsoundNames (g : Grammar) (parts : List Element) : Type 0 where
+  assigns_nothing : count_by (λ part. is_some (call_of part)) parts ≡ 0 → HasUnsoundNames g parts
+  too_large : 65535 < size g → HasUnsoundNames g parts
+  repeats : HasRepeat (names g) → HasUnsoundNames g parts
+
+-- keywords and terminals that a language may have
+pub record AreWithinLimits (keywords : List (List ℕ)) (terminals : List TerminalSource) : Type 0 where
+  pub written : All (λ text. ¬ IsBlank text) keywords
+  pub few_terminals : length terminals ≤ 32
+  pub few_kinds : length keywords + length terminals ≤ 256
+  pub short : All (λ t. length t.pattern ≤ 1000) terminals
+
+-- one of these limits is passed
+pub data PassesLimit (keywords : List (List ℕ)) (terminals : List TerminalSource) : Type 0 where
+  blank : Any IsBlank keywords → PassesLimit keywords terminals
+  many_terminals : 32 < length terminals → PassesLimit keywords terminals
+  many_kinds : 256 < length keywords + length terminals → PassesLimit keywords terminals
+  long : Any (λ t. 1000 < length t.pattern) terminals → PassesLimit keywords terminals
+
+-- kinds by which the row is not read
+pub data HasUnsoundKinds (keywords : List (List ℕ)) (terminals : List TerminalSource) (parts : List Element) : Type 0 where
+  limit : PassesLimit keywords terminals → HasUnsoundKinds keywords terminals parts
+  no_kind : HasNoKind keywords terminals parts → HasUnsoundKinds keywords terminals parts

@@ -1,12 +1,19 @@
 // From a grammar file to a language.
-ghost use Rattle.std.specs.Prelude.{◌≡◌, ◌≤◌, IfOk, IfErr, IfSome};
-ghost use Rattle.lw_lang.specs.Compiled.{HoldsGrammar, IsClear, Causes, StoreCounts, PatternCounts};
+ghost use Rattle.std.specs.Prelude.{◌≡◌, ◌≤◌, ◌<◌, length, IfOk, IfErr, IfSome, OnErr, All, map};
+ghost use Rattle.lw_lang.specs.Compiled.{Says, HoldsGrammar, IsClear, Causes, FileCauses, GrammarCauses, NothingSaid, IsUnbuiltAt, IsPatternFault, StoreCounts, PatternCounts, longest_file};
+ghost use Rattle.lw_lang.specs.Obstacles.{HasObstacle};
+ghost use Rattle.lw_lang.specs.Flat.{IsFlat, IsReady};
 ghost use Rattle.lw_lang.specs.KindTexts.{AreKindTexts};
+ghost use Rattle.lw_lang.specs.Shape.{HasShape};
 
 use crate::fault::CompileFault;
+use crate::flat::{Flat, FlatFault, make_flat};
 use crate::language::Language;
-use lw_base::Name;
-use lw_io::{Patterns, Store};
+use lw_base::{Name, NoMemory, RuleId, Span};
+use lw_grammar::Grammar;
+use lw_io::{Found, Patterns, Store};
+use lw_terminals::{MakeTokensFault, TerminalSource, TokenSet};
+use lw_text::position;
 use std::alloc::Global;
 
 /// Reads the root file of a grammar, and makes it ready. `k` is how many kinds the reader may look
@@ -36,5 +43,134 @@ pub fn compile<F: Store, P: Patterns>(
     ensures patterns { PatternCounts (P.count patterns.old) (P.count patterns.new) result }
     ensures files { F.files store.new ≡ F.files store.old }
 {
+    let path = root.copy(alloc)?;
+    match store.read(alloc, root) {
+        Found::Text(file) => compile_file(alloc, root, &file, patterns),
+        Found::Absent => Err(CompileFault::Absent(path)),
+        Found::NotUtf8 => Err(CompileFault::NotUtf8(path)),
+        Found::TooLong => Err(CompileFault::TooLong(path)),
+        Found::Failed => Err(CompileFault::StoreFault(path)),
+        Found::NoMemory => Err(CompileFault::NoMemory),
+    }
+}
+
+// The language of a grammar file.
+fn compile_file<P: Patterns>(
+    alloc: Global,
+    root: &Name,
+    file: &Name,
+    patterns: &mut P,
+) -> Result<Language, CompileFault>
+    requires { length file.now ≤ longest_file }
+    ensures says { IfOk result (λ language. Says root.now file.now language.grammar) }
+    ensures clear { IfOk result (λ language. IsClear language.grammar) }
+    ensures texts { IfOk result (λ language. AreKindTexts language.grammar language.texts) }
+    ensures fault { IfErr result (FileCauses root.now file.now (P.last_refused patterns.new)) }
+    ensures patterns { PatternCounts (P.count patterns.old) (P.count patterns.new) result }
+{
+    let grammar = grammar_of(alloc, root, file)?;
+    build(alloc, file, grammar, patterns)
+}
+
+// The grammar that a file says.
+fn grammar_of(alloc: Global, root: &Name, file: &Name) -> Result<Grammar, CompileFault>
+    requires { length file.now ≤ longest_file }
+    ensures says { IfOk result (Says root.now file.now) }
+    ensures shape { IfOk result HasShape }
+    ensures fault { IfErr result (NothingSaid root.now file.now) }
+{
     Err(CompileFault::NoMemory)
+}
+
+// The fault of a file that is not built, told at this place.
+fn unbuilt(file: &Name, span: Span) -> CompileFault
+    requires within { span.start ≤ length file.now }
+    requires short { length file.now ≤ longest_file }
+    ensures { IsUnbuiltAt file.now span result }
+{
+    let at = position(file.text(), span.start as usize);
+    CompileFault::Unbuilt(span, at)
+}
+
+// Makes a grammar ready, whose file this is.
+fn build<P: Patterns>(
+    alloc: Global,
+    file: &Name,
+    grammar: Grammar,
+    patterns: &mut P,
+) -> Result<Language, CompileFault>
+    requires shape { HasShape grammar }
+    requires short { length file.now ≤ longest_file }
+    ensures grammar { IfOk result (λ language. language.grammar ≡ grammar) }
+    ensures clear { IfOk result (λ language. IsClear language.grammar) }
+    ensures texts { IfOk result (λ language. AreKindTexts language.grammar language.texts) }
+    ensures fault { IfErr result (GrammarCauses grammar file.now (P.last_refused patterns.new)) }
+    ensures patterns { PatternCounts (P.count patterns.old) (P.count patterns.new) result }
+{
+    match make_flat(alloc, &grammar) {
+        Ok(flat) => language_of(alloc, file, grammar, flat, patterns),
+        Err(FlatFault::Obstacle) => Err(unbuilt(file, Span { start: 0, end: 0 })),
+        Err(FlatFault::NoMemory) => Err(CompileFault::NoMemory),
+    }
+}
+
+// Makes the patterns of a flat grammar, and the language of them.
+fn language_of<P: Patterns>(
+    alloc: Global,
+    file: &Name,
+    grammar: Grammar,
+    flat: Flat,
+    patterns: &mut P,
+) -> Result<Language, CompileFault>
+    requires shape { HasShape grammar }
+    requires short { length file.now ≤ longest_file }
+    requires flat { IsFlat grammar flat }
+    requires ready { IsReady flat }
+    requires clear { ¬ HasObstacle grammar }
+    ensures grammar { IfOk result (λ language. language.grammar ≡ grammar) }
+    ensures clear { IfOk result (λ language. IsClear language.grammar) }
+    ensures texts { IfOk result (λ language. AreKindTexts language.grammar language.texts) }
+    ensures fault { IfErr result (GrammarCauses grammar file.now (P.last_refused patterns.new)) }
+    ensures patterns { PatternCounts (P.count patterns.old) (P.count patterns.new) result }
+{
+    let Flat {
+        keywords,
+        terminals,
+        row,
+    } = flat;
+    let names = names_of(alloc, &terminals)?;
+    match TokenSet::make(alloc, keywords, terminals, patterns) {
+        Ok(tokens) => Ok(Language::new(grammar, tokens, row)),
+        Err(MakeTokensFault::EmptyMatch(_)) => Err(unbuilt(file, Span { start: 0, end: 0 })),
+        Err(MakeTokensFault::Refused(i)) => Err(refused(file, &grammar, names, i)),
+        Err(MakeTokensFault::NoMemory) => Err(CompileFault::NoMemory),
+    }
+}
+
+// The names of terminals, kept for the fault of one whose pattern is refused.
+fn names_of(alloc: Global, terminals: &[TerminalSource]) -> Result<Vec<Name>, NoMemory>
+    ensures { IfOk result (λ names. names.items ≡ map (λ terminal. terminal.name) terminals.now) }
+{
+    let mut names = Vec::with_capacity(alloc, terminals.len())?;
+    for terminal in terminals {
+        names.push(terminal.name.copy(alloc)?)?;
+    }
+    Ok(names)
+}
+
+// The fault of the terminal kind at this place, whose pattern was refused: its number behind the
+// rules, its name, and where its name stands.
+fn refused(file: &Name, grammar: &Grammar, mut names: Vec<Name>, i: usize) -> CompileFault
+    requires within { i < length names.items }
+    requires short { length file.now ≤ longest_file }
+    ensures { IsPatternFault result }
+{
+    let name = names.swap_remove(i);
+    let rules = grammar.rules.len();
+    let terminals = grammar.terminals.as_slice();
+    let number = terminals.iter().position(|t| t.name == name).unwrap_or(0);
+    let start = terminals.get(number).map_or(0, |t| t.span.start as usize);
+    let rule = u16::try_from(rules.saturating_add(number)).unwrap_or(u16::MAX);
+    let at = position(file.text(), start.min(file.bytes().len()));
+    CompileFault::PatternRefused(RuleId(rule), name, at)
 }

@@ -6,6 +6,8 @@ mod fault;
 mod flat;
 mod flat_parts;
 mod language;
+mod flat_row;
+mod flat_terminals;
 mod recogniser;
 
 pub use compiler::compile;

@@ -1,0 +1,11 @@
+use Rattle.std.proofs.Common.{sym, ap, ◌∙◌, subst}
+use Rattle.std.proofs.lemmas.Option.{MatchOption-at_none}
+use Rattle.std.specs.Str.{IsUtf8}
+use Rattle.lw_tokens.specs.Patterns.{unescaped}
+use Rattle.lw_lang.proofs.Unescaping.{IsUtf8-unescaped}
+use Rattle.lw_lang.proofs.flat_terminals.unescaped.Goals as goal
+
+pub unreachable-requires : goal.unreachable-requires
+unreachable-requires c =
+    let same = c.deref.ensures.value ∙ c.in_ok-bytes.ensures ∙ ap unescaped c.bytes.ensures.bytes in
+    MatchOption-at_none _ _ c.in-None.is c.in_ok-text.ensures (subst IsUtf8 (sym same) (IsUtf8-unescaped _ c.bytes.ensures.utf8))
