@@ -32,7 +32,7 @@ length-texts_of : (of : Kinds) → length (texts_of of) ≡ length of.keywords +
 length-texts_of of = simp (length-append, length-map) refl
 
 text_count : (l : Inside) → IsReady l → length l.tokens.texts ≡ length l.tokens.lexicon.keywords + length l.tokens.lexicon.terminals
-text_count l ready = 
+text_count l ready =
     let keywords = ap length ready.lexicon.keywords in
     let terminals : length ready.of.terminals ≡ length l.tokens.lexicon.terminals = length-AllZip (HasForm l.grammar) ready.of.terminals l.tokens.lexicon.terminals ready.lexicon.terminals in
     ap length ready.texts ∙ length-texts_of ready.of ∙ omega (arith, keywords, terminals)

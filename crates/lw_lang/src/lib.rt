@@ -5,9 +5,9 @@ mod compiler;
 mod fault;
 mod flat;
 mod flat_parts;
-mod language;
 mod flat_row;
 mod flat_terminals;
+mod language;
 mod recogniser;
 
 pub use compiler::compile;
