@@ -10,3 +10,4 @@ pub mod FlatLeaves
 pub mod FlatKinds
 pub mod FlatRow
 pub mod FlatObstacles
+pub mod FlatMade
