@@ -44,6 +44,7 @@ module _ {X : Type 0} (passes : ℕ → Type 0) where
     where
       next : (j : ℕ) → i + suc j ≡ (i + 1) + j
       next j = omega arith
+
       by : (b : Bool) → test x ≡ b → KeepsFrom passes (i + 1) xs (filter test xs) → KeepsFrom passes i (x ∷ xs) (cond b (x ∷ filter test xs) (filter test xs))
       by true is rest = keep.kept (subst passes (add-zero i) (has 0 x refl is)) rest
       by false is rest = keep.left_out (λ p. lacks 0 x refl is (subst passes (sym (add-zero i)) p)) rest
@@ -150,8 +151,9 @@ module _ (g : Grammar) (rule : Rule) (shape : HasShape g) (only : g.rules ≡ ru
 
     -- there are no others
     pub kinds_settled : (of : Kinds) → AreKinds g of → (of.keywords ≡ (the_kinds g rule).keywords) × (of.terminals ≡ (the_kinds g rule).terminals)
-    kinds_settled of are =
-        (are.keywords
-        ∙ ap (λ rules. first_uses [] (flat_map (λ r. keywords_in r.body) rules)) (kept_once (IsReached g) are.reached reached_only)
-        ∙ sym its_keywords,
-        kept_once (IsKindTerminal g) are.terminals its_terminals)
+    kinds_settled of are = (
+      are.keywords
+          ∙ ap (λ rules. first_uses [] (flat_map (λ r. keywords_in r.body) rules)) (kept_once (IsReached g) are.reached reached_only)
+          ∙ sym its_keywords,
+      kept_once (IsKindTerminal g) are.terminals its_terminals,
+    )

@@ -121,6 +121,7 @@ keywords_in_parts body plain = ap (flat_map keywords_of) (leaves_of_parts body) 
     one part (text word s is word_is _) rest = ap (λ ls. flat_map keywords_of ls ++ rest) is ∙ ap (λ o. cons_option o rest) (sym word_is)
     one part (call p v name s t is values none _) rest =
         ap (λ ls. flat_map keywords_of ls ++ rest) is ∙ ap (λ ls. (flat_map literals_of ls ++ []) ++ rest) values ∙ ap (λ o. cons_option o rest) (sym none)
+
     each : (parts : List Element) → All IsPlainPart parts → flat_map keywords_of (flat_map leaves parts) ≡ texts_of parts
     each [] plain = refl
     each (part ∷ parts) plain =

@@ -60,14 +60,14 @@ module _ (g : Grammar) (rule : Rule) (shape : HasShape g) (only : g.rules ≡ ru
       kinds = are_kinds g rule shape only sound_body.differ;
       keywords = sym (same_words ∙ its_words);
       terminals =
-        subst (AllZip (IsSource g) (the_kinds g rule).terminals) (sym same_terminals)
-        (zip_weaker IsPlainSource (IsSource g)
-        (λ terminal source plain. record { name = plain.name; pattern = has_pattern g terminal source.pattern plain.pattern; hidden = plain.hidden })
-        (the_kinds g rule).terminals terminals tied);
+          subst (AllZip (IsSource g) (the_kinds g rule).terminals) (sym same_terminals)
+          (zip_weaker IsPlainSource (IsSource g)
+          (λ terminal source plain. record { name = plain.name; pattern = has_pattern g terminal source.pattern plain.pattern; hidden = plain.hidden })
+          (the_kinds g rule).terminals terminals tied);
       row =
-        subst (λ ks. IsOnlyRow g (the_kinds g rule) (map (λ kind. kind.0) ks)) (sym same_row)
-        (is_only_row g rule shape only sound_body.differ words_differ terminals tied
-        (makes_nodes g rule shape only sound_body.differ words_differ terminals tied sound_body.assigns) row kinds_of_body);
+          subst (λ ks. IsOnlyRow g (the_kinds g rule) (map (λ kind. kind.0) ks)) (sym same_row)
+          (is_only_row g rule shape only sound_body.differ words_differ terminals tied
+          (makes_nodes g rule shape only sound_body.differ words_differ terminals tied sound_body.assigns) row kinds_of_body);
     }
 
 module _ (keywords : List (List ℕ)) (terminals : List TerminalSource) (limits : AreWithinLimits keywords terminals) (differ : AllPairs (λ a b. a ≢ b) keywords) where

@@ -112,22 +112,24 @@ module _ (g : Grammar) (rule : Rule) (shape : HasShape g) (only : g.rules ≡ ru
         let listed = Contains-first_uses (calls_of (parts_of rule.body)) name in_calls in
         let stands : stands_in name (called rule) ≡ true = list_any-from_Contains nat_list_eq_equiv name (called rule) listed in
         let nowhere : option_map (λ i. length of.keywords + i) (terminal_place terminals name) ≡ None =
-            ap (λ o. layer_kind of.keywords terminals None o) (sym is) ∙ ap (λ o. layer_kind of.keywords terminals o (call_of part)) (sym no_word) ∙ none in
+        ap (λ o. layer_kind of.keywords terminals None o) (sym is) ∙ ap (λ o. layer_kind of.keywords terminals o (call_of part)) (sym no_word) ∙ none in
         obstacle.no_terminal rule name the_rule (name_called rule.body plain g rule refl name in_calls)
         (λ terminal in_terminals named. hidden terminal in_terminals named stands (no_place (terminal_place terminals name) nowhere) terminal.is_hidden refl)
       where
         no_place : (o : Option ℕ) → option_map (λ i. length of.keywords + i) o ≡ None → o ≡ None
         no_place None _ = refl
         no_place (Some i) is = absurd (none-some (length of.keywords + i) (sym is))
+
         or_true : (h : Bool) → (h || true) ≡ true
         or_true true = refl
         or_true false = refl
+
         hidden : (terminal : Terminal) → Contains g.terminals terminal → terminal.name ≡ name → stands_in name (called rule) ≡ true → terminal_place terminals name ≡ None →
             (h : Bool) → terminal.is_hidden ≡ h → terminal.is_hidden ≡ true
         hidden terminal in_terminals named stands nowhere true is = is
         hidden terminal in_terminals named stands nowhere false is =
             let passes : is_kind (called rule) terminal ≡ true =
-                ap (λ n. terminal.is_hidden || stands_in n (called rule)) named ∙ ap (λ s. terminal.is_hidden || s) stands ∙ or_true terminal.is_hidden in
+            ap (λ n. terminal.is_hidden || stands_in n (called rule)) named ∙ ap (λ s. terminal.is_hidden || s) stands ∙ or_true terminal.is_hidden in
             let found = zip_left IsPlainSource of.terminals terminals terminal tied (filter_has (is_kind (called rule)) g.terminals terminal in_terminals passes) in
             let shown : not found.0.hidden ≡ true = ap not (found.2.hidden ∙ is) in
             let same : bytes_eq found.0.name name ≡ true = (bytes_eq-Decides found.0.name name).1 (found.2.name ∙ named) in
@@ -175,5 +177,8 @@ module _ (g : Grammar) (rule : Rule) (shape : HasShape g) (only : g.rules ≡ ru
       is_clear (obstacle.long_pattern pattern (kinds, theirs, terminal, listed, its) long) =
           let settled = kinds_settled g rule shape only sound.differ kinds theirs in
           let found = zip_left IsPlainSource of.terminals terminals terminal tied (subst (λ ts. Contains ts terminal) settled.1 listed) in
-          omega (arith, ap length (pattern_once g terminal found.0.pattern found.2.pattern pattern its),
-          All-contains (λ t. length t.pattern ≤ 1000) terminals found.0 limits.short found.1)
+          omega (
+            arith,
+            ap length (pattern_once g terminal found.0.pattern found.2.pattern pattern its),
+            All-contains (λ t. length t.pattern ≤ 1000) terminals found.0 limits.short found.1,
+          )

@@ -123,6 +123,7 @@ module _ (g : Grammar) (rule : Rule) (shape : HasShape g) (only : g.rules ≡ ru
             shown = sym found.2.hidden ∙ both.0;
             number = sym number;
           }
+
       by : (o : Option ℕ) → terminal_place terminals name ≡ o → option_map (λ i. length of.keywords + i) o ≡ Some k → IsCalled name k
       by None _ is = absurd (none-some k is)
       by (Some i) place is =
@@ -131,12 +132,16 @@ module _ (g : Grammar) (rule : Rule) (shape : HasShape g) (only : g.rules ≡ ru
           at i (get_or terminals i d) (slice_get-get_or terminals i d found.0) found.1 (same_Some (length of.keywords + i) k is)
 
   call_kind : (name : List ℕ) (k : ℕ) → IsCalled name k → IsTerminalKind of name k
-  call_kind name k means =
-      (means.place, means.terminal, record {
-        there = means.there;
-        does = means.named;
-        none_before = λ j other below at_j same. kind_once j means.place other means.terminal below at_j means.there (same ∙ sym means.named);
-      }, means.number)
+  call_kind name k means = (
+    means.place,
+    means.terminal,
+    record {
+      there = means.there;
+      does = means.named;
+      none_before = λ j other below at_j same. kind_once j means.place other means.terminal below at_j means.there (same ∙ sym means.named);
+    },
+    means.number,
+  )
 
   call_once : (name : List ℕ) (k l : ℕ) → IsTerminalKind of name k → IsTerminalKind of name l → k ≡ l
   call_once name k l (i, x, first, is) (j, other, second, is') =
@@ -174,22 +179,25 @@ module _ (g : Grammar) (rule : Rule) (shape : HasShape g) (only : g.rules ≡ ru
     where
       in_value : {w c : Value0} {m : List Mark} → ReadsLayer g of w (value.Call name t) c m → kinds_of m ≡ k ∷ []
       in_value (y.call_value {m} made) = call_gives name k (call_reads part p v name s t is calls k reads) m made
+
       read : {c : Value0} {m : List Mark} → Reads g of v c m → kinds_of m ≡ k ∷ []
       read {c} {m} (y.reads layered) = in_value (subst (λ f. ReadsLayer g of v f c m) calls layered)
+
       inside : {m : List Mark} → Gives g of (layer.Assign p One v s) m → kinds_of m ≡ k ∷ []
       inside (y.assigned {m} values) = kinds_join m (mark.End ∷ []) ∙ append-nil (kinds_of m) ∙ read values
 
   -- and there are such marks
   part_can : (part : Element) → IsPlainPart part → (k : ℕ) → Reads1 part k → (m : List Mark) × Yields g of part m × (kinds_of m ≡ k ∷ [])
-  part_can part (keyword text s is) k reads =
-      (mark.Token k ∷ [],
-      y.yields (subst (λ f. Gives g of f (mark.Token k ∷ [])) (sym is) (y.keyword (word_kind text k (word_reads part text s is k reads)))),
-      refl)
+  part_can part (keyword text s is) k reads = (
+    mark.Token k ∷ [],
+    y.yields (subst (λ f. Gives g of f (mark.Token k ∷ [])) (sym is) (y.keyword (word_kind text k (word_reads part text s is k reads)))),
+    refl,
+  )
   part_can part (assignment p v name s t is calls) k reads =
       let m = mark.Put p One v ∷ (mark.Token k ∷ []) ++ mark.End ∷ [] in
       let made : Calls g of name (mark.Token k ∷ []) = y.terminal (call_kind name k (call_reads part p v name s t is calls k reads)) in
       let values : Reads g of v v (mark.Token k ∷ []) =
-          y.reads (subst (λ f. ReadsLayer g of v f v (mark.Token k ∷ [])) (sym calls) (y.call_value made)) in
+      y.reads (subst (λ f. ReadsLayer g of v f v (mark.Token k ∷ [])) (sym calls) (y.call_value made)) in
       (m, y.yields (subst (λ f. Gives g of f m) (sym is) (y.assigned values)), refl)
 
   abbrev Tied : Element → KindId → Type 0
@@ -229,6 +237,7 @@ module _ (g : Grammar) (rule : Rule) (shape : HasShape g) (only : g.rules ≡ ru
     where
       nothing : {n : List Mark} → YieldsAll g of [] n → n ≡ []
       nothing y.none = refl
+
       alone : {m : List Mark} → YieldsAll g of (body ∷ []) m → Yields g of body m
       alone (y.more {m} {n} p ps) = subst (Yields g of body) (sym (append-nil m) ∙ ap (λ x. m ++ x) (sym (nothing ps))) p
 
@@ -262,15 +271,17 @@ module _ (g : Grammar) (rule : Rule) (shape : HasShape g) (only : g.rules ≡ ru
         every (marks, sentence, is) =
             let entry = only_rule g.rules rule sentence.rule sentence.number only sentence.entry.there in
             sym is ∙ rule_gives (subst (λ r. RuleGives g of sentence.number r marks) (sym entry.1) sentence.gives)
+
         there : ks ≡ numbers → IsWhole g of ks
         there is =
             let made = parts_can (parts_of rule.body) (plain_parts g rule shape only) row all in
-            let whole = ap (λ r. r.is_fragment) (sym (its_rule g rule shape only)) ∙ shape.whole in
-            (mark.Open 0 ∷ made.0 ++ mark.Shut ∷ [],
-            record {
-              number = 0;
-              rule = rule;
-              entry = is_entry g rule shape only;
-              gives = y.node whole makes (parts_body (out-Element rule.body) rule.body refl made.0 made.1);
-            },
-            kinds_join made.0 (mark.Shut ∷ []) ∙ append-nil (kinds_of made.0) ∙ made.2 ∙ sym is)
+            let whole = ap (λ r. r.is_fragment) (sym (its_rule g rule shape only)) ∙ shape.whole in (
+              mark.Open 0 ∷ made.0 ++ mark.Shut ∷ [],
+              record {
+                number = 0;
+                rule = rule;
+                entry = is_entry g rule shape only;
+                gives = y.node whole makes (parts_body (out-Element rule.body) rule.body refl made.0 made.1);
+              },
+              kinds_join made.0 (mark.Shut ∷ []) ∙ append-nil (kinds_of made.0) ∙ made.2 ∙ sym is,
+            )

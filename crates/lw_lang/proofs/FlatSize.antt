@@ -74,6 +74,7 @@ terminals_size (t ∷ ts) plain =
   where
     one : IsPlainTerminal t → term_size t.body ≡ 1
     one plain = fold_out-TermElement ℕ term_layer_size t.body ∙ ap (λ f. term_layer_size (map-TermElement TermElement ℕ term_size f)) plain.3
+
     joined : (a b n : ℕ) → a ≡ 1 → b ≡ 2 * n → (1 + a) + b ≡ 2 * suc n
     joined a b n p q = omega arith
 
@@ -93,5 +94,6 @@ size_flat g rule shape only =
   where
     joined : (i r e t f u b n m k : ℕ) → i ≡ 0 → r ≡ (1 + e) + 0 → e ≡ b + n + m → t ≡ 2 * k → f ≡ 0 → u ≡ 0 → i + r + t + f + u ≡ 1 + b + n + m + 2 * k
     joined i r e t f u b n m k p q h v w x = omega arith
+
     cons_head : {X : Type 0} {x y : X} {xs ys : List X} → x ∷ xs ≡ y ∷ ys → x ≡ y
     cons_head is = cc

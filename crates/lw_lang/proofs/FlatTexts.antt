@@ -34,9 +34,14 @@ pub HasRepeat-from_contains : {X : Type 0} (front rest : List X) (x : X) → Con
 HasRepeat-from_contains front rest x (k, inside, there) =
     let whole = front ++ x ∷ rest in
     let n = length front in
-    let long = length-append front (x ∷ rest) in
-    (k, n, x, inside, slice_get-get_or whole k x (omega arith) ∙ ap Some (get_or_append_left front (x ∷ rest) x k inside ∙ there),
-    slice_get-get_or whole n x (omega arith) ∙ ap Some (get_or_at front x rest x n refl))
+    let long = length-append front (x ∷ rest) in (
+      k,
+      n,
+      x,
+      inside,
+      slice_get-get_or whole k x (omega arith) ∙ ap Some (get_or_append_left front (x ∷ rest) x k inside ∙ there),
+      slice_get-get_or whole n x (omega arith) ∙ ap Some (get_or_at front x rest x n refl),
+    )
 
 -- names that were put into a set one after the other: another one, that the set had, stands twice among them all
 module _ {X Y : Type 0} (name : X → Y) (front : List Y) (xs : List X) (i : ℕ) (x : X) (inside : i < length xs) (there : x ≡ get_or xs i x) where

@@ -43,6 +43,7 @@ module _ {X : Type 0} where
     where
       one_more : count_by test (y ∷ ys) ≡ cond (test y) 1 0 + count_by test ys
       one_more = sum_by-cons (λ z. cond (test z) 1 0) y ys
+
       by : (y ≡ x) ⊎ Contains ys x → (Contains ys x → 0 < count_by test ys) → 0 < count_by test (y ∷ ys)
       by (inl is) rest = omega (arith, one_more, ap bit (ap test is ∙ passes))
       by (inr later) rest = omega (arith, one_more, rest later)
@@ -54,6 +55,7 @@ module _ {X : Type 0} where
     where
       one_more : count_by test (y ∷ ys) ≡ cond (test y) 1 0 + count_by test ys
       one_more = sum_by-cons (λ z. cond (test z) 1 0) y ys
+
       by : (b : Bool) → test y ≡ b → (0 < count_by test ys → (x : X) × Contains ys x × (test x ≡ true)) → (x : X) × Contains (y ∷ ys) x × (test x ≡ true)
       by true is rest = (y, here y ys, is)
       by false is rest =

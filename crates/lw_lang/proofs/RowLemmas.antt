@@ -24,8 +24,8 @@ one_more_misfits : (row : List ℕ) (n : ℕ) (tokens : List Token) (t : Token) 
     ¬ Fits row (kinds (tokens ++ t ∷ []))
 one_more_misfits row n tokens t within same wrong (rest, is) =
     let split : row ≡ take n row ++ t.kind.0 ∷ rest =
-        is ∙ ap (λ x. x ++ rest) (map_push (λ t. t.kind.0) tokens t) ∙ append_assoc (kinds tokens) (t.kind.0 ∷ []) rest
-        ∙ ap (λ x. x ++ t.kind.0 ∷ rest) same in
+    is ∙ ap (λ x. x ++ rest) (map_push (λ t. t.kind.0) tokens t) ∙ append_assoc (kinds tokens) (t.kind.0 ∷ []) rest
+    ∙ ap (λ x. x ++ t.kind.0 ∷ rest) same in
     wrong (ap (λ x. slice_get x n) split ∙ slice_get_at (take n row) rest t.kind.0 n (length-take-le n row within))
 
 module _ (row : List ℕ) (n : ℕ) (tokens : List Token) (within : n ≤ length row) where

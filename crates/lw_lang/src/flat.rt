@@ -18,7 +18,9 @@ use std::alloc::{AllocError, AllocFailed, Global};
 
 /// The size of the largest grammar that is read.
 const LARGEST_SIZE: usize = 65_535;
+
 const MOST_TERMINALS: usize = 32;
+
 const MOST_KINDS: usize = 256;
 /// In bytes.
 const LONGEST_PATTERN: usize = 1_000;

@@ -5,4 +5,6 @@ mod flat;
 mod flat_parts;
 mod flat_row;
 mod flat_terminals;
+#[cfg(test)]
+mod flat_tests;
 mod recogniser;

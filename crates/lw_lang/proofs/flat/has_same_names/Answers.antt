@@ -32,5 +32,5 @@ returns c =
     let i = c.loop-terminal.terminal-index in
     let past = subst (λ xs. length xs ≤ i) c.as_slice-terminal-items.ensures c.loop-terminal-test.false in
     let all : c.loop-terminal.seen.keys ≡ names g =
-        c.loop-terminal.invariant.so_far ∙ ap (λ xs. map (λ rule. rule.name) g.rules ++ map (λ t. t.name) xs) (take_all i g.terminals past) in
+    c.loop-terminal.invariant.so_far ∙ ap (λ xs. map (λ rule. rule.name) g.rules ++ map (λ t. t.name) xs) (take_all i g.terminals past) in
     AllPairs-from_IsDistinct bytes_eq-Decides (names g) (subst (IsDistinct bytes_eq) all c.loop-terminal.invariant.differ)

@@ -7,11 +7,12 @@ use Rattle.lw_lang.proofs.flat_parts.calls.Goals.{in-Some+in_ok-copy+in_ok-inser
 pub loop-part-preserved : goal.loop-part-preserved
 loop-part-preserved c =
     elim c.match-call.branch [
-      in-Some+in_ok-copy+in_ok-insert w ↦
-        ap (λ set. set.keys) w.names-is
-        ∙ first_uses_more call_of c.args.parts.now c.loop-part.part-index c.part-item.result c.loop-part-test.true c.part-item.is c.loop-part.names.keys
-        c.loop-part.invariant w.in-Some.ensures w.in_ok-copy.ensures w.in_ok-insert.ensures.keys
+      | in-Some+in_ok-copy+in_ok-insert w ↦
+          ap (λ set. set.keys) w.names-is
+          ∙ first_uses_more call_of c.args.parts.now c.loop-part.part-index c.part-item.result c.loop-part-test.true c.part-item.is c.loop-part.names.keys
+          c.loop-part.invariant w.in-Some.ensures w.in_ok-copy.ensures w.in_ok-insert.ensures.keys
       | in_default w ↦
-        ap (λ set. set.keys) w.names-is
-        ∙ first_uses_same call_of c.args.parts.now c.loop-part.part-index c.part-item.result c.loop-part-test.true c.part-item.is c.loop-part.names.keys
-        c.loop-part.invariant w.in_default.ensures ]
+          ap (λ set. set.keys) w.names-is
+          ∙ first_uses_same call_of c.args.parts.now c.loop-part.part-index c.part-item.result c.loop-part-test.true c.part-item.is c.loop-part.names.keys
+          c.loop-part.invariant w.in_default.ensures
+    ]

@@ -7,11 +7,12 @@ use Rattle.lw_lang.proofs.flat_parts.keywords.Goals.{in-Some+in_ok-copy+in_ok-in
 pub loop-part-preserved : goal.loop-part-preserved
 loop-part-preserved c =
     elim c.match-keyword.branch [
-      in-Some+in_ok-copy+in_ok-insert w ↦
-        ap (λ set. set.keys) w.texts-is
-        ∙ first_uses_more keyword_of c.args.parts.now c.loop-part.part-index c.part-item.result c.loop-part-test.true c.part-item.is c.loop-part.texts.keys
-        c.loop-part.invariant w.in-Some.ensures w.in_ok-copy.ensures w.in_ok-insert.ensures.keys
+      | in-Some+in_ok-copy+in_ok-insert w ↦
+          ap (λ set. set.keys) w.texts-is
+          ∙ first_uses_more keyword_of c.args.parts.now c.loop-part.part-index c.part-item.result c.loop-part-test.true c.part-item.is c.loop-part.texts.keys
+          c.loop-part.invariant w.in-Some.ensures w.in_ok-copy.ensures w.in_ok-insert.ensures.keys
       | in_default w ↦
-        ap (λ set. set.keys) w.texts-is
-        ∙ first_uses_same keyword_of c.args.parts.now c.loop-part.part-index c.part-item.result c.loop-part-test.true c.part-item.is c.loop-part.texts.keys
-        c.loop-part.invariant w.in_default.ensures ]
+          ap (λ set. set.keys) w.texts-is
+          ∙ first_uses_same keyword_of c.args.parts.now c.loop-part.part-index c.part-item.result c.loop-part-test.true c.part-item.is c.loop-part.texts.keys
+          c.loop-part.invariant w.in_default.ensures
+    ]

@@ -17,10 +17,11 @@ loop-terminal-preserved c =
     let test = is_kind c.args.called.now.keys in
     let before = c.loop-terminal in
     elim c.if-is_kind.branch [
-      then-is_kind+in_ok-source+in_ok-push w ↦
-        zip_kept IsPlainSource test c.args.terminals.now before.terminal-index c.terminal-item.result c.loop-terminal-test.true c.terminal-item.is
-        before.sources.items before.invariant w.in_ok-source.field-0 (sym c.is_kind.ensures ∙ w.if-is_kind.true) w.in_ok-source.ensures
-        (ap (λ v. v.items) w.sources-is ∙ w.in_ok-push.ensures.items)
+      | then-is_kind+in_ok-source+in_ok-push w ↦
+          zip_kept IsPlainSource test c.args.terminals.now before.terminal-index c.terminal-item.result c.loop-terminal-test.true c.terminal-item.is
+          before.sources.items before.invariant w.in_ok-source.field-0 (sym c.is_kind.ensures ∙ w.if-is_kind.true) w.in_ok-source.ensures
+          (ap (λ v. v.items) w.sources-is ∙ w.in_ok-push.ensures.items)
       | else-is_kind w ↦
-        zip_left_out IsPlainSource test c.args.terminals.now before.terminal-index c.terminal-item.result c.loop-terminal-test.true c.terminal-item.is
-        before.sources.items before.invariant (sym c.is_kind.ensures ∙ w.if-is_kind.false) (ap (λ v. v.items) w.sources-is) ]
+          zip_left_out IsPlainSource test c.args.terminals.now before.terminal-index c.terminal-item.result c.loop-terminal-test.true c.terminal-item.is
+          before.sources.items before.invariant (sym c.is_kind.ensures ∙ w.if-is_kind.false) (ap (λ v. v.items) w.sources-is)
+    ]

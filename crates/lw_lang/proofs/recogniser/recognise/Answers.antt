@@ -29,14 +29,14 @@ loop-token-preserved c =
     record {
       within = below row _ _ next;
       same = one_more (numbers row) c.loop-token.seen c.args.tokens.now (at_most row _ c.loop-token.invariant.within) c.loop-token.token-index _
-      c.loop-token-test.true c.loop-token.invariant.same c.if-token.false next;
+          c.loop-token-test.true c.loop-token.invariant.same c.if-token.false next;
     }
 
 pub returns-then-seen-row : goal.returns-then-seen-row
 returns-then-seen-row c =
     let row = c.args.row.now in
     let same : HasRead (numbers row) c.loop-token.seen (visible c.args.tokens.now) =
-        rw (take_all c.loop-token.token-index c.args.tokens.now c.loop-token-test.false) at c.loop-token.invariant.same in
+    rw (take_all c.loop-token.token-index c.args.tokens.now c.loop-token-test.false) at c.loop-token.invariant.same in
     all_read (numbers row) c.loop-token.seen c.args.tokens.now (at_most row _ c.loop-token.invariant.within) c.args.length same
     (rw length-map c.if-seen-row.true)
 
@@ -44,6 +44,6 @@ pub returns-else-seen-row : goal.returns-else-seen-row
 returns-else-seen-row c =
     let row = c.args.row.now in
     let same : HasRead (numbers row) c.loop-token.seen (visible c.args.tokens.now) =
-        rw (take_all c.loop-token.token-index c.args.tokens.now c.loop-token-test.false) at c.loop-token.invariant.same in
+    rw (take_all c.loop-token.token-index c.args.tokens.now c.loop-token-test.false) at c.loop-token.invariant.same in
     ends_early (numbers row) c.loop-token.seen c.args.tokens.now (at_most row _ c.loop-token.invariant.within) c.args.length same
     (λ is. c.if-seen-row.false (is ∙ length-map row (λ kind. kind.0)))

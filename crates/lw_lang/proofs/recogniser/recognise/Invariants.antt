@@ -6,5 +6,5 @@ use Rattle.lw_lang.proofs.recogniser.recognise.Given as goal
 abbrev pub invariant-loop-token : goal.invariant-loop-token
 invariant-loop-token l = record {
   within : l.seen ≤ length l.row;
-  same : kinds (visible (take l.token-index l.tokens)) ≡ take l.seen (map (λ kind. kind.0) l.row)
+  same : kinds (visible (take l.token-index l.tokens)) ≡ take l.seen (map (λ kind. kind.0) l.row);
 }
