@@ -78,7 +78,7 @@ module _ (g : Grammar) (rule : Rule) (shape : HasShape g) (only : g.rules ≡ ru
   names_obstacle (flat.repeats (i, j, name, below, at_i, at_j)) = obstacle.same_names i j name below at_i at_j
 
   -- with the kinds, and what matchers are made from
-  module _ (sound : HasSoundNames g (parts_of rule.body)) (words_differ : AllPairs (λ a b. a ≢ b) (the_kinds g rule).keywords) (terminals : List TerminalSource)
+  module _ (sound : HasSoundNames g (parts_of rule.body)) (terminals : List TerminalSource)
       (tied : AllZip IsPlainSource (the_kinds g rule).terminals terminals) where
     abbrev of : Kinds
     of = the_kinds g rule
@@ -140,7 +140,7 @@ module _ (g : Grammar) (rule : Rule) (shape : HasShape g) (only : g.rules ≡ ru
     row_obstacle (k, part, inside, at, none) = no_kind part (k, inside, at) none (part_leaf part (k, inside, at))
 
     -- nothing keeps it from being built
-    module _ (limits : AreWithinLimits of.keywords terminals) (row : List KindId)
+    module _ (words_differ : AllPairs (λ a b. a ≢ b) of.keywords) (limits : AreWithinLimits of.keywords terminals) (row : List KindId)
         (all : AllZip (λ part kind. kind_of of.keywords terminals part ≡ Some kind.0) (parts_of rule.body) row) where
       means_one : (name : List ℕ) (part : Element) → Contains (parts_of rule.body) part → call_of part ≡ Some name → OneLeaf part →
           (k : ℕ) → kind_of of.keywords terminals part ≡ Some k → IsCalled g rule shape only sound.differ words_differ terminals tied name k

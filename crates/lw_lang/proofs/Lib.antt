@@ -13,3 +13,4 @@ pub mod FlatKinds
 pub mod FlatRow
 pub mod FlatObstacles
 pub mod BuildLemmas
+pub mod FlatMade

@@ -90,10 +90,16 @@ pub(crate) fn make_flat(alloc: Global, g: &Grammar) -> Result<Flat, FlatFault>
     let terminals = sources(alloc, g.terminals.as_slice(), parts)?;
     let row = row_within_limits(alloc, parts, &keywords, &terminals)?;
     Ok(Flat {
-        keywords: keywords.into_iter().collect(alloc)?,
+        keywords: into_list(alloc, keywords)?,
         terminals,
         row,
     })
+}
+
+fn into_list(alloc: Global, names: IndexSet<Name>) -> Result<Vec<Name>, NoMemory>
+    ensures { IfOk result (λ list. list.items ≡ names.keys) }
+{
+    Ok(names.into_iter().collect(alloc)?)
 }
 
 /// What is looked at before there are kinds: that a part is an assignment, the size, and that names

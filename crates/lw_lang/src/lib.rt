@@ -8,6 +8,8 @@ mod flat_parts;
 mod flat_row;
 mod flat_terminals;
 mod language;
+#[cfg(test)]
+mod flat_tests;
 mod recogniser;
 
 pub use compiler::compile;
