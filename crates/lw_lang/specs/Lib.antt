@@ -3,3 +3,5 @@ pub mod Shape
 pub mod Obstacles
 pub mod Rows
 pub mod Flat
+pub mod SmallStates
+pub mod PlacesStub

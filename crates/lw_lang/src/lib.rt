@@ -2,3 +2,5 @@
 #![tactic(auto)]
 
 mod flat;
+mod small;
+mod values_stub;

@@ -1,0 +1,4 @@
+pub mod SmallTokens
+pub mod SmallWalks
+pub mod SmallOnly
+pub mod SmallShape

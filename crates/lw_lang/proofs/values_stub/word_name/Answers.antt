@@ -1,0 +1,4 @@
+use Rattle.lw_lang.proofs.values_stub.word_name.Goals as goal
+
+pub returns : goal.returns
+returns c = ?
