@@ -2,3 +2,4 @@ pub mod SmallTokens
 pub mod SmallWalks
 pub mod SmallOnly
 pub mod SmallShape
+pub mod SmallSteps

@@ -73,10 +73,13 @@ module _ (text : List ℕ) where
     later : {q next : State} {t : FileToken} {ts : List FileToken} {s : Span} → Follows q t.kind (part_of text t.span) next → Stops next ts s → Stops q (t ∷ ts) s
 
 -- what is said of a refusal at a place
+abbrev pub IfPlace : SmallFault → (Span → Type 0) → Type 0
+IfPlace NoMemory P = Unit {0}
+IfPlace (Unexpected s) P = P s
+
 abbrev pub IfUnexpected : {A : Type 0} → Result A SmallFault → (Span → Type 0) → Type 0
 IfUnexpected (Ok value) P = Unit {0}
-IfUnexpected (Err NoMemory) P = Unit {0}
-IfUnexpected (Err (Unexpected s)) P = P s
+IfUnexpected (Err fault) P = IfPlace fault P
 
 -- the token at this place is such a one
 abbrev pub HasAt : List FileToken → ℕ → (FileToken → Type 0) → Type 0
