@@ -30,7 +30,7 @@ walks_join : {q m last : State} {rs ss : List Read} → Walks q rs m → Walks m
 walks_join here v = v
 walks_join (step f w) v = step f (walks_join w v)
 
-walks_head : {q last : State} {r : Read} {rs : List Read} → Walks q (r ∷ rs) last → (next : State) × Follows q r.0 r.1 next × Walks next rs last
+pub walks_head : {q last : State} {r : Read} {rs : List Read} → Walks q (r ∷ rs) last → (next : State) × Follows q r.0 r.1 next × Walks next rs last
 walks_head (step {next} f w) = (next, f, w)
 
 walks_split : (rs ss : List Read) {q last : State} → Walks q (rs ++ ss) last → (m : State) × Walks q rs m × Walks m ss last
@@ -98,7 +98,7 @@ module _ (text : List ℕ) where
   terminal_walks (says.hidden h m w c r e) =
       step (to.hidden h.0 h.1) (step (to.terminal m.0 m.1) (step (to.terminal_name w.0 w.1) (step (to.terminal_colon c) (step (to.pattern r.0) (step (to.terminal_end e) here)))))
 
-  terminals_walk : {ts : List FileToken} {terminals : List Terminal} → AreSmallTerminals text ts terminals → Walks AtTerminal (as_read text ts) AtTerminal
+  pub terminals_walk : {ts : List FileToken} {terminals : List Terminal} → AreSmallTerminals text ts terminals → Walks AtTerminal (as_read text ts) AtTerminal
   terminals_walk says.none = here
   terminals_walk (says.more {ts} {us} t ts_) = rw map-append (walks_join (terminal_walks t) (terminals_walk ts_))
 

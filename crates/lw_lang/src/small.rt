@@ -207,7 +207,7 @@ fn terminal_at(
     at: usize,
 ) -> Result<(Terminal, usize), SmallFault>
     requires tokens { AreTokensOf file.now tokens.now }
-    requires within { at ≤ length tokens.now }
+    requires within { at < length tokens.now }
     ensures ok { IfOk result
         (λ found. (ts : List FileToken) × (drop at tokens.now ≡ ts ++ drop found.1 tokens.now) × IsSmallTerminal file.now ts found.0) }
     ensures on { IfOk result (λ found. at < found.1) }
