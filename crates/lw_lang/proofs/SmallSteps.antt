@@ -17,12 +17,12 @@ use Rattle.lw_gramread.specs.declared.token.FileKind.TheVariants.{Word, Text, Re
 use Rattle.lw_gramread.specs.declared.token.Symbol.TheVariants.{Colon, Semicolon, Equals}
 use Rattle.lw_gramread.specs.Values.{part_of, word_name, string_value}
 use Rattle.lw_lang.specs.Small as says
-use Rattle.lw_lang.specs.Small.{IsReserved, IsName, IsPart, AreParts, IsPattern, IsSmallTerminal, AreSmallTerminals, IsSmall, as_read, spanning, end_of, entry_rule, body_of}
+use Rattle.lw_lang.specs.Small.{IsReserved, IsName, IsPart, AreParts, IsPattern, IsSmallTerminal, AreSmallTerminals, IsSmall, IsUnexpected, as_read, spanning, end_of, entry_rule, body_of}
 use Rattle.lw_grammar.specs.declared.rule.Rule.{Rule}
 use Rattle.lw_grammar.specs.declared.terminal.Terminal.{Terminal}
 use Rattle.lw_lang.specs.SmallStates as to
 use Rattle.lw_lang.specs.SmallStates.{State, Start, AfterGrammar, AfterName, AfterEntry, AfterRule, AtPart, AfterFeature, AfterEquals, AfterPart, AtTerminal, AfterHidden, AfterTerminal, AfterTerminalName, AfterTerminalColon, AfterPattern, Follows, Stops, LacksFirst, HasAt, IsFree, IsRow, IsEntryRule, IsTerminalRule, IfPlace, IfUnexpected, first_place}
-use Rattle.lw_lang.proofs.SmallWalks.{Walks, here, step, walks_head, parts_walk}
+use Rattle.lw_lang.proofs.SmallWalks.{Walks, here, step, walks_head, parts_walk, unexpected}
 
 -- a refusal that is handed on
 place_weaker : (fault : SmallFault) (P Q : Span → Type 0) → ((s : Span) → P s → Q s) → IfPlace fault P → IfPlace fault Q
@@ -387,3 +387,11 @@ past_entry_rule text left rest rule s r stops =
     let row = r.is_row in
     rw r.split (to.later (to.entry r.is_entry.0 r.is_entry.1) (to.later (to.rule r.is_name.0 r.is_name.1) (to.later (to.colon r.is_colon)
         (past_walk text r.row refl (parts_walk text row.are_parts) (to.later (to.end r.is_end) stops)))))
+
+at_place : {A : Type 0} (r : Result A SmallFault) (Q : Span → Type 0) (s : Span) → IfUnexpected r Q → r ≡ Err (Unexpected s) → Q s
+at_place {A} r Q s h e = subst (λ (r : Result A SmallFault). IfUnexpected r Q) e h
+
+-- a refusal that comes from where the tokens stop
+pub refused : {A : Type 0} (text : List ℕ) (tokens : List FileToken) (r : Result A SmallFault) (fault : SmallFault) (P : Span → Type 0) →
+    IsErrAnd r (λ e. e ≡ fault) → IfPlace fault P → ((s : Span) → P s → Stops text Start tokens s) → (s : Span) → r ≡ Err (Unexpected s) → IsUnexpected text tokens s
+refused text tokens r fault P e h stops s was = unexpected text tokens s (at_place r (Stops text Start tokens) s (handed_on r fault P (Stops text Start tokens) e h stops) was)

@@ -355,3 +355,12 @@ module _ (text : List ℕ) where
 
   pub unexpected : (tokens : List FileToken) (s : Span) → Stops text Start tokens s → IsUnexpected text tokens s
   unexpected tokens s h = stops_before tokens [] refl here h
+
+  -- where a file goes wrong it says no grammar
+  pub says_none : (tokens : List FileToken) (s : Span) (path : List ℕ) (g : Grammar) → IsUnexpected text tokens s → ¬ IsSmall text path tokens g
+  says_none tokens s path g (says.token before after t e begins_ ends) h =
+      let read : as_read text tokens ≡ as_read text (before ++ t ∷ []) ++ as_read text after =
+          ap (λ (l : List FileToken). as_read text l) (e ∙ sym (append_assoc before (t ∷ []) after))
+          ∙ map-append (λ (t : FileToken). (t.kind, part_of text t.span)) (before ++ t ∷ []) after in
+      ends (path, text, tokens, g, as_read text after, h, read)
+  says_none tokens s path g (says.early begins_ none) h = none path g h

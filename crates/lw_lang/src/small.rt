@@ -1,9 +1,13 @@
 // Reading the grammar files of the first form: from a file's tokens to its grammar, or to the first
 // token that cannot follow.
-ghost use Rattle.std.specs.Prelude.{◌≡◌, ◌+◌, ◌^◌, ◌<◌, ◌≤◌, [], ◌∷◌, ◌++◌, ℕ, List, length, drop, IsTrue, OnOk, IfOk, OnSome, MatchOption};
+ghost use Rattle.std.specs.Prelude.{◌≡◌, ◌+◌, ◌-◌, ◌^◌, ◌<◌, ◌≤◌, [], ◌∷◌, ◌++◌, ℕ, List, length, drop, IsTrue, OnOk, IfOk, OnSome, MatchOption, All};
 ghost use Rattle.lw_base.specs.declared.token.Span.{Span};
+ghost use Rattle.lw_grammar.specs.declared.grammar.Grammar.{Grammar};
 ghost use Rattle.lw_gramread.specs.declared.token.FileToken.{FileToken};
-ghost use Rattle.lw_lang.specs.Small.{spanning, IsReserved, IsName, IsPattern, IsPart, body_of, IsSmallTerminal, AreSmallTerminals, IsSmall};
+ghost use Rattle.lw_gramread.specs.FileTokens.{IsFileToken};
+ghost use Rattle.lw_lang.specs.PlacesStub.{IsPlace};
+ghost use Rattle.lw_lang.specs.Shape.{HasShape};
+ghost use Rattle.lw_lang.specs.Small.{spanning, IsReserved, IsName, IsPattern, IsPart, body_of, IsSmallTerminal, AreSmallTerminals, IsSmall, IsUnexpected};
 ghost use Rattle.lw_lang.specs.SmallStates.{AtPart, AtTerminal, AfterHidden, AfterName, first_place, Stops, IfUnexpected, HasAt, LacksFirst, AreTokensOf, IsFree, IsRow, IsEntryRule, IsTerminalRule};
 
 use crate::values_stub::{is_reserved, regex_text, string_value, token_text, word_name};
@@ -47,26 +51,40 @@ pub(crate) fn read_small(
     file: &Name,
     tokens: &[FileToken],
 ) -> Result<Grammar, SmallFault>
-    requires { AreTokensOf file.now tokens.now }
+    requires places { All (λ t. IsPlace file.now t.span) tokens.now }
+    requires forms { All (λ t. IsFileToken (drop t.span.start file.now) t.kind (t.span.end - t.span.start)) tokens.now }
+    requires fits { length file.now < 2 ^ 32 }
     ensures says { IfOk result (IsSmall file.now path.now tokens.now) }
+    ensures only { IfOk result (λ g. (other : Grammar) → IsSmall file.now path.now tokens.now other → other ≡ g) }
+    ensures shape { IfOk result HasShape }
+
+    // A refusal is right: nothing is said, and the place is that of the first token that cannot follow.
+    ensures nothing { (s : Span) → result ≡ Err (SmallFault.Unexpected s) → (g : Grammar) → ¬ IsSmall file.now path.now tokens.now g }
+    ensures unexpected { (s : Span) → result ≡ Err (SmallFault.Unexpected s) → IsUnexpected file.now tokens.now s }
 {
     reserved_at(file, tokens, 0, "grammar")?;
     let (name, _) = name_at(alloc, file, tokens, 1)?;
     let (rule, after) = entry_at(alloc, file, tokens, 2)?;
     let terminals = terminals_from(alloc, file, tokens, after)?;
-    let mut files = Items::new(alloc);
-    files.push(path.copy(alloc)?)?;
-    let mut rules = Items::new(alloc);
-    rules.push(rule)?;
+    let path = path.copy(alloc)?;
     Ok(Grammar {
         name,
-        files,
-        rules,
+        files: alone(alloc, path)?,
+        rules: alone(alloc, rule)?,
         terminals,
         interfaces: Items::new(alloc),
         unions: Items::new(alloc),
         imports: Items::new(alloc),
     })
+}
+
+// A list of one.
+fn alone<T: Drop>(alloc: Global, item: T) -> Result<Items<T>, NoMemory>
+    ensures { IfOk result (λ items. items ≡ item ∷ []) }
+{
+    let mut items = Items::new(alloc);
+    items.push(item)?;
+    Ok(items)
 }
 
 // 'entry' Word ':' Part+ ';', and the place after it.
