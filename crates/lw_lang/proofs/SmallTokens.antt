@@ -7,7 +7,7 @@ use Rattle.lw_gramread.specs.declared.token.FileKind.TheVariants.{Text, Regex}
 use Rattle.lw_gramread.specs.FileTokens as form
 use Rattle.lw_gramread.specs.FileTokens.{IsFileToken, IsString, IsRegex}
 use Rattle.lw_gramread.specs.Values.{part_of}
-use Rattle.lw_lang.specs.PlacesStub.{IsPlace}
+use Rattle.lw_gramread.specs.Places.{IsPlace}
 use Rattle.lw_lang.specs.SmallStates.{AreTokensOf}
 
 -- up to and with the element behind a list

@@ -4,4 +4,3 @@ pub mod Obstacles
 pub mod Rows
 pub mod Flat
 pub mod SmallStates
-pub mod PlacesStub

@@ -10,7 +10,7 @@ use Rattle.lw_gramread.specs.FileTokens.{IsFileToken}
 use Rattle.lw_grammar.specs.declared.rule.Rule.{Rule}
 use Rattle.lw_grammar.specs.declared.rule.Element.{Element}
 use Rattle.lw_grammar.specs.declared.terminal.Terminal.{Terminal}
-use Rattle.lw_lang.specs.PlacesStub.{IsPlace}
+use Rattle.lw_gramread.specs.Places.{IsPlace}
 use Rattle.lw_lang.specs.Small.{IsReserved, IsName, IsPattern, AreParts, body_of, entry_rule, terminal_of}
 use Rattle.lw_lang.specs.declared.small.SmallFault.{SmallFault}
 use Rattle.lw_lang.specs.declared.small.SmallFault.TheVariants.{Unexpected, NoMemory}

@@ -3,4 +3,3 @@
 
 mod flat;
 mod small;
-mod values_stub;

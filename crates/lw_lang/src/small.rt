@@ -5,14 +5,15 @@ ghost use Rattle.lw_base.specs.declared.token.Span.{Span};
 ghost use Rattle.lw_grammar.specs.declared.grammar.Grammar.{Grammar};
 ghost use Rattle.lw_gramread.specs.declared.token.FileToken.{FileToken};
 ghost use Rattle.lw_gramread.specs.FileTokens.{IsFileToken};
-ghost use Rattle.lw_lang.specs.PlacesStub.{IsPlace};
+ghost use Rattle.lw_gramread.specs.Places.{IsPlace};
 ghost use Rattle.lw_lang.specs.Shape.{HasShape};
 ghost use Rattle.lw_lang.specs.Small.{spanning, IsReserved, IsName, IsPattern, IsPart, body_of, IsSmallTerminal, AreSmallTerminals, IsSmall, IsUnexpected};
 ghost use Rattle.lw_lang.specs.SmallStates.{AtPart, AtTerminal, AfterHidden, AfterName, first_place, Stops, IfUnexpected, HasAt, LacksFirst, AreTokensOf, IsFree, IsRow, IsEntryRule, IsTerminalRule};
 
-use crate::values_stub::{is_reserved, regex_text, string_value, token_text, word_name};
 use lw_base::{Items, Name, NoMemory, Span};
-use lw_gramread::{FileKind, FileToken, Symbol};
+use lw_gramread::{
+    FileKind, FileToken, Symbol, is_reserved, regex_text, string_value, token_text, word_name,
+};
 use lw_grammar::{Element, Grammar, Op, Primitive, Rule, RuleResult, TermElement, Terminal, Value0};
 use std::alloc::{AllocError, Global};
 

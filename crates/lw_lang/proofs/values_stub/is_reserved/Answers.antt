@@ -1,4 +1,0 @@
-use Rattle.lw_lang.proofs.values_stub.is_reserved.Goals as goal
-
-pub returns : goal.returns
-returns c = ?
