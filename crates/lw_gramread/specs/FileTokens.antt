@@ -87,6 +87,14 @@ pub data AreParts : List ℕ → Type 0 where
   none : AreParts []
   more : {part parts : List ℕ} → IsPart part → AreParts parts → AreParts (part ++ parts)
 
+-- the first n bytes are parts, and the slash that closes them follows
+pub record AreClosed (text : List ℕ) (n : ℕ) : Type 0 where
+  pub body : List ℕ
+  pub after : List ℕ
+  pub parts : text ≡ body ++ 47 ∷ after
+  pub are_parts : AreParts body
+  pub bytes : n ≡ length body
+
 -- `/`, a part that is not `*`, further parts, `/`, and as many lower-case ASCII letters, the flags, as there are
 pub record IsRegex (text : List ℕ) (flags n : ℕ) : Type 0 where
   pub first : List ℕ

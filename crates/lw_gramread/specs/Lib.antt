@@ -2,3 +2,4 @@ pub mod Symbols
 pub mod FileTokens
 pub mod FileCut
 pub mod Values
+pub mod Places

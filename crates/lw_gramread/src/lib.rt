@@ -6,6 +6,18 @@
 //! every text has one cut, and a reader refuses at a token.
 #![tactic(auto)]
 
+mod cut;
+mod hidden;
+mod regex;
+mod string;
+mod symbol;
 mod token;
+mod values;
+mod word;
 
+pub use cut::file_tokens;
 pub use token::{FileKind, FileToken, Symbol};
+pub use values::{is_reserved, read_escapes, regex_text, string_value, token_text, word_name};
+
+#[cfg(test)]
+mod tests;
