@@ -1,8 +1,8 @@
 -- What a file of the first form says has the shape that is built.
-use Rattle.std.proofs.Common.{ℕ, ◌≡◌, ◌≢◌, List, [], ◌∷◌, ◌++◌, refl, arith, All}
+use Rattle.std.proofs.Common.{ℕ, ◌≡◌, ◌≢◌, List, [], ◌∷◌, refl, arith, All}
 use Rattle.std.proofs.lemmas.List.Elements.{All-cons}
 use Rattle.lw_grammar.specs.declared.grammar.Grammar.{Grammar}
-use Rattle.lw_grammar.specs.declared.rule.Element.{Element, out-Element}
+use Rattle.lw_grammar.specs.declared.rule.Element.{Element}
 use Rattle.lw_grammar.specs.declared.rule.Element.TheVariants.{outs-Keyword, outs-Assign, outs-Group}
 use Rattle.lw_grammar.specs.declared.rule.Value0.TheVariants.{outs-Call}
 use Rattle.lw_grammar.specs.declared.terminal.Terminal.{Terminal}

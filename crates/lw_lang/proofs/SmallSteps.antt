@@ -22,7 +22,7 @@ use Rattle.lw_grammar.specs.declared.rule.Rule.{Rule}
 use Rattle.lw_grammar.specs.declared.terminal.Terminal.{Terminal}
 use Rattle.lw_lang.specs.SmallStates as to
 use Rattle.lw_lang.specs.SmallStates.{State, Start, AfterGrammar, AfterName, AfterEntry, AfterRule, AtPart, AfterFeature, AfterEquals, AfterPart, AtTerminal, AfterHidden, AfterTerminal, AfterTerminalName, AfterTerminalColon, AfterPattern, Follows, Stops, LacksFirst, HasAt, IsFree, IsRow, IsEntryRule, IsTerminalRule, IfPlace, IfUnexpected, first_place}
-use Rattle.lw_lang.proofs.SmallWalks.{Walks, here, step, walks_head, parts_walk, unexpected}
+use Rattle.lw_lang.proofs.SmallWalks.{Walks, here, walks_head, parts_walk, unexpected}
 
 -- a refusal that is handed on
 place_weaker : (fault : SmallFault) (P Q : Span → Type 0) → ((s : Span) → P s → Q s) → IfPlace fault P → IfPlace fault Q
@@ -180,9 +180,12 @@ module _ (text : List ℕ) where
         let three : at + 2 + 1 ≡ at + 3 = omega arith in
         let rest : drop (at + 1) tokens ≡ equals.0 ∷ word.0 ∷ drop (at + 3) tokens = cc in
         let whole : drop at tokens ≡ t ∷ equals.0 ∷ word.0 ∷ drop (at + 3) tokens = cc in
-        let ts : List FileToken = t ∷ equals.0 ∷ word.0 ∷ [] in
-        (ts, whole, subst (λ (s : Span). IsPart text ts (Assign p One (Call name s) (record { start = t.span.start; end = s.end }))) word.2.1
-            (says.assignment (k, v) equals.2 word.2.0))
+        let ts : List FileToken = t ∷ equals.0 ∷ word.0 ∷ [] in (
+          ts,
+          whole,
+          subst (λ (s : Span). IsPart text ts (Assign p One (Call name s) (record { start = t.span.start; end = s.end }))) word.2.1
+              (says.assignment (k, v) equals.2 word.2.0),
+        )
 
     pub terminal_read : (name pattern : List ℕ) (span place : Span) (is_hidden : Bool) →
         HasAt tokens (at + 1) (λ u. IsName text u name × (u.span ≡ span)) → HasAt tokens (at + 2) (λ u. u.kind ≡ Symbol Colon) →
@@ -353,10 +356,10 @@ place_of_row tokens [] at end d e lt le = absurd (omega (arith, ap length e, len
 place_of_row tokens (t ∷ ts) at end d e lt le =
     let long : length ts + 1 + at ≡ end = omega (arith, ap length e, length-drop at tokens, length-drop end tokens, length-append (t ∷ ts) (drop end tokens)) in
     let starts : t ≡ get_or tokens at d =
-        ap (λ (xs : List FileToken). get_or xs 0 d) (sym e) ∙ get_or-drop at tokens 0 d ∙ ap (λ (n : ℕ). get_or tokens n d) (omega arith) in
+    ap (λ (xs : List FileToken). get_or xs 0 d) (sym e) ∙ get_or-drop at tokens 0 d ∙ ap (λ (n : ℕ). get_or tokens n d) (omega arith) in
     let ends : get_or (t ∷ ts) (length ts) d ≡ get_or tokens (end - 1) d =
-        sym (get_or_append_left (t ∷ ts) (drop end tokens) d (length ts) (omega arith)) ∙ ap (λ (xs : List FileToken). get_or xs (length ts) d) (sym e)
-        ∙ get_or-drop at tokens (length ts) d ∙ ap (λ (n : ℕ). get_or tokens n d) (omega arith) in
+    sym (get_or_append_left (t ∷ ts) (drop end tokens) d (length ts) (omega arith)) ∙ ap (λ (xs : List FileToken). get_or xs (length ts) d) (sym e)
+    ∙ get_or-drop at tokens (length ts) d ∙ ap (λ (n : ℕ). get_or tokens n d) (omega arith) in
     let end_is : end_of (t ∷ ts) ≡ (get_or tokens (end - 1) d).span.end = end_at_last t ts d ∙ ap (λ (u : FileToken). u.span.end) ends in
     cc
 
@@ -379,14 +382,14 @@ small_read text path tokens after name span rule terminals mark word entry xs =
     let whole : tokens ≡ mark.0 ∷ word.0 ∷ entry.entry ∷ entry.word ∷ entry.colon ∷ entry.row ++ entry.end ∷ drop after tokens = cc (mark.1, word.1, entry.split) in
     let one : rule ≡ entry_rule text entry.word entry.name (body_of text entry.row row.parts) = cc (entry.says, row.one) in
     rw (whole, one) (says.small mark.0 word.0 entry.entry entry.word entry.colon entry.end name entry.name entry.row (drop after tokens) row.parts terminals
-        mark.2 word.2.0 entry.is_entry entry.is_name entry.is_colon row.are_parts entry.is_end xs)
+    mark.2 word.2.0 entry.is_entry entry.is_name entry.is_colon row.are_parts entry.is_end xs)
 
 pub past_entry_rule : (text : List ℕ) (left rest : List FileToken) (rule : Rule) (s : Span) → IsEntryRule text left rest rule → Stops text AtTerminal rest s →
     Stops text AfterName left s
 past_entry_rule text left rest rule s r stops =
     let row = r.is_row in
     rw r.split (to.later (to.entry r.is_entry.0 r.is_entry.1) (to.later (to.rule r.is_name.0 r.is_name.1) (to.later (to.colon r.is_colon)
-        (past_walk text r.row refl (parts_walk text row.are_parts) (to.later (to.end r.is_end) stops)))))
+    (past_walk text r.row refl (parts_walk text row.are_parts) (to.later (to.end r.is_end) stops)))))
 
 at_place : {A : Type 0} (r : Result A SmallFault) (Q : Span → Type 0) (s : Span) → IfUnexpected r Q → r ≡ Err (Unexpected s) → Q s
 at_place {A} r Q s h e = subst (λ (r : Result A SmallFault). IfUnexpected r Q) e h

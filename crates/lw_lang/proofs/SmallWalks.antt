@@ -1,6 +1,6 @@
 -- The states between the tokens, walked through: a file says a grammar exactly where its tokens lead from the start to where
 -- a terminal may follow, and from each state the tokens of some file go on to there.
-use Rattle.std.proofs.Common.{ℕ, ◌≡◌, ◌+◌, ◌-◌, List, [], ◌∷◌, ◌++◌, length, drop, take, map, Bool, true, false, codes, refl, ap, sym, ◌∙◌, subst, arith, ◌⊎◌, inl, inr, append_assoc, append-nil, length-append}
+use Rattle.std.proofs.Common.{ℕ, ◌≡◌, ◌+◌, ◌-◌, List, [], ◌∷◌, ◌++◌, length, codes, refl, ap, sym, ◌∙◌, subst, arith, ◌⊎◌, inl, inr, append_assoc, append-nil, length-append}
 use Rattle.std.proofs.lemmas.List.{map-append}
 use Rattle.std.proofs.Math.Seq.{drop-append_seam, take-append_seam}
 use Rattle.lw_base.specs.declared.token.Span.{Span}
@@ -11,7 +11,7 @@ use Rattle.lw_gramread.specs.declared.token.FileToken.{FileToken}
 use Rattle.lw_gramread.specs.declared.token.FileKind.{FileKind}
 use Rattle.lw_gramread.specs.declared.token.FileKind.TheVariants.{Word, Text, Regex, Symbol}
 use Rattle.lw_gramread.specs.declared.token.Symbol.TheVariants.{Colon, Semicolon, Equals}
-use Rattle.lw_gramread.specs.Values.{part_of, word_name, is_reserved, string_value, regex_text}
+use Rattle.lw_gramread.specs.Values.{part_of, word_name}
 use Rattle.lw_lang.specs.Small as says
 use Rattle.lw_lang.specs.Small.{IsReserved, IsName, IsPart, AreParts, IsSmallTerminal, AreSmallTerminals, IsSmall, as_read, BeginsSmall, IsUnexpected}
 use Rattle.lw_lang.specs.SmallStates as to
@@ -105,8 +105,8 @@ module _ (text : List ℕ) where
   small_walks : {path : List ℕ} {tokens : List FileToken} {g : Grammar} → IsSmall text path tokens g → Walks Start (as_read text tokens) AtTerminal
   small_walks (says.small grammar_ word entry rule colon end name rule_name ts us parts terminals g w e r c ps d xs) =
       step (to.grammar_ g.0 g.1) (step (to.name w.0 w.1) (step (to.entry e.0 e.1) (step (to.rule r.0 r.1) (step (to.colon c)
-          (subst (λ (rs : List Read). Walks AtPart rs AtTerminal) (sym (map-append (λ (t : FileToken). (t.kind, part_of text t.span)) ts (end ∷ us)))
-              (walks_join (parts_walk ps) (step (to.end d) (terminals_walk xs))))))))
+      (subst (λ (rs : List Read). Walks AtPart rs AtTerminal) (sym (map-append (λ (t : FileToken). (t.kind, part_of text t.span)) ts (end ∷ us)))
+      (walks_join (parts_walk ps) (step (to.end d) (terminals_walk xs))))))))
 
 -- ---- what a walk to the end says
 
@@ -204,7 +204,7 @@ module _ (text : List ℕ) where
       let end = row.5 in
       let more = end.4 in
       rw (word.2, entry.2, rule.2, colon.2, row.3, end.2)
-          ([], _, says.small t word.0 entry.0 rule.0 colon.0 end.0 _ _ row.0 end.1 row.2 more.0 h (named word.0 word.3) entry.3 (named rule.0 rule.3) colon.3 row.4 end.3 more.1)
+      ([], _, says.small t word.0 entry.0 rule.0 colon.0 end.0 _ _ row.0 end.1 row.2 more.0 h (named word.0 word.3) entry.3 (named rule.0 rule.3) colon.3 row.4 end.3 more.1)
 
   one_then : {q next : State} (t : FileToken) (us : List FileToken) → Follows q t.kind (part_of text t.span) next → Remains next us → Remains q (t ∷ us)
   one_then t us (to.grammar_ k w) r = grammar_then t us (k, w) r
@@ -343,15 +343,15 @@ module _ (text : List ℕ) where
       rw whole (says.early (begins w) (λ path g h. not_end (only_walk w (small_walks text h))))
   stops_before {q} tokens before e w (to.refused {t} {ts} none) =
       says.token before ts t e (begins w) (λ b.
-          let h = begun (as_read text (before ++ t ∷ [])) b in
-          let all : Walks Start (as_read text before ++ (t.kind, part_of text t.span) ∷ []) h.0 =
-              subst (λ (rs : List Read). Walks Start rs h.0) (map-append (λ (t : FileToken). (t.kind, part_of text t.span)) before (t ∷ [])) h.1 in
-          let parts = walks_split (as_read text before) _ all in
-          let last = walks_head parts.2 in
-          none last.0 (subst (λ (m : State). Follows m t.kind (part_of text t.span) last.0) (only_walk parts.1 w) last.1))
+      let h = begun (as_read text (before ++ t ∷ [])) b in
+      let all : Walks Start (as_read text before ++ (t.kind, part_of text t.span) ∷ []) h.0 =
+      subst (λ (rs : List Read). Walks Start rs h.0) (map-append (λ (t : FileToken). (t.kind, part_of text t.span)) before (t ∷ [])) h.1 in
+      let parts = walks_split (as_read text before) _ all in
+      let last = walks_head parts.2 in
+      none last.0 (subst (λ (m : State). Follows m t.kind (part_of text t.span) last.0) (only_walk parts.1 w) last.1))
   stops_before {q} tokens before e w (to.later {next} {t} {ts} f more) =
       stops_before tokens (before ++ t ∷ []) (e ∙ sym (append_assoc before (t ∷ []) ts))
-          (rw map-append (walks_join w (step f here))) more
+      (rw map-append (walks_join w (step f here))) more
 
   pub unexpected : (tokens : List FileToken) (s : Span) → Stops text Start tokens s → IsUnexpected text tokens s
   unexpected tokens s h = stops_before tokens [] refl here h
@@ -360,7 +360,7 @@ module _ (text : List ℕ) where
   pub says_none : (tokens : List FileToken) (s : Span) (path : List ℕ) (g : Grammar) → IsUnexpected text tokens s → ¬ IsSmall text path tokens g
   says_none tokens s path g (says.token before after t e begins_ ends) h =
       let read : as_read text tokens ≡ as_read text (before ++ t ∷ []) ++ as_read text after =
-          ap (λ (l : List FileToken). as_read text l) (e ∙ sym (append_assoc before (t ∷ []) after))
-          ∙ map-append (λ (t : FileToken). (t.kind, part_of text t.span)) (before ++ t ∷ []) after in
+      ap (λ (l : List FileToken). as_read text l) (e ∙ sym (append_assoc before (t ∷ []) after))
+      ∙ map-append (λ (t : FileToken). (t.kind, part_of text t.span)) (before ++ t ∷ []) after in
       ends (path, text, tokens, g, as_read text after, h, read)
   says_none tokens s path g (says.early begins_ none) h = none path g h

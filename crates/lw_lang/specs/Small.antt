@@ -3,7 +3,7 @@
 --     Part:     String | Feature '=' Word
 --     Terminal: 'hidden'? 'terminal' Word ':' Regex ';'
 -- A Word is a word that is not reserved, a Feature any word.
-use Rattle.std.specs.Prelude.{ℕ, ◌≡◌, List, [], ◌∷◌, ◌++◌, None, Bool, true, false, length, map, codes}
+use Rattle.std.specs.Prelude.{ℕ, ◌≡◌, List, [], ◌∷◌, ◌++◌, Bool, true, false, length, map, codes}
 use Rattle.lw_base.specs.declared.token.Span.{Span}
 use Rattle.lw_grammar.specs.declared.grammar.Grammar.{Grammar}
 use Rattle.lw_grammar.specs.declared.rule.Rule.{Rule}
@@ -130,7 +130,7 @@ SaysSmall path text g = (tokens : List FileToken) × IsFileCut text tokens × Is
 abbrev pub as_read : List ℕ → List FileToken → List (FileKind × List ℕ)
 as_read text tokens = map (λ t. (t.kind, part_of text t.span)) tokens
 
--- some file says a grammar by tokens that begin with ones that read like these
+-- tokens that read like these say a grammar, with further ones behind them
 abbrev pub BeginsSmall : List (FileKind × List ℕ) → Type 0
 BeginsSmall read = (path text : List ℕ) × (tokens : List FileToken) × (g : Grammar) × (rest : List (FileKind × List ℕ)) × IsSmall text path tokens g × (as_read text tokens ≡ read ++ rest)
 

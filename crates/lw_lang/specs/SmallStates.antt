@@ -1,16 +1,15 @@
 -- What may follow in a grammar file of the first form: the states between its tokens, and which tokens lead from one to the next.
-use Rattle.std.specs.Prelude.{ℕ, ◌≡◌, ◌≢◌, ◌+◌, ◌-◌, ◌^◌, ◌<◌, List, [], ◌∷◌, ◌++◌, Bool, false, codes, length, drop, All, Result, Ok, Err}
+use Rattle.std.specs.Prelude.{ℕ, ◌≡◌, ◌≢◌, ◌+◌, ◌^◌, ◌<◌, List, [], ◌∷◌, ◌++◌, Bool, false, codes, length, drop, All, Result, Ok, Err}
 use Rattle.lw_base.specs.declared.token.Span.{Span}
 use Rattle.lw_gramread.specs.declared.token.FileToken.{FileToken}
 use Rattle.lw_gramread.specs.declared.token.FileKind.{FileKind}
 use Rattle.lw_gramread.specs.declared.token.FileKind.TheVariants.{Word, Text, Regex, Symbol}
 use Rattle.lw_gramread.specs.declared.token.Symbol.TheVariants.{Colon, Semicolon, Equals}
 use Rattle.lw_gramread.specs.Values.{part_of, is_reserved}
-use Rattle.lw_gramread.specs.FileTokens.{IsFileToken}
 use Rattle.lw_grammar.specs.declared.rule.Rule.{Rule}
 use Rattle.lw_grammar.specs.declared.rule.Element.{Element}
 use Rattle.lw_grammar.specs.declared.terminal.Terminal.{Terminal}
-use Rattle.lw_gramread.specs.Places.{IsPlace}
+use Rattle.lw_gramread.specs.Places.{IsPlace, IsOfKind}
 use Rattle.lw_lang.specs.Small.{IsReserved, IsName, IsPattern, AreParts, body_of, entry_rule, terminal_of}
 use Rattle.lw_lang.specs.declared.small.SmallFault.{SmallFault}
 use Rattle.lw_lang.specs.declared.small.SmallFault.TheVariants.{Unexpected, NoMemory}
@@ -92,7 +91,7 @@ LacksFirst text tokens P s = (s ≡ first_place text tokens) × ((t : FileToken)
 -- the tokens of a text that is no longer than a place can say
 pub record AreTokensOf (text : List ℕ) (tokens : List FileToken) : Type 0 where
   pub places : All (λ t. IsPlace text t.span) tokens
-  pub forms : All (λ t. IsFileToken (drop t.span.start text) t.kind (t.span.end - t.span.start)) tokens
+  pub forms : All (λ t. IsOfKind t.kind (part_of text t.span)) tokens
   pub fits : length text < 2 ^ 32
 
 module _ (text : List ℕ) where

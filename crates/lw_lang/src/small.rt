@@ -1,20 +1,22 @@
 // Reading the grammar files of the first form: from a file's tokens to its grammar, or to the first
 // token that cannot follow.
-ghost use Rattle.std.specs.Prelude.{◌≡◌, ◌+◌, ◌-◌, ◌^◌, ◌<◌, ◌≤◌, [], ◌∷◌, ◌++◌, ℕ, List, length, drop, IsTrue, OnOk, IfOk, OnSome, MatchOption, All};
+ghost use Rattle.std.specs.Prelude.{◌≡◌, ◌+◌, ◌^◌, ◌<◌, ◌≤◌, [], ◌∷◌, ◌++◌, ℕ, List, length, drop, IsTrue, OnOk, IfOk, OnSome, MatchOption, All};
 ghost use Rattle.lw_base.specs.declared.token.Span.{Span};
 ghost use Rattle.lw_grammar.specs.declared.grammar.Grammar.{Grammar};
 ghost use Rattle.lw_gramread.specs.declared.token.FileToken.{FileToken};
-ghost use Rattle.lw_gramread.specs.FileTokens.{IsFileToken};
-ghost use Rattle.lw_gramread.specs.Places.{IsPlace};
+ghost use Rattle.lw_gramread.specs.Places.{IsPlace, IsOfKind};
+ghost use Rattle.lw_gramread.specs.Values.{part_of};
 ghost use Rattle.lw_lang.specs.Shape.{HasShape};
 ghost use Rattle.lw_lang.specs.Small.{spanning, IsReserved, IsName, IsPattern, IsPart, body_of, IsSmallTerminal, AreSmallTerminals, IsSmall, IsUnexpected};
 ghost use Rattle.lw_lang.specs.SmallStates.{AtPart, AtTerminal, AfterHidden, AfterName, first_place, Stops, IfUnexpected, HasAt, LacksFirst, AreTokensOf, IsFree, IsRow, IsEntryRule, IsTerminalRule};
 
 use lw_base::{Items, Name, NoMemory, Span};
+use lw_grammar::{
+    Element, Grammar, Op, Primitive, Rule, RuleResult, TermElement, Terminal, Value0,
+};
 use lw_gramread::{
     FileKind, FileToken, Symbol, is_reserved, regex_text, string_value, token_text, word_name,
 };
-use lw_grammar::{Element, Grammar, Op, Primitive, Rule, RuleResult, TermElement, Terminal, Value0};
 use std::alloc::{AllocError, Global};
 
 /// Why a grammar file was not read.
@@ -53,7 +55,7 @@ pub(crate) fn read_small(
     tokens: &[FileToken],
 ) -> Result<Grammar, SmallFault>
     requires places { All (λ t. IsPlace file.now t.span) tokens.now }
-    requires forms { All (λ t. IsFileToken (drop t.span.start file.now) t.kind (t.span.end - t.span.start)) tokens.now }
+    requires forms { All (λ t. IsOfKind t.kind (part_of file.now t.span)) tokens.now }
     requires fits { length file.now < 2 ^ 32 }
     ensures says { IfOk result (IsSmall file.now path.now tokens.now) }
     ensures only { IfOk result (λ g. (other : Grammar) → IsSmall file.now path.now tokens.now other → other ≡ g) }
@@ -386,3 +388,6 @@ fn unexpected(file: &Name, tokens: &[FileToken], at: usize) -> SmallFault
     };
     SmallFault::Unexpected(span)
 }
+
+#[cfg(test)]
+mod tests;

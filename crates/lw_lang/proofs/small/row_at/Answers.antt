@@ -1,11 +1,8 @@
-use Rattle.std.proofs.Common.{rules, ◌≡◌, ◌+◌, ◌-◌, ◌<◌, ◌≤◌, ℕ, List, [], ◌∷◌, ◌++◌, length, drop, codes, refl, sym, ap, ◌∙◌, subst, arith, append_assoc, append-nil, length-drop}
-use Rattle.lw_base.specs.declared.token.Span.{Span}
+use Rattle.std.proofs.Common.{◌≡◌, List, [], ◌∷◌, ◌++◌, drop, sym, ap, ◌∙◌, arith, append_assoc}
 use Rattle.lw_gramread.specs.declared.token.FileToken.{FileToken}
-use Rattle.lw_gramread.specs.declared.token.FileKind.TheVariants.{Regex, Symbol}
-use Rattle.lw_gramread.specs.declared.token.Symbol.TheVariants.{Colon, Semicolon}
 use Rattle.lw_lang.specs.Small as says
 use Rattle.lw_lang.specs.Small.{IsReserved, AreParts, AreSmallTerminals, spanning}
-use Rattle.lw_lang.specs.SmallStates.{Stops, LacksFirst, IsFree, Start, AfterName, AtPart, AtTerminal, AfterHidden}
+use Rattle.lw_lang.specs.SmallStates.{Stops, AtPart}
 use Rattle.lw_lang.proofs.SmallWalks.{parts_walk}
 use Rattle.lw_lang.proofs.SmallSteps.{handed_on, past_walk, no_more, parts_more, place_of_row}
 use Rattle.lw_lang.proofs.small.row_at.Goals as goal
@@ -28,8 +25,11 @@ row-preserved c =
     record {
       some = omega (arith, c.row.invariant.some, c.in_ok-part.ensures.on);
       within = c.in_ok-part.ensures.within;
-      read = (before.0 ++ part.0, before.1 ∙ ap (λ (l : List FileToken). before.0 ++ l) part.1 ∙ sym (append_assoc before.0 part.0 (drop c.in_ok-part.after c.args.tokens.now)),
-          rw grown (parts_more c.args.file.now before.2 part.2));
+      read = (
+        before.0 ++ part.0,
+        before.1 ∙ ap (λ (l : List FileToken). before.0 ++ l) part.1 ∙ sym (append_assoc before.0 part.0 (drop c.in_ok-part.after c.args.tokens.now)),
+        rw grown (parts_more c.args.file.now before.2 part.2),
+      );
     }
 
 pub returns-in_err-part-clause-err : goal.returns-in_err-part-clause-err
@@ -38,15 +38,18 @@ returns-in_err-part-clause-err c =
     let left = drop c.row.end c.args.tokens.now in
     let before = c.row.invariant.read in
     handed_on c.from_residual-in_err-part.result c.in_err-part.field-0.0
-        (Stops text AtPart left) (Stops text AtPart (drop c.args.at c.args.tokens.now)) c.from_residual-in_err-part.ensures.1 c.in_err-part.ensures.err
-        (λ s h. past_walk text before.0 before.1 (parts_walk text before.2) (no_more text left s (c.row-test.ensures.no (λ e. cc)) h))
+    (Stops text AtPart left) (Stops text AtPart (drop c.args.at c.args.tokens.now)) c.from_residual-in_err-part.ensures.1 c.in_err-part.ensures.err
+    (λ s h. past_walk text before.0 before.1 (parts_walk text before.2) (no_more text left s (c.row-test.ensures.no (λ e. cc)) h))
 
 pub returns-clause-ok : goal.returns-clause-ok
 returns-clause-ok c =
-    let row = c.row.invariant.read in
-    (row.0, row.1, record {
-      parts = c.row.parts;
-      are_parts = row.2;
-      one = c.body.ensures c.args.file.now row.0
-          (place_of_row c.args.tokens.now row.0 c.args.at c.row.end _ row.1 c.row.invariant.some c.row.invariant.within);
-    })
+    let row = c.row.invariant.read in (
+      row.0,
+      row.1,
+      record {
+        parts = c.row.parts;
+        are_parts = row.2;
+        one = c.body.ensures c.args.file.now row.0
+            (place_of_row c.args.tokens.now row.0 c.args.at c.row.end _ row.1 c.row.invariant.some c.row.invariant.within);
+      },
+    )

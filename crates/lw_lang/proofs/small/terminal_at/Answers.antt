@@ -1,12 +1,5 @@
-use Rattle.std.proofs.Common.{rules, ◌≡◌, ◌+◌, ◌-◌, ◌<◌, ◌≤◌, ℕ, List, [], ◌∷◌, ◌++◌, length, drop, codes, refl, sym, ap, ◌∙◌, subst, arith, append_assoc, append-nil, length-drop}
-use Rattle.std.proofs.lemmas.List.{drop_all}
-use Rattle.lw_base.specs.declared.token.Span.{Span}
-use Rattle.lw_gramread.specs.declared.token.FileToken.{FileToken}
-use Rattle.lw_gramread.specs.declared.token.FileKind.TheVariants.{Regex, Symbol}
-use Rattle.lw_gramread.specs.declared.token.Symbol.TheVariants.{Colon, Semicolon}
-use Rattle.lw_lang.specs.Small as says
-use Rattle.lw_lang.specs.Small.{IsReserved, AreParts, AreSmallTerminals, spanning}
-use Rattle.lw_lang.specs.SmallStates.{Stops, LacksFirst, IsFree, Start, AfterGrammar, AfterName, AtPart, AtTerminal, AfterHidden}
+use Rattle.std.proofs.Common.{◌+◌, length, drop, refl, ap, arith, length-drop}
+use Rattle.lw_lang.specs.SmallStates.{Stops, AtTerminal, AfterHidden}
 use Rattle.lw_lang.proofs.SmallSteps.{handed_on, past_hide, no_hidden, hidden_read, shown_read}
 use Rattle.lw_lang.proofs.small.terminal_at.Goals as goal
 
@@ -16,8 +9,8 @@ returns-in_err-terminal-clause-err c =
     let tokens = c.args.tokens.now in
     let at = c.args.at in
     handed_on c.from_residual.result c.in_err-terminal.field-0.0
-        (Stops text AfterHidden (drop (at + 1) tokens)) (Stops text AtTerminal (drop at tokens)) c.from_residual.ensures.1 c.in_err-terminal.ensures.err
-        (λ s h. past_hide text tokens at s (c.if-is_reserved_at.ensures.yes refl) h)
+    (Stops text AfterHidden (drop (at + 1) tokens)) (Stops text AtTerminal (drop at tokens)) c.from_residual.ensures.1 c.in_err-terminal.ensures.err
+    (λ s h. past_hide text tokens at s (c.if-is_reserved_at.ensures.yes refl) h)
 
 pub returns-in_err-terminal-2-clause-err : goal.returns-in_err-terminal-2-clause-err
 returns-in_err-terminal-2-clause-err c =
@@ -25,8 +18,8 @@ returns-in_err-terminal-2-clause-err c =
     let tokens = c.args.tokens.now in
     let at = c.args.at in
     handed_on c.from_residual-in_err-terminal-2.result c.in_err-terminal-2.field-0.0
-        (Stops text AfterHidden (drop at tokens)) (Stops text AtTerminal (drop at tokens)) c.from_residual-in_err-terminal-2.ensures.1 c.in_err-terminal-2.ensures.err
-        (λ s h. no_hidden text (drop at tokens) s (c.if-is_reserved_at.ensures.no (λ e. cc)) (λ e. omega (arith, length-drop at tokens, ap length e)) h)
+    (Stops text AfterHidden (drop at tokens)) (Stops text AtTerminal (drop at tokens)) c.from_residual-in_err-terminal-2.ensures.1 c.in_err-terminal-2.ensures.err
+    (λ s h. no_hidden text (drop at tokens) s (c.if-is_reserved_at.ensures.no (λ e. cc)) (λ e. omega (arith, length-drop at tokens, ap length e)) h)
 
 pub returns-then-is_reserved_at-clause-ok : goal.returns-then-is_reserved_at-clause-ok
 returns-then-is_reserved_at-clause-ok c =

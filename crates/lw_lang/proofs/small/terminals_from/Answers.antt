@@ -1,12 +1,9 @@
-use Rattle.std.proofs.Common.{rules, ◌≡◌, ◌+◌, ◌-◌, ◌<◌, ◌≤◌, ℕ, List, [], ◌∷◌, ◌++◌, length, drop, codes, refl, sym, ap, ◌∙◌, subst, arith, append_assoc, append-nil, length-drop}
+use Rattle.std.proofs.Common.{◌≡◌, List, [], ◌∷◌, ◌++◌, drop, refl, sym, ap, ◌∙◌, arith, append_assoc, append-nil}
 use Rattle.std.proofs.lemmas.List.{drop_all}
-use Rattle.lw_base.specs.declared.token.Span.{Span}
 use Rattle.lw_gramread.specs.declared.token.FileToken.{FileToken}
-use Rattle.lw_gramread.specs.declared.token.FileKind.TheVariants.{Regex, Symbol}
-use Rattle.lw_gramread.specs.declared.token.Symbol.TheVariants.{Colon, Semicolon}
 use Rattle.lw_lang.specs.Small as says
 use Rattle.lw_lang.specs.Small.{IsReserved, AreParts, AreSmallTerminals, spanning}
-use Rattle.lw_lang.specs.SmallStates.{Stops, LacksFirst, IsFree, Start, AfterGrammar, AfterName, AtPart, AtTerminal, AfterHidden}
+use Rattle.lw_lang.specs.SmallStates.{Stops, AtTerminal}
 use Rattle.lw_lang.proofs.SmallWalks.{terminals_walk}
 use Rattle.lw_lang.proofs.SmallSteps.{handed_on, past_walk, terminals_more}
 use Rattle.lw_lang.proofs.small.terminals_from.Goals as goal
@@ -24,9 +21,11 @@ terminals-preserved c =
     let grown : c.push.new.self ≡ c.terminals.terminals ++ c.in_ok-terminal.terminal ∷ [] = c.in_ok-push.ensures.ok in
     record {
       within = c.in_ok-terminal.ensures.within;
-      read = (before.0 ++ terminal.0,
-          before.1 ∙ ap (λ (l : List FileToken). before.0 ++ l) terminal.1 ∙ sym (append_assoc before.0 terminal.0 (drop c.in_ok-terminal.after c.args.tokens.now)),
-          rw grown (terminals_more c.args.file.now before.2 terminal.2));
+      read = (
+        before.0 ++ terminal.0,
+        before.1 ∙ ap (λ (l : List FileToken). before.0 ++ l) terminal.1 ∙ sym (append_assoc before.0 terminal.0 (drop c.in_ok-terminal.after c.args.tokens.now)),
+        rw grown (terminals_more c.args.file.now before.2 terminal.2),
+      );
     }
 
 pub returns-in_err-terminal-clause-err : goal.returns-in_err-terminal-clause-err
@@ -35,8 +34,8 @@ returns-in_err-terminal-clause-err c =
     let left = drop c.terminals.at c.args.tokens.now in
     let before = c.terminals.invariant.read in
     handed_on c.from_residual.result c.in_err-terminal.field-0.0
-        (Stops text AtTerminal left) (Stops text AtTerminal (drop c.args.start c.args.tokens.now)) c.from_residual.ensures.1 c.in_err-terminal.ensures.err
-        (λ s h. past_walk text before.0 before.1 (terminals_walk text before.2) h)
+    (Stops text AtTerminal left) (Stops text AtTerminal (drop c.args.start c.args.tokens.now)) c.from_residual.ensures.1 c.in_err-terminal.ensures.err
+    (λ s h. past_walk text before.0 before.1 (terminals_walk text before.2) h)
 
 pub returns-clause-ok : goal.returns-clause-ok
 returns-clause-ok c =
