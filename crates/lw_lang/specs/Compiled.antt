@@ -9,7 +9,7 @@ use Rattle.lw_text.specs.Position.{IsPosition}
 use Rattle.lw_text.specs.declared.place.Pos.{Pos}
 use Rattle.lw_gramread.specs.declared.token.FileToken.{FileToken}
 use Rattle.lw_gramread.specs.FileCut.{IsFileCut}
-use Rattle.lw_lang.specs.Small.{SaysSmall}
+use Rattle.lw_lang.specs.Small.{SaysSmall, IsUnexpected}
 use Rattle.lw_lang.specs.Obstacles.{HasObstacle, MatchesEmpty, HasKindPattern}
 use Rattle.lw_lang.specs.declared.fault.CompileFault.{CompileFault}
 use Rattle.lw_lang.specs.declared.fault.CompileFault.TheVariants.{Absent, NotUtf8, TooLong, StoreFault, Unbuilt, PatternRefused, NoMemory}
@@ -42,7 +42,7 @@ IsClear g = (¬ HasObstacle g) × (¬ MatchesEmpty g)
 -- Why a text is not built: it says no grammar, which is told at the first token that cannot follow or at the file's end where it
 -- ends too early, or it says one with a condition, which is told at the file's start.
 pub data IsNotBuilt (path text : List ℕ) (s : Span) : Type 0 where
-  says_nothing : ((g : Grammar) → ¬ SaysSmall path text g) →
+  says_nothing : ((g : Grammar) → ¬ SaysSmall path text g) → (tokens : List FileToken) → IsFileCut text tokens → IsUnexpected text tokens s →
       IsNotBuilt path text s
   has_condition : (g : Grammar) → Says path text g → HasObstacle g ⊎ MatchesEmpty g → s ≡ record { start = 0; end = 0 } → IsNotBuilt path text s
 

@@ -9,3 +9,4 @@ pub mod KindTexts
 pub mod Prepared
 pub mod Ready
 pub mod Compiled
+pub mod SmallStates

@@ -8,9 +8,9 @@ use Rattle.lw_terminals.specs.TokenKinds.{TokenKinds}
 use Rattle.lw_lang.specs.Rows.{IsOnlyRow}
 use Rattle.lw_lang.specs.KindTexts.{texts_of}
 
-pub record IsPrepared (g : Grammar) (tokens : TokenKinds) (row : List KindId) : Type 0 where
+pub record IsPrepared (g : Grammar) (tokens : TokenKinds) (row_ : List KindId) : Type 0 where
   pub of : Kinds
   pub kinds : AreKinds g of
   pub lexicon : IsLexicon g of tokens.lexicon
   pub texts : tokens.texts ≡ texts_of of
-  pub row : IsOnlyRow g of (map (λ kind. kind.0) row)
+  pub row : IsOnlyRow g of (map (λ kind. kind.0) row_)

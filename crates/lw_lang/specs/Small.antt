@@ -3,7 +3,7 @@
 --     Part:     String | Feature '=' Word
 --     Terminal: 'hidden'? 'terminal' Word ':' Regex ';'
 -- A Word is a word that is not reserved, a Feature any word.
-use Rattle.std.specs.Prelude.{ℕ, ◌≡◌, List, [], ◌∷◌, ◌++◌, None, Bool, true, false, codes}
+use Rattle.std.specs.Prelude.{ℕ, ◌≡◌, List, [], ◌∷◌, ◌++◌, Bool, true, false, length, map, codes}
 use Rattle.lw_base.specs.declared.token.Span.{Span}
 use Rattle.lw_grammar.specs.declared.grammar.Grammar.{Grammar}
 use Rattle.lw_grammar.specs.declared.rule.Rule.{Rule}
@@ -16,6 +16,7 @@ use Rattle.lw_grammar.specs.declared.terminal.Terminal.{Terminal}
 use Rattle.lw_grammar.specs.declared.terminal.TermElement.TheVariants as term
 use Rattle.lw_grammar.specs.declared.terminal.Primitive.TheVariants as gives
 use Rattle.lw_gramread.specs.declared.token.FileToken.{FileToken}
+use Rattle.lw_gramread.specs.declared.token.FileKind.{FileKind}
 use Rattle.lw_gramread.specs.declared.token.FileKind.TheVariants.{Word, Text, Regex, Symbol}
 use Rattle.lw_gramread.specs.declared.token.Symbol.TheVariants.{Colon, Semicolon, Equals}
 use Rattle.lw_gramread.specs.Values.{part_of, word_name, is_reserved, string_value, regex_text}
@@ -122,3 +123,20 @@ module _ (text : List ℕ) where
 -- a file at this path says this grammar
 abbrev pub SaysSmall : List ℕ → List ℕ → Grammar → Type 0
 SaysSmall path text g = (tokens : List FileToken) × IsFileCut text tokens × IsSmall text path tokens g
+
+-- ---- where a file that says no grammar goes wrong
+
+-- tokens as they read: the kind of each, and its bytes
+abbrev pub as_read : List ℕ → List FileToken → List (FileKind × List ℕ)
+as_read text tokens = map (λ t. (t.kind, part_of text t.span)) tokens
+
+-- tokens that read like these say a grammar, with further ones behind them
+abbrev pub BeginsSmall : List (FileKind × List ℕ) → Type 0
+BeginsSmall read = (path text : List ℕ) × (tokens : List FileToken) × (g : Grammar) × (rest : List (FileKind × List ℕ)) × IsSmall text path tokens g × (as_read text tokens ≡ read ++ rest)
+
+-- where the first token stands that cannot follow those before it; or the end of a file that ends too early
+pub data IsUnexpected (text : List ℕ) (tokens : List FileToken) : Span → Type 0 where
+  token : (before after : List FileToken) (t : FileToken) → tokens ≡ before ++ t ∷ after → BeginsSmall (as_read text before) →
+      ¬ BeginsSmall (as_read text (before ++ t ∷ [])) → IsUnexpected text tokens t.span
+  early : BeginsSmall (as_read text tokens) → ((path : List ℕ) (g : Grammar) → ¬ IsSmall text path tokens g) →
+      IsUnexpected text tokens (record { start = length text; end = length text })

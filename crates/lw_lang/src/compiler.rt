@@ -9,8 +9,10 @@ ghost use Rattle.lw_lang.specs.Shape.{HasShape};
 use crate::fault::CompileFault;
 use crate::flat::{Flat, FlatFault, make_flat};
 use crate::language::Language;
+use crate::small::{SmallFault, read_small};
 use lw_base::{Name, NoMemory, RuleId, Span};
 use lw_grammar::Grammar;
+use lw_gramread::file_tokens;
 use lw_io::{Found, Patterns, Store};
 use lw_terminals::{MakeTokensFault, TerminalSource, TokenSet};
 use lw_text::position;
@@ -79,7 +81,12 @@ fn grammar_of(alloc: Global, root: &Name, file: &Name) -> Result<Grammar, Compil
     ensures shape { IfOk result HasShape }
     ensures fault { IfErr result (NothingSaid root.now file.now) }
 {
-    Err(CompileFault::NoMemory)
+    let tokens = file_tokens(alloc, file)?;
+    match read_small(alloc, root, file, &tokens) {
+        Ok(grammar) => Ok(grammar),
+        Err(SmallFault::Unexpected(span)) => Err(unbuilt(file, span)),
+        Err(SmallFault::NoMemory) => Err(CompileFault::NoMemory),
+    }
 }
 
 // The fault of a file that is not built, told at this place.
