@@ -19,3 +19,4 @@ pub mod SmallWalks
 pub mod SmallOnly
 pub mod SmallShape
 pub mod SmallSteps
+pub mod CompileLemmas
