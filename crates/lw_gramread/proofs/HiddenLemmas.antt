@@ -1,7 +1,7 @@
 -- At most one stretch of a text is passed over at a place.
-use Rattle.std.proofs.Common.{◌≡◌, ◌≢◌, ◌<◌, ◌≤◌, drop, take, get_or, ℕ, suc, ◌+◌, ◌-◌, List, [], ◌∷◌, ◌++◌, length, take_while, true, false, not, refl, sym, ap, ◌∙◌, subst, inl, inr, arith, append_assoc, length-append, length-drop, length-take-le, take-append-drop, codes, encode_utf8, IsUtf8}
+use Rattle.std.proofs.Common.{◌≡◌, ◌≢◌, ◌<◌, ◌≤◌, drop, take, get_or, ℕ, ◌+◌, List, [], ◌∷◌, ◌++◌, length, take_while, true, false, not, refl, sym, ap, ◌∙◌, subst, inl, inr, arith, append_assoc, length-append, length-drop, length-take-le, take-append-drop, codes, encode_utf8, IsUtf8}
 use Rattle.std.specs.Char.{IsScalar, is_whitespace, len_utf8}
-use Rattle.std.proofs.Math.Utf8.{encodes, scalars}
+use Rattle.std.proofs.Math.Utf8.{encodes}
 use Rattle.std.proofs.lemmas.Str.{encode_same, char_from_byte, len_utf8_bounds, length-encode}
 use Rattle.std.proofs.lemmas.Bool.{cases_order, and_parts}
 use Rattle.std.proofs.lemmas.Slice.Eq.{bytes_eq-Decides}
@@ -74,7 +74,7 @@ not_shorter rest i j a b e f least shorter =
 pub line_comment_same : (t a b : List ℕ) → t ≡ codes "//" ++ a → t ≡ codes "//" ++ b → a ≡ b
 line_comment_same t a b e f = let g : 47 ∷ 47 ∷ a ≡ 47 ∷ 47 ∷ b = sym e ∙ f in cc
 
-both_comments : (t a rest : List ℕ) → t ≡ 47 ∷ 47 ∷ a → t ≡ 47 ∷ 42 ∷ rest → ⊥
+pub both_comments : (t a rest : List ℕ) → t ≡ 47 ∷ 47 ∷ a → t ≡ 47 ∷ 42 ∷ rest → ⊥
 both_comments t a rest e f =
     let g : 47 ∷ 47 ∷ a ≡ 47 ∷ 42 ∷ rest = sym e ∙ f in
     let h : ◌≡◌ {A = ℕ} 47 42 = ap (λ x. get_or x 1 0) g in
@@ -134,7 +134,7 @@ hidden_block t after rest i e within ends least =
     let whole : after ≡ (inside ++ 42 ∷ 47 ∷ []) ++ rest = split ∙ sym (append_assoc inside (42 ∷ 47 ∷ []) rest) in
     subst (λ n. IsHidden t (n + 4)) long (IsHidden.block_comment inside rest (e ∙ ap (λ x. 47 ∷ 42 ∷ x) whole)
     (λ k before begun. least k (omega arith) (drop 2 (drop k (inside ++ 42 ∷ 47 ∷ [])) ++ rest)
-        (ap (drop k) whole ∙ drop-append-le k (inside ++ 42 ∷ 47 ∷ []) rest (omega (arith, length-append inside (42 ∷ 47 ∷ []))) ∙ end_begun (drop k (inside ++ 42 ∷ 47 ∷ [])) rest begun)))
+    (ap (drop k) whole ∙ drop-append-le k (inside ++ 42 ∷ 47 ∷ []) rest (omega (arith, length-append inside (42 ∷ 47 ∷ []))) ∙ end_begun (drop k (inside ++ 42 ∷ 47 ∷ [])) rest begun)))
 
 -- of two texts behind one opening there is one
 pub opened_same : (t a b : List ℕ) → t ≡ 47 ∷ 42 ∷ a → t ≡ 47 ∷ 42 ∷ b → a ≡ b

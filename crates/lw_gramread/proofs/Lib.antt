@@ -7,3 +7,4 @@ pub mod StepLemmas
 pub mod PlaceLemmas
 pub mod CutLemmas
 pub mod ValueLemmas
+pub mod Laws

@@ -1,14 +1,14 @@
 -- Where what stands at a place of a text ends, and what form its bytes have.
-use Rattle.std.proofs.Common.{◌≡◌, ◌≢◌, ◌⊎◌, ◌<◌, ◌≤◌, ℕ, zero, suc, ◌+◌, ◌-◌, List, [], ◌∷◌, ◌++◌, length, take, drop, take_while, Bool, true, false, not, ◌&&◌, ◌||◌, refl, sym, ap, ◌∙◌, subst, inl, inr, arith, codes, encode_utf8, get_or, nat_le, nat_lt, ◌==◌, append_assoc, length-append, length-drop, zero-add, one-add, get_or-take, take-append-drop, IsUtf8, IsCharBoundary}
+use Rattle.std.proofs.Common.{◌≡◌, ◌<◌, ◌≤◌, ℕ, ◌+◌, ◌-◌, List, [], ◌∷◌, ◌++◌, length, take, drop, take_while, Bool, true, false, not, ◌||◌, refl, sym, ap, ◌∙◌, subst, inl, inr, arith, codes, encode_utf8, get_or, nat_le, nat_lt, ◌==◌, append_assoc, length-append, length-drop, zero-add, one-add, get_or-take, take-append-drop, IsUtf8, IsCharBoundary}
 use Rattle.std.specs.List.{prefix_len}
 use Rattle.std.specs.Int.{is_in_range}
-use Rattle.std.specs.Char.{is_whitespace, is_ascii_alphabetic, is_ascii_alphanumeric, is_ascii_digit, is_ascii_lowercase, len_utf8}
-use Rattle.std.proofs.Math.Seq.{get_or-append_seam, drop-append_seam, drop-append-add, take-append_seam, take-length}
-use Rattle.std.proofs.lemmas.Bool.{cases_eq, cases_lt, or_cases, and_parts, leb-true, eqb-true, not-false}
+use Rattle.std.specs.Char.{is_ascii_alphanumeric, is_ascii_lowercase, len_utf8}
+use Rattle.std.proofs.Math.Seq.{get_or-append_seam, drop-append-add, take-append_seam, take-length}
+use Rattle.std.proofs.lemmas.Bool.{cases_eq, or_cases, and_parts, leb-true, eqb-true, not-false}
 use Rattle.std.proofs.lemmas.List.{get_or-drop, get_or-append-add}
 use Rattle.std.proofs.lemmas.List.Folds.{length-prefix_len}
 use Rattle.std.proofs.lemmas.List.Sums.{prefix_len-le-length, prefix_len_passes, prefix_len_stops, prefix_len_is}
-use Rattle.std.proofs.lemmas.Str.{IsUtf8-drop, IsCharBoundary-after_ascii, IsCharBoundary-from_rest, IsCharBoundary-past_char, IsCharBoundary-at_seam, length-encode, len_utf8_bounds}
+use Rattle.std.proofs.lemmas.Str.{IsUtf8-drop, IsCharBoundary-after_ascii, IsCharBoundary-from_rest, IsCharBoundary-past_char, length-encode, len_utf8_bounds}
 use Rattle.std.proofs.lemmas.Bool.{ltb-true}
 use Rattle.std.proofs.lemmas.Slice.Eq.{bytes_eq-Decides}
 use Rattle.lw_gramread.specs.declared.token.Symbol.{Symbol}
@@ -17,7 +17,7 @@ use Rattle.lw_gramread.specs.declared.token.FileKind.{FileKind}
 use Rattle.lw_gramread.specs.Symbols.{IsSymbol, spelling}
 use Rattle.lw_gramread.specs.Places.{IsOfKind}
 use Rattle.lw_gramread.proofs.StepLemmas.{word_start_ascii}
-use Rattle.lw_gramread.specs.FileTokens.{BeginsWith, IsHidden, IsWord, IsPlainWord, IsString, IsRegex, IsFileToken, is_word_start, is_word_part, is_line_end}
+use Rattle.lw_gramread.specs.FileTokens.{BeginsWith, IsHidden, IsWord, IsPlainWord, IsString, IsRegex, IsFileToken, is_word_part, is_line_end}
 
 -- ---- what is ASCII
 
@@ -27,9 +27,9 @@ range_ascii lo hi b low h = omega (arith, leb-true b hi (and_parts (nat_le lo b)
 word_part_ascii : (b : ℕ) → is_word_part b ≡ true → b < 128
 word_part_ascii b h = elim (or_cases (is_ascii_alphanumeric b) (b == 95) h) [
   | inl part ↦ elim (or_cases (is_in_range 48 57 b || is_in_range 65 90 b) (is_in_range 97 122 b) part) [
-      | inl front ↦ elim (or_cases (is_in_range 48 57 b) (is_in_range 65 90 b) front) [ inl digit ↦ range_ascii 48 57 b (omega arith) digit | inr upper ↦ range_ascii 65 90 b (omega arith) upper ]
-      | inr lower ↦ range_ascii 97 122 b (omega arith) lower
-    ]
+    | inl front ↦ elim (or_cases (is_in_range 48 57 b) (is_in_range 65 90 b) front) [ inl digit ↦ range_ascii 48 57 b (omega arith) digit | inr upper ↦ range_ascii 65 90 b (omega arith) upper ]
+    | inr lower ↦ range_ascii 97 122 b (omega arith) lower
+  ]
   | inr underscore ↦ omega (arith, eqb-true b 95 underscore)
 ]
 
@@ -59,10 +59,13 @@ behind_run t i p after utf8 at e ascii = elim (cases_eq n 0) [
   where
     n : ℕ
     n = length (take_while p after)
+
     count : n ≡ prefix_len p after
     count = length-prefix_len p after
+
     fits : prefix_len p after ≤ length after
     fits = prefix_len-le-length p after
+
     low : (n ≡ 0 → ⊥) → get_or t (i + (n - 1)) 0 < 128
     low some =
         let passes : p (get_or after (n - 1) 0) ≡ true = prefix_len_passes p after (n - 1) 0 (omega (arith, count)) in
@@ -84,14 +87,19 @@ line_cut t after e = before_ascii t (2 + n) (omega (arith, count, fits, ap lengt
   where
     p : ℕ → Bool
     p = λ c. not (is_line_end c)
+
     n : ℕ
     n = length (take_while p after)
+
     count : n ≡ prefix_len p after
     count = length-prefix_len p after
+
     fits : prefix_len p after ≤ length after
     fits = prefix_len-le-length p after
+
     stops : 2 + n < length t → is_line_end (get_or after (prefix_len p after) 0) ≡ true
     stops within = not-false (is_line_end (get_or after (prefix_len p after) 0)) (prefix_len_stops p after 0 (omega (arith, count, ap length e)))
+
     at : get_or after (prefix_len p after) 0 ≡ get_or t (2 + n) 0
     at = ap (λ k. get_or after k 0) (sym count) ∙ sym (get_or-append-add (47 ∷ 47 ∷ []) after n 0) ∙ ap (λ x. get_or x (2 + n) 0) (sym e)
 
@@ -207,10 +215,13 @@ take_while-take_while p xs = ap (λ n. take n front) whole ∙ take-length front
   where
     front : List ℕ
     front = take_while p xs
+
     count : length front ≡ prefix_len p xs
     count = length-prefix_len p xs
+
     passes : (k : ℕ) → k < length front → p (get_or front k 0) ≡ true
     passes k lt = ap p (get_or-take (prefix_len p xs) xs k 0 (omega (arith, count))) ∙ prefix_len_passes p xs k 0 (omega (arith, count))
+
     whole : prefix_len p front ≡ length front
     whole = prefix_len_is p front (length front) 0 (omega arith) passes (λ lt. absurd (omega arith))
 

@@ -1,7 +1,7 @@
 -- A text begins with at most one regular expression, whose end a scan from the left finds.
 use Rattle.std.proofs.Math.Seq.{drop-cons, drop-append-add}
 use Rattle.std.proofs.Math.ListN.{drop_of_length-le}
-use Rattle.std.proofs.Common.{◌≡◌, ◌≢◌, ◌⊎◌, ◌<◌, ◌≤◌, drop, get_or, ℕ, suc, ◌+◌, List, [], ◌∷◌, ◌++◌, length, take_while, Bool, true, false, not, ◌&&◌, ◌||◌, Option, Some, None, refl, sym, ap, ◌∙◌, subst, inl, inr, arith, add-zero, zero-add, append_assoc, length-append, if◌then◌else◌, ◌==◌}
+use Rattle.std.proofs.Common.{◌≡◌, ◌≢◌, ◌<◌, ◌≤◌, drop, get_or, ℕ, suc, ◌+◌, List, [], ◌∷◌, ◌++◌, length, take_while, Bool, true, false, not, ◌&&◌, ◌||◌, Option, Some, None, refl, sym, ap, ◌∙◌, subst, arith, add-zero, zero-add, append_assoc, length-append, if◌then◌else◌, ◌==◌}
 use Rattle.std.specs.Char.{is_ascii_lowercase}
 use Rattle.std.proofs.lemmas.Bool.{eqb-true, eqb-false, eq-eqb, ne_eqb}
 use Rattle.lw_gramread.specs.FileTokens.{is_line_end, NoLineEnd, IsClassInside, IsPart, AreParts, AreClosed, IsRegex}
@@ -233,18 +233,25 @@ regex_parts t cs c flags n e r = (
   where
     body : List ℕ
     body = r.first ++ r.others
+
     f : 47 ∷ (body ++ 47 ∷ r.after) ≡ c ∷ cs
     f = sym r.parts ∙ e
+
     slash : c ≡ 47
     slash = cc
+
     rest : body ++ 47 ∷ r.after ≡ cs
     rest = cc
+
     are_parts : AreParts body
     are_parts = AreParts.more r.is_part r.are_parts
+
     h : HasHead r.first
     h = part_head r.first r.is_part
+
     at : get_or cs 0 0 ≡ h.head
     at = ap (λ x. get_or x 0 0) (sym rest) ∙ ap (λ p. get_or ((p ++ r.others) ++ 47 ∷ r.after) 0 0) h.split
+
     dropped : drop (length body + 1) cs ≡ r.after
     dropped = ap (drop (length body + 1)) (sym rest) ∙ drop-append-add body (47 ∷ r.after) 1
 
@@ -307,9 +314,12 @@ regex_some t cs c m e slash closed not_bare no_star flags n flags_are bytes = re
   where
     some : 0 < length closed.body
     some = omega (arith, closed.bytes, not_bare)
+
     s : IsSplit closed.body
     s = split_body closed.body closed.are_parts some
+
     parts : cs ≡ (s.first ++ s.others) ++ 47 ∷ closed.after
     parts = closed.parts ∙ ap (λ b. b ++ 47 ∷ closed.after) s.split
+
     dropped : drop (m + 1) cs ≡ closed.after
     dropped = ap (λ k. drop (k + 1) cs) closed.bytes ∙ ap (drop (length closed.body + 1)) closed.parts ∙ drop-append-add closed.body (47 ∷ closed.after) 1

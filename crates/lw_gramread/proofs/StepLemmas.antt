@@ -1,5 +1,5 @@
 -- At a place of a text at most one thing stands: a stretch that is passed over, or a token.
-use Rattle.std.proofs.Common.{◌≡◌, ◌≢◌, ◌⊎◌, ◌<◌, ◌≤◌, ℕ, suc, ◌+◌, ◌*◌, List, [], ◌∷◌, ◌++◌, length, Bool, true, false, not, ◌&&◌, ◌||◌, ◌==◌, if◌then◌else◌, Option, Some, None, refl, sym, ap, ◌∙◌, subst, inl, inr, arith, codes, encode_utf8, get_or, take, nat_le}
+use Rattle.std.proofs.Common.{◌≡◌, ◌≢◌, ◌⊎◌, ◌<◌, ℕ, ◌+◌, ◌*◌, List, [], ◌∷◌, ◌++◌, length, Bool, true, false, not, ◌||◌, ◌==◌, if◌then◌else◌, refl, sym, ap, ◌∙◌, subst, inl, inr, arith, encode_utf8, get_or, take, nat_le}
 use Rattle.std.specs.Int.{is_in_range}
 use Rattle.std.specs.Char.{is_whitespace, is_ascii_alphabetic}
 use Rattle.lw_gramread.specs.declared.token.Symbol.{Symbol}
@@ -7,8 +7,8 @@ use Rattle.lw_gramread.specs.declared.token.Symbol.TheVariants.{DotDot, PlusEqua
 use Rattle.lw_gramread.specs.declared.token.FileKind.{FileKind}
 use Rattle.lw_gramread.specs.declared.token.FileKind.TheVariants as kind
 use Rattle.lw_gramread.specs.Symbols.{Begins, IsSymbol, spelling}
-use Rattle.lw_gramread.specs.FileTokens.{BeginsWith, IsHidden, IsWord, IsPlainWord, IsString, IsRegex, IsFileToken, is_word_start}
-use Rattle.std.proofs.lemmas.Bool.{ne_eqb, eqb-true, leb-true, cases_lt, lt-leb, le-leb, or_cases, and_parts, not-true, agree_below_at}
+use Rattle.lw_gramread.specs.FileTokens.{BeginsWith, IsHidden, IsWord, IsString, IsRegex, IsFileToken, is_word_start}
+use Rattle.std.proofs.lemmas.Bool.{ne_eqb, eqb-true, leb-true, cases_lt, lt-leb, le-leb, or_cases, and_parts, not-true, cases_cond, agree_below_at}
 use Rattle.std.proofs.lemmas.Slice.Eq.{bytes_eq-Decides}
 use Rattle.lw_gramread.proofs.HiddenLemmas.{begins_same, begins_byte, some_begun}
 use Rattle.lw_gramread.proofs.WordLemmas.{word_same}
@@ -34,9 +34,9 @@ class_of (b ∷ bs) =
 pub word_start_ascii : (b : ℕ) → is_word_start b ≡ true → b < 128
 word_start_ascii b starts = elim (or_cases (is_ascii_alphabetic b) (b == 95) starts) [
   | inl letter ↦ elim (or_cases (is_in_range 65 90 b) (is_in_range 97 122 b) letter) [
-      | inl upper ↦ omega (arith, leb-true b 90 (and_parts (nat_le 65 b) (nat_le b 90) upper).1)
-      | inr lower ↦ omega (arith, leb-true b 122 (and_parts (nat_le 97 b) (nat_le b 122) lower).1)
-    ]
+    | inl upper ↦ omega (arith, leb-true b 90 (and_parts (nat_le 65 b) (nat_le b 90) upper).1)
+    | inr lower ↦ omega (arith, leb-true b 122 (and_parts (nat_le 97 b) (nat_le b 122) lower).1)
+  ]
   | inr underscore ↦ omega (arith, eqb-true b 95 underscore)
 ]
 
@@ -235,3 +235,21 @@ token_same t _ _ _ n (IsFileToken.other c p no_hidden no_word no_string no_regex
 token_same t _ _ _ n (IsFileToken.other c p no_hidden no_word no_string no_regex no_symbol) (IsFileToken.regex {flags = f} b) = absurd (no_regex f n b)
 token_same t _ _ _ _ (IsFileToken.other c p no_hidden no_word no_string no_regex no_symbol) (IsFileToken.symbol s b) = absurd (no_symbol s b)
 token_same t _ _ _ _ (IsFileToken.other c p no_hidden no_word no_string no_regex no_symbol) (IsFileToken.other d q _ _ _ _ _) = (refl, ap (λ x. length (encode_utf8 x)) (begins_same t c d p q))
+
+-- ---- what a slash does not begin
+
+slash_class_is : (cs : List ℕ) → (class_of (47 ∷ cs) ≡ 1) ⊎ (class_of (47 ∷ cs) ≡ 4)
+slash_class_is [] = inr refl
+slash_class_is (c ∷ cs) = cases_cond ((c == 47) || (c == 42)) 1 4 (class_of (47 ∷ c ∷ cs)) refl
+
+pub slash_no_word : (t cs : List ℕ) → t ≡ 47 ∷ cs → (n : ℕ) → ¬ IsWord t n
+slash_no_word t cs e n w = elim (slash_class_is cs) [
+  | inl one ↦ apart t 1 2 (ap class_of e ∙ one) (word_class t n w) (λ h. omega arith)
+  | inr four ↦ apart t 4 2 (ap class_of e ∙ four) (word_class t n w) (λ h. omega arith)
+]
+
+pub slash_no_symbol : (t cs : List ℕ) → t ≡ 47 ∷ cs → (s : Symbol) → ¬ IsSymbol t s
+slash_no_symbol t cs e s w = elim (slash_class_is cs) [
+  | inl one ↦ apart t 1 5 (ap class_of e ∙ one) (symbol_class t s w) (λ h. omega arith)
+  | inr four ↦ apart t 4 5 (ap class_of e ∙ four) (symbol_class t s w) (λ h. omega arith)
+]

@@ -1,11 +1,10 @@
 -- What the tokens say.
-use Rattle.std.proofs.Common.{◌≡◌, ◌≢◌, ◌<◌, ◌≤◌, ℕ, suc, ◌+◌, ◌-◌, List, [], ◌∷◌, ◌++◌, length, get_or, take, drop, refl, sym, ap, ◌∙◌, subst, inl, inr, arith, length-append, append_assoc, encode_utf8, encode_utf8_all, chars, Bool, true, false, ◌==◌, nat_lt, IsUtf8, IsCharBoundary}
+use Rattle.std.proofs.Common.{◌≡◌, ◌≢◌, ◌<◌, ◌≤◌, ℕ, suc, ◌+◌, List, [], ◌∷◌, ◌++◌, length, get_or, drop, refl, sym, ap, ◌∙◌, inl, inr, arith, length-append, append_assoc, encode_utf8, encode_utf8_all, chars, Bool, true, false, ◌==◌, nat_lt, IsUtf8, IsCharBoundary}
 use Rattle.std.proofs.lemmas.Bool.{ne_eqb, ltb-true, cases_lt, agree_below_at}
 use Rattle.std.proofs.lemmas.List.{append-nil, drop_more}
 use Rattle.std.proofs.lemmas.Str.{inside_one, encode_ascii, encodes-chars, length-encode, len_utf8_bounds}
 use Rattle.std.proofs.Math.ListN.{drop_of_length-le}
 use Rattle.std.proofs.Math.Seq.{get_or-append_seam}
-use Rattle.lw_gramread.specs.FileTokens.{IsString, IsRegex}
 use Rattle.lw_gramread.specs.Values.{word_name, escape, with_escapes_read}
 use Rattle.lw_gramread.proofs.PlaceLemmas.{behind_byte, before_ascii}
 
@@ -72,11 +71,11 @@ read_pair_bytes (b ∷ bs) rest some above =
 read_pair : (c : ℕ) (rest : List ℕ) → with_escapes_read (92 ∷ (encode_utf8 c ++ rest)) ≡ encode_utf8 (escape c) ++ with_escapes_read rest
 read_pair c rest = elim (cases_lt c 128) [
   | inl ascii ↦
-    rw (encode_ascii c ascii, encode_ascii (escape c) (escape_ascii c ascii)) refl
+      rw (encode_ascii c ascii, encode_ascii (escape c) (escape_ascii c ascii)) refl
   | inr above ↦
-    read_pair_bytes (encode_utf8 c) rest (omega (arith, length-encode c, (len_utf8_bounds c).0))
-    (λ k within. elim (cases_lt (get_or (encode_utf8 c) k 0) 128) [ inl low ↦ absurd (omega (arith, char_byte c k within low)) | inr high ↦ high ])
-    ∙ ap (λ x. encode_utf8 x ++ with_escapes_read rest) (sym (escape_above c above))
+      read_pair_bytes (encode_utf8 c) rest (omega (arith, length-encode c, (len_utf8_bounds c).0))
+      (λ k within. elim (cases_lt (get_or (encode_utf8 c) k 0) 128) [ inl low ↦ absurd (omega (arith, char_byte c k within low)) | inr high ↦ high ])
+      ∙ ap (λ x. encode_utf8 x ++ with_escapes_read rest) (sym (escape_above c above))
 ]
 
 -- the loop: what is read of the first n characters, and whether a backslash is left

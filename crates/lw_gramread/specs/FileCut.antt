@@ -1,5 +1,5 @@
 -- The cut of a grammar file into its tokens: at each place what is passed over, or the token that stands there.
-use Rattle.std.specs.Prelude.{ℕ, ◌≡◌, ◌+◌, ◌<◌, List, [], ◌∷◌, ◌++◌, drop, length}
+use Rattle.std.specs.Prelude.{ℕ, ◌+◌, ◌<◌, List, [], ◌∷◌, ◌++◌, drop, length}
 use Rattle.lw_gramread.specs.declared.token.FileKind.{FileKind}
 use Rattle.lw_gramread.specs.declared.token.FileToken.{FileToken}
 use Rattle.lw_gramread.specs.FileTokens.{IsHidden, IsFileToken}

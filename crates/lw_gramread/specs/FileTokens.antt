@@ -1,7 +1,7 @@
 -- The tokens of a grammar file, each by the form that the text before it has to have. In bytes: ' is 39, " is 34, * is 42,
 -- / is 47, [ is 91, \ is 92, ] is 93, ^ is 94, _ is 95, a line feed is 10, a carriage return 13.
 -- Held against the Langium documentation, "Grammar language", whose grammar files these are a stated part of.
-use Rattle.std.specs.Prelude.{ℕ, ◌≡◌, ◌≢◌, ◌+◌, ◌<◌, ◌⊎◌, ◌&&◌, ◌||◌, ◌==◌, List, [], ◌∷◌, ◌++◌, Bool, not, true, false, length, drop, codes, encode_utf8, take_while}
+use Rattle.std.specs.Prelude.{ℕ, ◌≡◌, ◌≢◌, ◌+◌, ◌<◌, ◌⊎◌, ◌||◌, ◌==◌, List, [], ◌∷◌, ◌++◌, Bool, not, true, false, length, drop, codes, encode_utf8, take_while}
 use Rattle.std.specs.Char.{IsScalar, is_whitespace, is_ascii_alphabetic, is_ascii_alphanumeric, is_ascii_lowercase}
 use Rattle.lw_gramread.specs.declared.token.Symbol.{Symbol}
 use Rattle.lw_gramread.specs.declared.token.FileKind.{FileKind}

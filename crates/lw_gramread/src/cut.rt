@@ -16,6 +16,12 @@ use lw_base::{Name, NoMemory, Span};
 use std::alloc::Global;
 
 /// The tokens of a grammar file, in order. The text has at most 64 MiB.
+///
+/// A byte is read a fixed number of times, except behind a quote, a `/` or a `/*` that nothing closes:
+/// there the text is looked through to its end, or to the line's end behind a `/`, before the
+/// character is taken alone. Where one such character has been met, a reader refuses.
+///
+/// The one error is want of memory.
 pub fn file_tokens(alloc: Global, text: &Name) -> Result<Vec<FileToken>, NoMemory>
     requires { length text.now ≤ 67108864 }
     ensures cut { IfOk result (λ tokens. IsFileCut text.now tokens.items) }

@@ -1,9 +1,14 @@
 //! Reading grammar files: the tokens of a file, and what they say.
 //!
-//! A file is its list of bytes, and its tokens are cut from it as `specs/FileTokens.antt` and
-//! `specs/FileCut.antt` say, by the form that each token has to have. White space and comments are
+//! Its model: a file is its list of bytes, and its tokens are cut from it as `specs/FileTokens.antt`
+//! and `specs/FileCut.antt` say, by the form that each token has to have. White space and comments are
 //! passed over. Where no token stands, a token of one character does that can follow nowhere, so that
-//! every text has one cut, and a reader refuses at a token.
+//! every text has one cut, and a reader refuses at a token. The forms are those of Langium's grammar
+//! language, of which these files are a stated part.
+//!
+//! It promises that [`file_tokens`] gives the one cut of a text, that each token stands at a part of
+//! the text that splits no character, and that its bytes have the form of its kind, which is what the
+//! functions on a token's text ask for.
 #![tactic(auto)]
 
 mod cut;
@@ -17,7 +22,7 @@ mod word;
 
 pub use cut::file_tokens;
 pub use token::{FileKind, FileToken, Symbol};
-pub use values::{is_reserved, read_escapes, regex_text, string_value, token_text, word_name};
+pub use values::{is_reserved, read_escapes, regex_text, string_value, word_name};
 
 #[cfg(test)]
 mod tests;

@@ -8,14 +8,16 @@ use crate::token::FileToken;
 use lw_base::{Name, NoMemory};
 use std::alloc::Global;
 
-/// The text of a token of this file.
-pub fn token_text<'t>(token: &FileToken, file: &'t Name) -> &'t str
-    requires { IsPlace file.now token.now.span }
-    ensures { result.now ≡ part_of file.now token.now.span }
-{
-    let start = token.span.start as usize;
-    let end = token.span.end as usize;
-    &file.text()[start..end]
+impl FileToken {
+    /// The text of the token, in the file that it was cut from.
+    pub fn text<'t>(&self, file: &'t Name) -> &'t str
+        requires { IsPlace file.now self.now.span }
+        ensures { result.now ≡ part_of file.now self.now.span }
+    {
+        let start = self.span.start as usize;
+        let end = self.span.end as usize;
+        &file.text()[start..end]
+    }
 }
 
 /// The name that a word's token means: what stands behind the `^`, where there is one.
@@ -55,7 +57,8 @@ pub fn is_reserved(token: &str) -> bool
     )
 }
 
-/// The value of a string's token: what stands between its quotes, with its escapes read.
+/// The value of a string's token: what stands between its quotes, with its escapes read. The one
+/// error is want of memory.
 pub fn string_value(alloc: Global, token: &str) -> Result<Name, NoMemory>
     requires { IsString token.now (length token.now) }
     ensures { IfOk result (λ name. name ≡ string_value token.now) }
@@ -64,7 +67,7 @@ pub fn string_value(alloc: Global, token: &str) -> Result<Name, NoMemory>
 }
 
 /// The text with its escapes read: a backslash and a character mean one character, and a backslash at
-/// the end means itself.
+/// the end means itself. The one error is want of memory.
 pub fn read_escapes(alloc: Global, text: &str) -> Result<Name, NoMemory>
     ensures { IfOk result (λ name. name ≡ with_escapes_read text.now) }
 {

@@ -1,9 +1,8 @@
-use Rattle.std.proofs.Common.{◌≡◌, ◌<◌, ◌≤◌, ◌+◌, ℕ, List, length, drop, refl, sym, ap, ◌∙◌, subst, arith}
+use Rattle.std.proofs.Common.{◌≡◌, length, ap, subst, arith}
 use Rattle.std.proofs.lemmas.Str.{IsCharBoundary-start}
-use Rattle.lw_gramread.specs.declared.token.FileToken.{FileToken}
 use Rattle.lw_gramread.specs.FileTokens.{IsHidden, IsFileToken}
 use Rattle.lw_gramread.specs.FileCut.{IsFileCutTo, IsFileCut}
-use Rattle.lw_gramread.proofs.CutLemmas.{IsStep, hidden_step, token_step, cut_same, placed}
+use Rattle.lw_gramread.proofs.CutLemmas.{hidden_step, token_step, cut_same, placed}
 use Rattle.lw_gramread.proofs.cut.file_tokens.Goals as goal
 
 pub cutting-init : goal.cutting-init
@@ -55,9 +54,9 @@ cutting-preserved c =
 pub returns-clause-only : goal.returns-clause-only
 returns-clause-only c =
     λ other cut.
-        let at : c.cutting.at ≡ length c.args.text.now = omega (arith, c.cutting-test.false, c.cutting.invariant.ends.0, ap length c.text-text.ensures.text) in
-        let own : IsFileCut c.args.text.now c.cutting.tokens.items = subst (λ n. IsFileCutTo c.args.text.now n c.cutting.tokens.items) at (subst (λ x. IsFileCutTo x c.cutting.at c.cutting.tokens.items) c.text-text.ensures.text c.cutting.invariant.cut) in
-        cut_same c.args.text.now c.cutting.tokens.items other own cut
+    let at : c.cutting.at ≡ length c.args.text.now = omega (arith, c.cutting-test.false, c.cutting.invariant.ends.0, ap length c.text-text.ensures.text) in
+    let own : IsFileCut c.args.text.now c.cutting.tokens.items = subst (λ n. IsFileCutTo c.args.text.now n c.cutting.tokens.items) at (subst (λ x. IsFileCutTo x c.cutting.at c.cutting.tokens.items) c.text-text.ensures.text c.cutting.invariant.cut) in
+    cut_same c.args.text.now c.cutting.tokens.items other own cut
 
 pub returns-clause-places : goal.returns-clause-places
 returns-clause-places c =

@@ -1,4 +1,4 @@
-use Rattle.std.proofs.Common.{◌≡◌, sym, ◌∙◌, subst, length, encode_utf8}
+use Rattle.std.proofs.Common.{sym, ◌∙◌, subst}
 use Rattle.std.proofs.lemmas.Str.{length-encode}
 use Rattle.lw_gramread.specs.FileTokens.{BeginsWith, IsFileToken}
 use Rattle.lw_gramread.specs.declared.token.FileKind.TheVariants as kind

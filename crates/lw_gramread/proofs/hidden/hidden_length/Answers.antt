@@ -1,6 +1,5 @@
-use Rattle.std.proofs.Common.{◌≡◌, ◌≢◌, ℕ, ◌+◌, ◌<◌, ◌≤◌, List, [], ◌∷◌, ◌++◌, length, drop, take_while, not, false, true, refl, sym, ap, ◌∙◌, subst, arith, encode_utf8}
-use Rattle.std.specs.Char.{is_whitespace}
-use Rattle.lw_gramread.specs.FileTokens.{BeginsWith, IsHidden, is_line_end}
+use Rattle.std.proofs.Common.{◌≡◌, ℕ, ◌≤◌, List, [], ◌∷◌, length, drop, refl, sym, ap, ◌∙◌, subst, arith}
+use Rattle.lw_gramread.specs.FileTokens.{BeginsWith, IsHidden}
 use Rattle.lw_gramread.proofs.HiddenLemmas.{begins_from, hidden_none_empty, hidden_white, hidden_none, hidden_block, opened_same}
 use Rattle.lw_gramread.proofs.hidden.hidden_length.Goals as goal
 
@@ -37,7 +36,7 @@ returns-in_err-find c =
     rw c.from_residual-in_err-find.ensures
     (hidden_none c.args.rest.now c.in_ok-first.first begun (sym c.if-is_whitespace.ensures) c.in_default.ensures.cases
     (λ rest e i le r q. let same : rest ≡ c.in_ok-after.after.now = opened_same c.args.rest.now rest c.in_ok-after.after.now e opened in
-        c.in_err-find.ensures.cases i (subst (λ x. i ≤ length x) same le) r (ap (drop i) (sym same) ∙ q)))
+    c.in_err-find.ensures.cases i (subst (λ x. i ≤ length x) same le) r (ap (drop i) (sym same) ∙ q)))
 
 pub returns : goal.returns
 returns c =

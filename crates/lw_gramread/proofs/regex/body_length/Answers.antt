@@ -1,5 +1,4 @@
-use Rattle.std.proofs.Common.{◌≡◌, false, drop, ap, sym, ◌∙◌, subst, arith}
-use Rattle.lw_gramread.specs.FileTokens.{is_line_end}
+use Rattle.std.proofs.Common.{false, drop, ap, sym, ◌∙◌, arith}
 use Rattle.lw_gramread.proofs.RegexLemmas.{body_end, closed_none, closed_some, scan_stops, scan_closes, scan_ends}
 use Rattle.lw_gramread.proofs.regex.body_length.Goals as goal
 

@@ -1,4 +1,4 @@
-use Rattle.std.proofs.Common.{◌≡◌, ◌⊎◌, ◌∷◌, ◌<◌, ◌≤◌, length, drop, ap, sym, ◌∙◌, inl, inr, arith}
+use Rattle.std.proofs.Common.{◌≡◌, ◌⊎◌, ◌∷◌, drop, ap, sym, ◌∙◌, inl, inr, arith}
 use Rattle.lw_gramread.proofs.StringLemmas.{inside_end, string_none, string_some, scan_stops, scan_closes, scan_ends}
 use Rattle.lw_gramread.proofs.string.string_length.Goals as goal
 use Rattle.lw_gramread.proofs.string.string_length.Goals.{else-quote-ne39-via-then-quote-ne39+else-quote-ne34, else-quote-ne39-via-else-quote-ne39}

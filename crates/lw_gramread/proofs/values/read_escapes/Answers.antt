@@ -1,9 +1,9 @@
-use Rattle.std.proofs.Common.{◌≡◌, ℕ, ◌<◌, ◌≤◌, ◌++◌, length, get_or, sym, ap, ◌∙◌, subst, arith, chars, true, false, encode_utf8, string_bytes}
+use Rattle.std.proofs.Common.{◌≡◌, ◌≤◌, length, ap, ◌∙◌, subst, arith, chars, true, false, string_bytes}
 use Rattle.std.proofs.lemmas.Iterator.{YieldsList-from_chars}
 use Rattle.std.proofs.lemmas.Iterator.Consumers.{YieldsList-turn, YieldsList-end}
 use Rattle.std.proofs.lemmas.List.{length_push}
 use Rattle.std.proofs.lemmas.Result.{IfOk-weaker}
-use Rattle.lw_gramread.specs.Values.{escape, with_escapes_read}
+use Rattle.lw_gramread.specs.Values.{with_escapes_read}
 use Rattle.lw_gramread.proofs.ValueLemmas.{IsReadTo, none_read, pair_read, plain_read, backslash_read, all_read, all_read_but_one}
 use Rattle.lw_gramread.proofs.values.read_escapes.Goals as goal
 use Rattle.lw_gramread.proofs.values.read_escapes.Goals.{then-escaped-2+in_ok-push-3, else-escaped-2}

@@ -1,5 +1,5 @@
-use Rattle.std.proofs.Common.{◌≡◌, ◌<◌, ◌+◌, ◌-◌, ◌∷◌, ◌++◌, length, arith, length-append}
-use Rattle.lw_gramread.proofs.ValueLemmas.{inside_starts, inside_ends}
+use Rattle.std.proofs.Common.{◌∷◌, ◌++◌, arith}
+use Rattle.lw_gramread.proofs.ValueLemmas.{inside_starts}
 use Rattle.lw_gramread.proofs.values.regex_text.Goals as goal
 
 pub range-requires-clause-start_boundary : goal.range-requires-clause-start_boundary

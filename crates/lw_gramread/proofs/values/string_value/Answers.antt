@@ -1,5 +1,5 @@
-use Rattle.std.proofs.Common.{◌≡◌, ◌<◌, ◌+◌, ◌-◌, ◌∷◌, ◌++◌, length, arith, inl, inr, length-append}
-use Rattle.lw_gramread.proofs.ValueLemmas.{inside_starts, inside_ends}
+use Rattle.std.proofs.Common.{◌∷◌, ◌++◌, arith, inl, inr}
+use Rattle.lw_gramread.proofs.ValueLemmas.{inside_starts}
 use Rattle.lw_gramread.proofs.values.string_value.Goals as goal
 
 pub range-requires-clause-start_boundary : goal.range-requires-clause-start_boundary

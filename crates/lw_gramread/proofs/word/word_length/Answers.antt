@@ -1,9 +1,7 @@
-use Rattle.std.proofs.Common.{◌≡◌, ◌≢◌, ℕ, ◌+◌, ◌∷◌, sym, ◌∙◌, ap, subst, Option, Some, None, MatchOption}
-use Rattle.lw_gramread.specs.FileTokens.{IsWord, IsPlainWord}
+use Rattle.std.proofs.Common.{◌≡◌, ◌∷◌, sym, ◌∙◌, ap}
 use Rattle.lw_gramread.specs.FileTokens.IsWord.{plain, marked}
 use Rattle.lw_gramread.proofs.Answers.{answer_weaker}
 use Rattle.lw_gramread.proofs.WordLemmas.{word_none_marked, word_none_plain}
-use Rattle.lw_gramread.proofs.StringLemmas.{inside_end_found}
 use Rattle.lw_gramread.proofs.word.word_length.Goals as goal
 
 pub returns-in_err-plain_word_length : goal.returns-in_err-plain_word_length
