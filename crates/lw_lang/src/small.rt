@@ -14,9 +14,7 @@ use lw_base::{Items, Name, NoMemory, Span};
 use lw_grammar::{
     Element, Grammar, Op, Primitive, Rule, RuleResult, TermElement, Terminal, Value0,
 };
-use lw_gramread::{
-    FileKind, FileToken, Symbol, is_reserved, regex_text, string_value, token_text, word_name,
-};
+use lw_gramread::{FileKind, FileToken, Symbol, is_reserved, regex_text, string_value, word_name};
 use std::alloc::{AllocError, Global};
 
 /// Why a grammar file was not read.
@@ -180,11 +178,11 @@ fn part_at(
     };
     match token.kind {
         FileKind::Text => {
-            let value = string_value(alloc, token_text(token, file))?;
+            let value = string_value(alloc, token.text(file))?;
             Ok((Element::Keyword(value, token.span), at + 1))
         }
         FileKind::Word => {
-            let property = Name::from_text(alloc, word_name(token_text(token, file)))?;
+            let property = Name::from_text(alloc, word_name(token.text(file)))?;
             symbol_at(file, tokens, at + 1, Symbol::Equals)?;
             let (name, span) = name_at(alloc, file, tokens, at + 2)?;
             let whole = Span {
@@ -288,7 +286,7 @@ fn pattern_at(
 {
     match token_at(tokens, at) {
         Some(token) if token.kind == FileKind::Regex(0) => {
-            let pattern = Name::from_text(alloc, regex_text(token_text(token, file), 0))?;
+            let pattern = Name::from_text(alloc, regex_text(token.text(file), 0))?;
             Ok((pattern, token.span))
         }
         _ => Err(unexpected(file, tokens, at)),
@@ -309,8 +307,8 @@ fn name_at(
     ensures err { IfUnexpected result (LacksFirst file.now (drop at tokens.now) (IsFree file.now)) }
 {
     match token_at(tokens, at) {
-        Some(token) if token.kind == FileKind::Word && !is_reserved(token_text(token, file)) => {
-            let name = Name::from_text(alloc, word_name(token_text(token, file)))?;
+        Some(token) if token.kind == FileKind::Word && !is_reserved(token.text(file)) => {
+            let name = Name::from_text(alloc, word_name(token.text(file)))?;
             Ok((name, token.span))
         }
         _ => Err(unexpected(file, tokens, at)),
@@ -338,7 +336,7 @@ fn is_reserved_at(file: &Name, tokens: &[FileToken], at: usize, word: &str) -> b
     ensures no { ¬ IsTrue result → (t : FileToken) (ts : List FileToken) → drop at tokens.now ≡ t ∷ ts → ¬ IsReserved file.now t word.now }
 {
     match token_at(tokens, at) {
-        Some(token) => token.kind == FileKind::Word && token_text(token, file) == word,
+        Some(token) => token.kind == FileKind::Word && token.text(file) == word,
         None => false,
     }
 }

@@ -48,10 +48,10 @@ returns-in_default-kind c = record {
 pub returns-in_ok-value-in-Text-clause-ok : goal.returns-in_ok-value-in-Text-clause-ok
 returns-in_ok-value-in-Text-clause-ok c =
     keyword_read c.args.file.now c.args.tokens.now c.args.at c.in-Some.token.now c.in-Some.ensures.token _ c.in-Text.is
-    (c.in_ok-value-in-Text.ensures ∙ ap string_value c.token_text.ensures)
+    (c.in_ok-value-in-Text.ensures ∙ ap string_value c.text.ensures)
 
 pub returns-in_ok-name-in-Word-clause-ok : goal.returns-in_ok-name-in-Word-clause-ok
 returns-in_ok-name-in-Word-clause-ok c =
     assignment_read c.args.file.now c.args.tokens.now c.args.at c.in-Some.token.now c.in-Some.ensures.token _ _ _ c.in-Word.is
-    (c.in_ok-property-in-Word.ensures ∙ c.word_name.ensures ∙ ap word_name c.token_text-in-Word.ensures)
+    (c.in_ok-property-in-Word.ensures ∙ c.word_name.ensures ∙ ap word_name c.text-in-Word.ensures)
     c.in_ok-symbol_at-in-Word.ensures.ok c.in_ok-name-in-Word.ensures.ok
