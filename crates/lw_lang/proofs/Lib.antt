@@ -11,3 +11,4 @@ pub mod FlatKinds
 pub mod FlatRow
 pub mod FlatObstacles
 pub mod FlatMade
+pub mod PlainParts
