@@ -1,5 +1,5 @@
 // That a grammar of this shape is made ready where there is memory, and one grammar for each cause of refusal.
-ghost use Rattle.std.specs.Prelude.{◌<◌, All, IfOk, length};
+ghost use Rattle.std.specs.Prelude.{◌≡◌, ◌<◌, All, IfOk, length};
 ghost use Rattle.lw_lang.specs.Shape.{HasShape, IsPlainPart, IsPlainTerminal};
 
 use crate::flat::{Flat, FlatFault, make_flat};

@@ -1,0 +1,6 @@
+use Rattle.std.proofs.Common.{refl}
+use Rattle.lw_grammar.specs.declared.terminal.TermElement.TheVariants.{outs-Pattern}
+use Rattle.lw_lang.proofs.flat_tests.terminal.Goals as goal
+
+pub returns : goal.returns
+returns c = (refl, c.in_ok-from_text-2.field-0, record { start = 0; end = 0 }, outs-Pattern _ _)
