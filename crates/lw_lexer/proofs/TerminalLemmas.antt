@@ -26,11 +26,11 @@ pub none_over_next : (terminals : List TerminalForm) (text : List ℕ) (n i : �
     (j o : ℕ) → j < i + 1 → slice_get (lengths terminals text) j ≡ Some (Some o) → o ≤ n
 none_over_next terminals text n i form there none before j o below at =
     elim (cases_lt j i) [
-    | inl lt ↦ before j o lt at
-    | inr ge ↦ (let same : j ≡ i = omega arith in
-        let here : slice_get (lengths terminals text) i ≡ Some (match_length form.pattern text) =
-        slice_get-map (λ t. match_length t.pattern text) terminals i ∙ ap (option_map (λ t. match_length t.pattern text)) there in
-        le_of_over n _ o none (same_Some _ _ (sym here ∙ ap (slice_get (lengths terminals text)) (sym same) ∙ at)))
+      | inl lt ↦ before j o lt at
+      | inr ge ↦ (let same : j ≡ i = omega arith in
+          let here : slice_get (lengths terminals text) i ≡ Some (match_length form.pattern text) =
+          slice_get-map (λ t. match_length t.pattern text) terminals i ∙ ap (option_map (λ t. match_length t.pattern text)) there in
+          le_of_over n _ o none (same_Some _ _ (sym here ∙ ap (slice_get (lengths terminals text)) (sym same) ∙ at)))
     ]
 
 abbrev pub IsLongestKeyword : Lexicon → List ℕ → Option (ℕ × ℕ) → Type 0
