@@ -1,8 +1,8 @@
 -- The first terminal that matches enough, and the token that it and the longest keyword make.
-use Rattle.std.proofs.Common.{◌≡◌, ℕ, ◌+◌, ◌<◌, ◌≤◌, List, length, Option, Some, None, Bool, true, false, nat_lt, if◌then◌else◌, option_map, slice_get, map, MatchOption, IfSome, All, ◌∙◌, sym, refl, subst, ap, arith, inl, inr}
+use Rattle.std.proofs.Common.{◌≡◌, ℕ, ◌+◌, ◌<◌, ◌≤◌, List, Option, Some, None, Bool, true, false, nat_lt, if◌then◌else◌, option_map, slice_get, MatchOption, IfSome, ◌∙◌, sym, refl, ap, arith, inl, inr}
 use Rattle.std.proofs.lemmas.Bool.{cases_lt}
 use Rattle.std.proofs.lemmas.Bool.Decides.{nat_tests}
-use Rattle.std.proofs.lemmas.Option.{same_Some, slice_get-map, slice_get_within, get_or_from_slice_get}
+use Rattle.std.proofs.lemmas.Option.{same_Some, slice_get-map}
 use Rattle.lw_tokens.specs.Lexicon.{Lexicon, TerminalForm}
 use Rattle.lw_tokens.specs.Matching.{match_length}
 use Rattle.lw_tokens.specs.NextToken.{IsNext, IsLongest, HasNone, IsFirstOver, NoneOver, lengths, terminal_token, longer_terminal, keyword, terminal, no_token}
