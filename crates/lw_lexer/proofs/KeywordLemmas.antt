@@ -1,5 +1,5 @@
 -- The longest keyword among those that begin with the text's first byte, and how it goes on from one to the next.
-use Rattle.std.proofs.Common.{◌≡◌, ℕ, ◌+◌, ◌<◌, ◌≤◌, ◌&&◌, List, [], ◌∷◌, length, take, Option, Some, None, Bool, true, false, nat_lt, nat_eq, if◌then◌else◌, slice_get, MatchOption, IfSome, All, IsUtf8, IsCharBoundary, ◌∙◌, sym, refl, subst, ap, arith, inl, inr}
+use Rattle.std.proofs.Common.{◌≡◌, ℕ, ◌+◌, ◌<◌, ◌≤◌, ◌&&◌, List, [], ◌∷◌, length, take, Option, Some, None, Bool, true, false, nat_lt, nat_eq, if◌then◌else◌, slice_get, MatchOption, All, IsUtf8, IsCharBoundary, ◌∙◌, sym, refl, subst, ap, arith, inl, inr}
 use Rattle.std.specs.List.{starts_with}
 use Rattle.std.specs.Str.{bytes_eq}
 use Rattle.std.proofs.lemmas.Bool.{cases_lt}
@@ -132,14 +132,6 @@ module _ (keywords : List (List ℕ)) (filled : All (λ word. 0 < length word) k
         bytes = before.bytes;
         longest = λ j other e b. let at = found j other e b in before.longest at.0 j other at.1 at.2 e b;
       }
-
-  -- the longest has a byte, and its place is below the count of keywords
-  pub longest_has_bytes : (text : List ℕ) (best : Option (ℕ × ℕ)) →
-      MatchOption best (HasNone keywords text) (λ found. IsLongest keywords text found.0 found.1) →
-      IfSome best (λ found. (found.0 < length keywords) × (0 < found.1))
-  longest_has_bytes text None none = tt
-  longest_has_bytes text (Some (k, n)) longest =
-      (slice_get_within keywords k longest.keyword longest.there, rw (← longest.bytes) (is_filled k longest.keyword longest.there))
 
 -- a text can be cut behind a keyword that it begins with
 pub boundary-begins : (text keyword : List ℕ) → IsUtf8 text → IsUtf8 keyword → Begins text keyword → length keyword ≤ length text →

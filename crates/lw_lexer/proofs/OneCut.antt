@@ -1,6 +1,5 @@
 -- A text has at most one cut into tokens, and at most one place where none stands: at each place at most one token is next, and it has a byte.
-use Rattle.std.proofs.Common.{◌≡◌, ℕ, ◌+◌, ◌<◌, ◌≤◌, List, [], ◌∷◌, ◌++◌, length, take, drop, get_or, append_assoc, append-nil, Option, Some, None, IfSome, slice_get, refl, sym, subst, ap, ◌∙◌, arith, inl, inr}
-use Rattle.std.specs.Str.{bytes_eq}
+use Rattle.std.proofs.Common.{◌≡◌, ℕ, ◌+◌, ◌<◌, ◌≤◌, List, [], ◌∷◌, ◌++◌, length, take, drop, append_assoc, append-nil, Option, Some, None, IfSome, slice_get, refl, sym, subst, ap, ◌∙◌, arith, inl, inr}
 use Rattle.std.proofs.lemmas.Bool.{cases_lt}
 use Rattle.std.proofs.lemmas.Option.{same_Some, slice_get_within, get_or_from_slice_get}
 use Rattle.std.proofs.lemmas.Slice.Eq.{bytes_eq-Decides}
@@ -28,8 +27,8 @@ module _ (keywords : List (List ℕ)) (apart : AreKeywords keywords) (text : Lis
       let at_k = get_or_from_slice_get keywords k a.keyword a.keyword a.there in
       let at_j = get_or_from_slice_get keywords j b.keyword a.keyword b.there in
       elim (cases_lt k j) [
-      | inl lt ↦ absurd (apart.distinct k j a.keyword lt (slice_get_within keywords j b.keyword b.there) (at_k ∙ same ∙ sym at_j))
-      | inr ge ↦ elim (cases_lt j k) [
+        | inl lt ↦ absurd (apart.distinct k j a.keyword lt (slice_get_within keywords j b.keyword b.there) (at_k ∙ same ∙ sym at_j))
+        | inr ge ↦ elim (cases_lt j k) [
           | inl gt ↦ absurd (apart.distinct j k a.keyword gt (slice_get_within keywords k a.keyword a.there) (at_j ∙ sym same ∙ sym at_k))
           | inr le ↦ omega arith
         ]
@@ -46,9 +45,9 @@ same_first : (n : ℕ) (matches : List (Option ℕ)) (i m j o : ℕ) → IsFirst
 same_first n matches i m j o a b = elim (cases_lt i j) [
   | inl lt ↦ absurd (let none = b.none_before i m lt a.there in omega (arith, none, a.longer))
   | inr ge ↦ elim (cases_lt j i) [
-      | inl gt ↦ absurd (let none = a.none_before j o gt b.there in omega (arith, none, b.longer))
-      | inr le ↦ omega arith
-    ]
+    | inl gt ↦ absurd (let none = a.none_before j o gt b.there in omega (arith, none, b.longer))
+    | inr le ↦ omega arith
+  ]
 ]
 
 module _ (lexicon : Lexicon) (apart : AreKeywords lexicon.keywords) (text : List ℕ) where
@@ -57,9 +56,11 @@ module _ (lexicon : Lexicon) (apart : AreKeywords lexicon.keywords) (text : List
       (i ≡ j) × (m ≡ o) × (form ≡ other)
   same_terminal n l i m j o form other same a b f g =
       let c = subst (λ x. IsFirstOver x (lengths lexicon.terminals text) i m) same a in
-      let at : i ≡ j = same_first l (lengths lexicon.terminals text) i m j o c b in
-      (at, same_Some _ _ (same_Some _ _ (sym a.there ∙ ap (slice_get (lengths lexicon.terminals text)) at ∙ b.there)),
-      same_Some _ _ (sym f ∙ ap (slice_get lexicon.terminals) at ∙ g))
+      let at : i ≡ j = same_first l (lengths lexicon.terminals text) i m j o c b in (
+        at,
+        same_Some _ _ (same_Some _ _ (sym a.there ∙ ap (slice_get (lengths lexicon.terminals text)) at ∙ b.there)),
+        same_Some _ _ (sym f ∙ ap (slice_get lexicon.terminals) at ∙ g),
+      )
 
   none_and_first : {A : Type 0} (n l i m : ℕ) → n ≡ l → NoneOver n (lengths lexicon.terminals text) → IsFirstOver l (lengths lexicon.terminals text) i m → A
   none_and_first n l i m same none first = absurd (let le = none i m first.there in omega (arith, le, first.longer, same))

@@ -1,8 +1,8 @@
 -- The first terminal that matches enough, and the token that it and the longest keyword make.
-use Rattle.std.proofs.Common.{◌≡◌, ℕ, ◌+◌, ◌<◌, ◌≤◌, List, length, Option, Some, None, Bool, true, false, nat_lt, if◌then◌else◌, option_map, slice_get, map, MatchOption, IfSome, All, ◌∙◌, sym, refl, subst, ap, arith, inl, inr}
+use Rattle.std.proofs.Common.{◌≡◌, ℕ, ◌+◌, ◌<◌, ◌≤◌, List, Option, Some, None, Bool, true, false, nat_lt, if◌then◌else◌, option_map, slice_get, MatchOption, IfSome, ◌∙◌, sym, refl, ap, arith, inl, inr}
 use Rattle.std.proofs.lemmas.Bool.{cases_lt}
 use Rattle.std.proofs.lemmas.Bool.Decides.{nat_tests}
-use Rattle.std.proofs.lemmas.Option.{same_Some, slice_get-map, slice_get_within, get_or_from_slice_get}
+use Rattle.std.proofs.lemmas.Option.{same_Some, slice_get-map}
 use Rattle.lw_tokens.specs.Lexicon.{Lexicon, TerminalForm}
 use Rattle.lw_tokens.specs.Matching.{match_length}
 use Rattle.lw_tokens.specs.NextToken.{IsNext, IsLongest, HasNone, IsFirstOver, NoneOver, lengths, terminal_token, longer_terminal, keyword, terminal, no_token}
@@ -26,11 +26,11 @@ pub none_over_next : (terminals : List TerminalForm) (text : List ℕ) (n i : �
     (j o : ℕ) → j < i + 1 → slice_get (lengths terminals text) j ≡ Some (Some o) → o ≤ n
 none_over_next terminals text n i form there none before j o below at =
     elim (cases_lt j i) [
-    | inl lt ↦ before j o lt at
-    | inr ge ↦ (let same : j ≡ i = omega arith in
-        let here : slice_get (lengths terminals text) i ≡ Some (match_length form.pattern text) =
-        slice_get-map (λ t. match_length t.pattern text) terminals i ∙ ap (option_map (λ t. match_length t.pattern text)) there in
-        le_of_over n _ o none (same_Some _ _ (sym here ∙ ap (slice_get (lengths terminals text)) (sym same) ∙ at)))
+      | inl lt ↦ before j o lt at
+      | inr ge ↦ (let same : j ≡ i = omega arith in
+          let here : slice_get (lengths terminals text) i ≡ Some (match_length form.pattern text) =
+          slice_get-map (λ t. match_length t.pattern text) terminals i ∙ ap (option_map (λ t. match_length t.pattern text)) there in
+          le_of_over n _ o none (same_Some _ _ (sym here ∙ ap (slice_get (lengths terminals text)) (sym same) ∙ at)))
     ]
 
 abbrev pub IsLongestKeyword : Lexicon → List ℕ → Option (ℕ × ℕ) → Type 0

@@ -1,5 +1,4 @@
 -- The token at the start of a text, as the code has it.
-use Rattle.std.specs.Prelude.{ℕ}
 use Rattle.lw_tokens.specs.NextToken as token
 use Rattle.lw_lexer.specs.declared.next.Next.{Next}
 

@@ -16,3 +16,6 @@ mod terminal;
 
 pub use fault::LexFault;
 pub use lexer::lex;
+
+#[cfg(test)]
+mod tests;

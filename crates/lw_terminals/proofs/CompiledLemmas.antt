@@ -1,9 +1,9 @@
 -- A compiled regular expression matches at the start of a text what the text of its pattern says.
-use Rattle.std.proofs.Common.{◌≡◌, ℕ, ◌<◌, ◌==◌, if◌then◌else◌, List, Option, Some, None, option_map, get_or, IsSome, refl, ap, rules}
+use Rattle.std.proofs.Common.{◌≡◌, ℕ, ◌==◌, if◌then◌else◌, List, Option, Some, None, option_map, IsSome, refl, ap, rules}
 use Rattle.std.specs.Prelude.{chars, option_and_then}
 use Rattle.std.proofs.lemmas.List.{get_or_default}
-use Rattle.regex.specs.Patterns.{Match, find_str, default_config, Reads}
-use Rattle.regex.specs.Strings.{regex_pattern, regex_source, regex_config}
+use Rattle.regex.specs.Patterns.{Match, default_config, Reads}
+use Rattle.regex.specs.Strings.{regex_pattern}
 use Rattle.regex.specs.declared.string.regex.Regex.{Regex}
 use Rattle.regex.proofs.ForCallers.{spans}
 use Rattle.regex_syntax.specs.Grammar.{read}

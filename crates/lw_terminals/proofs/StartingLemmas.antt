@@ -44,10 +44,10 @@ pub one_more_byte : (keywords table : List (List ℕ)) (i : ℕ) (places : List 
     (byte : ℕ) (d : List ℕ) → byte < i + 1 → AreStarting keywords byte (slice_index_or (table ++ places ∷ []) byte d)
 one_more_byte keywords table i places long before here byte d below =
     elim (cases_lt byte i) [
-    | inl lt ↦ subst (AreStarting keywords byte) (sym (get_or_append_left table (places ∷ []) d byte (omega arith))) (before byte d lt)
-    | inr ge ↦ (let same : byte ≡ length table = omega arith in
-        subst (AreStarting keywords byte) (sym (ap (λ k. get_or (table ++ places ∷ []) k d) same ∙ get_or-append_seam table places [] d))
-        (let at : i ≡ byte = omega arith in subst (λ k. AreStarting keywords k places) at here))
+      | inl lt ↦ subst (AreStarting keywords byte) (sym (get_or_append_left table (places ∷ []) d byte (omega arith))) (before byte d lt)
+      | inr ge ↦ (let same : byte ≡ length table = omega arith in
+          subst (AreStarting keywords byte) (sym (ap (λ k. get_or (table ++ places ∷ []) k d) same ∙ get_or-append_seam table places [] d))
+          (let at : i ≡ byte = omega arith in subst (λ k. AreStarting keywords k places) at here))
     ]
 
 pub within-starting : (keywords : List (List ℕ)) (byte : ℕ) (places : List ℕ) → AreStarting keywords byte places → All (λ k. k < length keywords) places

@@ -1,6 +1,6 @@
 -- The kinds of tokens: what texts are cut by, and the text by which each kind is told.
-use Rattle.std.specs.Prelude.{ℕ, ◌+◌, ◌<◌, ◌≤◌, ◌≡◌, ◌≢◌, List, ◌++◌, length, map, codes, All, AllPairs}
-use Rattle.lw_tokens.specs.Lexicon.{Lexicon, TerminalForm}
+use Rattle.std.specs.Prelude.{ℕ, ◌+◌, ◌<◌, ◌≤◌, ◌≡◌, ◌≢◌, List, length, All, AllPairs}
+use Rattle.lw_tokens.specs.Lexicon.{Lexicon}
 
 pub record TokenKinds : Type 0 where
   pub lexicon : Lexicon

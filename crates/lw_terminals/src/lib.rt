@@ -22,3 +22,6 @@ pub use matcher::TerminalMatcher;
 pub use source::TerminalSource;
 pub use terminal::Terminal;
 pub use token_set::TokenSet;
+
+#[cfg(test)]
+mod tests;

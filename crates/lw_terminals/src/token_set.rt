@@ -25,18 +25,18 @@ impl Model for TokenSet {
     ghost Value = { TokenKinds };
 
     ghost view = { λ s. record {
-        lexicon = record { keywords = s.keywords.items; terminals = s.terminals.items };
-        texts = s.texts.items
+      lexicon = record { keywords = s.keywords.items; terminals = s.terminals.items };
+      texts = s.texts.items;
     } };
 
     ghost invariant = { λ s. AreTokenKinds (record {
-        lexicon = record { keywords = s.keywords.items; terminals = s.terminals.items };
-        texts = s.texts.items
+      lexicon = record { keywords = s.keywords.items; terminals = s.terminals.items };
+      texts = s.texts.items;
     }) × IsByFirstByte s.keywords.items s.starting.items };
 }
 
 impl TokenSet {
-    ghost use Rattle.std.specs.Prelude.{◌≡◌, ℕ, ◌+◌, ◌<◌, ◌≤◌, All, IfOk, OnOk, Err, length, slice_get, Some};
+    ghost use Rattle.std.specs.Prelude.{◌≡◌, ◌↔◌, ℕ, ◌+◌, ◌<◌, ◌≤◌, All, IsTrue, IfOk, OnOk, Err, length, slice_get, Some};
     ghost use Rattle.lw_terminals.specs.TokenKinds.{AreKeywords, AreTokenKinds};
     ghost use Rattle.lw_terminals.specs.Starting.{AreStarting};
     ghost use Rattle.lw_terminals.specs.Made.{kinds_of, IsUsable, IsRefusedAt, MatchesEmptyAt, Counts, Keeps};
@@ -98,6 +98,13 @@ impl TokenSet {
             matchers.push(terminal.matcher(alloc)?)?;
         }
         Ok(matchers)
+    }
+
+    /// Whether this is the number of a kind.
+    pub fn has_kind(&self, kind: KindId) -> bool
+        ensures { IsTrue result ↔ (kind.0 < length self.now.texts) }
+    {
+        (kind.0 as usize) < self.texts.len()
     }
 
     /// The text by which a kind is told: a keyword's text in single quotes, or a terminal's name.

@@ -21,8 +21,8 @@ loop-place-preserved c =
     let there : slice_get held place ≡ Some keyword = slice_get_read held (length held) place keyword refl within c.index-keywords-place.is in
     record {
       best = rw c.longer-best.ensures.longer
-      (best-longer_of i places c.args.set.now.lexicon.keywords c.args.text.now place keyword (slice_get-get_or places i 0 below)
-      (rw c.keywords-keywords.ensures.keywords at there) c.loop-place.best c.loop-place.invariant.best);
+          (best-longer_of i places c.args.set.now.lexicon.keywords c.args.text.now place keyword (slice_get-get_or places i 0 below)
+          (rw c.keywords-keywords.ensures.keywords at there) c.loop-place.best c.loop-place.invariant.best);
       boundary = c.longer-best.ensures.boundary c.loop-place.invariant.boundary;
     }
 

@@ -18,7 +18,7 @@ loop-i-preserved c =
     record {
       same = ap (slice_set items i) (c.matches_over.ensures.same ∙ c.index_mut.ensures.value) ∙ set-get_or items i form ∙ inv.same;
       none = none_over_next c.args.matchers.now.items c.args.text.now c.args.least i form
-      (subst (λ (xs : List TerminalForm). slice_get xs i ≡ Some form) inv.same there) (sym c.matches_over.ensures.over ∙ c.in_default.is) inv.none;
+          (subst (λ (xs : List TerminalForm). slice_get xs i ≡ Some form) inv.same there) (sym c.matches_over.ensures.over ∙ c.in_default.is) inv.none;
     }
 
 pub returns-clause-first : goal.returns-clause-first

@@ -1,5 +1,5 @@
-use Rattle.std.proofs.Common.{◌≡◌, ℕ, ◌<◌, ◌≤◌, Some, slice_get, take}
-use Rattle.lw_tokens.specs.NextToken.{NoneOver, lengths}
+use Rattle.std.proofs.Common.{◌≡◌, ℕ, ◌<◌, ◌≤◌, Some, slice_get}
+use Rattle.lw_tokens.specs.NextToken.{lengths}
 use Rattle.lw_lexer.proofs.terminal.first_terminal.Given as goal
 
 abbrev pub invariant-loop-i : goal.invariant-loop-i

@@ -1,10 +1,10 @@
-use Rattle.std.proofs.Common.{◌≡◌, ◌∷◌, [], ◌++◌, map, length, append_assoc, List, Err, refl, sym, ap, ◌∙◌, arith}
+use Rattle.std.proofs.Common.{◌≡◌, ◌∷◌, [], ◌++◌, length, append_assoc, refl, sym, ap, ◌∙◌, arith}
 use Rattle.std.proofs.lemmas.List.{length-map}
 use Rattle.std.proofs.lemmas.List.Elements.{All-push}
 use Rattle.std.specs.Vec.Iter.{into_iter_items}
 use Rattle.std.proofs.lemmas.Result.{err_from_is_err_and}
-use Rattle.lw_terminals.specs.Made.{form_of, IsUsable, IsReached}
-use Rattle.lw_terminals.specs.declared.fault.MakeTokensFault.TheVariants.{Refused, EmptyMatch}
+use Rattle.lw_terminals.specs.Made.{form_of, IsUsable}
+use Rattle.lw_terminals.specs.declared.fault.MakeTokensFault.TheVariants.{Refused}
 use Rattle.lw_terminals.proofs.MadeLemmas.{reached, handed_on, one_more}
 use Rattle.lw_terminals.proofs.make.make_terminals.Goals as goal
 

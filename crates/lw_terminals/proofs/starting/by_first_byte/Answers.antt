@@ -1,5 +1,4 @@
-use Rattle.std.proofs.Common.{◌≡◌, length, length-append, arith, ap, rules, subst, ℕ, List, ◌<◌, slice_index_or}
-use Rattle.lw_terminals.specs.Starting.{AreStarting}
+use Rattle.std.proofs.Common.{◌≡◌, length-append, arith, ℕ, List}
 use Rattle.lw_terminals.proofs.StartingLemmas.{one_more_byte}
 use Rattle.lw_terminals.proofs.starting.by_first_byte.Goals as goal
 
@@ -9,7 +8,7 @@ loop-byte-preserved c =
     rw c.in_ok-push.ensures.items (record {
       each_byte = omega (arith, inv.each_byte, length-append {A = List ℕ});
       places = one_more_byte c.args.keywords.now c.loop-byte.table.items c.loop-byte.byte c.in_ok-starting_with.field-0 inv.each_byte inv.places
-      c.in_ok-starting_with.ensures;
+          c.in_ok-starting_with.ensures;
     })
 
 pub returns : goal.returns

@@ -1,4 +1,4 @@
-use Rattle.std.proofs.Common.{◌≡◌, ◌<◌, length, slice_get, Some, refl, arith}
+use Rattle.std.proofs.Common.{◌≡◌, length, slice_get, Some, refl, arith}
 use Rattle.std.proofs.lemmas.Option.{slice_get_read, slice_get_within}
 use Rattle.lw_terminals.proofs.StartingLemmas.{place_taken, place_left}
 use Rattle.lw_terminals.proofs.starting.starting_with.Goals as goal
@@ -11,11 +11,11 @@ loop-k-preserved c =
     let keyword = c.index-keywords-k.result in
     let there : slice_get keywords k ≡ Some keyword = slice_get_read keywords (length keywords) k keyword refl (omega (arith, c.loop-k-test.true)) c.index-keywords-k.is in
     elim c.if-begins_with.branch [
-    | then-begins_with+in_ok-push w ↦ rw (w.places-is, w.in_ok-push.ensures.items)
-        (place_taken k keywords c.args.byte c.loop-k.places.items keyword there c.loop-k.invariant (c.begins_with.ensures.0 w.if-begins_with.true))
-    | else-begins_with w ↦ rw w.places-is
-        (place_left k keywords c.args.byte c.loop-k.places.items keyword there c.loop-k.invariant
-        (λ begins. absurd (let held = c.begins_with.ensures.1 begins in let not_held = w.if-begins_with.false in cc)))
+      | then-begins_with+in_ok-push w ↦ rw (w.places-is, w.in_ok-push.ensures.items)
+          (place_taken k keywords c.args.byte c.loop-k.places.items keyword there c.loop-k.invariant (c.begins_with.ensures.0 w.if-begins_with.true))
+      | else-begins_with w ↦ rw w.places-is
+          (place_left k keywords c.args.byte c.loop-k.places.items keyword there c.loop-k.invariant
+          (λ begins. absurd (let held = c.begins_with.ensures.1 begins in let not_held = w.if-begins_with.false in cc)))
     ]
 
 pub returns : goal.returns

@@ -1,0 +1,5 @@
+use Rattle.lw_terminals.specs.TokenKinds.{AreKeywords}
+use Rattle.lw_terminals.proofs.tests.keywords_of.Given as goal
+
+abbrev pub invariant-loop-word : goal.invariant-loop-word
+invariant-loop-word l = AreKeywords l.keywords.items
