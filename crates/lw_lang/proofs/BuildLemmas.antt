@@ -29,11 +29,11 @@ use Rattle.lw_lang.proofs.FlatObstacles.{pattern_once}
 module _ {X : Type 0} (passes : ℕ → Type 0) where
   kept_from : {i : ℕ} {xs ys : List X} (x : X) → KeepsFrom passes i xs ys → Contains ys x → Contains xs x
   kept_from x keep.nothing h = h
-  kept_from x (keep.kept {x = y} {xs} {ys} p k) h = by (in_cons y ys h)
+  kept_from x (keep.kept {x = y} {xs} {ys} p k) h = by (in_cons y ys h) (λ later. kept_from x k later)
     where
-      by : (y ≡ x) ⊎ Contains ys x → Contains (y ∷ xs) x
-      by (inl is) = subst (Contains (y ∷ xs)) is (here y xs)
-      by (inr later) = there y xs (kept_from x k later)
+      by : (y ≡ x) ⊎ Contains ys x → (Contains ys x → Contains xs x) → Contains (y ∷ xs) x
+      by (inl is) rest = subst (Contains (y ∷ xs)) is (here y xs)
+      by (inr later) rest = there y xs (rest later)
   kept_from x (keep.left_out {x = y} {xs} n k) h = there y xs (kept_from x k h)
 
 -- what a terminal is made from is its form, and has its name

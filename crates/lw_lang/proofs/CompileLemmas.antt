@@ -1,5 +1,5 @@
 -- Why a grammar is not compiled, from the parts of the work.
-use Rattle.std.proofs.Common.{◌≡◌, ◌⊎◌, inl, inr, ℕ, ◌<◌, ◌≤◌, List, [], ◌∷◌, ◌++◌, Option, Some, None, Result, Ok, Err, IfSome, All, length, refl, sym, ap, subst, ◌∙◌, arith}
+use Rattle.std.proofs.Common.{◌≡◌, ◌⊎◌, inl, inr, ℕ, ◌<◌, ◌≤◌, List, [], ◌∷◌, ◌++◌, Option, Some, None, Result, Ok, Err, IfSome, IfOk, IfErr, All, length, refl, sym, ap, subst, ◌∙◌, arith}
 use Rattle.std.proofs.lemmas.List.Elements.{All-head, All-tail}
 use Rattle.std.specs.Str.{IsUtf8}
 use Rattle.lw_base.specs.declared.token.Span.{Span}
@@ -14,6 +14,7 @@ use Rattle.lw_text.specs.Position.{IsPosition}
 use Rattle.lw_lang.specs.Small.{IsSmall, SaysSmall, IsUnexpected}
 use Rattle.lw_lang.specs.Small as small
 use Rattle.lw_lang.specs.Obstacles.{HasObstacle, MatchesEmpty, HasKindPattern}
+use Rattle.lw_lang.specs.Language.{LanguageView}
 use Rattle.lw_lang.specs.Compiled as compiled
 use Rattle.lw_lang.specs.Compiled.{Says, HoldsText, HoldsGrammar, IsNotBuilt, Causes, FileCauses, GrammarCauses, NothingSaid, IsUnbuiltAt, IsPatternFault, PatternCounts, longest_file}
 use Rattle.lw_lang.specs.declared.fault.CompileFault.{CompileFault}
@@ -203,3 +204,20 @@ module _ (told : Option (List (List ℕ × List ℕ))) (root : List ℕ) (refuse
       by : (t : Option (List (List ℕ × List ℕ))) → IfSome t (λ files. Causes files root refused (fault.StoreFault path))
       by None = tt
       by (Some files) = same
+
+-- ---- the same of answers
+
+pub file_faults : {T : Type 0} (g : Grammar) (file : List ℕ) (refused : Option (List ℕ)) (root : List ℕ) (r : Result T CompileFault) → Says root file g →
+    IfErr r (GrammarCauses g file refused) → IfErr r (FileCauses root file refused)
+file_faults g file refused root (Ok x) says cause = tt
+file_faults g file refused root (Err f) says cause = file_causes g file refused root f says cause
+
+pub held : (told : Option (List (List ℕ × List ℕ))) (root file : List ℕ) (r : Result LanguageView CompileFault) → Answers told root (found.Text file) →
+    IfOk r (λ language. Says root file language.grammar) → IfOk r (λ language. IfSome told (λ files. HoldsGrammar files root language.grammar))
+held told root file (Ok language) answers says = told_grammar told root None file language.grammar answers says
+held told root file (Err f) answers says = tt
+
+pub faults : {T : Type 0} (told : Option (List (List ℕ × List ℕ))) (root file : List ℕ) (refused : Option (List ℕ)) (r : Result T CompileFault) → Answers told root (found.Text file) →
+    IfErr r (FileCauses root file refused) → IfErr r (λ f. IfSome told (λ files. Causes files root refused f))
+faults told root file refused (Ok x) answers cause = tt
+faults told root file refused (Err f) answers cause = told_causes told root refused file f answers cause

@@ -8,7 +8,7 @@ use Rattle.lw_grammar.specs.declared.rule.Rule.{Rule}
 use Rattle.lw_grammar.specs.declared.rule.Element.{Element}
 use Rattle.lw_grammar.specs.declared.terminal.Terminal.{Terminal}
 use Rattle.lw_grammar.specs.Kinds.{first_uses}
-use Rattle.lw_lang.specs.declared.flat.TerminalSource.{TerminalSource}
+use Rattle.lw_terminals.specs.declared.source.TerminalSource.{TerminalSource}
 use Rattle.lw_lang.specs.declared.flat.Flat.{Flat}
 use Rattle.lw_lang.specs.Shape.{HasShape, parts_of}
 use Rattle.lw_lang.specs.Rows.{IsOnlyRow}

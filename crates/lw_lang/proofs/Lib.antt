@@ -20,3 +20,4 @@ pub mod SmallOnly
 pub mod SmallShape
 pub mod SmallSteps
 pub mod CompileLemmas
+pub mod PlainParts
