@@ -1,5 +1,5 @@
 -- What keeps a grammar of this shape from being built.
-use Rattle.std.specs.Prelude.{ℕ, ◌≡◌, ◌≢◌, ◌⊎◌, ◌<◌, List, [], ◌∷◌, ◌++◌, Some, true, false, map, length, slice_get, Contains, encode_utf8}
+use Rattle.std.specs.Prelude.{ℕ, ◌≡◌, ◌⊎◌, ◌<◌, List, [], ◌++◌, Some, true, map, length, slice_get, Contains, encode_utf8}
 use Rattle.std.specs.Char.{IsScalar, is_whitespace}
 use Rattle.lw_base.specs.declared.token.Span.{Span}
 use Rattle.lw_grammar.specs.declared.grammar.Grammar.{Grammar}
