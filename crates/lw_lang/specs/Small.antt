@@ -3,7 +3,7 @@
 --     Part:     String | Feature '=' Word
 --     Terminal: 'hidden'? 'terminal' Word ':' Regex ';'
 -- A Word is a word that is not reserved, a Feature any word.
-use Rattle.std.specs.Prelude.{ℕ, ◌≡◌, List, [], ◌∷◌, ◌++◌, Bool, true, false, codes}
+use Rattle.std.specs.Prelude.{ℕ, ◌≡◌, List, [], ◌∷◌, ◌++◌, None, Bool, true, false, codes}
 use Rattle.lw_base.specs.declared.token.Span.{Span}
 use Rattle.lw_grammar.specs.declared.grammar.Grammar.{Grammar}
 use Rattle.lw_grammar.specs.declared.rule.Rule.{Rule}
