@@ -1,6 +1,6 @@
 -- The kinds of a grammar whose one rule is a row: the texts of its keywords, each at its first use, and the terminals that are
 -- hidden or called. There are no others.
-use Rattle.std.proofs.Common.{◌≡◌, ◌≢◌, ℕ, zero, suc, ◌+◌, ◌<◌, List, [], ◌∷◌, ◌++◌, Bool, true, false, ◌||◌, cond, Some, length, get_or, slice_get, map, filter, option_map, All, AllPairs, Contains, ◌⊎◌, inl, inr, refl, sym, ap, ◌∙◌, subst, arith, true≢false, add-zero, zero-add}
+use Rattle.std.proofs.Common.{◌≡◌, ◌≢◌, ℕ, zero, suc, ◌+◌, ◌<◌, List, [], ◌∷◌, ◌++◌, Bool, true, false, ◌||◌, cond, Some, slice_get, map, filter, option_map, All, AllPairs, refl, sym, ap, ◌∙◌, subst, arith, true≢false, add-zero, zero-add}
 use Rattle.std.specs.List.{flat_map}
 use Rattle.std.specs.Cmp.Lexicographic.{nat_list_eq_equiv}
 use Rattle.std.proofs.lemmas.List.{append-nil}
@@ -10,7 +10,7 @@ use Rattle.std.proofs.lemmas.Option.{slice_get-map, slice_get_within, get_or_fro
 use Rattle.lw_grammar.specs.declared.grammar.Grammar.{Grammar}
 use Rattle.lw_grammar.specs.declared.rule.Rule.{Rule}
 use Rattle.lw_grammar.specs.declared.terminal.Terminal.{Terminal}
-use Rattle.lw_grammar.specs.Named.{IsFirst, IsEntry, IsTerminal}
+use Rattle.lw_grammar.specs.Named.{IsEntry, IsTerminal}
 use Rattle.lw_grammar.specs.Leaves.{keywords_in}
 use Rattle.lw_grammar.specs.Reached.{IsReached, RuleCalls}
 use Rattle.lw_grammar.specs.Reached as reached
@@ -22,7 +22,7 @@ use Rattle.lw_lang.specs.Shape.{HasShape, IsPlainPart, IsPlainTerminal, parts_of
 use Rattle.lw_lang.specs.Obstacles.{names}
 use Rattle.lw_lang.specs.FlatParts.{keywords_of, calls_of, is_kind}
 use Rattle.lw_lang.proofs.Lists.{at_place}
-use Rattle.lw_lang.proofs.FirstUses.{stands_in, same_text, stands_first, Contains-first_uses, Contains-from_first_uses}
+use Rattle.lw_lang.proofs.FirstUses.{stands_in, same_text, Contains-first_uses, Contains-from_first_uses}
 use Rattle.lw_lang.proofs.FlatLeaves.{called_name, name_called, keywords_in_parts}
 
 module _ {X : Type 0} (passes : ℕ → Type 0) where

@@ -1,6 +1,6 @@
 -- The leaves of a row: one for each part, a keyword or an assignment of a call.
-use Rattle.std.proofs.Common.{◌≡◌, ℕ, List, [], ◌∷◌, ◌++◌, Option, Some, None, map, All, Contains, refl, sym, ap, ◌∙◌, subst}
-use Rattle.std.specs.List.{flat_map, filter_map, cons_option}
+use Rattle.std.proofs.Common.{◌≡◌, ℕ, List, [], ◌∷◌, ◌++◌, Some, None, map, All, Contains, refl, sym, ap, ◌∙◌, subst}
+use Rattle.std.specs.List.{flat_map, cons_option}
 use Rattle.std.proofs.lemmas.List.{append-nil}
 use Rattle.std.proofs.lemmas.List.Concat.{flat_map-append}
 use Rattle.std.proofs.lemmas.List.Elements.{All-contains, All-head, All-tail}
@@ -17,12 +17,12 @@ use Rattle.lw_grammar.specs.declared.rule.Value0.{Value0, out-Value0, fold_out-V
 use Rattle.lw_grammar.specs.declared.rule.Value0.TheFolds.{map-Value0}
 use Rattle.lw_grammar.specs.declared.rule.Value0.TheOpen as value
 use Rattle.lw_grammar.specs.declared.rule.Value0.TheOpen.{Value0-F}
-use Rattle.lw_grammar.specs.Leaves.{Leaf, Keyword, Call, Assign, Act, leaves, layer_leaves, ValueLeaf, Calls, Cross, value_leaves, layer_values, keywords_of, keywords_in, literals_of}
+use Rattle.lw_grammar.specs.Leaves.{Leaf, Keyword, Call, Assign, leaves, layer_leaves, ValueLeaf, Calls, Cross, value_leaves, layer_values, keywords_of, keywords_in, literals_of}
 use Rattle.lw_grammar.specs.Reached.{ValueCalls, RuleCalls}
 use Rattle.lw_grammar.specs.Reached as reached
 use Rattle.lw_lang.specs.Shape.{IsPlainPart, parts_of, layer_parts, keyword, assignment}
 use Rattle.lw_lang.specs.FlatParts.{keyword_of, layer_keyword, call_of, layer_call, value_call, keywords_of as texts_of, calls_of}
-use Rattle.lw_lang.proofs.Lists.{in_one, here, in_nothing, in_flat_map, flat_map_has, in_filter_map, filter_map_has}
+use Rattle.lw_lang.proofs.Lists.{in_one, here, in_flat_map, flat_map_has, in_filter_map, filter_map_has}
 
 leaves_layer : (e : Element) (f : Element-F Element) → out-Element e ≡ f → leaves e ≡ layer_leaves (map-Element Element (List Leaf) leaves f)
 leaves_layer e f is = fold_out-Element (List Leaf) layer_leaves e ∙ ap (λ f. layer_leaves (map-Element Element (List Leaf) leaves f)) is

@@ -6,7 +6,6 @@ use Rattle.lw_base.specs.declared.numbers.KindId.{KindId}
 use Rattle.lw_grammar.specs.declared.grammar.Grammar.{Grammar}
 use Rattle.lw_grammar.specs.declared.rule.Rule.{Rule}
 use Rattle.lw_grammar.specs.declared.rule.Element.{Element}
-use Rattle.lw_grammar.specs.declared.terminal.Terminal.{Terminal}
 use Rattle.lw_grammar.specs.Kinds.{first_uses}
 use Rattle.lw_terminals.specs.declared.source.TerminalSource.{TerminalSource}
 use Rattle.lw_lang.specs.declared.flat.Flat.{Flat}

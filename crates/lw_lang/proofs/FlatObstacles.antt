@@ -1,5 +1,5 @@
 -- What keeps a grammar of the shape that is built from being built: each refusal has its cause, and where nothing is refused there is none.
-use Rattle.std.proofs.Common.{◌≡◌, ◌≢◌, ℕ, ◌+◌, ◌<◌, ◌≤◌, List, [], ◌∷◌, Bool, true, false, not, ◌&&◌, ◌||◌, Option, Some, None, is_some, length, map, position, option_map, count_by, bytes_eq, All, AllPairs, Any, Contains, refl, sym, ap, ◌∙◌, subst, arith, true≢false}
+use Rattle.std.proofs.Common.{◌≡◌, ◌≢◌, ℕ, ◌+◌, ◌≤◌, List, [], ◌∷◌, Bool, true, false, not, ◌&&◌, ◌||◌, Option, Some, None, is_some, length, option_map, bytes_eq, All, AllPairs, Any, Contains, refl, sym, ap, ◌∙◌, subst, arith, true≢false}
 use Rattle.std.specs.List.{AllZip}
 use Rattle.std.specs.Cmp.Lexicographic.{nat_list_eq_equiv}
 use Rattle.std.proofs.lemmas.List.Elements.{All-contains}
@@ -15,8 +15,7 @@ use Rattle.lw_grammar.specs.declared.terminal.Terminal.{Terminal}
 use Rattle.lw_grammar.specs.declared.terminal.TermElement.{TermElement, out-TermElement}
 use Rattle.lw_grammar.specs.declared.terminal.TermElement.TheOpen.{TermElement-F, Pattern}
 use Rattle.lw_grammar.specs.Leaves.{Assign, leaves, keywords_in}
-use Rattle.lw_grammar.specs.Reached.{RuleCalls}
-use Rattle.lw_grammar.specs.Kinds.{Kinds, AreKinds, kind_count}
+use Rattle.lw_grammar.specs.Kinds.{Kinds, AreKinds}
 use Rattle.lw_tokens.specs.Patterns.{TerminalPattern, unescaped, as_pattern, as_choice}
 use Rattle.lw_tokens.specs.Patterns as pattern
 use Rattle.lw_terminals.specs.declared.source.TerminalSource.{TerminalSource}

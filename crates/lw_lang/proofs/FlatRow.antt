@@ -16,19 +16,18 @@ use Rattle.lw_grammar.specs.declared.rule.Element.TheOpen.{Element-F}
 use Rattle.lw_grammar.specs.declared.rule.Value0.{Value0, out-Value0}
 use Rattle.lw_grammar.specs.declared.rule.Value0.TheOpen as value
 use Rattle.lw_grammar.specs.declared.terminal.Terminal.{Terminal}
-use Rattle.lw_grammar.specs.Named.{IsFirst, IsRule, IsEntry}
 use Rattle.lw_grammar.specs.Nodes.{MakesNodes, assigns}
 use Rattle.lw_grammar.specs.Kinds.{Kinds, IsKeywordKind, IsTerminalKind}
 use Rattle.lw_sentences.specs.Marks.{Mark, kinds_of}
 use Rattle.lw_sentences.specs.Marks as mark
 use Rattle.lw_sentences.specs.Yields.{Yields, Gives, YieldsAll, Calls, RuleGives, Reads, ReadsLayer}
 use Rattle.lw_sentences.specs.Yields as y
-use Rattle.lw_sentences.specs.Sentences.{IsSentence, IsWhole}
+use Rattle.lw_sentences.specs.Sentences.{IsWhole}
 use Rattle.lw_terminals.specs.declared.source.TerminalSource.{TerminalSource}
 use Rattle.lw_lang.specs.Shape.{HasShape, IsPlainPart, parts_of, layer_parts, keyword, assignment}
 use Rattle.lw_lang.specs.Obstacles.{names}
 use Rattle.lw_lang.specs.Rows.{IsOnlyRow}
-use Rattle.lw_lang.specs.FlatParts.{keyword_of, layer_keyword, call_of, layer_call, value_call, IsPlainSource, is_kind, terminal_place, layer_kind, kind_of}
+use Rattle.lw_lang.specs.FlatParts.{layer_keyword, call_of, layer_call, value_call, IsPlainSource, is_kind, terminal_place, layer_kind, kind_of}
 use Rattle.lw_lang.proofs.Lists.{in_filter, place_of, at_place, zip_at, from_count}
 use Rattle.lw_lang.proofs.FirstUses.{same_text}
 use Rattle.lw_lang.proofs.FlatLeaves.{OneLeaf, one_leaf, leaf_of}

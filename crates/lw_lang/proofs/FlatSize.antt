@@ -1,8 +1,7 @@
 -- The size of a grammar whose one rule is a row.
-use Rattle.std.proofs.Common.{◌≡◌, ℕ, suc, ◌+◌, ◌*◌, List, [], ◌∷◌, Bool, true, false, cond, Option, Some, None, is_some, length, map, sum, sum_by, count_by, All, refl, sym, ap, ◌∙◌, subst, arith, add_assoc}
+use Rattle.std.proofs.Common.{◌≡◌, ℕ, suc, ◌+◌, ◌*◌, List, [], ◌∷◌, Bool, cond, is_some, length, map, sum, sum_by, count_by, All, refl, sym, ap, ◌∙◌, subst, arith, add_assoc}
 use Rattle.std.proofs.lemmas.List.Elements.{All-head, All-tail}
 use Rattle.std.proofs.lemmas.List.Sums.{sum_by-cons}
-use Rattle.lw_base.specs.declared.token.Span.{Span}
 use Rattle.lw_grammar.specs.declared.grammar.Grammar.{Grammar}
 use Rattle.lw_grammar.specs.declared.rule.Rule.{Rule}
 use Rattle.lw_grammar.specs.declared.rule.Element.{Element, out-Element, fold_out-Element}
@@ -14,7 +13,7 @@ use Rattle.lw_grammar.specs.declared.rule.Value0.TheFolds.{map-Value0}
 use Rattle.lw_grammar.specs.declared.rule.Value0.TheOpen as value
 use Rattle.lw_grammar.specs.declared.rule.Value0.TheOpen.{Value0-F}
 use Rattle.lw_grammar.specs.declared.terminal.Terminal.{Terminal}
-use Rattle.lw_grammar.specs.declared.terminal.TermElement.{TermElement, out-TermElement, fold_out-TermElement}
+use Rattle.lw_grammar.specs.declared.terminal.TermElement.{TermElement, fold_out-TermElement}
 use Rattle.lw_grammar.specs.declared.terminal.TermElement.TheFolds.{map-TermElement}
 use Rattle.lw_grammar.specs.Size.{size, element_size, layer_size, value_size, value_layer_size, term_size, term_layer_size}
 use Rattle.lw_lang.specs.Shape.{HasShape, IsPlainPart, IsPlainTerminal, parts_of, layer_parts, keyword, assignment}

@@ -1,5 +1,5 @@
 -- Parts, terminals and grammars of the shape that is built, written out.
-use Rattle.std.proofs.Common.{◌≡◌, ◌≢◌, ℕ, ◌<◌, List, [], ◌∷◌, length, All, false, true, refl, sym, ap, ◌∙◌, subst, arith}
+use Rattle.std.proofs.Common.{◌≡◌, ℕ, ◌<◌, List, [], ◌∷◌, length, All, false, true, sym, ap, ◌∙◌, subst, arith}
 use Rattle.lw_base.specs.declared.token.Span.{Span}
 use Rattle.lw_grammar.specs.declared.grammar.Grammar.{Grammar}
 use Rattle.lw_grammar.specs.declared.rule.Rule.{Rule}
@@ -8,9 +8,6 @@ use Rattle.lw_grammar.specs.declared.rule.Op.TheVariants.{One}
 use Rattle.lw_grammar.specs.declared.rule.Element.{Element}
 use Rattle.lw_grammar.specs.declared.rule.Element.TheVariants.{Keyword, Assign, Group, outs-Keyword, outs-Assign, outs-Group}
 use Rattle.lw_grammar.specs.declared.rule.Value0.TheVariants as value
-use Rattle.lw_grammar.specs.declared.terminal.Terminal.{Terminal}
-use Rattle.lw_grammar.specs.declared.terminal.TermElement.{TermElement}
-use Rattle.lw_grammar.specs.declared.terminal.TermElement.TheVariants.{Pattern, outs-Pattern}
 use Rattle.lw_lang.specs.Shape.{HasShape, IsPlainPart, IsPlainTerminal, keyword, assignment, parts_of, layer_parts}
 
 pub plain_keyword : (text : List ℕ) (s : Span) → IsPlainPart (Keyword text s)
@@ -18,7 +15,6 @@ plain_keyword text s = keyword text s (outs-Keyword text s)
 
 pub plain_call : (p name : List ℕ) (s t : Span) → IsPlainPart (Assign p One (value.Call name t) s)
 plain_call p name s t = assignment p (value.Call name t) name s t (outs-Assign p One (value.Call name t) s) (value.outs-Call name t)
-
 
 pub parts_of_group : (parts : List Element) (s : Span) → parts_of (Group parts s) ≡ parts
 parts_of_group parts s = ap (λ f. layer_parts f (Group parts s)) (outs-Group parts s)

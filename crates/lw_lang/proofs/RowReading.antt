@@ -1,9 +1,9 @@
 -- Reading against the one row of a grammar is reading by the grammar.
-use Rattle.std.proofs.Common.{◌≡◌, ℕ, List, [], ◌∷◌, ◌++◌, length, ◌⊎◌, inr, refl, sym, ap, ◌∙◌}
+use Rattle.std.proofs.Common.{ℕ, List, [], ◌∷◌, ◌++◌, length, inr, sym}
 use Rattle.lw_base.specs.declared.token.Token.{Token}
 use Rattle.lw_grammar.specs.declared.grammar.Grammar.{Grammar}
 use Rattle.lw_grammar.specs.Kinds.{Kinds}
-use Rattle.lw_sentences.specs.Sentences.{IsWhole, Starts}
+use Rattle.lw_sentences.specs.Sentences.{Starts}
 use Rattle.lw_tokens.specs.Lexicon.{Lexicon}
 use Rattle.lw_tokens.specs.Cut.{IsCut, visible, kinds}
 use Rattle.lw_reading.specs.declared.issue.Parsed.{Parsed}

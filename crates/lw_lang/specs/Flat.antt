@@ -1,5 +1,5 @@
 -- A grammar of the shape that is built, made ready: its kinds, its patterns and its one row.
-use Rattle.std.specs.Prelude.{ℕ, ◌≡◌, ◌≢◌, ◌<◌, List, map, length, All, AllPairs}
+use Rattle.std.specs.Prelude.{◌≡◌, ◌≢◌, ◌<◌, map, length, All, AllPairs}
 use Rattle.std.specs.List.{AllZip}
 use Rattle.lw_grammar.specs.declared.grammar.Grammar.{Grammar}
 use Rattle.lw_grammar.specs.declared.terminal.Terminal.{Terminal}

@@ -1,5 +1,4 @@
-use Rattle.std.proofs.Common.{◌≡◌, ◌++◌, sym, ap, ◌∙◌, subst}
-use Rattle.std.specs.Str.{IsUtf8}
+use Rattle.std.proofs.Common.{◌≡◌, ◌++◌, sym, ◌∙◌}
 use Rattle.std.specs.Char.{encode_utf8}
 use Rattle.lw_lang.proofs.FlatTexts.{IsBlank-first, scalar_first}
 use Rattle.lw_lang.proofs.flat.is_blank.Goals as goal

@@ -1,7 +1,6 @@
 use Rattle.std.proofs.Common.{◌≡◌, ℕ, ◌+◌, ◌*◌, ◌<◌, Bool, true, false, cond, is_some, length, count_by, refl, sym, ap, ◌∙◌, subst, arith}
 use Rattle.std.specs.Int.{from_bool}
 use Rattle.std.proofs.lemmas.Bool.Decides.{Decides-ltb}
-use Rattle.lw_grammar.specs.Size.{size}
 use Rattle.lw_lang.specs.Shape.{parts_of}
 use Rattle.lw_lang.specs.FlatParts.{is_group, call_of}
 use Rattle.lw_lang.proofs.FlatSize.{size_flat}

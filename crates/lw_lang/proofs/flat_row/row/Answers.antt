@@ -1,6 +1,4 @@
-use Rattle.std.proofs.Common.{◌≡◌, ◌∷◌, ◌++◌, [], Some, take, sym, ap, ◌∙◌, subst}
-use Rattle.std.specs.List.{AllZip}
-use Rattle.std.proofs.lemmas.List.{take_more}
+use Rattle.std.proofs.Common.{◌≡◌, Some, sym}
 use Rattle.lw_base.specs.declared.numbers.KindId.{KindId}
 use Rattle.lw_grammar.specs.declared.rule.Element.{Element}
 use Rattle.lw_lang.specs.FlatParts.{kind_of}

@@ -1,5 +1,4 @@
-use Rattle.std.proofs.Common.{sym, ap, ◌∙◌, subst, take, filter}
-use Rattle.std.specs.List.{AllZip}
+use Rattle.std.proofs.Common.{sym, ap, ◌∙◌, subst}
 use Rattle.std.proofs.lemmas.List.Elements.{All-get_or}
 use Rattle.lw_lang.specs.Shape.{IsPlainTerminal}
 use Rattle.lw_lang.specs.FlatParts.{is_kind, IsPlainSource}
