@@ -77,3 +77,6 @@ fn start(rt: &HostRuntime) -> u8 {
 fn main(rt: HostRuntime) -> ExitCode {
     ExitCode::from(start(&rt))
 }
+
+#[cfg(test)]
+mod tests;

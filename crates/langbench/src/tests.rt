@@ -1,0 +1,232 @@
+// The top call over memory: the lines of documents, and how runs end in which something fails.
+use crate::top::run;
+use lw_base::{Name, NoMemory};
+use lw_io::{MemPatterns, MemSink, MemSource, MemStore};
+use std::alloc::Global;
+use std::test::Fail;
+
+const PATH: &str = "f.langium";
+
+const FLAT: &str =
+    "grammar F entry Model: 'model' name=ID; hidden terminal WS: /\\s+/; terminal ID: /[_a-zA-Z][\\w_]*/;";
+
+const FACES: &str = "grammar G entry A: 'x' v=E; hidden terminal WS: /\\s+/; terminal E: /😀+/;";
+
+const CHOICE: &str = "grammar F entry A: 'a' | 'b';";
+
+// What a run had, beside the grammar at its path and the document.
+#[derive(Drop)]
+struct Setting {
+    words: Vec<Name>,
+    pieces: Vec<u32>,
+    failing_reads: Vec<u64>,
+    failing_writes: Vec<u64>,
+    refused: Vec<Name>,
+}
+
+#[derive(Drop)]
+struct Ran {
+    code: u8,
+    out: Vec<u8>,
+    notes: Vec<u8>,
+}
+
+fn plain_setting(alloc: Global) -> Result<Setting, NoMemory> {
+    let mut words = Vec::new(alloc);
+    words.push(Name::from_text(alloc, "check")?)?;
+    words.push(Name::from_text(alloc, PATH)?)?;
+    Ok(Setting {
+        words,
+        pieces: Vec::new(alloc),
+        failing_reads: Vec::new(alloc),
+        failing_writes: Vec::new(alloc),
+        refused: Vec::new(alloc),
+    })
+}
+
+fn run_over(
+    alloc: Global,
+    setting: Setting,
+    grammar: Option<&str>,
+    text: Vec<u8>,
+) -> Result<Ran, NoMemory> {
+    let mut files = Vec::new(alloc);
+    if let Some(grammar) = grammar {
+        files.push((
+            Name::from_text(alloc, PATH)?,
+            grammar.as_bytes().to_vec(alloc)?,
+        ))?;
+    }
+    let Setting {
+        words,
+        pieces,
+        failing_reads,
+        failing_writes,
+        refused,
+    } = setting;
+    let mut source = MemSource::new(text, pieces, failing_reads);
+    let mut out = MemSink::new(alloc, failing_writes);
+    let mut notes = MemSink::new(alloc, Vec::new(alloc));
+    let mut store = MemStore::new(files, Vec::new(alloc));
+    let mut patterns = MemPatterns::new(refused);
+    let status = run(
+        alloc,
+        &words,
+        &mut source,
+        &mut out,
+        &mut notes,
+        &mut store,
+        &mut patterns,
+    );
+    Ok(Ran {
+        code: status.code,
+        out: out.taken().to_vec(alloc)?,
+        notes: notes.taken().to_vec(alloc)?,
+    })
+}
+
+fn checked(alloc: Global, grammar: &str, text: &[u8]) -> Result<Ran, NoMemory> {
+    run_over(
+        alloc,
+        plain_setting(alloc)?,
+        Some(grammar),
+        text.to_vec(alloc)?,
+    )
+}
+
+#[test]
+fn documents_have_their_lines(rt: HostRuntime) -> Result<(), Fail> {
+    let table = [
+        (FLAT, b"model m".as_slice(), 0, "ok\n"),
+        (FLAT, b"model model1".as_slice(), 0, "ok\n"),
+        (
+            FLAT,
+            b"model".as_slice(),
+            1,
+            "1:6: error 2: Unexpected end of text.\n",
+        ),
+        (
+            FLAT,
+            b"model model".as_slice(),
+            1,
+            "1:7: error 2: Unexpected 'model'.\n",
+        ),
+        (
+            FLAT,
+            b"model m x".as_slice(),
+            1,
+            "1:9: error 2: Unexpected ID.\n",
+        ),
+        (
+            FLAT,
+            "model €".as_bytes(),
+            1,
+            "1:7: error 1: Unexpected character.\n",
+        ),
+        (FLAT, b"\xFF".as_slice(), 1, "text is not UTF-8\n"),
+        (
+            FLAT,
+            b"".as_slice(),
+            1,
+            "1:1: error 2: Unexpected end of text.\n",
+        ),
+        (
+            FLAT,
+            b"model\r".as_slice(),
+            1,
+            "2:1: error 2: Unexpected end of text.\n",
+        ),
+        (
+            FLAT,
+            b"\r\n\n model m m".as_slice(),
+            1,
+            "3:10: error 2: Unexpected ID.\n",
+        ),
+        (
+            FLAT,
+            b"\0\0".as_slice(),
+            1,
+            "1:1: error 1: Unexpected character.\n",
+        ),
+        (FACES, "x 😀😀".as_bytes(), 0, "ok\n"),
+        (
+            FACES,
+            "x 😀 x".as_bytes(),
+            1,
+            "1:6: error 2: Unexpected 'x'.\n",
+        ),
+    ];
+    for (grammar, text, code, line) in table {
+        let ran = checked(rt.alloc(), grammar, text)?;
+        assert_eq!(rt; ran.code, code, "{line}");
+        assert_eq!(rt; ran.out.as_slice(), line.as_bytes());
+        assert!(rt; ran.notes.is_empty());
+    }
+    Ok(())
+}
+
+#[test]
+fn the_longest_document_is_read(rt: HostRuntime) -> Result<(), Fail> {
+    let alloc = rt.alloc();
+    for (length, code, line) in [
+        (2_097_152usize, 0, "ok\n"),
+        (
+            2_097_153,
+            1,
+            "1:1: error 7: Document is longer than 2097152 bytes.\n",
+        ),
+    ] {
+        let mut text = b"model m".to_vec(alloc)?;
+        text.resize(length, b' ')?;
+        let ran = run_over(alloc, plain_setting(alloc)?, Some(FLAT), text)?;
+        assert_eq!(rt; ran.code, code);
+        assert_eq!(rt; ran.out.as_slice(), line.as_bytes());
+    }
+    Ok(())
+}
+
+#[test]
+fn runs_stop_with_a_note(rt: HostRuntime) -> Result<(), Fail> {
+    let alloc = rt.alloc();
+    let text = b"model m".as_slice();
+    let unbuilt = checked(alloc, CHOICE, text)?;
+    let absent = run_over(alloc, plain_setting(alloc)?, None, text.to_vec(alloc)?)?;
+
+    let mut unread = plain_setting(alloc)?;
+    unread.pieces = vec![in alloc; 3, 3]?;
+    unread.failing_reads = vec![in alloc; 3]?;
+    let unread = run_over(alloc, unread, Some(FLAT), text.to_vec(alloc)?)?;
+
+    let mut unwritten = plain_setting(alloc)?;
+    unwritten.failing_writes = vec![in alloc; 1]?;
+    let unwritten = run_over(alloc, unwritten, Some(FLAT), text.to_vec(alloc)?)?;
+
+    let mut wordless = plain_setting(alloc)?;
+    wordless.words = Vec::new(alloc);
+    let wordless = run_over(alloc, wordless, Some(FLAT), text.to_vec(alloc)?)?;
+
+    let mut refusing = plain_setting(alloc)?;
+    refusing
+        .refused
+        .push(Name::from_text(alloc, "[_a-zA-Z][\\w_]*")?)?;
+    let refusing = run_over(alloc, refusing, Some(FLAT), text.to_vec(alloc)?)?;
+
+    let usage = "usage: langbench check|serve|replay|make GRAMMAR [--lookahead K] [FILE or N]\n";
+    for (ran, code, note) in [
+        (unbuilt, 3, "f.langium:1:24: not built\n"),
+        (absent, 6, "f.langium: absent\n"),
+        (unread, 4, "read failed\n"),
+        (unwritten, 5, "write failed\n"),
+        (wordless, 2, usage),
+        (
+            refusing,
+            3,
+            "f.langium:1:77: terminal ID: pattern refused\n",
+        ),
+    ] {
+        assert_eq!(rt; ran.code, code, "{note}");
+        assert_eq!(rt; ran.notes.as_slice(), note.as_bytes());
+        assert!(rt; ran.out.is_empty());
+    }
+    Ok(())
+}
