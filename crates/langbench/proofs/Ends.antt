@@ -203,7 +203,7 @@ module _ (files : Files) (path held : List ℕ) (refused old new : Option (List 
     no_cause (fault.Unbuilt s at) cause failed other = unbuilt cause.2
       where
         unbuilt : compiled.IsNotBuilt path cause.0 s → ⊥
-        unbuilt (compiled.says_nothing nothing) = nothing g (subst (λ t. SaysSmall path t g) (sym (same_text files path g holds cause.0 cause.1)) holds.says.says)
+        unbuilt (compiled.says_nothing nothing tokens cut unexpected) = nothing g (subst (λ t. SaysSmall path t g) (sym (same_text files path g holds cause.0 cause.1)) holds.says.says)
         unbuilt (compiled.has_condition h says condition at_start) =
             let same : h ≡ g = says_same files path g holds cause.0 h cause.1 says.says in
             ⊎_elim (λ o. clear.0 (subst HasObstacle same o)) (λ m. clear.1 (subst MatchesEmpty same m)) condition
