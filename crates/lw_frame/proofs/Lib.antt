@@ -1,0 +1,13 @@
+pub mod Walks
+pub mod Places
+pub mod Fields
+pub mod Cuts
+pub mod Headers
+pub mod Stages
+pub mod Splits
+pub mod Messages
+pub mod Growth
+pub mod Readings
+pub mod Streams
+pub mod Written
+pub mod Handing

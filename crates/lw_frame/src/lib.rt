@@ -1,0 +1,36 @@
+//! Message bodies out of a stream of bytes, however the stream is cut into pieces, and messages as
+//! bytes, by the base protocol of the Language Server Protocol 3.17.
+//!
+//! Its model: a stream is its list of bytes. `specs/Frames.antt` says on the whole list which bodies it
+//! has and how it is faulty, in the base protocol's words: header part, lines, length, body; what a
+//! header part is stands in `specs/Lines.antt` and `specs/Header.antt`. A [`FrameReader`] is seen as the
+//! bytes that it was fed, whether the stream was closed, how many bodies it has handed out, and the bytes
+//! that it holds; a [`Body`] is seen as its list of bytes. What was fed and how many bodies were handed
+//! out exist only in proofs: the reader keeps neither.
+//!
+//! It promises that the bodies handed out and the fault are those of all pieces joined, that a fault is
+//! there for good, that want of memory leaves the reader as it was, that handing out takes no memory,
+//! and that the reader holds the bodies that were not handed out, the bytes of the message that is being
+//! read, and no more. Each byte of a body is copied once, and once more where its buffer grows; no piece
+//! makes it look at earlier bytes of a body again.
+#![tactic(auto)]
+
+mod body;
+mod fault;
+mod field;
+mod history;
+mod incoming;
+mod reader;
+mod reading;
+mod stage;
+mod whole;
+mod write;
+
+pub use body::Body;
+pub use fault::FrameFault;
+pub use reader::FrameReader;
+pub use whole::{Frames, read_pieces};
+pub use write::frame;
+
+#[cfg(test)]
+mod tests;
