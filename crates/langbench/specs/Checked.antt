@@ -11,7 +11,7 @@ use Rattle.lw_reading.specs.Reading.{Reads, longest_document}
 use Rattle.lw_reading.specs.declared.issue.Issue.{Issue}
 use Rattle.lw_reading.specs.declared.issue.Issue.TheVariants.{Lexical, Syntax, End, TooLarge}
 use Rattle.lw_reading.specs.declared.issue.Parsed.TheVariants.{Whole, Broken}
-use Rattle.lw_lang.specs.KindTexts.{IsKindText}
+use Rattle.lw_reading.specs.KindTexts.{IsKindText}
 
 -- a line and its end
 abbrev pub line : List ℕ → List ℕ

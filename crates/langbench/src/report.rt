@@ -2,7 +2,7 @@
 ghost use Rattle.std.specs.Prelude.{◌≡◌, ◌≤◌, ◌+◌, ◌<◌, length, codes, IfOk, string_bytes};
 ghost use Rattle.std.specs.Fmt.{decimal};
 ghost use Rattle.lw_lang.specs.Language.{IsNamed, IsWithin};
-ghost use Rattle.lw_lang.specs.KindTexts.{AreKindTexts};
+ghost use Rattle.lw_reading.specs.KindTexts.{AreKindTexts};
 ghost use Rattle.lw_reading.specs.Reading.{longest_document};
 ghost use Rattle.langbench.specs.Checked.{IsErrorLine, IsIssueLine, unexpected};
 ghost use Rattle.langbench.specs.Reports.{IsReport};

@@ -17,7 +17,7 @@ use Rattle.lw_terminals.specs.TokenKinds.{TokenKinds}
 use Rattle.lw_terminals.specs.Made.{kinds_of, form_of, IsUsable, MatchesEmptyAt}
 use Rattle.lw_lang.specs.Shape.{HasShape, IsPlainTerminal}
 use Rattle.lw_lang.specs.Obstacles.{HasKindPattern, MatchesEmpty}
-use Rattle.lw_lang.specs.KindTexts.{texts_of, quoted}
+use Rattle.lw_reading.specs.KindTexts.{texts_of, quoted}
 use Rattle.lw_lang.specs.Flat.{IsSource, IsFlat}
 use Rattle.lw_lang.specs.Prepared.{IsPrepared}
 use Rattle.lw_lang.specs.declared.flat.Flat.{Flat}

@@ -14,7 +14,7 @@ use Rattle.lw_reading.specs.declared.issue.Parsed.TheVariants.{Broken}
 use Rattle.lw_reading.specs.Reading.{Reads, longest_document}
 use Rattle.lw_reading.specs.Reading as reading
 use Rattle.lw_lang.specs.Rows.{ReadsRow}
-use Rattle.lw_lang.specs.KindTexts.{texts_of, quoted}
+use Rattle.lw_reading.specs.KindTexts.{texts_of, quoted}
 use Rattle.lw_lang.specs.Language.{LanguageView, IfBroken, IsNamed, IsWithin}
 use Rattle.lw_lang.specs.Ready.{seen_as, IsReady}
 use Rattle.lw_lang.specs.declared.language.Language.TheInside.{Inside}

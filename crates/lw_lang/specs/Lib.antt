@@ -5,7 +5,6 @@ pub mod Rows
 pub mod Flat
 pub mod FlatParts
 pub mod Language
-pub mod KindTexts
 pub mod Prepared
 pub mod Ready
 pub mod Compiled

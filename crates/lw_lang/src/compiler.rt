@@ -3,7 +3,7 @@ ghost use Rattle.std.specs.Prelude.{◌≡◌, ◌≤◌, ◌<◌, length, IfOk,
 ghost use Rattle.lw_lang.specs.Compiled.{Says, HoldsGrammar, IsClear, Causes, FileCauses, GrammarCauses, NothingSaid, IsUnbuiltAt, IsPatternFault, StoreCounts, PatternCounts, longest_file};
 ghost use Rattle.lw_lang.specs.Obstacles.{HasObstacle};
 ghost use Rattle.lw_lang.specs.Flat.{IsFlat, IsReady};
-ghost use Rattle.lw_lang.specs.KindTexts.{AreKindTexts};
+ghost use Rattle.lw_reading.specs.KindTexts.{AreKindTexts};
 ghost use Rattle.lw_lang.specs.Shape.{HasShape};
 
 use crate::fault::CompileFault;

@@ -1,7 +1,7 @@
 // A language: what a grammar was made into, and reading by it.
 ghost use Rattle.std.specs.Prelude.{◌≡◌, ◌≤◌, ◌<◌, IfOk, Some, length, slice_get};
 ghost use Rattle.lw_reading.specs.Reading.{Reads};
-ghost use Rattle.lw_lang.specs.KindTexts.{AreKindTexts};
+ghost use Rattle.lw_reading.specs.KindTexts.{AreKindTexts};
 ghost use Rattle.lw_lang.specs.Language.{IfBroken, IsNamed, IsWithin};
 ghost use Rattle.lw_lang.specs.Prepared.{IsPrepared};
 

@@ -10,8 +10,10 @@
 
 mod line;
 mod place;
+mod shown;
 
 pub use place::{Pos, position};
+pub use shown::Shown;
 
 #[cfg(test)]
 mod tests;

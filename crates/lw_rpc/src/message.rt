@@ -1,0 +1,35 @@
+// What a body says.
+use lw_base::Name;
+
+/// The id of a request (JSON-RPC 2.0, "Request object").
+#[derive(Debug, PartialEq, Eq, Drop)]
+pub enum Id {
+    /// A whole number from -2^63 to 2^63-1.
+    Whole(i64),
+    /// A text.
+    Words(Name),
+}
+
+/// What a message body says.
+#[derive(Debug, PartialEq, Eq, Drop)]
+pub enum Message {
+    /// It has no JSON reading.
+    BadJson,
+    /// It is no request, notification or response of JSON-RPC 2.0.
+    BadRequest,
+    /// A response. Nothing is asked of an editor, so there is nothing in it to look at.
+    Response,
+    /// A request (with an id) or a notification whose method is not known.
+    Unknown { id: Option<Id>, method: Name },
+    /// A request (with an id) or a notification whose method is known, and whose parameters are not of the
+    /// shape that the method asks for.
+    BadParams { id: Option<Id>, method: Name },
+    /// The request `initialize`.
+    Initialize { id: Id },
+    /// The request `shutdown`.
+    Shutdown { id: Id },
+    /// The notification `exit`.
+    Exit,
+    /// The notification `textDocument/didOpen`: the document's address, its version and its text.
+    DidOpen { uri: Name, version: i64, text: Name },
+}
