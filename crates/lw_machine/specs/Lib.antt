@@ -1,0 +1,5 @@
+pub mod Documents
+pub mod Settling
+pub mod Building
+pub mod Events
+pub mod Answers

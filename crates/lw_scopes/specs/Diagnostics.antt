@@ -1,0 +1,25 @@
+-- The diagnostics of a document, by the shown texts of all documents.
+-- Held against Langium's document lifecycle, "Validation", and the Language Server Protocol 3.17, "Diagnostic".
+use Rattle.std.specs.Prelude.{ℕ, ◌≡◌, List, [], ◌∷◌, Option, Some}
+use Rattle.lw_grammar.specs.declared.grammar.Grammar.{Grammar}
+use Rattle.lw_text.specs.declared.shown.Shown.{Shown}
+use Rattle.lw_reading.specs.Reading.{Reads}
+use Rattle.lw_reading.specs.declared.issue.Issue.{Issue}
+use Rattle.lw_reading.specs.declared.issue.Parsed.TheVariants.{Whole, Broken}
+use Rattle.lw_scopes.specs.Faults.{IsFaultShown}
+
+-- the shown text at each address, where there is one
+abbrev pub Texts : Type 0
+Texts = List ℕ → Option (List ℕ)
+
+module _ (g : Grammar) where
+  -- the list of one text: none where it is read whole, else its one fault
+  pub data IsList (text : List ℕ) : List Shown → Type 0 where
+    whole : Reads g text Whole → IsList text []
+    broken : {issue : Issue} {shown : Shown} → Reads g text (Broken issue) → IsFaultShown g text issue shown → IsList text (shown ∷ [])
+
+  -- the list of the document at an address
+  pub record AreDiagnostics (texts : Texts) (address : List ℕ) (list : List Shown) : Type 0 where
+    pub text : List ℕ
+    pub is_shown : texts address ≡ Some text
+    pub is_list : IsList text list

@@ -1,0 +1,8 @@
+//! What is told of the documents of a workspace, as relations on their shown texts: links and
+//! diagnostics.
+//!
+//! `specs/Faults.antt` says how the fault of a text is shown, `specs/Diagnostics.antt` which list of
+//! diagnostics a document has, and `specs/Links.antt` what its references lead to. They take whole texts
+//! and nothing that was computed before. There is no code here; what links and checks is held against these
+//! definitions.
+#![tactic(auto)]
