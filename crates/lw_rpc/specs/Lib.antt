@@ -1,0 +1,4 @@
+pub mod Calls
+pub mod Params
+pub mod Messages
+pub mod Replies
