@@ -1,8 +1,9 @@
 -- The bytes of a reply: the compact text of a JSON object. JSON-RPC 2.0, "Response object" and "Error object"; Language Server Protocol
 -- 3.17, "InitializeResult", "PublishDiagnosticsParams", "Diagnostic" and "LogMessageParams".
-use Rattle.std.specs.Prelude.{ℕ, ℤ, List, [], ◌∷◌, ◌==◌, true, codes, if◌then◌else◌, Option, Some, None}
-use Rattle.serde_json.specs.Data.{Data, null, boolean, number, string, array, object, unsigned, Items, no_items, item, Members, no_members, put}
+use Rattle.std.specs.Prelude.{ℕ, ℤ, List, [], ◌∷◌, ◌==◌, map, true, codes, if◌then◌else◌, Option, Some, None}
+use Rattle.serde_json.specs.Data.{Data, null, boolean, number, string, array, object, unsigned, Members, no_members, put}
 use Rattle.serde_json.specs.Find.{of_integer}
+use Rattle.serde_json.specs.View.{items_of}
 use Rattle.serde_json.specs.Written.{compact_text}
 use Rattle.lw_text.specs.declared.place.Pos.{Pos}
 use Rattle.lw_text.specs.declared.shown.Shown.{Shown}
@@ -86,10 +87,6 @@ diagnostic_value shown = object_of (
     ∷ (codes "severity", natural (severity shown.code))
     ∷ [])
 
-abbrev pub diagnostic_items : List Shown → Items
-diagnostic_items [] = no_items
-diagnostic_items (shown ∷ others) = item (diagnostic_value shown) (diagnostic_items others)
-
 -- there only where the document has a version
 abbrev pub version_member : Option ℤ → List (List ℕ × Data)
 version_member (Some z) = (codes "version", whole z) ∷ []
@@ -97,7 +94,7 @@ version_member None = []
 
 abbrev pub publish_params : List ℕ → Option ℤ → List Shown → Data
 publish_params uri at list = object_of (
-    (codes "diagnostics", array (diagnostic_items list))
+    (codes "diagnostics", array (items_of (map diagnostic_value list)))
     ∷ (codes "uri", string uri)
     ∷ version_member at)
 

@@ -1,7 +1,7 @@
 // Diagnostics as JSON.
-ghost use Rattle.std.specs.Prelude.{◌≡◌, IfOk};
+ghost use Rattle.std.specs.Prelude.{◌≡◌, map, IfOk};
 ghost use Rattle.serde_json.specs.Data.{array};
-ghost use Rattle.serde_json.specs.View.{view, items_view};
+ghost use Rattle.serde_json.specs.View.{view, items_of};
 ghost use Rattle.lw_rpc.specs.Replies as spec;
 
 use crate::values::{Object, text_value};
@@ -24,7 +24,7 @@ pub fn publish_params(alloc: Global, uri: &str, version: Option<i64>, list: &[Sh
 }
 
 fn diagnostics(alloc: Global, list: &[Shown]) -> Result<Value, NoMemory>
-    ensures { IfOk result (λ value. view value ≡ array (spec.diagnostic_items list.now)) }
+    ensures { IfOk result (λ value. view value ≡ array (items_of (map spec.diagnostic_value list.now))) }
 {
     let mut items = Vec::new(alloc);
     'shown: for shown in list {

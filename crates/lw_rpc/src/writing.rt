@@ -21,6 +21,7 @@ pub fn reply_text(alloc: Global, reply: &Reply) -> Result<Name, NoMemory>
     Name::from_text(alloc, text.as_str())
 }
 
+#[tactic(auto, unfolding(crate::specs::Replies::value_of))]
 /// The JSON value of a reply: one case for each of them.
 fn reply_value(alloc: Global, reply: &Reply) -> Result<Value, NoMemory>
     ensures { IfOk result (λ value. view value ≡ spec.value_of reply.now) }

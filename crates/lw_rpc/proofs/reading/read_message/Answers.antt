@@ -9,10 +9,10 @@ pub returns-in-Err : goal.returns-in-Err
 unfolding message_of
 returns-in-Err c =
     let no : is_utf8 c.args.body.now ≡ false = false_from_ne_true _ (λ t. c.in-Err.ensures.cases.0 (IsUtf8-from_is_utf8 _ t)) in
-    rw no refl
+    record { message = rw no refl }
 
 pub returns-in-Ok : goal.returns-in-Ok
 unfolding message_of
 returns-in-Ok c =
     let yes : is_utf8 c.args.body.now ≡ true = is_utf8-from_IsUtf8 _ c.in-Ok.ensures.cases.1 in
-    rw (yes, ← c.in-Ok.ensures.cases.0) c.text_message.ensures
+    record { message = rw (yes, ← c.in-Ok.ensures.cases.0) c.text_message.ensures }
