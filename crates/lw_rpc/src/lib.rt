@@ -15,3 +15,6 @@ pub use message::{Id, Message};
 pub use reading::read_message;
 pub use reply::{Outcome, Reply};
 pub use writing::reply_text;
+
+#[cfg(test)]
+mod tests;

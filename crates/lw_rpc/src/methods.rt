@@ -26,7 +26,11 @@ pub fn request(alloc: Global, id: Id, method: &str) -> Result<Message, NoMemory>
 }
 
 /// The message of a notification.
-pub fn notification(alloc: Global, method: &str, params: Option<&Value>) -> Result<Message, NoMemory>
+pub fn notification(
+    alloc: Global,
+    method: &str,
+    params: Option<&Value>,
+) -> Result<Message, NoMemory>
     ensures { IfOk result (λ message. message ≡ notification_message method.now (option_map (λ value. view value.now) params.entry)) }
 {
     if method == "exit" {

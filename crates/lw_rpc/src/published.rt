@@ -11,7 +11,12 @@ use serde_json::Value;
 use std::alloc::Global;
 
 /// The parameters of a publication (Language Server Protocol 3.17, "PublishDiagnosticsParams").
-pub fn publish_params(alloc: Global, uri: &str, version: Option<i64>, list: &[Shown]) -> Result<Value, NoMemory>
+pub fn publish_params(
+    alloc: Global,
+    uri: &str,
+    version: Option<i64>,
+    list: &[Shown],
+) -> Result<Value, NoMemory>
     ensures { IfOk result (λ value. view value ≡ spec.publish_params uri.now version list.now) }
 {
     let params = Object::new(alloc)
@@ -36,12 +41,14 @@ fn diagnostics(alloc: Global, list: &[Shown]) -> Result<Value, NoMemory>
 fn diagnostic_value(alloc: Global, shown: &Shown) -> Result<Value, NoMemory>
     ensures { IfOk result (λ value. view value ≡ spec.diagnostic_value shown.now) }
 {
-    Ok(Object::new(alloc)
-        .with(alloc, "code", Value::from(shown.code))?
-        .with(alloc, "message", text_value(alloc, shown.message.text())?)?
-        .with(alloc, "range", range_value(alloc, shown.start, shown.end)?)?
-        .with(alloc, "severity", Value::from(severity(shown.code)))?
-        .value())
+    Ok(
+        Object::new(alloc)
+            .with(alloc, "code", Value::from(shown.code))?
+            .with(alloc, "message", text_value(alloc, shown.message.text())?)?
+            .with(alloc, "range", range_value(alloc, shown.start, shown.end)?)?
+            .with(alloc, "severity", Value::from(severity(shown.code)))?
+            .value(),
+    )
 }
 
 fn severity(code: u8) -> u8
@@ -53,17 +60,21 @@ fn severity(code: u8) -> u8
 fn range_value(alloc: Global, start: Pos, end: Pos) -> Result<Value, NoMemory>
     ensures { IfOk result (λ value. view value ≡ spec.range_value start end) }
 {
-    Ok(Object::new(alloc)
-        .with(alloc, "end", position_value(alloc, end)?)?
-        .with(alloc, "start", position_value(alloc, start)?)?
-        .value())
+    Ok(
+        Object::new(alloc)
+            .with(alloc, "end", position_value(alloc, end)?)?
+            .with(alloc, "start", position_value(alloc, start)?)?
+            .value(),
+    )
 }
 
 fn position_value(alloc: Global, place: Pos) -> Result<Value, NoMemory>
     ensures { IfOk result (λ value. view value ≡ spec.position_value place) }
 {
-    Ok(Object::new(alloc)
-        .with(alloc, "character", Value::from(place.character))?
-        .with(alloc, "line", Value::from(place.line))?
-        .value())
+    Ok(
+        Object::new(alloc)
+            .with(alloc, "character", Value::from(place.character))?
+            .with(alloc, "line", Value::from(place.line))?
+            .value(),
+    )
 }

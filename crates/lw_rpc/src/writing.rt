@@ -43,49 +43,59 @@ fn reply_value(alloc: Global, reply: &Reply) -> Result<Value, NoMemory>
 fn done_value(alloc: Global, id: &Id, outcome: &Outcome) -> Result<Value, NoMemory>
     ensures { IfOk result (λ value. view value ≡ spec.done_value id.now outcome.now) }
 {
-    Ok(Object::new(alloc)
-        .with(alloc, "id", id_value(alloc, id)?)?
-        .with(alloc, "jsonrpc", text_value(alloc, "2.0")?)?
-        .with(alloc, "result", outcome_value(alloc, outcome)?)?
-        .value())
+    Ok(
+        Object::new(alloc)
+            .with(alloc, "id", id_value(alloc, id)?)?
+            .with(alloc, "jsonrpc", text_value(alloc, "2.0")?)?
+            .with(alloc, "result", outcome_value(alloc, outcome)?)?
+            .value(),
+    )
 }
 
 fn error_value(alloc: Global, id: &Option<Id>, code: i32, message: &str) -> Result<Value, NoMemory>
     ensures { IfOk result (λ value. view value ≡ spec.error_value id.now code message.now) }
 {
-    Ok(Object::new(alloc)
-        .with(alloc, "error", fault_value(alloc, code, message)?)?
-        .with(alloc, "id", id_or_null(alloc, id)?)?
-        .with(alloc, "jsonrpc", text_value(alloc, "2.0")?)?
-        .value())
+    Ok(
+        Object::new(alloc)
+            .with(alloc, "error", fault_value(alloc, code, message)?)?
+            .with(alloc, "id", id_or_null(alloc, id)?)?
+            .with(alloc, "jsonrpc", text_value(alloc, "2.0")?)?
+            .value(),
+    )
 }
 
 fn fault_value(alloc: Global, code: i32, message: &str) -> Result<Value, NoMemory>
     ensures { IfOk result (λ value. view value ≡ spec.fault_value code message.now) }
 {
-    Ok(Object::new(alloc)
-        .with(alloc, "code", Value::from(code))?
-        .with(alloc, "message", text_value(alloc, message)?)?
-        .value())
+    Ok(
+        Object::new(alloc)
+            .with(alloc, "code", Value::from(code))?
+            .with(alloc, "message", text_value(alloc, message)?)?
+            .value(),
+    )
 }
 
 fn notification_value(alloc: Global, method: &str, params: Value) -> Result<Value, NoMemory>
     ensures { IfOk result (λ value. view value ≡ spec.notification_value method.now (view params)) }
 {
-    Ok(Object::new(alloc)
-        .with(alloc, "jsonrpc", text_value(alloc, "2.0")?)?
-        .with(alloc, "method", text_value(alloc, method)?)?
-        .with(alloc, "params", params)?
-        .value())
+    Ok(
+        Object::new(alloc)
+            .with(alloc, "jsonrpc", text_value(alloc, "2.0")?)?
+            .with(alloc, "method", text_value(alloc, method)?)?
+            .with(alloc, "params", params)?
+            .value(),
+    )
 }
 
 fn log_params(alloc: Global, message: &str) -> Result<Value, NoMemory>
     ensures { IfOk result (λ value. view value ≡ spec.log_params message.now) }
 {
-    Ok(Object::new(alloc)
-        .with(alloc, "message", text_value(alloc, message)?)?
-        .with(alloc, "type", Value::from(1u8))?
-        .value())
+    Ok(
+        Object::new(alloc)
+            .with(alloc, "message", text_value(alloc, message)?)?
+            .with(alloc, "type", Value::from(1u8))?
+            .value(),
+    )
 }
 
 fn outcome_value(alloc: Global, outcome: &Outcome) -> Result<Value, NoMemory>
