@@ -5,8 +5,8 @@ use Rattle.serde_json.specs.Read.{max_depth}
 use Rattle.serde_json.specs.View.{items_of}
 use Rattle.serde_json.specs.Written.{has_float, items_have_float, members_have_float}
 use Rattle.lw_text.specs.declared.shown.Shown.{Shown}
-use Rattle.lw_rpc.specs.Replies as spec
-use Rattle.lw_rpc.specs.Replies.{value_of}
+use Rattle.lw_rpc.specs.Values as spec
+use Rattle.lw_rpc.specs.Values.{value_of}
 use Rattle.lw_rpc.specs.declared.message.Id.{Id}
 use Rattle.lw_rpc.specs.declared.message.Id.TheVariants.{Whole, Words}
 use Rattle.lw_rpc.specs.declared.reply.Outcome.{Outcome}

@@ -1,7 +1,7 @@
 // What the server says of itself.
 ghost use Rattle.std.specs.Prelude.{◌≡◌, IfOk};
 ghost use Rattle.serde_json.specs.View.{view};
-ghost use Rattle.lw_rpc.specs.Replies as spec;
+ghost use Rattle.lw_rpc.specs.Values as spec;
 
 use crate::values::{Object, text_value};
 use lw_base::NoMemory;

@@ -2,7 +2,7 @@
 ghost use Rattle.std.specs.Prelude.{◌≡◌, map, IfOk};
 ghost use Rattle.serde_json.specs.Data.{array};
 ghost use Rattle.serde_json.specs.View.{view, items_of};
-ghost use Rattle.lw_rpc.specs.Replies as spec;
+ghost use Rattle.lw_rpc.specs.Values as spec;
 
 use crate::values::{Object, text_value};
 use lw_base::NoMemory;

@@ -2,7 +2,8 @@
 ghost use Rattle.std.specs.Prelude.{◌≡◌, IfOk, Some};
 ghost use Rattle.serde_json.specs.Read.{read};
 ghost use Rattle.serde_json.specs.View.{view};
-ghost use Rattle.lw_rpc.specs.Replies as spec;
+ghost use Rattle.lw_rpc.specs.Replies.{reply_bytes};
+ghost use Rattle.lw_rpc.specs.Values as spec;
 
 use crate::hello::hello_value;
 use crate::published::publish_params;
@@ -14,14 +15,14 @@ use std::alloc::Global;
 
 /// The bytes of a reply.
 pub fn reply_text(alloc: Global, reply: &Reply) -> Result<Name, NoMemory>
-    ensures bytes { IfOk result (λ text. text ≡ spec.reply_bytes reply.now) }
+    ensures bytes { IfOk result (λ text. text ≡ reply_bytes reply.now) }
     ensures reads_back { IfOk result (λ text. read text ≡ Some (spec.value_of reply.now)) }
 {
     let text = reply_value(alloc, reply)?.to_string(alloc)?;
     Name::from_text(alloc, text.as_str())
 }
 
-#[tactic(auto, unfolding(crate::specs::Replies::value_of))]
+#[tactic(auto, unfolding(crate::specs::Values::value_of))]
 /// The JSON value of a reply: one case for each of them.
 fn reply_value(alloc: Global, reply: &Reply) -> Result<Value, NoMemory>
     ensures { IfOk result (λ value. view value ≡ spec.value_of reply.now) }

@@ -1,6 +1,6 @@
 use Rattle.std.proofs.Common.{◌≡◌, take, map}
 use Rattle.serde_json.specs.View.{view}
-use Rattle.lw_rpc.specs.Replies as spec
+use Rattle.lw_rpc.specs.Values as spec
 use Rattle.lw_rpc.proofs.published.diagnostics.Given as goal
 
 abbrev pub invariant-shown : goal.invariant-shown

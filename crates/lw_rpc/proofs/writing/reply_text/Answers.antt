@@ -2,16 +2,16 @@ use Rattle.std.proofs.Common.{◌≡◌, ◌∙◌, Some, string_bytes, ap}
 use Rattle.std.proofs.lemmas.Result.{IfOk-weaker}
 use Rattle.serde_json.specs.Read.{read}
 use Rattle.serde_json.specs.Written.{compact_text}
-use Rattle.lw_rpc.specs.Replies.{reply_bytes, value_of}
+use Rattle.lw_rpc.specs.Values.{value_of}
 use Rattle.lw_rpc.proofs.ReplyLemmas.{has_float-value_of, depth-value_of}
+use Rattle.lw_rpc.proofs.TextLemmas.{compact_text-value_of}
 use Rattle.lw_rpc.proofs.writing.reply_text.Goals as goal
 
 pub returns-clause-bytes : goal.returns-clause-bytes
-unfolding reply_bytes
 returns-clause-bytes c =
     let text : string_bytes c.in_ok-text.text ≡ compact_text (value_of c.args.reply.now) =
     (rw c.in_ok-reply_value.ensures at c.in_ok-text.ensures.text) (has_float-value_of c.args.reply.now) in
-    IfOk-weaker c.from_text.result _ _ (λ name same. same ∙ (c.as_str.ensures.value ∙ text)) c.from_text.ensures
+    IfOk-weaker c.from_text.result _ _ (λ name same. same ∙ c.as_str.ensures.value ∙ text ∙ compact_text-value_of c.args.reply.now) c.from_text.ensures
 
 pub returns-clause-reads_back : goal.returns-clause-reads_back
 returns-clause-reads_back c =
