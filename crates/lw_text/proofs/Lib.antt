@@ -1,5 +1,4 @@
+pub mod Counts
 pub mod Lines
 pub mod Places
 pub mod Positions
-pub mod Units
-pub mod Walk
