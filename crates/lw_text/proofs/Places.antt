@@ -52,14 +52,14 @@ record IsFloor (bytes : List ℕ) (into place : ℕ) : Type 0 where
   nearest : (j : ℕ) → place < j → j ≤ into → ¬ (IsCharBoundary bytes j)
 
 -- a boundary is not before the start of the line
-from_start : (text : List ℕ) (start offset place : ℕ) → IsCharBoundary text start → start ≤ offset → IsFloor text offset place → start ≤ place
-from_start text start offset place starts within floor =
+pub start_before_floor : (text : List ℕ) (start offset place : ℕ) → IsCharBoundary text start → start ≤ offset → ((j : ℕ) → place < j → j ≤ offset → ¬ (IsCharBoundary text j)) → start ≤ place
+start_before_floor text start offset place starts within nearest =
     let split : (start ≤ place) ⊎ (place < start) = grind arith in
-    ⊎_elim (λ le. le) (λ lt. absurd (floor.nearest start lt within starts)) split
+    ⊎_elim (λ le. le) (λ lt. absurd (nearest start lt within starts)) split
 
 IsFloor-drop : (text : List ℕ) (start offset place : ℕ) → IsUtf8 text → IsCharBoundary text start → start ≤ offset → IsFloor text offset place → IsFloor (drop start text) (offset - start) (place - start)
 IsFloor-drop text start offset place utf8 starts within floor =
-    let after : start ≤ place = from_start text start offset place starts within floor in
+    let after : start ≤ place = start_before_floor text start offset place starts within floor.nearest in
     let there : start + (place - start) ≡ place = omega arith in
     let rest : drop (place - start) (drop start text) ≡ drop place text = drop-drop (place - start) start text ∙ ap (λ n. drop n text) there in
     record {

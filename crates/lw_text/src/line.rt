@@ -81,10 +81,13 @@ fn next_line(text: &[u8], start: usize) -> Option<usize>
     ensures { MatchOption result (All IsNoBreak (drop start text.now)) (IsNextLine text.now start) }
 {
     let end = line_end(text, start);
-    match &text[end..] {
-        [] => None,
-        [b'\r', b'\n', ..] => Some(end + 2),
-        _ => Some(end + 1),
+    let rest = &text[end..];
+    if rest.is_empty() {
+        None
+    } else if rest.starts_with(b"\r\n") {
+        Some(end + 2)
+    } else {
+        Some(end + 1)
     }
 }
 
