@@ -17,6 +17,3 @@ mod texts;
 
 pub use lw_machine::Ended;
 pub use session::{Handled, Mode, Session};
-
-#[cfg(test)]
-mod tests;

@@ -58,7 +58,9 @@ pub(crate) fn step(alloc: Global, phase: Phase, message: Message) -> Result<Step
         Message::Initialize { id } => Ok(Step::Tells(initialize(alloc, phase, id)?)),
         Message::Shutdown { id } => Ok(Step::Tells(shutdown(alloc, phase, id)?)),
         Message::Unknown { id, method } => Ok(Step::Tells(unknown(alloc, phase, id, &method)?)),
-        Message::BadParams { id, method } => Ok(Step::Tells(bad_params(alloc, phase, id, &method)?)),
+        Message::BadParams { id, method } => Ok(Step::Tells(bad_params(
+            alloc, phase, id, &method,
+        )?)),
         Message::DidOpen { uri, version, text } => {
             if phase.is_live() {
                 Ok(Step::Opens {
@@ -75,14 +77,14 @@ pub(crate) fn step(alloc: Global, phase: Phase, message: Message) -> Result<Step
 
 impl Phase {
     // The session is between `initialize` and `shutdown`.
-    fn is_live(self) -> bool
+    pub(crate) fn is_live(self) -> bool
         ensures { result ≡ (self.initialized && not self.shut_down) }
     {
         self.initialized && !self.shut_down
     }
 
     // Nothing is told.
-    fn keeps_silent(self, alloc: Global) -> Told
+    pub(crate) fn keeps_silent(self, alloc: Global) -> Told
         ensures { IsTold ignores self result }
     {
         Told {
@@ -93,7 +95,7 @@ impl Phase {
     }
 
     // One reply is told.
-    fn tells(self, alloc: Global, reply: Reply) -> Result<Told, NoMemory>
+    pub(crate) fn tells(self, alloc: Global, reply: Reply) -> Result<Told, NoMemory>
         ensures { IfOk result (IsTold (λ s. tells s (reply ∷ [])) self) }
     {
         let mut replies = Items::new(alloc);
@@ -128,7 +130,7 @@ fn error(alloc: Global, id: Option<Id>, code: i32, message: &str) -> Result<Repl
     Ok(Reply::Error(id, code, Name::from_text(alloc, message)?))
 }
 
-fn log(alloc: Global, head: &str, name: &Name) -> Result<Reply, NoMemory>
+pub(crate) fn log(alloc: Global, head: &str, name: &Name) -> Result<Reply, NoMemory>
     ensures { IfOk result (λ reply. reply ≡ reply_.Log (head.now ++ name.now)) }
 {
     let line = format!(in alloc; "{head}{name}")?;
@@ -136,13 +138,7 @@ fn log(alloc: Global, head: &str, name: &Name) -> Result<Reply, NoMemory>
 }
 
 // A request is refused: before `initialize` and behind `shutdown` for that, else for its own cause.
-fn refuse(
-    alloc: Global,
-    phase: Phase,
-    id: Id,
-    code: i32,
-    message: &str,
-) -> Result<Told, NoMemory>
+fn refuse(alloc: Global, phase: Phase, id: Id, code: i32, message: &str) -> Result<Told, NoMemory>
     ensures { IfOk result (IsTold (λ s. at_request s id (refuses s (Some id) code message.now)) phase) }
 {
     let reply = if !phase.initialized {

@@ -132,7 +132,13 @@ impl Session {
             return self.phase.tells(self.alloc, reply);
         }
         let list = diagnostics(self.alloc, &self.language, &text)?;
-        let told = self.published(&address, version, list.as_slice())?;
+        let told = if self.has_published(list.as_slice()) {
+            self.phase.keeps_silent(self.alloc)
+        } else {
+            let list = copied(self.alloc, list.as_slice())?;
+            let reply = Reply::Publish(address.copy(self.alloc)?, Some(version), list);
+            self.phase.tells(self.alloc, reply)?
+        };
         self.document = Some(Held {
             address,
             version,
@@ -140,5 +146,21 @@ impl Session {
             list,
         });
         Ok(told)
+    }
+
+    // A document at another address is held.
+    fn holds_another(&self, address: &Name) -> bool {
+        match &self.document {
+            Some(held) => held.address != *address,
+            None => false,
+        }
+    }
+
+    // The list is the one that was published last.
+    fn has_published(&self, list: &[Shown]) -> bool {
+        match &self.document {
+            Some(held) => is_same(held.list.as_slice(), list),
+            None => false,
+        }
     }
 }
