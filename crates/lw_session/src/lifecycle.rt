@@ -41,7 +41,7 @@ pub(crate) enum Step {
 }
 
 /// The step for a message.
-pub(crate) fn step(alloc: Global, phase: Phase, message: Message) -> Result<Step, NoMemory>
+pub(crate) fn decide(alloc: Global, phase: Phase, message: Message) -> Result<Step, NoMemory>
     ensures { IfOk result (IsStep phase message) }
 {
     match message {

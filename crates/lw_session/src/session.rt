@@ -7,7 +7,7 @@ ghost use Rattle.lw_machine.specs.Sessions.{Handles, HandlesBody};
 
 use crate::diagnostics::diagnostics;
 use crate::held::{Held, copied, is_same};
-use crate::lifecycle::{Phase, Step, Told, log, step};
+use crate::lifecycle::{Phase, Step, Told, decide, log};
 use crate::texts::texts_of;
 use lw_base::{Items, Name, NoMemory, Steps};
 use lw_io::Store;
@@ -103,7 +103,7 @@ impl Session {
         ensures handles { IfOk result (λ told. Handles self.old.grammar self.old.standing message self.new.standing told.replies told.ended) }
         ensures grammar { self.new.grammar ≡ self.old.grammar }
     {
-        match step(self.alloc, self.phase, message)? {
+        match decide(self.alloc, self.phase, message)? {
             Step::Tells(told) => {
                 self.phase = told.phase;
                 Ok(told)
