@@ -3,3 +3,4 @@ pub mod Settling
 pub mod Building
 pub mod Events
 pub mod Answers
+pub mod Laws

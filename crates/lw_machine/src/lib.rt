@@ -16,7 +16,9 @@
 #![tactic(auto)]
 
 mod ended;
+mod laws;
 mod state;
 
 pub use ended::Ended;
+pub use laws::{build_ends, build_goes_on};
 pub use state::State;
