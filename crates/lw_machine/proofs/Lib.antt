@@ -1,2 +1,4 @@
 pub mod Places
 pub mod FirstOf
+pub mod Sums
+pub mod Steps
