@@ -3,4 +3,5 @@ pub mod Settling
 pub mod Building
 pub mod Events
 pub mod Answers
+pub mod Validity
 pub mod Laws

@@ -1,8 +1,13 @@
 // What a reader may expect of the machine, whatever the grammar and the documents.
-ghost use Rattle.std.specs.Prelude.{ℕ, ◌≤◌};
+ghost use Rattle.std.specs.Prelude.{◌≡◌, ◌≤◌, ℕ, List, Some};
+ghost use Rattle.std.specs.FinMap.{empty, get};
 ghost use Rattle.lw_grammar.specs.declared.grammar.Grammar.{Grammar};
-ghost use Rattle.lw_machine.specs.Documents.{Documents};
-ghost use Rattle.lw_machine.specs.Laws.{GoesOn, Chain, most_steps};
+ghost use Rattle.lw_machine.specs.Building.{BuildsToEnd};
+ghost use Rattle.lw_machine.specs.Documents.{Document, Documents, IsBuilt};
+ghost use Rattle.lw_machine.specs.Events.{Happens};
+ghost use Rattle.lw_machine.specs.Laws.{Chain, GoesOn, most_steps};
+ghost use Rattle.lw_machine.specs.Validity.{HaveSameContent, IsCurrent, IsValid};
+ghost use Rattle.lw_rpc.specs.declared.reply.Reply.{Reply};
 
 /// While a document is not validated, the build has a document to take up, and only one.
 pub fn build_goes_on()
@@ -13,5 +18,22 @@ pub fn build_goes_on()
 /// A build ends: no chain of steps is longer than a number that the states of the documents give.
 pub fn build_ends()
     ensures { (g : Grammar) (steps : ℕ) (m n : Documents) → Chain g steps m n → steps ≤ most_steps m }
+{
+}
+
+/// What holds of the documents of a session at every moment: it holds of none, and each event keeps it.
+pub fn stays_valid()
+    ensures begins { (g : Grammar) → IsValid g empty }
+    ensures stays { (g : Grammar) (m n : Documents) (published : List Reply) → IsValid g m → Happens g m n published → IsValid g n }
+{
+}
+
+/// At the end of a build every document is validated, others see its present text, and its list, over the texts that are seen then, is the one that was
+/// published last. No address, text, version or open flag has changed.
+pub fn built()
+    ensures built { (g : Grammar) (m n : Documents) (published : List Reply) → BuildsToEnd g m n published → IsBuilt n }
+    ensures current { (g : Grammar) (m n : Documents) (published : List Reply) → IsValid g m → BuildsToEnd g m n published →
+        (address : List ℕ) (d : Document) → get n address ≡ Some d → IsCurrent g n address d }
+    ensures content { (g : Grammar) (m n : Documents) (published : List Reply) → BuildsToEnd g m n published → HaveSameContent m n }
 {
 }
