@@ -33,14 +33,14 @@ module _ (g : Grammar) where
     one_terminal : {t : Terminal} {a b : List ℕ} → TerminalPattern g t a → TerminalPattern g t b → a ≡ b
     one_terminal (p.bare {text = x} is) (p.bare {text = y} also) = ap unescaped (same_Some x y (sym is ∙ also))
     one_terminal (p.bare {t = t} {text = x} is) (p.alternatives parts also choice) = not_both (out-TermElement t.body) x parts is also
-    one_terminal (p.bare {text = x} is) (p.other no_pattern no_choice row) = absurd (none-some x (sym no_pattern ∙ is))
+    one_terminal (p.bare {text = x} is) (p.other no_pattern no_choice only) = absurd (none-some x (sym no_pattern ∙ is))
     one_terminal (p.alternatives {t = t} parts is choice) (p.bare {text = y} also) = not_both (out-TermElement t.body) y parts also is
     one_terminal (p.alternatives parts is choice) (p.alternatives {p = b} others also chosen) =
         one_choice choice (subst (λ es. ChoicePattern g es b) (same_Some others parts (sym also ∙ is)) chosen)
-    one_terminal (p.alternatives parts is choice) (p.other no_pattern no_choice row) = absurd (none-some parts (sym no_choice ∙ is))
-    one_terminal (p.other no_pattern no_choice row) (p.bare {text = y} also) = absurd (none-some y (sym no_pattern ∙ also))
-    one_terminal (p.other no_pattern no_choice row) (p.alternatives parts also choice) = absurd (none-some parts (sym no_choice ∙ also))
-    one_terminal (p.other no_pattern no_choice row) (p.other no_text none alone) = one_alternative row alone
+    one_terminal (p.alternatives parts is choice) (p.other no_pattern no_choice only) = absurd (none-some parts (sym no_choice ∙ is))
+    one_terminal (p.other no_pattern no_choice only) (p.bare {text = y} also) = absurd (none-some y (sym no_pattern ∙ also))
+    one_terminal (p.other no_pattern no_choice only) (p.alternatives parts also choice) = absurd (none-some parts (sym no_choice ∙ also))
+    one_terminal (p.other no_pattern no_choice only) (p.other no_text none y) = one_alternative only y
 
     one_element : {e : TermElement} {a b : List ℕ} → ElementPattern g e a → ElementPattern g e b → a ≡ b
     one_element (p.element x) (p.element y) = one_layer x y
