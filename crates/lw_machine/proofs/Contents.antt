@@ -1,5 +1,5 @@
 -- No step of a build changes what editors and files say of a document.
-use Rattle.std.proofs.Common.{◌≡◌, ◌≢◌, ℕ, List, Option, Some, None, option_map, inl, inr, ◌⊎◌, sym, refl, ap, ◌∙◌, subst}
+use Rattle.std.proofs.Common.{◌≡◌, ◌≢◌, ℕ, List, Option, Some, option_map, inl, inr, ◌⊎◌, sym, refl, ap, ◌∙◌}
 use Rattle.std.specs.FinMap.{get, insert}
 use Rattle.lw_grammar.specs.declared.grammar.Grammar.{Grammar}
 use Rattle.lw_rpc.specs.declared.reply.Reply.{Reply}
@@ -7,7 +7,7 @@ use Rattle.lw_scopes.specs.Diagnostics.{Texts}
 use Rattle.lw_machine.specs.Documents.{Document, Documents, shown_texts}
 use Rattle.lw_machine.specs.Settling as settling
 use Rattle.lw_machine.specs.Settling.{Settles, SettlesAt, IsSettled}
-use Rattle.lw_machine.specs.Building.{IsNext, Builds, BuildsToEnd, risen, indexed, validated, rises, shows, validates, rests, done, step}
+use Rattle.lw_machine.specs.Building.{Builds, BuildsToEnd, risen, indexed, validated, rises, shows, validates, rests, done, step}
 use Rattle.lw_machine.specs.Validity.{content, HaveSameContent}
 use Rattle.lw_machine.proofs.Places.{one_or_two, put_here, put_elsewhere}
 

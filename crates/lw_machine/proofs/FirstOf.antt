@@ -1,7 +1,7 @@
 -- Of two documents one comes before the other, so of those that are held one comes before all: that is the next, and no other is.
 use Rattle.std.proofs.Common.{◌≡◌, ◌≢◌, ℕ, ◌<◌, ◌≤◌, List, [], ◌∷◌, Option, Some, None, Ordering, Less, Equal, Greater, inl, inr, ◌⊎◌, sym, refl, ap, ◌∙◌, subst, arith}
 use Rattle.std.proofs.lemmas.Bool.{cases_lt}
-use Rattle.std.proofs.lemmas.Option.{none-some, same_Some}
+use Rattle.std.proofs.lemmas.Option.{same_Some}
 use Rattle.std.specs.Ordering.{ordering_reverse}
 use Rattle.std.specs.Cmp.{alike_right, tied_itself}
 use Rattle.std.specs.Cmp.Lexicographic.{nat_list_cmp_total}
@@ -113,10 +113,14 @@ module _ (m : Documents) where
     where
       by : ComesFirst address d a e ⊎ ComesFirst a e address d → AreEmpty (a ∷ rest) ⊎ HasFirst (a ∷ rest)
       by (inl before) =
-          inr (address, d, record {
-            held = was.held;
-            comes = still_first a rest address d was (λ f at. subst (λ x. ComesFirst address d a x) (same_held a e f is at) before);
-          })
+          inr (
+            address,
+            d,
+            record {
+              held = was.held;
+              comes = still_first a rest address d was (λ f at. subst (λ x. ComesFirst address d a x) (same_held a e f is at) before);
+            },
+          )
       by (inr before) = inr (a, e, record { held = is; comes = now_first a rest e address d is was before })
 
   first_among : (addresses : List (List ℕ)) → AreEmpty addresses ⊎ HasFirst addresses

@@ -4,3 +4,4 @@ pub mod Sums
 pub mod Steps
 pub mod Validity
 pub mod Contents
+pub mod OneBuild

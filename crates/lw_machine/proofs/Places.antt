@@ -1,8 +1,8 @@
 -- What documents hold at an address once one is put or taken away there, and which addresses hold one.
-use Rattle.std.proofs.Common.{◌≡◌, ◌≢◌, ℕ, List, [], ◌∷◌, map, Bool, true, false, cond, Option, Some, None, Ordering, Less, Equal, Greater, is_eq, nat_cmp, inl, inr, ◌⊎◌, sym, refl, ap, ◌∙◌, subst, true≢false}
-use Rattle.std.specs.Cmp.{IsTotalOrder, tied_itself}
+use Rattle.std.proofs.Common.{◌≡◌, ◌≢◌, ℕ, List, [], ◌∷◌, map, true, false, cond, Some, None, Ordering, Less, Equal, Greater, is_eq, nat_cmp, inl, inr, ◌⊎◌, sym, refl, ap, ◌∙◌, subst}
+use Rattle.std.specs.Cmp.{tied_itself}
 use Rattle.std.specs.Cmp.Lexicographic.{slice_cmp, nat_list_cmp_total}
-use Rattle.std.specs.FinMap.{FinMap, get, insert, remove, keys, entries, find, get-entries, get-insert, get-remove, same_map, slice_cmp-IsAntisymmetric, nat_cmp-IsAntisymmetric}
+use Rattle.std.specs.FinMap.{get, insert, remove, keys, entries, find, get-entries, get-insert, get-remove, same_map, slice_cmp-IsAntisymmetric, nat_cmp-IsAntisymmetric}
 use Rattle.lw_machine.specs.Documents.{Document, Documents}
 
 -- addresses in their order

@@ -1,13 +1,12 @@
 -- What a step does to how far the documents are from being shown and from being validated, and so a bound on how many steps there are.
-use Rattle.std.proofs.Common.{◌≡◌, ◌≢◌, ℕ, zero, suc, ◌+◌, ◌-◌, ◌*◌, ◌<◌, ◌≤◌, List, [], ◌∷◌, length, sum_by, Option, Some, None, inl, inr, ◌⊎◌, sym, refl, ap, ◌∙◌, subst, arith, mul-le-mul_left}
-use Rattle.std.proofs.lemmas.Option.{none-some, same_Some}
+use Rattle.std.proofs.Common.{◌≡◌, ◌≢◌, ℕ, ◌+◌, ◌-◌, ◌*◌, ◌<◌, ◌≤◌, List, length, sum_by, Option, Some, None, inl, inr, ◌⊎◌, sym, refl, ap, ◌∙◌, subst, arith, mul-le-mul_left}
 use Rattle.std.specs.FinMap.{get, insert, keys, values, len}
 use Rattle.lw_grammar.specs.declared.grammar.Grammar.{Grammar}
 use Rattle.lw_rpc.specs.declared.reply.Reply.{Reply}
 use Rattle.lw_scopes.specs.Diagnostics.{Texts}
 use Rattle.lw_machine.specs.declared.state.State.{State}
 use Rattle.lw_machine.specs.declared.state.State.TheVariants.{Changed, Parsed, IndexedContent, ComputedScopes, Linked, IndexedReferences, Validated}
-use Rattle.lw_machine.specs.Documents.{Document, Documents, IsBuilt, rank, next, shown_texts}
+use Rattle.lw_machine.specs.Documents.{Document, Documents, rank, next, shown_texts}
 use Rattle.lw_machine.specs.Settling as settling
 use Rattle.lw_machine.specs.Settling.{Settles, SettlesAt, IsSettled, lowered}
 use Rattle.lw_machine.specs.Building.{IsNext, Builds, risen, indexed, validated, rises, shows, validates, rests}

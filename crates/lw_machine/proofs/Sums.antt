@@ -1,5 +1,5 @@
 -- Sums over lists, compared item by item, and over the values of a map.
-use Rattle.std.proofs.Common.{◌≡◌, ◌≢◌, ℕ, suc, ◌+◌, ◌*◌, ◌<◌, ◌≤◌, List, [], ◌∷◌, length, map, sum_by, Bool, true, false, cond, ◌&&◌, T, Option, Some, None, Ordering, Less, Equal, Greater, is_eq, is_lt, sym, refl, ap, ◌∙◌, subst, arith, true≢false}
+use Rattle.std.proofs.Common.{◌≡◌, ℕ, suc, ◌+◌, ◌*◌, ◌≤◌, List, [], ◌∷◌, length, map, sum_by, Bool, true, false, cond, ◌&&◌, T, Option, Some, None, Ordering, Less, Equal, Greater, is_eq, is_lt, sym, refl, ap, ◌∙◌, arith}
 use Rattle.std.proofs.lemmas.List.Sums.{sum_by-cons}
 use Rattle.std.specs.Ordering.{ordering_reverse}
 use Rattle.std.specs.Cmp.Lexicographic.{nat_list_cmp_total}

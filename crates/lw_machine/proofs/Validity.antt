@@ -1,7 +1,6 @@
 -- What holds at every moment holds of each document by itself, and each event keeps it.
-use Rattle.std.proofs.Common.{◌≡◌, ◌≢◌, ℕ, ◌+◌, ◌<◌, ◌≤◌, List, [], ◌∷◌, ◌++◌, Option, Some, None, option_map, option_and_then, Bool, inl, inr, ◌⊎◌, ℤ, sym, refl, ap, ◌∙◌, subst, arith}
+use Rattle.std.proofs.Common.{◌≡◌, ◌≢◌, ℕ, ◌<◌, ◌≤◌, List, Option, Some, None, option_map, option_and_then, Bool, inl, inr, ◌⊎◌, ℤ, sym, refl, ap, ◌∙◌, subst, arith}
 use Rattle.std.proofs.lemmas.Option.{same_Some}
-use Rattle.std.specs.Cmp.Lexicographic.{slice_cmp}
 use Rattle.std.specs.FinMap.{get, insert, remove, empty, get-empty}
 use Rattle.lw_grammar.specs.declared.grammar.Grammar.{Grammar}
 use Rattle.lw_rpc.specs.declared.reply.Reply.{Reply}
@@ -12,9 +11,9 @@ use Rattle.lw_machine.specs.declared.state.State.TheVariants.{Changed, Parsed, I
 use Rattle.lw_machine.specs.Documents.{Document, Documents, IsBuilt, rank, next, shown_texts}
 use Rattle.lw_machine.specs.Settling as settling
 use Rattle.lw_machine.specs.Settling.{Settles, SettlesAt, IsSettled, lowered}
-use Rattle.lw_machine.specs.Building.{IsNext, Builds, BuildsToEnd, risen, indexed, validated, rises, shows, validates, rests, done, step}
-use Rattle.lw_machine.specs.Events.{Happens, puts, closes, removes, builds, resets, with_text, put, closed, cleared}
-use Rattle.lw_machine.specs.Validity.{content, HaveSameContent, IsTold, IsValid, IsCurrent}
+use Rattle.lw_machine.specs.Building.{Builds, BuildsToEnd, risen, indexed, validated, rises, shows, validates, rests, done, step}
+use Rattle.lw_machine.specs.Events.{Happens, puts, closes, removes, builds, resets, with_text, closed, cleared}
+use Rattle.lw_machine.specs.Validity.{IsValid, IsCurrent}
 use Rattle.lw_machine.proofs.Places.{order, one_or_two, put_here, put_elsewhere, taken_here, taken_elsewhere}
 
 module _ (g : Grammar) (address : List ℕ) where

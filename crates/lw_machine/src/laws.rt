@@ -2,31 +2,29 @@
 ghost use Rattle.std.specs.Prelude.{◌≡◌, ◌≤◌, ℕ, List, Some};
 ghost use Rattle.std.specs.FinMap.{empty, get};
 ghost use Rattle.lw_grammar.specs.declared.grammar.Grammar.{Grammar};
-ghost use Rattle.lw_machine.specs.Building.{BuildsToEnd};
+ghost use Rattle.lw_machine.specs.Building.{Builds, BuildsToEnd};
 ghost use Rattle.lw_machine.specs.Documents.{Document, Documents, IsBuilt};
 ghost use Rattle.lw_machine.specs.Events.{Happens};
 ghost use Rattle.lw_machine.specs.Laws.{Chain, GoesOn, most_steps};
 ghost use Rattle.lw_machine.specs.Validity.{HaveSameContent, IsCurrent, IsValid};
+ghost use Rattle.lw_reading.specs.Laws.{HasNoEmptyKeyword};
 ghost use Rattle.lw_rpc.specs.declared.reply.Reply.{Reply};
 
 /// While a document is not validated, the build has a document to take up, and only one.
 pub fn build_goes_on()
     ensures { (m : Documents) → GoesOn m }
-{
-}
+{}
 
 /// A build ends: no chain of steps is longer than a number that the states of the documents give.
 pub fn build_ends()
     ensures { (g : Grammar) (steps : ℕ) (m n : Documents) → Chain g steps m n → steps ≤ most_steps m }
-{
-}
+{}
 
 /// What holds of the documents of a session at every moment: it holds of none, and each event keeps it.
 pub fn stays_valid()
     ensures begins { (g : Grammar) → IsValid g empty }
     ensures stays { (g : Grammar) (m n : Documents) (published : List Reply) → IsValid g m → Happens g m n published → IsValid g n }
-{
-}
+{}
 
 /// At the end of a build every document is validated, others see its present text, and its list, over the texts that are seen then, is the one that was
 /// published last. No address, text, version or open flag has changed.
@@ -35,5 +33,11 @@ pub fn built()
     ensures current { (g : Grammar) (m n : Documents) (published : List Reply) → IsValid g m → BuildsToEnd g m n published →
         (address : List ℕ) (d : Document) → get n address ≡ Some d → IsCurrent g n address d }
     ensures content { (g : Grammar) (m n : Documents) (published : List Reply) → BuildsToEnd g m n published → HaveSameContent m n }
-{
-}
+{}
+
+/// By a grammar that has no empty keyword, a step has one outcome, and so has a build: the documents after it, and what it publishes.
+pub fn one_build()
+    ensures step { (g : Grammar) → HasNoEmptyKeyword g → (m n o : Documents) (p q : List Reply) → Builds g m n p → Builds g m o q → (n ≡ o) × (p ≡ q) }
+    ensures build { (g : Grammar) → HasNoEmptyKeyword g → (m n o : Documents) (p q : List Reply) →
+        BuildsToEnd g m n p → BuildsToEnd g m o q → (n ≡ o) × (p ≡ q) }
+{}
