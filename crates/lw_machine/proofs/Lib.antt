@@ -1,7 +1,9 @@
 pub mod Places
+pub mod Entries
 pub mod FirstOf
 pub mod Sums
 pub mod Steps
 pub mod Validity
 pub mod Contents
 pub mod OneBuild
+pub mod News

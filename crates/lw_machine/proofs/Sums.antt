@@ -1,12 +1,11 @@
 -- Sums over lists, compared item by item, and over the values of a map.
-use Rattle.std.proofs.Common.{◌≡◌, ℕ, suc, ◌+◌, ◌*◌, ◌≤◌, List, [], ◌∷◌, length, map, sum_by, Bool, true, false, cond, ◌&&◌, T, Option, Some, None, Ordering, Less, Equal, Greater, is_eq, is_lt, sym, refl, ap, ◌∙◌, arith}
+use Rattle.std.proofs.Common.{◌≡◌, ℕ, suc, ◌+◌, ◌*◌, ◌≤◌, List, [], ◌∷◌, length, map, sum_by, cond, T, Option, Some, None, is_eq, sym, refl, ap, ◌∙◌, arith}
 use Rattle.std.proofs.lemmas.List.Sums.{sum_by-cons}
-use Rattle.std.specs.Ordering.{ordering_reverse}
-use Rattle.std.specs.Cmp.Lexicographic.{nat_list_cmp_total}
 use Rattle.std.specs.FinMap.{get, keys, values, len, entries, find, is_sorted, entries_sorted, get-entries, len-entries}
 use Rattle.std.specs.FinMap.Entries.{below_all}
 use Rattle.lw_machine.specs.Documents.{Document, Documents}
 use Rattle.lw_machine.proofs.Places.{order, test_same, Among, first, later}
+use Rattle.lw_machine.proofs.Entries.{both, above, below_each}
 
 module _ {A : Type 0} where
   abbrev pub total : (A → ℕ) → List A → ℕ
@@ -40,24 +39,6 @@ total_map f into (x ∷ xs) = ap (λ n. f (into x) + n) (total_map f into xs)
 abbrev pub weigh : (Document → ℕ) → Option Document → ℕ
 weigh f None = 0
 weigh f (Some d) = f d
-
-both : (a b : Bool) → T (a && b) → T a × T b
-both true b h = (tt, h)
-both false b h = absurd h
-
--- an address above the first is not the first
-above : (a b : List ℕ) → T (is_lt (order a b)) → is_eq (order b a) ≡ false
-above a b below = by (order a b) refl below
-  where
-    by : (r : Ordering) → order a b ≡ r → T (is_lt r) → is_eq (order b a) ≡ false
-    by Less is low = ap is_eq (nat_list_cmp_total.antisymm b a ∙ ap ordering_reverse is)
-    by Equal is low = absurd low
-    by Greater is low = absurd low
-
-below_each : (a : List ℕ) (es : List (List ℕ × Document)) (b : List ℕ) → T (below_all order a es) → Among b (map (λ e. e.0) es) → T (is_lt (order a b))
-below_each a [] b below there = elim there [ ]
-below_each a (e ∷ es) b below first = (both (is_lt (order a e.0)) (below_all order a es) below).0
-below_each a (e ∷ es) b below (later there) = below_each a es b (both (is_lt (order a e.0)) (below_all order a es) below).1 there
 
 over_entries : (f : Document → ℕ) (es : List (List ℕ × Document)) → T (is_sorted order es) →
     total (λ a. weigh f (find order a es)) (map (λ e. e.0) es) ≡ total (λ e. f e.1) es

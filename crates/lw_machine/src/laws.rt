@@ -1,11 +1,11 @@
 // What a reader may expect of the machine, whatever the grammar and the documents.
 ghost use Rattle.std.specs.Prelude.{◌≡◌, ◌≤◌, ℕ, List, Some};
-ghost use Rattle.std.specs.FinMap.{empty, get};
+ghost use Rattle.std.specs.FinMap.{empty, entries, get};
 ghost use Rattle.lw_grammar.specs.declared.grammar.Grammar.{Grammar};
 ghost use Rattle.lw_machine.specs.Building.{Builds, BuildsToEnd};
 ghost use Rattle.lw_machine.specs.Documents.{Document, Documents, IsBuilt};
 ghost use Rattle.lw_machine.specs.Events.{Happens};
-ghost use Rattle.lw_machine.specs.Laws.{Chain, GoesOn, most_steps};
+ghost use Rattle.lw_machine.specs.Laws.{AreNews, Chain, GoesOn, most_steps};
 ghost use Rattle.lw_machine.specs.Validity.{HaveSameContent, IsCurrent, IsValid};
 ghost use Rattle.lw_reading.specs.Laws.{HasNoEmptyKeyword};
 ghost use Rattle.lw_rpc.specs.declared.reply.Reply.{Reply};
@@ -40,4 +40,9 @@ pub fn one_build()
     ensures step { (g : Grammar) → HasNoEmptyKeyword g → (m n o : Documents) (p q : List Reply) → Builds g m n p → Builds g m o q → (n ≡ o) × (p ≡ q) }
     ensures build { (g : Grammar) → HasNoEmptyKeyword g → (m n o : Documents) (p q : List Reply) →
         BuildsToEnd g m n p → BuildsToEnd g m o q → (n ≡ o) × (p ≡ q) }
+{}
+
+/// A build publishes, in the order of addresses, each list that is not the one that was published last before the build, once, and nothing else.
+pub fn publishes_what_differs()
+    ensures { (g : Grammar) (m n : Documents) (published : List Reply) → BuildsToEnd g m n published → AreNews m (entries n) published }
 {}

@@ -20,5 +20,5 @@ mod laws;
 mod state;
 
 pub use ended::Ended;
-pub use laws::{build_ends, build_goes_on, built, one_build, stays_valid};
+pub use laws::{build_ends, build_goes_on, built, one_build, publishes_what_differs, stays_valid};
 pub use state::State;
