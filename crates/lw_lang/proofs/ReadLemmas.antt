@@ -1,5 +1,5 @@
 -- What a language reads, by what it keeps.
-use Rattle.std.proofs.Common.{◌≡◌, ℕ, ◌+◌, ◌<◌, ◌≤◌, List, [], ◌∷◌, ◌++◌, length, map, arith, refl, sym, subst, ap, ◌∙◌, length-append}
+use Rattle.std.proofs.Common.{◌≡◌, ℕ, ◌+◌, ◌<◌, ◌≤◌, List, [], ◌∷◌, ◌++◌, length, map, arith, refl, sym, subst, ap, ◌∙◌, length-append, length-drop, drop, encode_utf8}
 use Rattle.std.proofs.lemmas.List.{length-map}
 use Rattle.lw_base.specs.declared.token.Span.{Span}
 use Rattle.lw_base.specs.declared.token.Token.{Token}
@@ -15,7 +15,7 @@ use Rattle.lw_reading.specs.Reading.{Reads, longest_document}
 use Rattle.lw_reading.specs.Reading as reading
 use Rattle.lw_lang.specs.Rows.{ReadsRow}
 use Rattle.lw_reading.specs.KindTexts.{texts_of, quoted}
-use Rattle.lw_lang.specs.Language.{LanguageView, IfBroken, IsNamed, IsWithin}
+use Rattle.lw_lang.specs.Language.{LanguageView, IfBroken, IsNamed, IsWithin, IsSpanWithin}
 use Rattle.lw_lang.specs.Ready.{seen_as, IsReady}
 use Rattle.lw_lang.specs.declared.language.Language.TheInside.{Inside}
 use Rattle.lw_lang.proofs.RowReading.{ReadsBy-from_row}
@@ -59,3 +59,9 @@ module _ (l : Inside) (seen : LanguageView) (is : seen_as l ≡ seen) (ready : I
 
     pub within : IfBroken parsed (IsWithin text)
     within = within_by_row _ (visible cut_tokens) (length text) _ (visible_known l.tokens.lexicon text cut_tokens cut) text refl row_here
+
+-- a character stands inside the text
+pub character_within : (text : List ℕ) (s : Span) → s.start < length text → IsCharacterAt text s → IsSpanWithin text s
+character_within text s inside at =
+    let behind : length (drop s.start text) ≡ length (encode_utf8 at.0) + length at.2 = ap length at.3 ∙ length-append (encode_utf8 at.0) at.2 in
+    (omega (arith, inside), omega (arith, inside, behind, at.4, length-drop s.start text))

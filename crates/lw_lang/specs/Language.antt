@@ -1,5 +1,6 @@
 -- What callers see of a language: its grammar, and the texts by which messages name its kinds.
 use Rattle.std.specs.Prelude.{ℕ, ◌<◌, ◌≤◌, List, length}
+use Rattle.lw_base.specs.declared.token.Span.{Span}
 use Rattle.lw_grammar.specs.declared.grammar.Grammar.{Grammar}
 use Rattle.lw_reading.specs.declared.issue.Issue.{Issue}
 use Rattle.lw_reading.specs.declared.issue.Issue.TheVariants.{Lexical, Syntax, End, TooLarge}
@@ -15,10 +16,14 @@ abbrev pub IsNamed : List (List ℕ) → Issue → Type 0
 IsNamed texts (Syntax s kind) = kind.0 < length texts
 IsNamed texts _ = Unit {0}
 
+-- a span whose ends are in the text or at its end
+abbrev pub IsSpanWithin : List ℕ → Span → Type 0
+IsSpanWithin text s = (s.start ≤ length text) × (s.end ≤ length text)
+
 -- the place of a fault is in the text or at its end
 abbrev pub IsWithin : List ℕ → Issue → Type 0
-IsWithin text (Lexical s) = s.start ≤ length text
-IsWithin text (Syntax s kind) = s.start ≤ length text
+IsWithin text (Lexical s) = IsSpanWithin text s
+IsWithin text (Syntax s kind) = IsSpanWithin text s
 IsWithin text (End at) = at ≤ length text
 IsWithin text TooLarge = Unit {0}
 

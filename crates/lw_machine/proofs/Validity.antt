@@ -12,7 +12,7 @@ use Rattle.lw_machine.specs.Documents.{Document, Documents, IsBuilt, rank, next,
 use Rattle.lw_machine.specs.Settling as settling
 use Rattle.lw_machine.specs.Settling.{Settles, SettlesAt, IsSettled, lowered}
 use Rattle.lw_machine.specs.Building.{Builds, BuildsToEnd, risen, indexed, validated, rises, shows, validates, rests, done, step}
-use Rattle.lw_machine.specs.Events.{Happens, puts, closes, removes, builds, resets, with_text, closed, cleared}
+use Rattle.lw_machine.specs.Events.{Happens, puts, closes, removes, builds, resets, with_text, closed, cleared, edits, edited}
 use Rattle.lw_machine.specs.Validity.{IsValid, IsCurrent}
 use Rattle.lw_machine.proofs.Places.{order, one_or_two, put_here, put_elsewhere, taken_here, taken_elsewhere}
 
@@ -144,6 +144,8 @@ module _ (g : Grammar) where
   happens_sound : (m n : Documents) (published : List Reply) → Happens g m n published → AreSound m → AreSound n
   happens_sound m n published (puts address text version is_open) sound =
       put_sound m address (with_text (get m address) text version is_open) sound (put_text address text version is_open (get m address))
+  happens_sound m n published (edits address d changes version {text = text} held made) sound =
+      put_sound m address (edited d text version) sound (sound_below g address (edited d text version) (omega arith))
   happens_sound m n published (closes address d held) sound = put_sound m address (closed d) sound (sound_closed g address d (sound address d held))
   happens_sound m n published (removes address d {n = o} held settled) sound =
       settled_sound (shown_texts m) address (remove m address) o settled (taken_sound m address sound)

@@ -3,7 +3,10 @@
 use Rattle.std.specs.Prelude.{ℕ, ℤ, ◌≡◌, List, [], ◌∷◌, Bool, false, Option, Some, None, option_map}
 use Rattle.std.specs.FinMap.{get, insert, remove}
 use Rattle.lw_grammar.specs.declared.grammar.Grammar.{Grammar}
+use Rattle.lw_text.specs.Changes.{AreMade}
+use Rattle.lw_text.specs.declared.change.Change.{Change}
 use Rattle.lw_text.specs.declared.shown.Shown.{Shown}
+use Rattle.lw_text.specs.declared.units.Encoding.TheVariants.{Utf16}
 use Rattle.lw_rpc.specs.declared.reply.Reply.{Reply}
 use Rattle.lw_rpc.specs.declared.reply.Reply.TheVariants.{Publish}
 use Rattle.lw_machine.specs.Documents.{Document, Documents, shown_texts}
@@ -19,6 +22,10 @@ with_text (Some d) text version is_open = record d { text = text; version = vers
 -- the documents once a text is put at an address
 abbrev pub put : Documents → List ℕ → List ℕ → Option ℤ → Bool → Documents
 put m address text version is_open = insert m address (with_text (get m address) text version is_open)
+
+-- a document whose text was edited
+abbrev pub edited : Document → List ℕ → ℤ → Document
+edited d text version = record d { text = text; version = Some version; state = Changed }
 
 -- a document that is no longer open, and has no version
 abbrev pub closed : Document → Document
@@ -39,6 +46,9 @@ module _ (g : Grammar) where
   pub data Happens (m : Documents) : Documents → List Reply → Type 0 where
     -- a text is put at an address, which may be new
     puts : (address text : List ℕ) (version : Option ℤ) (is_open : Bool) → Happens m (put m address text version is_open) []
+    -- an editor changes parts of the text of a document
+    edits : (address : List ℕ) (d : Document) (changes : List Change) (version : ℤ) {text : List ℕ} → get m address ≡ Some d → AreMade Utf16 d.text changes text →
+        Happens m (insert m address (edited d text version)) []
     -- an editor closes a document
     closes : (address : List ℕ) (d : Document) → get m address ≡ Some d → Happens m (insert m address (closed d)) []
     -- a document goes out, and the others settle

@@ -3,5 +3,6 @@ pub mod Settling
 pub mod Building
 pub mod Events
 pub mod Answers
+pub mod Sessions
 pub mod Validity
 pub mod Laws

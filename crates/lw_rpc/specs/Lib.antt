@@ -1,0 +1,5 @@
+pub mod Calls
+pub mod Params
+pub mod Messages
+pub mod Values
+pub mod Replies

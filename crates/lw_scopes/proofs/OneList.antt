@@ -3,7 +3,8 @@ use Rattle.std.proofs.Common.{◌≡◌, ℕ, List, [], ◌∷◌, refl, sym, ap
 use Rattle.std.proofs.lemmas.Option.{same_Some}
 use Rattle.lw_grammar.specs.declared.grammar.Grammar.{Grammar}
 use Rattle.lw_text.specs.declared.shown.Shown.{Shown}
-use Rattle.lw_text.proofs.Positions.{IsPosition-only}
+use Rattle.lw_text.specs.declared.units.Encoding.TheVariants.{Utf16}
+use Rattle.lw_text.proofs.Positions.{IsPositionIn-only}
 use Rattle.lw_reading.specs.declared.issue.Issue.{Issue}
 use Rattle.lw_reading.specs.declared.issue.Parsed.TheVariants.{Whole, Broken}
 use Rattle.lw_reading.specs.Laws.{HasNoEmptyKeyword}
@@ -16,8 +17,8 @@ use Rattle.lw_scopes.specs.Links.{Link, AreLinks}
 one_shown : (text : List ℕ) (from to code : ℕ) (message other : List ℕ) (s r : Shown) → message ≡ other → IsShownAt text from to code message s →
     IsShownAt text from to code other r → s ≡ r
 one_shown text from to code message other s r same is was =
-    let start = IsPosition-only text from s.start r.start is.begins was.begins in
-    let end = IsPosition-only text to s.end r.end is.ends was.ends in
+    let start = IsPositionIn-only Utf16 text from s.start r.start is.begins was.begins in
+    let end = IsPositionIn-only Utf16 text to s.end r.end is.ends was.ends in
     let number : s.code ≡ r.code = is.coded ∙ sym was.coded in
     let says : s.message ≡ r.message = is.says ∙ same ∙ sym was.says in
     λ i. record { start = start i; end = end i; code = number i; message = says i }

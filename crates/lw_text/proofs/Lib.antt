@@ -1,5 +1,7 @@
+pub mod Counts
+pub mod Index
 pub mod Lines
 pub mod Places
 pub mod Positions
-pub mod Units
-pub mod Walk
+pub mod Reaching
+pub mod Within

@@ -2,6 +2,7 @@
 use Rattle.std.proofs.Common.{◌≡◌, ◌≢◌, ℕ, ◌⊎◌, inl, inr, ⊎_elim, List, [], ◌∷◌, ◌++◌, All, refl, sym, ap, ap₂, ◌∙◌, subst, append_assoc, append-nil}
 use Rattle.std.proofs.lemmas.Bool.{cases_eq}
 use Rattle.std.proofs.lemmas.List.Elements.{All-head, All-tail, All-nil, All-cons, All-append}
+use Rattle.lw_text.specs.Starts.{IsBreakOrOver}
 use Rattle.lw_text.specs.Lines.{IsNoBreak, Line, IsEnding, line_feed, both, carriage_return, AreLines, last, next, joined}
 
 -- ---- the lines joined
@@ -15,25 +16,20 @@ not_none [] line after e = cc
 not_none (first ∷ before) line after e = cc
 
 -- ---- at most one cut
--- the text is over, or goes on with what ends a line
-abbrev IsBreak : List ℕ → Type 0
-IsBreak [] = Unit {0}
-IsBreak (c ∷ cs) = (c ≡ 13) ⊎ (c ≡ 10)
-
-IsBreak-from_ending : {rest ending : List ℕ} (bytes : List ℕ) → IsEnding rest ending → IsBreak (ending ++ bytes)
-IsBreak-from_ending bytes line_feed = inr refl
-IsBreak-from_ending bytes both = inl refl
-IsBreak-from_ending bytes (carriage_return _) = inl refl
+pub IsBreakOrOver-ending : {rest ending : List ℕ} (bytes : List ℕ) → IsEnding rest ending → IsBreakOrOver (ending ++ bytes)
+IsBreakOrOver-ending bytes line_feed = inr refl
+IsBreakOrOver-ending bytes both = inl refl
+IsBreakOrOver-ending bytes (carriage_return _) = inl refl
 
 not_break : (c : ℕ) → IsNoBreak c → ¬ ((c ≡ 13) ⊎ (c ≡ 10))
 not_break c none (inl e) = none.0 e
 not_break c none (inr e) = none.1 e
 
 -- what stands in a line is what comes before the first break
-pub same_content : (xs ys r s : List ℕ) → All IsNoBreak xs → All IsNoBreak ys → IsBreak r → IsBreak s → xs ++ r ≡ ys ++ s → (xs ≡ ys) × (r ≡ s)
+pub same_content : (xs ys r s : List ℕ) → All IsNoBreak xs → All IsNoBreak ys → IsBreakOrOver r → IsBreakOrOver s → xs ++ r ≡ ys ++ s → (xs ≡ ys) × (r ≡ s)
 same_content [] [] r s _ _ _ _ e = (refl, e)
-same_content [] (y ∷ ys) r s _ none at _ e = absurd (not_break y (All-head IsNoBreak y ys none) (subst IsBreak e at))
-same_content (x ∷ xs) [] r s none _ _ at e = absurd (not_break x (All-head IsNoBreak x xs none) (subst IsBreak (sym e) at))
+same_content [] (y ∷ ys) r s _ none at _ e = absurd (not_break y (All-head IsNoBreak y ys none) (subst IsBreakOrOver e at))
+same_content (x ∷ xs) [] r s none _ _ at e = absurd (not_break x (All-head IsNoBreak x xs none) (subst IsBreakOrOver (sym e) at))
 same_content (x ∷ xs) (y ∷ ys) r s a b at bt e =
     let tails : xs ++ r ≡ ys ++ s = cc in
     let same = same_content xs ys r s (All-tail IsNoBreak x xs a) (All-tail IsNoBreak y ys b) at bt tails in
@@ -61,7 +57,7 @@ ending_not_over bytes (carriage_return _) e = cc
 -- a text with no break has one line
 one_line : (content other ending rest : List ℕ) {after : List ℕ} → All IsNoBreak content → All IsNoBreak other → IsEnding after ending → content ≢ other ++ ending ++ rest
 one_line content other ending rest a b ends e =
-    let same = same_content content other [] (ending ++ rest) a b tt (IsBreak-from_ending rest ends) (append-nil content ∙ e ∙ append_assoc other ending rest) in
+    let same = same_content content other [] (ending ++ rest) a b tt (IsBreakOrOver-ending rest ends) (append-nil content ∙ e ∙ append_assoc other ending rest) in
     ending_not_over rest ends same.1
 
 same_lines : {text other : List ℕ} {lines others : List Line} → AreLines text lines → AreLines other others → text ≡ other → lines ≡ others
@@ -69,7 +65,7 @@ same_lines (last a) (last b) e = ap (λ content. record { content = content; end
 same_lines (last {content} a) (next {content = d} {ending} {rest} b ends more) e = absurd (one_line content d ending rest a b ends e)
 same_lines (next {content} {ending} {rest} a ends more) (last {content = d} b) e = absurd (one_line d content ending rest b a ends (sym e))
 same_lines (next {content = c} {ending = d} {rest = r} a ends more) (next {content = f} {ending = h} {rest = s} b ends' more') e =
-    let first = same_content c f (d ++ r) (h ++ s) a b (IsBreak-from_ending r ends) (IsBreak-from_ending s ends') (sym (append_assoc c d r) ∙ e ∙ append_assoc f h s) in
+    let first = same_content c f (d ++ r) (h ++ s) a b (IsBreakOrOver-ending r ends) (IsBreakOrOver-ending s ends') (sym (append_assoc c d r) ∙ e ∙ append_assoc f h s) in
     let second = same_ending ends ends' first.1 in
     let others = same_lines more more' second.1 in
     ap₂ (λ line lines. line ∷ lines) (ap₂ (λ content ending. record { content = content; ending = ending }) first.0 second.0) others

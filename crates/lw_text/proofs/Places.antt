@@ -1,5 +1,5 @@
 -- What stands in the line of a place before the place.
-use Rattle.std.proofs.Common.{◌≡◌, ◌≢◌, ℕ, ◌+◌, ◌-◌, ◌<◌, ◌≤◌, ◌⊎◌, inl, inr, ⊎_elim, true, List, [], ◌∷◌, ◌++◌, length, take, drop, get_or, All, Option, Some, None, MatchOption, unwrap_or, Bor, refl, sym, ap, ◌∙◌, subst, subst₂, append_assoc, append-nil, arith, length-append, length-drop, length-take-le, take-append-drop, encode_utf8, encode_utf8_all, chars, IsUtf8, IsCharBoundary}
+use Rattle.std.proofs.Common.{◌≡◌, ◌≢◌, ℕ, ◌+◌, ◌-◌, ◌<◌, ◌≤◌, ◌⊎◌, inl, inr, ⊎_elim, true, List, [], ◌∷◌, ◌++◌, length, sum_by, take, drop, get_or, All, Option, Some, None, MatchOption, unwrap_or, Bor, refl, sym, ap, ◌∙◌, subst, subst₂, append_assoc, append-nil, arith, length-append, length-drop, length-take-le, take-append-drop, encode_utf8, encode_utf8_all, chars, IsUtf8, IsCharBoundary}
 use Rattle.std.specs.Char.{IsScalar}
 use Rattle.std.specs.Str.{all_scalars}
 use Rattle.std.proofs.lemmas.Bool.{and_parts}
@@ -8,7 +8,8 @@ use Rattle.std.proofs.lemmas.List.Elements.{All-nil, All-cons, All-take, All-get
 use Rattle.std.proofs.lemmas.List.Sums.{sum_by-cons}
 use Rattle.std.proofs.lemmas.Str.{IsUtf8-drop, IsCharBoundary-from_drop, IsCharBoundary-from_rest, IsCharBoundary-before_ascii, IsCharBoundary-past_char, inside_one, length-encode, len_utf8_ascii, len_utf8_bounds, encodes-chars, scalars-chars}
 use Rattle.lw_text.specs.Lines.{IsNoBreak, Line, IsEnding, line_feed, both, carriage_return, AreLines, last, next, joined, bytes_of, bytes_of_all}
-use Rattle.lw_text.specs.Position.{AreCharsBefore, IsInLine, IsLineOf, IsPosition, utf16_units}
+use Rattle.lw_text.specs.Position.{AreCharsWithin, IsInLine, IsLineOf, IsPositionIn, units_of, utf8_len}
+use Rattle.lw_text.specs.declared.units.Encoding.{Encoding}
 use Rattle.lw_text.proofs.Lines.{AreLines-joined, not_none}
 
 -- ---- a line among the lines of a text
@@ -51,14 +52,14 @@ record IsFloor (bytes : List ℕ) (into place : ℕ) : Type 0 where
   nearest : (j : ℕ) → place < j → j ≤ into → ¬ (IsCharBoundary bytes j)
 
 -- a boundary is not before the start of the line
-from_start : (text : List ℕ) (start offset place : ℕ) → IsCharBoundary text start → start ≤ offset → IsFloor text offset place → start ≤ place
-from_start text start offset place starts within floor =
+pub start_before_floor : (text : List ℕ) (start offset place : ℕ) → IsCharBoundary text start → start ≤ offset → ((j : ℕ) → place < j → j ≤ offset → ¬ (IsCharBoundary text j)) → start ≤ place
+start_before_floor text start offset place starts within nearest =
     let split : (start ≤ place) ⊎ (place < start) = grind arith in
-    ⊎_elim (λ le. le) (λ lt. absurd (floor.nearest start lt within starts)) split
+    ⊎_elim (λ le. le) (λ lt. absurd (nearest start lt within starts)) split
 
 IsFloor-drop : (text : List ℕ) (start offset place : ℕ) → IsUtf8 text → IsCharBoundary text start → start ≤ offset → IsFloor text offset place → IsFloor (drop start text) (offset - start) (place - start)
 IsFloor-drop text start offset place utf8 starts within floor =
-    let after : start ≤ place = from_start text start offset place starts within floor in
+    let after : start ≤ place = start_before_floor text start offset place starts within floor.nearest in
     let there : start + (place - start) ≡ place = omega arith in
     let rest : drop (place - start) (drop start text) ≡ drop place text = drop-drop (place - start) start text ∙ ap (λ n. drop n text) there in
     record {
@@ -68,7 +69,11 @@ IsFloor-drop text start offset place utf8 starts within floor =
     }
 
 -- ---- the characters before a place
-All-IsScalar : (cs : List ℕ) → all_scalars cs ≡ true → All IsScalar cs
+pub length-encodes : (cs : List ℕ) → length (encode_utf8_all cs) ≡ sum_by utf8_len cs
+length-encodes [] = refl
+length-encodes (c ∷ cs) = omega (arith, length-append (encode_utf8 c) (encode_utf8_all cs), length-encodes cs, sum_by-cons utf8_len c cs)
+
+pub All-IsScalar : (cs : List ℕ) → all_scalars cs ≡ true → All IsScalar cs
 All-IsScalar [] e = All-nil IsScalar
 All-IsScalar (c ∷ cs) e = let parts = and_parts _ _ e in All-cons IsScalar c cs parts.0 (All-IsScalar cs parts.1)
 
@@ -118,24 +123,24 @@ module _ (content tail : List ℕ) (into place : ℕ) (utf8 : IsUtf8 (content ++
       inr (c, (and_parts _ _ scalars).0, drop n rest, sym (take-append-drop n rest) ∙ ap (λ bytes. bytes ++ drop n rest) first, behind))
       split
 
-  before_place : (held : List ℕ) → IsUtf8 held → held ≡ take place content → AreCharsBefore content into (chars held)
+  before_place : (held : List ℕ) → IsUtf8 held → held ≡ take place content → AreCharsWithin utf8_len content into (chars held)
   before_place held text is =
       let spelled : encode_utf8_all (chars held) ≡ take place content = encodes-chars held text ∙ is in
-      let size : length (encode_utf8_all (chars held)) ≡ place = ap length spelled ∙ length-take-le place content (omega (arith, floor.bound)) in
+      let size : sum_by utf8_len (chars held) ≡ place = sym (length-encodes (chars held)) ∙ ap length spelled ∙ length-take-le place content (omega (arith, floor.bound)) in
       let rest = IsUtf8-drop (content ++ tail) place utf8 floor.boundary in
       record {
         scalars = All-IsScalar (chars held) (scalars-chars held text);
         rest = drop place content;
         parts = sym (take-append-drop place content) ∙ ap (λ bytes. bytes ++ drop place content) (sym spelled);
         within = omega (arith, floor.bound);
-        whole = subst (λ n. (drop place content ≡ []) ⊎ ((c : ℕ) × IsScalar c × (more : List ℕ) × (drop place content ≡ encode_utf8 c ++ more) × (into < n + length (encode_utf8 c)))) (sym size) (next_char rest.0 rest.1.0 (rest.1.1 ∙ left));
+        whole = subst (λ n. (drop place content ≡ []) ⊎ ((c : ℕ) × IsScalar c × (more : List ℕ) × (drop place content ≡ encode_utf8 c ++ more) × (into < n + utf8_len c))) (sym size) (next_char rest.0 rest.1.0 (rest.1.1 ∙ left));
       }
 
 -- all of what stands in the line, where the place is behind it
-all_before : (content : List ℕ) (into : ℕ) (held : List ℕ) → IsUtf8 held → held ≡ content → length content ≤ into → AreCharsBefore content into (chars held)
+all_before : (content : List ℕ) (into : ℕ) (held : List ℕ) → IsUtf8 held → held ≡ content → length content ≤ into → AreCharsWithin utf8_len content into (chars held)
 all_before content into held utf8 is behind =
     let spelled : encode_utf8_all (chars held) ≡ content = encodes-chars held utf8 ∙ is in
-    let size : length (encode_utf8_all (chars held)) ≡ length content = ap length spelled in
+    let size : sum_by utf8_len (chars held) ≡ length content = sym (length-encodes (chars held)) ∙ ap length spelled in
     record {
       scalars = All-IsScalar (chars held) (scalars-chars held utf8);
       rest = [];
@@ -170,7 +175,7 @@ inside_ending size into both behind before = (refl, omega arith)
 inside_ending size into (carriage_return _) behind before = absurd (omega arith)
 
 module _ (bytes : List ℕ) (line : Line) (after : List Line) (into place : ℕ) (held : List ℕ) (begins : BeginsWith bytes line after) (utf8 : IsUtf8 bytes) (text : IsUtf8 held) (floor : IsFloor bytes into place) (strip : IsStripped (take place bytes) held) where
-  in_content : into ≤ length line.content → AreCharsBefore line.content into (chars held)
+  in_content : into ≤ length line.content → AreCharsWithin utf8_len line.content into (chars held)
   in_content within =
       let tail = line.ending ++ joined after in
       let low : IsLow tail = ⊎_elim (λ over. subst₂ (λ ending lines. IsLow (ending ++ joined lines)) (sym over.0) (sym over.1) tt) (λ ends. low_ending (joined after) ends.0) begins.ends in
@@ -181,7 +186,7 @@ module _ (bytes : List ℕ) (line : Line) (after : List Line) (into place : ℕ)
       strip in
       before_place line.content tail into place (subst IsUtf8 begins.parts utf8) (subst (λ bs. IsFloor bs into place) begins.parts floor) within low held text is
 
-  in_ending : line.ending ≡ 13 ∷ 10 ∷ [] → into ≡ length line.content + 1 → AreCharsBefore line.content into (chars held)
+  in_ending : line.ending ≡ 13 ∷ 10 ∷ [] → into ≡ length line.content + 1 → AreCharsWithin utf8_len line.content into (chars held)
   in_ending two at =
       let front = line.content ++ 13 ∷ [] in
       let size : length front ≡ into = length_push line.content 13 ∙ sym at in
@@ -196,7 +201,7 @@ module _ (bytes : List ℕ) (line : Line) (after : List Line) (into place : ℕ)
       let is : held ≡ line.content = ⊎_elim (λ return. (same_from_push held line.content 13 13 (sym return ∙ piece)).0) (λ whole. absurd (whole.1 line.content piece)) strip in
       all_before line.content into held text is (omega (arith, at))
 
-  chars_at : into ≤ length bytes → (into < bytes_of line) ⊎ (after ≡ []) → AreCharsBefore line.content into (chars held)
+  chars_at : into ≤ length bytes → (into < bytes_of line) ⊎ (after ≡ []) → AreCharsWithin utf8_len line.content into (chars held)
   chars_at within inside =
       let split : (into ≤ length line.content) ⊎ (length line.content < into) = grind arith in
       let sizes : length bytes ≡ length line.content + length (line.ending ++ joined after) = ap length begins.parts ∙ length-append line.content (line.ending ++ joined after) in
@@ -207,8 +212,8 @@ module _ (bytes : List ℕ) (line : Line) (after : List Line) (into place : ℕ)
       begins.ends)
       split
 
-pub position_at : (text : List ℕ) (offset count start place : ℕ) (held : List ℕ) (units : ℕ) → IsUtf8 text → offset ≤ length text → IsLineOf text offset count start → IsCharBoundary text start → place ≤ offset → IsCharBoundary text place → ((j : ℕ) → place < j → j ≤ offset → ¬ (IsCharBoundary text j)) → IsUtf8 held → IsStripped (take (place - start) (drop start text)) held → units ≡ utf16_units (chars held) → IsPosition text offset (record { line = count; character = units })
-position_at text offset count start place held units utf8 within at starts bound boundary nearest piece strip is =
+pub position_at : (enc : Encoding) (text : List ℕ) (offset count start place : ℕ) (held : List ℕ) (units : ℕ) → IsUtf8 text → offset ≤ length text → IsLineOf text offset count start → IsCharBoundary text start → place ≤ offset → IsCharBoundary text place → ((j : ℕ) → place < j → j ≤ offset → ¬ (IsCharBoundary text j)) → IsUtf8 held → IsStripped (take (place - start) (drop start text)) held → units ≡ sum_by (units_of enc) (chars held) → IsPositionIn enc text offset (record { line = count; character = units })
+position_at enc text offset count start place held units utf8 within at starts bound boundary nearest piece strip is =
     let floor : IsFloor text offset place = record { bound = bound; boundary = boundary; nearest = nearest } in
     let begins : BeginsWith (drop start text) at.line at.after = subst (λ n. BeginsWith (drop n text) at.line at.after) (sym at.begins) (line_in at.before at.cut at.line at.after refl) in
     let far : offset ≡ bytes_of_all at.before + (offset - start) = omega (arith, at.begins, at.inside.0) in

@@ -1,12 +1,13 @@
 -- A place has one position.
-use Rattle.std.proofs.Common.{◌≡◌, ℕ, ◌+◌, ◌<◌, ◌≤◌, ◌⊎◌, inl, inr, ⊎_elim, List, [], ◌∷◌, ◌++◌, length, refl, sym, ap, ap₂, ◌∙◌, subst, append_assoc, arith, length-append, encode_utf8, encode_utf8_all}
+use Rattle.std.proofs.Common.{◌≡◌, ℕ, ◌+◌, ◌<◌, ◌≤◌, ◌⊎◌, inl, inr, ⊎_elim, List, [], ◌∷◌, ◌++◌, length, sum_by, refl, sym, ap, ap₂, ◌∙◌, subst, append_assoc, arith, length-append, encode_utf8, encode_utf8_all}
 use Rattle.std.specs.Char.{IsScalar}
 use Rattle.std.proofs.lemmas.List.{append_cancel_left}
 use Rattle.std.proofs.lemmas.List.Sums.{sum_by-cons}
 use Rattle.std.proofs.lemmas.Str.{encode_same, length-encode, len_utf8_bounds}
 use Rattle.lw_text.specs.Lines.{Line, bytes_of, bytes_of_all}
-use Rattle.lw_text.specs.Position.{AreCharsBefore, IsInLine, IsPosition, utf16_units}
+use Rattle.lw_text.specs.Position.{AreCharsWithin, IsInLine, IsPositionIn, units_of, utf8_len}
 use Rattle.lw_text.specs.declared.place.Pos.{Pos}
+use Rattle.lw_text.specs.declared.units.Encoding.{Encoding}
 use Rattle.lw_text.proofs.Lines.{AreLines-only, not_none}
 
 -- ---- the line
@@ -35,47 +36,48 @@ same_before (first ∷ before) (second ∷ befores) line other after others offs
     ap₂ (λ x xs. x ∷ xs) same (same_before before befores line other after others offset (start + bytes_of first) rest (subst (λ n. IsInLine offset n line after) p a) (subst (λ n. IsInLine offset n other others) q b))
 
 -- ---- the characters
--- the next character, if there is one, ends behind the byte n
-abbrev EndsBehind : ℕ → ℕ → List ℕ → Type 0
-EndsBehind n base rest = (rest ≡ []) ⊎ ((c : ℕ) × IsScalar c × (more : List ℕ) × (rest ≡ encode_utf8 c ++ more) × (n < base + length (encode_utf8 c)))
+-- the next character, if there is one, ends behind the unit n
+abbrev EndsBehind : (ℕ → ℕ) → ℕ → ℕ → List ℕ → Type 0
+EndsBehind size n base rest = (rest ≡ []) ⊎ ((c : ℕ) × IsScalar c × (more : List ℕ) × (rest ≡ encode_utf8 c ++ more) × (n < base + size c))
 
 some_bytes : (c : ℕ) → 1 ≤ length (encode_utf8 c)
 some_bytes c = let bounds = len_utf8_bounds c in let is = length-encode c in omega arith
 
--- a character that is whole before n does not end behind n
-not_behind : (d : ℕ) (ds r s : List ℕ) (n base : ℕ) → r ≡ (encode_utf8 d ++ encode_utf8_all ds) ++ s → base + length (encode_utf8 d ++ encode_utf8_all ds) ≤ n → ¬ (EndsBehind n (base + 0) r)
-not_behind d ds r s n base e within (inl none) =
-    let sizes : 0 ≡ length ((encode_utf8 d ++ encode_utf8_all ds) ++ s) = ap length (sym none ∙ e) in
-    omega (arith, some_bytes d, length-append (encode_utf8 d ++ encode_utf8_all ds) s, length-append (encode_utf8 d) (encode_utf8_all ds))
-not_behind d ds r s n base e within (inr (c, scalar, more, is, behind)) =
-    let same = encode_same c d more (encode_utf8_all ds ++ s) (sym is ∙ e ∙ append_assoc (encode_utf8 d) (encode_utf8_all ds) s) in
-    let sizes : length (encode_utf8 c) ≡ length (encode_utf8 d) = ap (λ x. length (encode_utf8 x)) same.0 in
-    omega (arith, length-append (encode_utf8 d) (encode_utf8_all ds))
+module _ (size : ℕ → ℕ) where
+  -- a character that is whole before n does not end behind n
+  not_behind : (d : ℕ) (ds r s : List ℕ) (n base : ℕ) → r ≡ (encode_utf8 d ++ encode_utf8_all ds) ++ s → base + (size d + sum_by size ds) ≤ n → ¬ (EndsBehind size n (base + 0) r)
+  not_behind d ds r s n base e within (inl none) =
+      let sizes : 0 ≡ length ((encode_utf8 d ++ encode_utf8_all ds) ++ s) = ap length (sym none ∙ e) in
+      omega (arith, some_bytes d, length-append (encode_utf8 d ++ encode_utf8_all ds) s, length-append (encode_utf8 d) (encode_utf8_all ds))
+  not_behind d ds r s n base e within (inr (c, scalar, more, is, behind)) =
+      let same = encode_same c d more (encode_utf8_all ds ++ s) (sym is ∙ e ∙ append_assoc (encode_utf8 d) (encode_utf8_all ds) s) in
+      let sizes : size c ≡ size d = ap size same.0 in
+      omega arith
 
-same_chars : (cs ds r s : List ℕ) (n base : ℕ) → encode_utf8_all cs ++ r ≡ encode_utf8_all ds ++ s → base + length (encode_utf8_all cs) ≤ n → base + length (encode_utf8_all ds) ≤ n →
-    EndsBehind n (base + length (encode_utf8_all cs)) r → EndsBehind n (base + length (encode_utf8_all ds)) s → cs ≡ ds
-same_chars [] [] r s n base e a b p q = refl
-same_chars [] (d ∷ ds) r s n base e a b p q = absurd (not_behind d ds r s n base e b p)
-same_chars (c ∷ cs) [] r s n base e a b p q = absurd (not_behind c cs s r n base (sym e) a q)
-same_chars (c ∷ cs) (d ∷ ds) r s n base e a b p q =
-    let same = encode_same c d (encode_utf8_all cs ++ r) (encode_utf8_all ds ++ s) (sym (append_assoc (encode_utf8 c) (encode_utf8_all cs) r) ∙ e ∙ append_assoc (encode_utf8 d) (encode_utf8_all ds) s) in
-    let sizes : length (encode_utf8 c) ≡ length (encode_utf8 d) = ap (λ x. length (encode_utf8 x)) same.0 in
-    let here : base + length (encode_utf8 c ++ encode_utf8_all cs) ≡ base + length (encode_utf8 c) + length (encode_utf8_all cs) = omega (arith, length-append (encode_utf8 c) (encode_utf8_all cs)) in
-    let there : base + length (encode_utf8 d ++ encode_utf8_all ds) ≡ base + length (encode_utf8 c) + length (encode_utf8_all ds) = omega (arith, sizes, length-append (encode_utf8 d) (encode_utf8_all ds)) in
-    ap₂ (λ x xs. x ∷ xs) same.0
-    (same_chars cs ds r s n (base + length (encode_utf8 c)) same.1 (subst (λ k. k ≤ n) here a) (subst (λ k. k ≤ n) there b) (subst (λ k. EndsBehind n k r) here p) (subst (λ k. EndsBehind n k s) there q))
+  same_chars : (cs ds r s : List ℕ) (n base : ℕ) → encode_utf8_all cs ++ r ≡ encode_utf8_all ds ++ s → base + sum_by size cs ≤ n → base + sum_by size ds ≤ n →
+      EndsBehind size n (base + sum_by size cs) r → EndsBehind size n (base + sum_by size ds) s → cs ≡ ds
+  same_chars [] [] r s n base e a b p q = refl
+  same_chars [] (d ∷ ds) r s n base e a b p q = absurd (not_behind d ds r s n base e (subst (λ k. base + k ≤ n) (sum_by-cons size d ds) b) p)
+  same_chars (c ∷ cs) [] r s n base e a b p q = absurd (not_behind c cs s r n base (sym e) (subst (λ k. base + k ≤ n) (sum_by-cons size c cs) a) q)
+  same_chars (c ∷ cs) (d ∷ ds) r s n base e a b p q =
+      let same = encode_same c d (encode_utf8_all cs ++ r) (encode_utf8_all ds ++ s) (sym (append_assoc (encode_utf8 c) (encode_utf8_all cs) r) ∙ e ∙ append_assoc (encode_utf8 d) (encode_utf8_all ds) s) in
+      let sizes : size c ≡ size d = ap size same.0 in
+      let here : base + sum_by size (c ∷ cs) ≡ base + size c + sum_by size cs = omega (arith, sum_by-cons size c cs) in
+      let there : base + sum_by size (d ∷ ds) ≡ base + size c + sum_by size ds = omega (arith, sizes, sum_by-cons size d ds) in
+      ap₂ (λ x xs. x ∷ xs) same.0
+      (same_chars cs ds r s n (base + size c) same.1 (subst (λ k. k ≤ n) here a) (subst (λ k. k ≤ n) there b) (subst (λ k. EndsBehind size n k r) here p) (subst (λ k. EndsBehind size n k s) there q))
 
--- the whole characters among the first n bytes are these alone
-pub AreCharsBefore-only : (bytes : List ℕ) (n : ℕ) (cs ds : List ℕ) → AreCharsBefore bytes n cs → AreCharsBefore bytes n ds → cs ≡ ds
-AreCharsBefore-only bytes n cs ds a b =
+-- the whole characters among the first n units are these alone
+pub AreCharsWithin-only : (size : ℕ → ℕ) (bytes : List ℕ) (n : ℕ) (cs ds : List ℕ) → AreCharsWithin size bytes n cs → AreCharsWithin size bytes n ds → cs ≡ ds
+AreCharsWithin-only size bytes n cs ds a b =
     let zeroth : (k : ℕ) → k ≡ 0 + k = λ k. omega arith in
-    same_chars cs ds a.rest b.rest n 0 (sym a.parts ∙ b.parts) (omega (arith, a.within)) (omega (arith, b.within))
-    (subst (λ k. EndsBehind n k a.rest) (zeroth (length (encode_utf8_all cs))) a.whole)
-    (subst (λ k. EndsBehind n k b.rest) (zeroth (length (encode_utf8_all ds))) b.whole)
+    same_chars size cs ds a.rest b.rest n 0 (sym a.parts ∙ b.parts) (omega (arith, a.within)) (omega (arith, b.within))
+    (subst (λ k. EndsBehind size n k a.rest) (zeroth (sum_by size cs)) a.whole)
+    (subst (λ k. EndsBehind size n k b.rest) (zeroth (sum_by size ds)) b.whole)
 
 -- ---- the position
-pub IsPosition-only : (text : List ℕ) (offset : ℕ) (a b : Pos) → IsPosition text offset a → IsPosition text offset b → a ≡ b
-IsPosition-only text offset a b p q =
+pub IsPositionIn-only : (enc : Encoding) (text : List ℕ) (offset : ℕ) (a b : Pos) → IsPositionIn enc text offset a → IsPositionIn enc text offset b → a ≡ b
+IsPositionIn-only enc text offset a b p q =
     let zeroth : (k : ℕ) → k ≡ 0 + k = λ k. omega arith in
     let lines = AreLines-only p.cut q.cut in
     let before = same_before p.before q.before p.line q.line p.after q.after offset 0 lines
@@ -85,6 +87,6 @@ IsPosition-only text offset a b p q =
     let line : p.line ≡ q.line = cc in
     let starts : bytes_of_all p.before ≡ bytes_of_all q.before = ap bytes_of_all before in
     let into : p.into ≡ q.into = omega (arith, p.far, q.far) in
-    let moved = subst (λ n. AreCharsBefore q.line.content n p.chars) into (subst (λ l. AreCharsBefore l.content p.into p.chars) line p.chars_before) in
-    let chars = AreCharsBefore-only q.line.content q.into p.chars q.chars moved q.chars_before in
-    ap₂ (λ line character. record { line = line; character = character }) (p.number ∙ ap length before ∙ sym q.number) (p.character ∙ ap utf16_units chars ∙ sym q.character)
+    let moved = subst (λ n. AreCharsWithin utf8_len q.line.content n p.chars) into (subst (λ l. AreCharsWithin utf8_len l.content p.into p.chars) line p.chars_before) in
+    let chars = AreCharsWithin-only utf8_len q.line.content q.into p.chars q.chars moved q.chars_before in
+    ap₂ (λ line character. record { line = line; character = character }) (p.number ∙ ap length before ∙ sym q.number) (p.character ∙ ap (sum_by (units_of enc)) chars ∙ sym q.character)

@@ -1,2 +1,5 @@
+pub mod Changes
 pub mod Lines
+pub mod Offset
 pub mod Position
+pub mod Starts

@@ -1,49 +1,37 @@
-use Rattle.std.proofs.Common.{◌≡◌, ◌<◌, ℕ, List, length, ◌+◌, ⊎_elim, get_or, subst, subst₂, sym, ◌∙◌, arith}
-use Rattle.std.proofs.lemmas.Bool.{false≢true}
-use Rattle.std.proofs.lemmas.Option.{get_or_from_slice_get}
-use Rattle.std.proofs.lemmas.Str.{IsCharBoundary-start, IsCharBoundary-after_ascii}
-use Rattle.std.specs.Str.{IsUtf8, IsCharBoundary}
-use Rattle.lw_text.specs.Lines.{EndsLine}
-use Rattle.lw_text.specs.Position.{IsLineOf}
-use Rattle.lw_text.proofs.Walk.{Walked, Walked-start, Walked-ends, Walked-goes_on, Walked-line}
+use Rattle.std.proofs.Common.{◌+◌, ◌<◌, ◌∷◌, [], ◌++◌, ◌∙◌, ap, sym, subst, All, drop, arith}
+use Rattle.std.proofs.lemmas.List.{length_push}
+use Rattle.lw_text.specs.Lines.{IsNoBreak}
+use Rattle.lw_text.specs.Starts.{IsNextLine}
+use Rattle.lw_text.proofs.Reaching.{IsNextLine-onwards, Reached-next, in_last, in_line_to, line_to}
 use Rattle.lw_text.proofs.line.line_at.Goals as goal
-use Rattle.lw_text.proofs.line.line_at.Goals.{then-ends_line, else-ends_line}
 
--- a line begins with a whole character
-boundary_after : (text : List ℕ) (i : ℕ) → IsUtf8 text → i < length text → EndsLine text i → IsCharBoundary text (i + 1)
-boundary_after text i utf8 within ends =
-    let low : get_or text i 0 < 128 = ⊎_elim
-    (λ feed. let is = get_or_from_slice_get text i 10 0 feed in omega (arith, is))
-    (λ return. let is = get_or_from_slice_get text i 13 0 return.0 in omega (arith, is))
-    ends in
-    IsCharBoundary-after_ascii text i utf8 within low
-
-pub loop-i-init : goal.loop-i-init
-loop-i-init c = record { walked = Walked-start c.args.text.now; few = omega arith; boundary = IsCharBoundary-start c.args.text.now c.utf8.text }
-
-pub loop-i-preserved : goal.loop-i-preserved
-loop-i-preserved c =
+pub lines-preserved : goal.lines-preserved
+lines-preserved c =
     let text = c.args.text.now in
-    let i = c.loop-i.i in
-    let walked = c.loop-i.invariant.walked in
-    elim c.if-ends_line.branch [
-      | then-ends_line w ↦
-          let ends = subst (λ bytes. EndsLine bytes i) c.as_bytes-bytes.ensures.value (c.ends_line.ensures.0 w.if-ends_line.true) in
-          record {
-            walked = subst₂ (λ number start. Walked text (i + 1) number start) (sym w.number-is) (sym w.start-is) (Walked-ends text i c.loop-i.number c.loop-i.start walked ends);
-            few = omega arith;
-            boundary = subst (λ start. IsCharBoundary text start) (sym w.start-is) (boundary_after text i c.utf8.text (omega arith) ends);
-          }
-      | else-ends_line w ↦
-          let goes = λ (ends : EndsLine text i). false≢true (sym w.if-ends_line.false ∙ c.ends_line.ensures.1 (subst (λ bytes. EndsLine bytes i) (sym c.as_bytes-bytes.ensures.value) ends)) in
-          record {
-            walked = subst₂ (λ number start. Walked text (i + 1) number start) (sym w.number-is) (sym w.start-is) (Walked-goes_on text i c.loop-i.number c.loop-i.start walked (omega arith) goes);
-            few = omega arith;
-            boundary = subst (λ start. IsCharBoundary text start) (sym w.start-is) c.loop-i.invariant.boundary;
-          }
-    ]
+    let start = c.lines.line.start in
+    let so_far = c.lines.invariant in
+    let next = subst (λ bytes. IsNextLine bytes start c.in-Some.next) c.as_bytes-bytes.ensures.value c.in-Some.ensures in
+    let onwards : start < c.in-Some.next = IsNextLine-onwards next in
+    record {
+      before = so_far.before ++ line_to next ∷ [];
+      reached = Reached-next text start c.in-Some.next so_far.before so_far.reached next;
+      number = ap (λ n. n + 1) so_far.number ∙ sym (length_push so_far.before (line_to next));
+      near = c.if-next-offset.false;
+      few = omega (arith, so_far.few);
+    }
 
-pub returns-clause-line : goal.returns-clause-line
-returns-clause-line c =
-    let end : c.loop-i.i ≡ c.args.offset = omega arith in
-    subst (λ offset. IsLineOf c.args.text.now offset c.loop-i.number c.loop-i.start) end (Walked-line c.args.text.now c.loop-i.i c.loop-i.number c.loop-i.start c.loop-i.invariant.walked)
+pub returns-then-next-offset : goal.returns-then-next-offset
+returns-then-next-offset c =
+    let text = c.args.text.now in
+    let start = c.lines.line.start in
+    let so_far = c.lines.invariant in
+    let next = subst (λ bytes. IsNextLine bytes start c.in-Some.next) c.as_bytes-bytes.ensures.value c.in-Some.ensures in
+    record { line = in_line_to text start c.in-Some.next c.args.offset c.lines.line.number so_far.before so_far.reached so_far.near c.if-next-offset.true so_far.number next }
+
+pub returns-in_default : goal.returns-in_default
+returns-in_default c =
+    let text = c.args.text.now in
+    let start = c.lines.line.start in
+    let so_far = c.lines.invariant in
+    let bare = subst (λ bytes. All IsNoBreak (drop start bytes)) c.as_bytes-bytes.ensures.value c.in_default.ensures in
+    record { line = in_last text start c.args.offset c.lines.line.number so_far.before so_far.reached so_far.near so_far.number bare }

@@ -1,6 +1,6 @@
 use Rattle.std.proofs.Common.{◌≡◌, ℕ, ◌<◌, ◌∙◌, arith, length, map, sym, ap, Err}
 use Rattle.lw_reading.specs.Reading as reading
-use Rattle.lw_lang.proofs.ReadLemmas.{read_fault, read_tokens, named, within}
+use Rattle.lw_lang.proofs.ReadLemmas.{read_fault, read_tokens, named, within, character_within}
 use Rattle.lw_lang.proofs.language.Language.read.Goals as goal
 
 pub returns-then-length-gt-LONGEST_DOCUMENT-clause-reads :
@@ -32,5 +32,5 @@ returns-in-Err-NoToken-clause-reads c =
 
 pub returns-in-Err-NoToken-clause-within : goal.returns-in-Err-NoToken-clause-within
 returns-in-Err-NoToken-clause-within c =
-    let inside = (c.in-Err-NoToken.ensures.no_token c.in-Err-NoToken.span (ap Err c.in-Err-NoToken.field-0-is)).inside in
-    rw c.in-Err-NoToken.span-is (omega (arith, inside))
+    let is = ap Err c.in-Err-NoToken.field-0-is in
+    rw c.in-Err-NoToken.span-is (character_within c.args.text.now c.in-Err-NoToken.span (c.in-Err-NoToken.ensures.no_token c.in-Err-NoToken.span is).inside (c.in-Err-NoToken.ensures.character c.in-Err-NoToken.span is))

@@ -1,0 +1,33 @@
+-- What the parameters of a method must have, and what they say. Language Server Protocol 3.17, "DidOpenTextDocumentParams" and
+-- "TextDocumentItem". Further keys are ignored, and of a key that stands twice the last value counts.
+use Rattle.std.specs.Prelude.{ℕ, ℤ, List, codes, Option, Some, None, option_and_then}
+use Rattle.serde_json.specs.Data.{Data}
+use Rattle.serde_json.specs.Find.{get, as_str, as_number, as_i64}
+use Rattle.lw_rpc.specs.declared.message.Message.{Message}
+use Rattle.lw_rpc.specs.declared.message.Message.TheVariants.{DidOpen}
+
+-- the member under the key, where there is a value and it is an object with the key
+abbrev pub member_at : List ℕ → Option Data → Option Data
+member_at key value = option_and_then (get key) value
+
+-- the text under the key
+abbrev pub text_at : List ℕ → Option Data → Option (List ℕ)
+text_at key value = option_and_then as_str (member_at key value)
+
+-- the whole number from -2^63 to 2^63-1 under the key; `1.0`, `1e2` and `-0` are none
+abbrev pub whole_at : List ℕ → Option Data → Option ℤ
+whole_at key value = option_and_then as_i64 (option_and_then as_number (member_at key value))
+
+abbrev pub opened : Option (List ℕ) → Option ℤ → Option (List ℕ) → Option Message
+opened (Some uri) (Some version) (Some text) = Some (DidOpen uri version text)
+opened (Some uri) (Some version) None = None
+opened (Some uri) None text = None
+opened None version text = None
+
+-- a document with its address, its version and its text
+abbrev pub opened_document : Option Data → Option Message
+opened_document document = opened (text_at (codes "uri") document) (whole_at (codes "version") document) (text_at (codes "text") document)
+
+-- `textDocument/didOpen`: such a document under `textDocument`
+abbrev pub did_open : Option Data → Option Message
+did_open params = opened_document (member_at (codes "textDocument") params)

@@ -1,0 +1,85 @@
+-- The bytes of a reply: compact JSON (RFC 8259), keys in byte order, texts quoted as `serde_json` quotes them. JSON-RPC 2.0, "Response
+-- object" and "Error object"; Language Server Protocol 3.17, "InitializeResult", "PublishDiagnosticsParams", "Diagnostic" and
+-- "LogMessageParams".
+use Rattle.std.specs.Prelude.{ℕ, ℤ, List, [], ◌∷◌, ◌++◌, map, codes, decimal, Option, Some, None}
+use Rattle.std.specs.Fmt.{signed_decimal}
+use Rattle.std.specs.List.{join_with_byte}
+use Rattle.json.specs.Print.{quoted}
+use Rattle.lw_text.specs.declared.place.Pos.{Pos}
+use Rattle.lw_text.specs.declared.shown.Shown.{Shown}
+use Rattle.lw_rpc.specs.Values.{severity}
+use Rattle.lw_rpc.specs.declared.message.Id.{Id}
+use Rattle.lw_rpc.specs.declared.message.Id.TheVariants.{Whole, Words}
+use Rattle.lw_rpc.specs.declared.reply.Outcome.{Outcome}
+use Rattle.lw_rpc.specs.declared.reply.Outcome.TheVariants.{Nothing, Hello}
+use Rattle.lw_rpc.specs.declared.reply.Reply.{Reply}
+use Rattle.lw_rpc.specs.declared.reply.Reply.TheVariants.{Done, Error, Publish, Log}
+
+abbrev pub id_text : Id → List ℕ
+id_text (Whole z) = signed_decimal z
+id_text (Words text) = quoted text
+
+-- of a fault whose request is not known the id is null
+abbrev pub id_or_null_text : Option Id → List ℕ
+id_or_null_text (Some id) = id_text id
+id_or_null_text None = codes "null"
+
+-- What the server can do, and its name: documents are opened, closed and changed by parts, and each request has its answer.
+abbrev pub hello_text : List ℕ
+hello_text = codes "{\"capabilities\":{\"completionProvider\":{},\"definitionProvider\":true,\"positionEncoding\":\"utf-16\",\"referencesProvider\":true,\"renameProvider\":true,\"textDocumentSync\":{\"change\":2,\"openClose\":true}},\"serverInfo\":{\"name\":\"langbench\"}}"
+
+abbrev pub outcome_text : Outcome → List ℕ
+outcome_text Nothing = codes "null"
+outcome_text Hello = hello_text
+
+-- lines and characters are counted from zero, characters in UTF-16 units
+abbrev pub position_text : Pos → List ℕ
+position_text place = codes "{\"character\":" ++ decimal place.character ++ codes ",\"line\":" ++ decimal place.line ++ codes "}"
+
+abbrev pub range_text : Pos → Pos → List ℕ
+range_text start end = codes "{\"end\":" ++ position_text end ++ codes ",\"start\":" ++ position_text start ++ codes "}"
+
+abbrev pub diagnostic_text : Shown → List ℕ
+diagnostic_text shown =
+    codes "{\"code\":" ++ decimal shown.code
+    ++ codes ",\"message\":" ++ quoted shown.message
+    ++ codes ",\"range\":" ++ range_text shown.start shown.end
+    ++ codes ",\"severity\":" ++ decimal (severity shown.code)
+    ++ codes "}"
+
+-- with a comma between two of them
+abbrev pub diagnostics_text : List Shown → List ℕ
+diagnostics_text list = join_with_byte 44 (map diagnostic_text list)
+
+-- there only where the document has a version
+abbrev pub version_text : Option ℤ → List ℕ
+version_text (Some z) = codes ",\"version\":" ++ signed_decimal z
+version_text None = []
+
+abbrev pub done_text : Id → Outcome → List ℕ
+done_text id outcome = codes "{\"id\":" ++ id_text id ++ codes ",\"jsonrpc\":\"2.0\",\"result\":" ++ outcome_text outcome ++ codes "}"
+
+abbrev pub error_text : Option Id → ℤ → List ℕ → List ℕ
+error_text id code message =
+    codes "{\"error\":{\"code\":" ++ signed_decimal code
+    ++ codes ",\"message\":" ++ quoted message
+    ++ codes "},\"id\":" ++ id_or_null_text id
+    ++ codes ",\"jsonrpc\":\"2.0\"}"
+
+abbrev pub publish_text : List ℕ → Option ℤ → List Shown → List ℕ
+publish_text uri at list =
+    codes "{\"jsonrpc\":\"2.0\",\"method\":\"textDocument/publishDiagnostics\",\"params\":{\"diagnostics\":[" ++ diagnostics_text list
+    ++ codes "],\"uri\":" ++ quoted uri
+    ++ version_text at
+    ++ codes "}}"
+
+-- a log message is an error's: type 1
+abbrev pub log_text : List ℕ → List ℕ
+log_text message =
+    codes "{\"jsonrpc\":\"2.0\",\"method\":\"window/logMessage\",\"params\":{\"message\":" ++ quoted message ++ codes ",\"type\":1}}"
+
+unfoldable pub reply_bytes : Reply → List ℕ
+reply_bytes (Done id outcome) = done_text id outcome
+reply_bytes (Error id code message) = error_text id code message
+reply_bytes (Publish uri at list) = publish_text uri at list
+reply_bytes (Log message) = log_text message

@@ -1,0 +1,27 @@
+-- What is done with a message as far as the two facts of a session decide it.
+use Rattle.std.specs.Prelude.{ℕ, ℤ, ◌≡◌, List, Bool, true, false}
+use Rattle.lw_rpc.specs.declared.message.Message.{Message}
+use Rattle.lw_rpc.specs.declared.message.Message.TheVariants.{DidOpen}
+use Rattle.lw_machine.specs.Documents.{Documents}
+use Rattle.lw_machine.specs.Answers.{Standing, Answer, answer}
+use Rattle.lw_session.specs.declared.lifecycle.Phase.{Phase}
+use Rattle.lw_session.specs.declared.lifecycle.Told.{Told}
+use Rattle.lw_session.specs.declared.lifecycle.Step.{Step}
+use Rattle.lw_session.specs.declared.lifecycle.Step.TheVariants as step
+
+-- a session with these documents
+abbrev pub standing_of : Documents → Phase → Standing
+standing_of documents phase = record { documents = documents; initialized = phase.initialized; shut_down = phase.shut_down }
+
+-- what is told where the documents stay
+abbrev pub answer_of : Documents → Told → Answer
+answer_of documents told = record { standing = standing_of documents told.phase; replies = told.replies; ended = told.ended }
+
+-- the answer is told, whatever the documents are, and they stay
+abbrev pub IsTold : (Standing → Answer) → Phase → Told → Type 0
+IsTold answer_at phase told = (documents : Documents) → answer_at (standing_of documents phase) ≡ answer_of documents told
+
+-- the step for a message: it is answered, or it opens a document in a session that is under way
+abbrev pub IsStep : Phase → Message → Step → Type 0
+IsStep phase message (step.Tells told) = IsTold (λ s. answer s message) phase told
+IsStep phase message (step.Opens address version text) = (message ≡ DidOpen address version text) × (phase.initialized ≡ true) × (phase.shut_down ≡ false)

@@ -1,0 +1,199 @@
+// The lifecycle of a session: which messages are answered, refused or dropped by its two facts alone.
+ghost use Rattle.std.specs.Prelude.{◌≡◌, [], ◌∷◌, ◌++◌, IfOk, Some, codes, not, ◌&&◌};
+ghost use Rattle.lw_machine.specs.Answers.{answer, ignores, tells, refuses, request as at_request};
+ghost use Rattle.lw_rpc.specs.declared.message.Message.TheVariants as message_;
+ghost use Rattle.lw_rpc.specs.declared.reply.Reply.TheVariants as reply_;
+ghost use Rattle.lw_session.specs.Lifecycle.{IsStep, IsTold};
+
+use lw_base::{Items, Name, NoMemory};
+use lw_machine::Ended;
+use lw_rpc::{Id, Message, Outcome, Reply};
+use std::alloc::Global;
+
+/// The two facts of a session.
+#[derive(Clone, Copy, Debug, PartialEq, Eq)]
+pub(crate) struct Phase {
+    /// `initialize` was answered with a result.
+    pub initialized: bool,
+    /// `shutdown` was answered with a result.
+    pub shut_down: bool,
+}
+
+/// What is told at a message, and what it leaves.
+#[derive(Drop)]
+pub(crate) struct Told {
+    pub replies: Items<Reply>,
+    pub ended: Ended,
+    pub phase: Phase,
+}
+
+/// What is done with a message.
+#[derive(Drop)]
+pub(crate) enum Step {
+    /// It is answered, and no document changes.
+    Tells(Told),
+    /// It opens a document.
+    Opens {
+        address: Name,
+        version: i64,
+        text: Name,
+    },
+}
+
+/// The step for a message.
+pub(crate) fn step(alloc: Global, phase: Phase, message: Message) -> Result<Step, NoMemory>
+    ensures { IfOk result (IsStep phase message) }
+{
+    match message {
+        Message::BadJson => {
+            let reply = error(alloc, None, -32700, "parse error")?;
+            Ok(Step::Tells(phase.tells(alloc, reply)?))
+        }
+        Message::BadRequest => {
+            let reply = error(alloc, None, -32600, "invalid request")?;
+            Ok(Step::Tells(phase.tells(alloc, reply)?))
+        }
+        Message::Response => Ok(Step::Tells(phase.keeps_silent(alloc))),
+        Message::Exit => Ok(Step::Tells(phase.ends(alloc))),
+        Message::Initialize { id } => Ok(Step::Tells(initialize(alloc, phase, id)?)),
+        Message::Shutdown { id } => Ok(Step::Tells(shutdown(alloc, phase, id)?)),
+        Message::Unknown { id, method } => Ok(Step::Tells(unknown(alloc, phase, id, &method)?)),
+        Message::BadParams { id, method } => Ok(Step::Tells(bad_params(
+            alloc, phase, id, &method,
+        )?)),
+        Message::DidOpen { uri, version, text } => {
+            if phase.is_live() {
+                Ok(Step::Opens {
+                    address: uri,
+                    version,
+                    text,
+                })
+            } else {
+                Ok(Step::Tells(phase.keeps_silent(alloc)))
+            }
+        }
+    }
+}
+
+impl Phase {
+    // The session is between `initialize` and `shutdown`.
+    pub(crate) fn is_live(self) -> bool
+        ensures { result ≡ (self.initialized && not self.shut_down) }
+    {
+        self.initialized && !self.shut_down
+    }
+
+    // Nothing is told.
+    pub(crate) fn keeps_silent(self, alloc: Global) -> Told
+        ensures { IsTold ignores self result }
+    {
+        Told {
+            replies: Items::new(alloc),
+            ended: Ended::No,
+            phase: self,
+        }
+    }
+
+    // One reply is told.
+    pub(crate) fn tells(self, alloc: Global, reply: Reply) -> Result<Told, NoMemory>
+        ensures { IfOk result (IsTold (λ s. tells s (reply ∷ [])) self) }
+    {
+        let mut replies = Items::new(alloc);
+        replies.push(reply)?;
+        Ok(Told {
+            replies,
+            ended: Ended::No,
+            phase: self,
+        })
+    }
+
+    // The session is over.
+    fn ends(self, alloc: Global) -> Told
+        ensures { IsTold (λ s. answer s Message.Exit) self result }
+    {
+        let ended = if self.shut_down {
+            Ended::Clean
+        } else {
+            Ended::Early
+        };
+        Told {
+            replies: Items::new(alloc),
+            ended,
+            phase: self,
+        }
+    }
+}
+
+fn error(alloc: Global, id: Option<Id>, code: i32, message: &str) -> Result<Reply, NoMemory>
+    ensures { IfOk result (λ reply. reply ≡ reply_.Error id code message.now) }
+{
+    Ok(Reply::Error(id, code, Name::from_text(alloc, message)?))
+}
+
+pub(crate) fn log(alloc: Global, head: &str, name: &Name) -> Result<Reply, NoMemory>
+    ensures { IfOk result (λ reply. reply ≡ reply_.Log (head.now ++ name.now)) }
+{
+    let line = format!(in alloc; "{head}{name}")?;
+    Ok(Reply::Log(Name::from_text(alloc, line.as_str())?))
+}
+
+// A request is refused: before `initialize` and behind `shutdown` for that, else for its own cause.
+fn refuse(alloc: Global, phase: Phase, id: Id, code: i32, message: &str) -> Result<Told, NoMemory>
+    ensures { IfOk result (IsTold (λ s. at_request s id (refuses s (Some id) code message.now)) phase) }
+{
+    let reply = if !phase.initialized {
+        error(alloc, Some(id), -32002, "server not initialized")?
+    } else if phase.shut_down {
+        error(alloc, Some(id), -32600, "invalid request")?
+    } else {
+        error(alloc, Some(id), code, message)?
+    };
+    phase.tells(alloc, reply)
+}
+
+fn initialize(alloc: Global, phase: Phase, id: Id) -> Result<Told, NoMemory>
+    ensures { IfOk result (IsTold (λ s. answer s (message_.Initialize id)) phase) }
+{
+    if phase.initialized {
+        let reply = error(alloc, Some(id), -32600, "invalid request")?;
+        return phase.tells(alloc, reply);
+    }
+    let mut told = phase.tells(alloc, Reply::Done(id, Outcome::Hello))?;
+    told.phase.initialized = true;
+    Ok(told)
+}
+
+fn shutdown(alloc: Global, phase: Phase, id: Id) -> Result<Told, NoMemory>
+    ensures { IfOk result (IsTold (λ s. answer s (message_.Shutdown id)) phase) }
+{
+    if !phase.is_live() {
+        return refuse(alloc, phase, id, -32600, "invalid request");
+    }
+    let mut told = phase.tells(alloc, Reply::Done(id, Outcome::Nothing))?;
+    told.phase.shut_down = true;
+    Ok(told)
+}
+
+fn unknown(alloc: Global, phase: Phase, id: Option<Id>, method: &Name) -> Result<Told, NoMemory>
+    ensures { IfOk result (IsTold (λ s. answer s (message_.Unknown id method.now)) phase) }
+{
+    match id {
+        Some(id) => refuse(alloc, phase, id, -32601, "method not found"),
+        None => Ok(phase.keeps_silent(alloc)),
+    }
+}
+
+fn bad_params(alloc: Global, phase: Phase, id: Option<Id>, method: &Name) -> Result<Told, NoMemory>
+    ensures { IfOk result (IsTold (λ s. answer s (message_.BadParams id method.now)) phase) }
+{
+    match id {
+        Some(id) => refuse(alloc, phase, id, -32602, "invalid params"),
+        None => {
+            if !phase.is_live() {
+                return Ok(phase.keeps_silent(alloc));
+            }
+            let reply = log(alloc, "bad params: ", method)?;
+            phase.tells(alloc, reply)
+        }
+    }
+}

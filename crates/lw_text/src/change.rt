@@ -1,0 +1,50 @@
+// Changes of a text, and why they are refused.
+use crate::Pos;
+use lw_base::{Name, NoMemory};
+use std::alloc::AllocError;
+
+/// The most bytes that a text may have: 64 MiB.
+pub const MAX_BYTES: usize = 67_108_864;
+
+/// A change of a text: its new text, in place of what stands in the range, from its start up to its
+/// end, or of the whole text where there is no range (Language Server Protocol 3.17,
+/// "TextDocumentContentChangeEvent").
+#[derive(Debug, Drop)]
+pub struct Change {
+    pub range: Option<(Pos, Pos)>,
+    pub text: Name,
+}
+
+/// Why a text was not made or not changed.
+#[derive(Clone, Copy, Debug, PartialEq, Eq)]
+pub enum EditFault {
+    /// The start of a range comes after its end, both as given: the number of the change, counted from
+    /// zero.
+    BadRange(u64),
+    /// The text would be longer than [`MAX_BYTES`]: its length in bytes.
+    TooLong(u64),
+    /// Memory was refused.
+    NoMemory,
+}
+
+impl From<NoMemory> for EditFault {
+    ghost use Rattle.std.specs.Prelude.{◌≡◌};
+    ghost use Rattle.lw_text.specs.declared.change.EditFault.TheVariants.{NoMemory as Refused};
+
+    ghost from_gives = { λ _ fault. fault ≡ Refused };
+
+    fn from(_: NoMemory) -> Self {
+        EditFault::NoMemory
+    }
+}
+
+impl From<AllocError> for EditFault {
+    ghost use Rattle.std.specs.Prelude.{◌≡◌};
+    ghost use Rattle.lw_text.specs.declared.change.EditFault.TheVariants.{NoMemory as Refused};
+
+    ghost from_gives = { λ _ fault. fault ≡ Refused };
+
+    fn from(_: AllocError) -> Self {
+        EditFault::NoMemory
+    }
+}

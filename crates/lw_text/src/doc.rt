@@ -1,0 +1,214 @@
+// A text that is changed.
+ghost use Rattle.std.specs.Prelude.{◌≡◌, ◌+◌, ◌<◌, ◌≤◌, ◌↔◌, ◌⊎◌, ◌++◌, ℕ, length, take, drop, IsTrue, IfOk, IfErr, OnOk, OnErr, MatchResult, string_bytes, string_len, unwrap_or};
+ghost use Rattle.std.specs.Str.{IsUtf8, IsCharBoundary};
+ghost use Rattle.lw_text.specs.Changes.{AreMade, Changes, IsMade, IsRefused, IsTextOrFault};
+ghost use Rattle.lw_text.specs.Offset.{IsOffset};
+ghost use Rattle.lw_text.specs.Position.{IsPositionIn};
+
+use crate::change::{Change, EditFault, MAX_BYTES};
+use crate::line::{line_among, line_end, line_starts};
+use crate::place::{Pos, position_in};
+use crate::units::{Encoding, place_behind};
+use lw_base::{Items, Name, NoMemory};
+use std::alloc::Global;
+use std::marker::Model;
+
+/// A text that knows where its lines begin, seen as its list of bytes. These are always UTF-8, and
+/// never more than [`MAX_BYTES`].
+///
+/// It keeps four bytes for each line beside the text.
+#[derive(Debug, Drop)]
+pub struct TextDoc {
+    text: String,
+    starts: Items<u32>,
+}
+
+impl Model for TextDoc {
+    ghost use Rattle.std.specs.Prelude.{List, ℕ, string_bytes};
+    ghost use Rattle.lw_text.specs.Starts.{IsIndexed};
+
+    ghost Value = { List ℕ };
+
+    ghost view = { λ d. string_bytes d.text };
+
+    ghost invariant = { λ d. IsIndexed (string_bytes d.text) d.starts };
+}
+
+impl TextDoc {
+    /// The text of this name, or [`EditFault::TooLong`] where it has more than [`MAX_BYTES`] bytes.
+    ///
+    /// The bytes are copied once and looked through once.
+    pub fn new(alloc: Global, text: Name) -> Result<TextDoc, EditFault>
+        ensures text { IfOk result (λ doc. doc ≡ text) }
+        ensures too_long { (result ≡ Err (EditFault.TooLong (length text))) ↔ (MAX_BYTES < length text) }
+        ensures faults { IfErr result (λ fault. (fault ≡ EditFault.TooLong (length text)) ⊎ (fault ≡ EditFault.NoMemory)) }
+    {
+        TextDoc::from_text(alloc, text.text())
+    }
+
+    /// The text, in memory of its own.
+    pub fn text(&self, alloc: Global) -> Result<Name, NoMemory>
+        ensures text { IfOk result (λ name. name ≡ self.now) }
+        ensures utf8 { IsUtf8 self.now }
+        ensures fits { length self.now ≤ MAX_BYTES }
+    {
+        Name::from_text(alloc, self.as_text())
+    }
+
+    /// The text, borrowed.
+    pub fn as_text(&self) -> &str
+        ensures text { result.now ≡ self.now }
+        ensures utf8 { IsUtf8 self.now }
+        ensures fits { length self.now ≤ MAX_BYTES }
+    {
+        let _ = &self.starts;
+        self.text.as_str()
+    }
+
+    /// The length in bytes.
+    pub fn len(&self) -> u32
+        ensures len { result ≡ length self.now }
+        ensures utf8 { IsUtf8 self.now }
+        ensures fits { length self.now ≤ MAX_BYTES }
+    {
+        self.as_text().len() as u32
+    }
+
+    /// Whether the text has no bytes.
+    pub fn is_empty(&self) -> bool
+        ensures { IsTrue result ↔ (length self.now ≡ 0) }
+    {
+        self.as_text().is_empty()
+    }
+
+    /// The byte that the position means. A character past the line's end means the line's end, one inside
+    /// a character where that begins, and a line past the last the text's end.
+    ///
+    /// The line is found by its number. The work is linear in the bytes of that line, whatever the
+    /// length of the text. No memory is taken.
+    pub fn offset(&self, at: Pos, enc: Encoding) -> u32
+        ensures offset { IsOffset enc self.now at result }
+        ensures within { result ≤ length self.now }
+        ensures boundary { IsCharBoundary self.now result }
+    {
+        let text = self.text.as_str();
+        match self.starts.get(at.line as usize) {
+            None => text.len() as u32,
+            Some(start) => {
+                let start = *start as usize;
+                let content = &text[start..line_end(text.as_bytes(), start)];
+                (start + place_behind(content, at.character, enc)) as u32
+            }
+        }
+    }
+
+    /// The position of the byte `off`. Inside a character it is where the character begins, and inside
+    /// `\r\n` where the line ends.
+    ///
+    /// The line is found in as many steps as the number of lines has binary digits. Beside that the
+    /// work is linear in the bytes of that line before the place. No memory is taken.
+    pub fn position(&self, off: u32, enc: Encoding) -> Pos
+        requires { off ≤ length self.now }
+        ensures { IsPositionIn enc self.now off result }
+    {
+        let text = self.text.as_str();
+        let line = line_among(text, self.starts.as_slice(), off as usize);
+        position_in(text, off as usize, line, enc)
+    }
+
+    /// All changes in order, each in the text that the one before left, or the first fault: then, and
+    /// where memory is refused, the text stays as it was.
+    ///
+    /// Each change costs one copy of the text that it makes, and one look through it for its lines.
+    pub fn apply(&mut self, alloc: Global, changes: &[Change], enc: Encoding) -> Result<(), EditFault>
+        ensures changed { OnOk result (Changes enc self.old changes.now (Ok self.new)) }
+        ensures fault { IfErr result (λ fault. (fault ≡ EditFault.NoMemory) ⊎ Changes enc self.old changes.now (Err fault)) }
+        ensures unchanged { OnErr result (self.new ≡ self.old) }
+    {
+        if let Some(doc) = self.changed_by_all(alloc, changes, enc)? {
+            *self = doc;
+        }
+        Ok(())
+    }
+
+    /// What the changes make of the text; None where there is no change.
+    fn changed_by_all(&self, alloc: Global, changes: &[Change], enc: Encoding) -> Result<Option<TextDoc>, EditFault>
+        ensures made { IfOk result (λ doc. AreMade enc self.now changes.now (unwrap_or doc self.now)) }
+        ensures fault { IfErr result (λ fault. (fault ≡ EditFault.NoMemory) ⊎ Changes enc self.now changes.now (Err fault)) }
+    {
+        let mut latest = None;
+        for (number, change) in changes.iter().enumerate() {
+            let doc = match &latest {
+                None => self.changed(alloc, change, number as u64, enc)?,
+                Some(doc) => TextDoc::changed(doc, alloc, change, number as u64, enc)?,
+            };
+            latest = Some(doc);
+        }
+        Ok(latest)
+    }
+
+    /// What the change makes of the text. `number` is its place in its list.
+    fn changed(&self, alloc: Global, change: &Change, number: u64, enc: Encoding) -> Result<TextDoc, EditFault>
+        ensures made { IfOk result (IsMade enc self.now change.now) }
+        ensures fault { IfErr result (λ fault. (fault ≡ EditFault.NoMemory) ⊎ IsRefused enc self.now change.now number fault) }
+    {
+        let Some((start, end)) = change.range else {
+            return TextDoc::from_text(alloc, change.text.text());
+        };
+        if start > end {
+            return Err(EditFault::BadRange(number));
+        }
+        let from = self.offset(start, enc) as usize;
+        let to = self.offset(end, enc) as usize;
+        self.replaced(alloc, from, to, change.text.text())
+    }
+
+    /// The text with `new` in place of what stands from `from` to `to`.
+    fn replaced(&self, alloc: Global, from: usize, to: usize, new: &str) -> Result<TextDoc, EditFault>
+        requires from { IsCharBoundary self.now from }
+        requires to { IsCharBoundary self.now to }
+        ensures { IsTextOrFault (take from self.now ++ new.now ++ drop to self.now) result }
+    {
+        let text = self.as_text();
+        let kept = from + (text.len() - to);
+        let Some(len) = new.len().checked_add(kept) else {
+            // No memory has so many bytes.
+            return Err(EditFault::NoMemory);
+        };
+        if len > MAX_BYTES {
+            return Err(EditFault::TooLong(len as u64));
+        }
+        TextDoc::with_lines(alloc, joined(alloc, &text[..from], new, &text[to..])?)
+    }
+
+    fn from_text(alloc: Global, text: &str) -> Result<TextDoc, EditFault>
+        ensures text { IsTextOrFault text.now result }
+        ensures too_long { MAX_BYTES < length text.now → result ≡ Err (EditFault.TooLong (length text.now)) }
+    {
+        if text.len() > MAX_BYTES {
+            return Err(EditFault::TooLong(text.len() as u64));
+        }
+        TextDoc::with_lines(alloc, String::from_str(alloc, text)?)
+    }
+
+    /// The text with its lines looked up.
+    fn with_lines(alloc: Global, text: String) -> Result<TextDoc, EditFault>
+        requires { string_len text ≤ MAX_BYTES }
+        ensures { MatchResult result (λ doc. doc ≡ string_bytes text) (λ fault. fault ≡ EditFault.NoMemory) }
+    {
+        let starts = line_starts(alloc, text.as_str())?;
+        Ok(TextDoc { text, starts })
+    }
+}
+
+/// The three texts as one.
+fn joined(alloc: Global, before: &str, new: &str, after: &str) -> Result<String, NoMemory>
+    requires { length before.now + length new.now + length after.now ≤ MAX_BYTES }
+    ensures { IfOk result (λ text. string_bytes text ≡ before.now ++ new.now ++ after.now) }
+{
+    let mut text = String::with_capacity(alloc, before.len() + new.len() + after.len())?;
+    text.push_str(before)?;
+    text.push_str(new)?;
+    text.push_str(after)?;
+    Ok(text)
+}
