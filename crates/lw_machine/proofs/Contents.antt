@@ -43,7 +43,7 @@ module _ {A : Type 0} (look : Option Document → A) (stateless : (d : Document)
         by (inr apart) = settles_at before (shown_texts m) other (get m other) (get n other) (settled.others other apart)
 
 module _ (g : Grammar) where
-  builds_same : (m n : Documents) (published : List Reply) → Builds g m n published → HaveSameContent m n
+  pub builds_same : (m n : Documents) (published : List Reply) → Builds g m n published → HaveSameContent m n
   builds_same m n published (rises {address = address} {d = d} taken no_show no_list) =
       put_alike (option_map content) (λ d s. refl) m address d (risen d) taken.held refl
   builds_same m n published (shows {address = address} {d = d} {n = o} taken is settled) =

@@ -7,3 +7,6 @@ pub mod Validity
 pub mod Contents
 pub mod OneBuild
 pub mod News
+pub mod OneOutcome
+pub mod Current
+pub mod HasEnd

@@ -16,7 +16,7 @@ use Rattle.lw_machine.proofs.Sums.{total, total_within, total_falls, weigh, leng
 
 -- ---- one document
 -- what is held at an address before and after: it is no further from being shown, and so many steps at most further from being validated
-record Goes (lift : ℕ) (before after : Option Document) : Type 0 where
+pub record Goes (lift : ℕ) (before after : Option Document) : Type 0 where
   shown : weigh to_show after ≤ weigh to_show before
   validated : weigh to_validated after ≤ weigh to_validated before + lift
   was_held : (e : Document) → after ≡ Some e → (d : Document) × (before ≡ Some d)
@@ -66,7 +66,7 @@ now_shown d s is = subst (λ x. to_show (record d { state = next x }) + 1 ≤ to
 
 -- ---- all documents
 -- a step at an address, where the others go up by so many steps at most, and so many documents become shown
-record IsStep (m n : Documents) (address : List ℕ) (lift shown : ℕ) : Type 0 where
+pub record IsStep (m n : Documents) (address : List ℕ) (lift shown : ℕ) : Type 0 where
   held : (d : Document) × (get m address ≡ Some d)
   each : (other : List ℕ) → Goes lift (get m other) (get n other)
   falls : weigh to_validated (get n address) + 1 ≤ weigh to_validated (get m address)
@@ -119,10 +119,10 @@ module _ (g : Grammar) (m n : Documents) (address : List ℕ) (d : Document) (is
           subst (λ o. Goes 3 o (get n other)) (put_elsewhere m address (indexed d) other apart)
           (lowers_at g (shown_texts m) (shown_texts (insert m address (indexed d))) other _ _ (settled.others other apart))
 
-abbrev Steps : Documents → Documents → Type 0
+abbrev pub Steps : Documents → Documents → Type 0
 Steps m n = (address : List ℕ) × (IsStep m n address 0 0 ⊎ IsStep m n address 3 1)
 
-steps : (g : Grammar) (m n : Documents) (published : List Reply) (other : List ℕ) (e : Document) → IsNext m other e → Builds g m n published → Steps m n
+pub steps : (g : Grammar) (m n : Documents) (published : List Reply) (other : List ℕ) (e : Document) → IsNext m other e → Builds g m n published → Steps m n
 steps g m n published other e is_next (rises {address = address} {d = d} taken no_show no_list) =
     (address, inl (one_step m address d (risen d) taken.held (no_less_shown d) (nearer d.state taken.unfinished)))
 steps g m n published other e is_next (shows {address = address} {d = d} {n = o} taken is settled) =
@@ -133,7 +133,7 @@ steps g m n published other e is_next (rests built) = absurd (let low = is_next.
 
 -- ---- whole builds
 -- how many steps are left at most, by the addresses that are looked at
-abbrev left_at : List (List ℕ) → Documents → ℕ
+abbrev pub left_at : List (List ℕ) → Documents → ℕ
 left_at addresses m = total (λ a. weigh to_validated (get m a)) addresses + 3 * length addresses * total (λ a. weigh to_show (get m a)) addresses
 
 module _ (m n : Documents) (addresses : List (List ℕ)) (address : List ℕ) (there : Among address addresses) where
@@ -153,13 +153,13 @@ module _ (m n : Documents) (addresses : List (List ℕ)) (address : List ℕ) (t
       let times = mul-le-mul_left (3 * length addresses) less in
       omega (arith, falls, times)
 
-abbrev AreAll : List (List ℕ) → Documents → Type 0
+abbrev pub AreAll : List (List ℕ) → Documents → Type 0
 AreAll addresses m = (address : List ℕ) (d : Document) → get m address ≡ Some d → Among address addresses
 
 still_all : (addresses : List (List ℕ)) (m n : Documents) (address : List ℕ) (lift shown : ℕ) → IsStep m n address lift shown → AreAll addresses m → AreAll addresses n
 still_all addresses m n address lift shown is all other e held = let was = (is.each other).was_held e held in all other was.0 was.1
 
-one_less : (addresses : List (List ℕ)) (m n : Documents) → Steps m n → AreAll addresses m → (left_at addresses n + 1 ≤ left_at addresses m) × AreAll addresses n
+pub one_less : (addresses : List (List ℕ)) (m n : Documents) → Steps m n → AreAll addresses m → (left_at addresses n + 1 ≤ left_at addresses m) × AreAll addresses n
 one_less addresses m n (address, inl is) all =
     (plain_step m n addresses address (all address is.held.0 is.held.1) is, still_all addresses m n address 0 0 is all)
 one_less addresses m n (address, inr is) all =

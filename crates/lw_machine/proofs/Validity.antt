@@ -13,7 +13,7 @@ use Rattle.lw_machine.specs.Settling as settling
 use Rattle.lw_machine.specs.Settling.{Settles, SettlesAt, IsSettled, lowered}
 use Rattle.lw_machine.specs.Building.{Builds, BuildsToEnd, risen, indexed, validated, rises, shows, validates, rests, done, step}
 use Rattle.lw_machine.specs.Events.{Happens, puts, closes, removes, builds, resets, with_text, closed, cleared, edits, edited}
-use Rattle.lw_machine.specs.Validity.{IsValid, IsCurrent}
+use Rattle.lw_machine.specs.Validity.{IsValid, IsCurrent, AreCurrent}
 use Rattle.lw_machine.proofs.Places.{order, one_or_two, put_here, put_elsewhere, taken_here, taken_elsewhere}
 
 module _ (g : Grammar) (address : List ℕ) where
@@ -168,9 +168,11 @@ module _ (g : Grammar) where
   end_is_built m n published (done built) = built
   end_is_built m n published (step {n = o} {o = end} {others = others} taken does rest) = end_is_built o end others rest
 
-  pub end_is_current : (m n : Documents) (published : List Reply) → IsValid g m → BuildsToEnd g m n published → (address : List ℕ) (d : Document) →
-      get n address ≡ Some d → IsCurrent g n address d
+  pub end_is_valid : (m n : Documents) (published : List Reply) → IsValid g m → BuildsToEnd g m n published → IsValid g n
+  end_is_valid m n published valid to_end = valid_if_sound n (to_end_sound m n published to_end (sound_if_valid m valid))
+
+  pub end_is_current : (m n : Documents) (published : List Reply) → IsValid g m → BuildsToEnd g m n published → AreCurrent g n
   end_is_current m n published valid to_end address d held =
       let state = end_is_built m n published to_end address d held in
-      let end = valid_if_sound n (to_end_sound m n published to_end (sound_if_valid m valid)) in
+      let end = end_is_valid m n published valid to_end in
       record { state = state; shown = end.shown address d held (let e = ap rank state in omega arith); told = end.told address d held state }

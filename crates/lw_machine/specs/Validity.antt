@@ -4,7 +4,7 @@ use Rattle.std.specs.Prelude.{ℕ, ℤ, ◌≡◌, ◌≤◌, List, Bool, Option
 use Rattle.std.specs.FinMap.{get}
 use Rattle.lw_grammar.specs.declared.grammar.Grammar.{Grammar}
 use Rattle.lw_text.specs.declared.shown.Shown.{Shown}
-use Rattle.lw_scopes.specs.Diagnostics.{AreDiagnostics}
+use Rattle.lw_scopes.specs.Diagnostics.{AreDiagnostics, IsList}
 use Rattle.lw_machine.specs.Documents.{Document, Documents, rank, shown_texts}
 use Rattle.lw_machine.specs.declared.state.State.TheVariants.{Validated}
 
@@ -21,6 +21,10 @@ module _ (g : Grammar) (m : Documents) where
   abbrev pub IsTold : List ℕ → Document → Type 0
   IsTold address d = (list : List Shown) × (d.published ≡ Some list) × AreDiagnostics g (shown_texts m) address list
 
+  -- each text has a list
+  abbrev pub HaveLists : Type 0
+  HaveLists = (address : List ℕ) (d : Document) → get m address ≡ Some d → (list : List Shown) × IsList g d.text list
+
   -- others see the present text of each document that is indexed, and the list of each that is validated is told
   pub record IsValid : Type 0 where
     pub shown : (address : List ℕ) (d : Document) → get m address ≡ Some d → 2 ≤ rank d.state → d.shown ≡ Some d.text
@@ -31,3 +35,7 @@ module _ (g : Grammar) (m : Documents) where
     pub state : d.state ≡ Validated
     pub shown : d.shown ≡ Some d.text
     pub told : IsTold address d
+
+  -- nor for any
+  abbrev pub AreCurrent : Type 0
+  AreCurrent = (address : List ℕ) (d : Document) → get m address ≡ Some d → IsCurrent address d
