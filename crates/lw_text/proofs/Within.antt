@@ -11,14 +11,14 @@ use Rattle.lw_text.specs.Position.{AreCharsWithin}
 use Rattle.lw_text.proofs.Places.{All-IsScalar}
 
 -- ---- what a text begins with
--- these characters begin a text, and these follow
-record Begins (ds cs rest : List ℕ) : Type 0 where
-  scalars : All IsScalar cs
-  more : List ℕ
-  more_scalars : all_scalars more ≡ true
-  left : encode_utf8_all more ≡ rest
+-- these characters begin a text, and these bytes follow
+pub record Begins (ds cs rest : List ℕ) : Type 0 where
+  pub scalars : All IsScalar cs
+  pub more : List ℕ
+  pub more_scalars : all_scalars more ≡ true
+  pub left : encode_utf8_all more ≡ rest
 
-begins : (cs ds rest : List ℕ) → all_scalars ds ≡ true → encode_utf8_all ds ≡ encode_utf8_all cs ++ rest → Begins ds cs rest
+pub begins : (cs ds rest : List ℕ) → all_scalars ds ≡ true → encode_utf8_all ds ≡ encode_utf8_all cs ++ rest → Begins ds cs rest
 begins [] ds rest scalars e = record { scalars = All-nil IsScalar; more = ds; more_scalars = scalars; left = e }
 begins (c ∷ cs) ds rest scalars e =
     let found = cons_from_encodes ds (encode_utf8_all cs ++ rest) c (e ∙ append_assoc (encode_utf8 c) (encode_utf8_all cs) rest) in
