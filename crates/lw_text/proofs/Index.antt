@@ -110,16 +110,18 @@ line_between text starts offset n are within from to =
     let inside : (offset < get_or starts n 0 + bytes_of found.line) ⊎ (found.after ≡ []) =
     ⊎_elim (λ over. inr over)
     (λ more. ⊎_elim (λ end. absurd (omega (arith, more.0, ap length places))) (λ ahead. inl (omega (arith, more.1))) to)
-    found.ends in
-    (record {
-      before = found.before;
-      line = found.line;
-      after = found.after;
-      cut = cut;
-      begins = start;
-      inside = (from, inside);
-      number = found.number;
-    }, omega (arith, few_before found.before found.line found.after cut, found.number))
+    found.ends in (
+      record {
+        before = found.before;
+        line = found.line;
+        after = found.after;
+        cut = cut;
+        begins = start;
+        inside = (from, inside);
+        number = found.number;
+      },
+      omega (arith, few_before found.before found.line found.after cut, found.number),
+    )
 
 pub IsLineOf-boundary : (text : List ℕ) (offset count start : ℕ) → IsUtf8 text → IsLineOf text offset count start → IsCharBoundary text start
 IsLineOf-boundary text offset count start utf8 at = subst (λ n. IsCharBoundary text n) (sym at.begins) (start_boundary text at.before at.line at.after utf8 at.cut)

@@ -141,16 +141,19 @@ some_offset enc text at utf8 =
     (λ there. let found = numbered lines at.line 0 (omega (arith, length-starts_from lines 0)) in
     let s : StartsLine text at.line (bytes_of_all found.before) = record { before = found.before; line = found.line; after = found.after; cut = subst (λ ls. AreLines text ls) found.parts cut.1; number = found.number; begins = refl } in
     let within = AreCharsWithin-some (units_of enc) found.line.content at.character (content_utf8 text at.line (bytes_of_all found.before) utf8 s) in
-    let result : (offset : ℕ) × IsOffset enc text at offset = (bytes_of_all found.before + length (encode_utf8_all within.0), in_line (record {
-      before = s.before;
-      line = s.line;
-      after = s.after;
-      chars = within.0;
-      cut = s.cut;
-      number = s.number;
-      chars_before = within.1;
-      far = refl;
-    })) in result)
+    let result : (offset : ℕ) × IsOffset enc text at offset = (
+      bytes_of_all found.before + length (encode_utf8_all within.0),
+      in_line (record {
+        before = s.before;
+        line = s.line;
+        after = s.after;
+        chars = within.0;
+        cut = s.cut;
+        number = s.number;
+        chars_before = within.1;
+        far = refl;
+      }),
+    ) in result)
     (λ past. (length text, past_lines (record { lines = lines; cut = cut.1; past = past; far = refl })))
     (cases_lt at.line (length lines))
 

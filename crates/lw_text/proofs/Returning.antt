@@ -32,12 +32,14 @@ length-before bytes into cs utf8 at before =
     omega (arith, ap (λ cs. length (encode_utf8_all cs)) same, length-after utf8_len bytes into 0 into none.0 utf8 at counted none.1, length-encodes none.0, none.1.within)
 
 narrowed : (content tail : List ℕ) (into : ℕ) → into ≤ length content → IsCharBoundary (content ++ tail) into → IsCharBoundary content into
-narrowed content tail into within at =
-    (within, λ before low.
-    let same : get_or (content ++ tail) into 0 ≡ get_or content into 0 = get_or_append_left content tail 0 into before in
-    let inside : into < length (content ++ tail) = omega (arith, length-append content tail) in
-    let far = at.1 inside (omega (arith, same)) in
-    omega (arith, same, far))
+narrowed content tail into within at = (
+  within,
+  λ before low.
+      let same : get_or (content ++ tail) into 0 ≡ get_or content into 0 = get_or_append_left content tail 0 into before in
+      let inside : into < length (content ++ tail) = omega (arith, length-append content tail) in
+      let far = at.1 inside (omega (arith, same)) in
+      omega (arith, same, far),
+)
 
 module _ (enc : Encoding) (text : List ℕ) (offset : ℕ) (at : Pos) (utf8 : IsUtf8 text) (boundary : IsCharBoundary text offset) (apart : ¬ (IsInsideBreak text offset)) (p : IsPositionIn enc text offset at) where
   rest_begins : BeginsWith (drop (bytes_of_all p.before) text) p.line p.after

@@ -60,7 +60,7 @@ module _ (size : ℕ → ℕ) (text : List ℕ) (place left n : ℕ) (ds : List 
         scalars = All-append IsScalar cs ds (All-IsScalar cs (scalars-chars (take place text) front_utf8)) found.scalars;
         rest = found.rest;
         parts = sym (take-append-drop place text) ∙ ap (λ bytes. take place text ++ bytes) found.parts ∙ ap (λ bytes. bytes ++ (encode_utf8_all ds ++ found.rest)) (sym spelled)
-        ∙ sym (append_assoc (encode_utf8_all cs) (encode_utf8_all ds) found.rest) ∙ ap (λ bytes. bytes ++ found.rest) (sym (encodes-append cs ds));
+            ∙ sym (append_assoc (encode_utf8_all cs) (encode_utf8_all ds) found.rest) ∙ ap (λ bytes. bytes ++ found.rest) (sym (encodes-append cs ds));
         within = omega (arith, found.within);
         whole = ⊎_elim (λ over. inl over) (λ w. inr (w.0, w.1, w.2, w.3, omega (arith, w.4))) found.whole;
       }
@@ -80,13 +80,16 @@ some_chars size (c ∷ cs) n scalars =
     (λ past. ([], record { scalars = All-nil IsScalar; rest = encode_utf8_all (c ∷ cs); parts = refl; within = omega arith; whole = inr (c, parts.0, encode_utf8_all cs, refl, omega arith) }))
     (λ fits. let found = some_chars size cs (n - size c) parts.1 in
     let total : sum_by size (c ∷ found.0) ≡ size c + sum_by size found.0 = sum_by-cons size c found.0 in
-    let result : (ds : List ℕ) × AreCharsWithin size (encode_utf8_all (c ∷ cs)) n ds = (c ∷ found.0, record {
-      scalars = All-cons IsScalar c found.0 parts.0 found.1.scalars;
-      rest = found.1.rest;
-      parts = ap (λ bytes. encode_utf8 c ++ bytes) found.1.parts ∙ sym (append_assoc (encode_utf8 c) (encode_utf8_all found.0) found.1.rest);
-      within = omega (arith, found.1.within);
-      whole = ⊎_elim (λ over. inl over) (λ w. inr (w.0, w.1, w.2, w.3, omega (arith, w.4))) found.1.whole;
-    }) in result)
+    let result : (ds : List ℕ) × AreCharsWithin size (encode_utf8_all (c ∷ cs)) n ds = (
+      c ∷ found.0,
+      record {
+        scalars = All-cons IsScalar c found.0 parts.0 found.1.scalars;
+        rest = found.1.rest;
+        parts = ap (λ bytes. encode_utf8 c ++ bytes) found.1.parts ∙ sym (append_assoc (encode_utf8 c) (encode_utf8_all found.0) found.1.rest);
+        within = omega (arith, found.1.within);
+        whole = ⊎_elim (λ over. inl over) (λ w. inr (w.0, w.1, w.2, w.3, omega (arith, w.4))) found.1.whole;
+      },
+    ) in result)
     (cases_lt n (size c))
 
 pub AreCharsWithin-some : (size : ℕ → ℕ) (text : List ℕ) (n : ℕ) → IsUtf8 text → (cs : List ℕ) × AreCharsWithin size text n cs

@@ -112,7 +112,12 @@ impl TextDoc {
     /// where memory is refused, the text stays as it was.
     ///
     /// Each change costs one copy of the text that it makes, and one look through it for its lines.
-    pub fn apply(&mut self, alloc: Global, changes: &[Change], enc: Encoding) -> Result<(), EditFault>
+    pub fn apply(
+        &mut self,
+        alloc: Global,
+        changes: &[Change],
+        enc: Encoding,
+    ) -> Result<(), EditFault>
         ensures changed { OnOk result (Changes enc self.old changes.now (Ok self.new)) }
         ensures fault { IfErr result (λ fault. (fault ≡ EditFault.NoMemory) ⊎ Changes enc self.old changes.now (Err fault)) }
         ensures unchanged { OnErr result (self.new ≡ self.old) }
@@ -124,7 +129,12 @@ impl TextDoc {
     }
 
     /// What the changes make of the text; None where there is no change.
-    fn changed_by_all(&self, alloc: Global, changes: &[Change], enc: Encoding) -> Result<Option<TextDoc>, EditFault>
+    fn changed_by_all(
+        &self,
+        alloc: Global,
+        changes: &[Change],
+        enc: Encoding,
+    ) -> Result<Option<TextDoc>, EditFault>
         ensures made { IfOk result (λ doc. AreMade enc self.now changes.now (unwrap_or doc self.now)) }
         ensures fault { IfErr result (λ fault. (fault ≡ EditFault.NoMemory) ⊎ Changes enc self.now changes.now (Err fault)) }
     {
@@ -137,7 +147,13 @@ impl TextDoc {
     }
 
     /// What the change makes of the text. `number` is its place in its list.
-    fn changed(&self, alloc: Global, change: &Change, number: u64, enc: Encoding) -> Result<TextDoc, EditFault>
+    fn changed(
+        &self,
+        alloc: Global,
+        change: &Change,
+        number: u64,
+        enc: Encoding,
+    ) -> Result<TextDoc, EditFault>
         ensures made { IfOk result (IsMade enc self.now change.now) }
         ensures fault { IfErr result (λ fault. (fault ≡ EditFault.NoMemory) ⊎ IsRefused enc self.now change.now number fault) }
     {
@@ -153,7 +169,13 @@ impl TextDoc {
     }
 
     /// The text with `new` in place of what stands from `from` to `to`.
-    fn replaced(&self, alloc: Global, from: usize, to: usize, new: &str) -> Result<TextDoc, EditFault>
+    fn replaced(
+        &self,
+        alloc: Global,
+        from: usize,
+        to: usize,
+        new: &str,
+    ) -> Result<TextDoc, EditFault>
         requires from { IsCharBoundary self.now from }
         requires to { IsCharBoundary self.now to }
         ensures { IsTextOrFault (take from self.now ++ new.now ++ drop to self.now) result }

@@ -11,41 +11,27 @@ ghost use Rattle.lw_text.specs.declared.units.Encoding.{Encoding};
 
 /// A place has one position.
 pub fn a_place_has_one_position()
-    ensures {
-        (enc : Encoding) (text : List ℕ) (offset : ℕ) (at other : Pos) →
-        IsPositionIn enc text offset at → IsPositionIn enc text offset other → at ≡ other
-    }
-{
-}
+    ensures { (enc : Encoding) (text : List ℕ) (offset : ℕ) (at other : Pos) →
+        IsPositionIn enc text offset at → IsPositionIn enc text offset other → at ≡ other }
+{}
 
 /// A position means one place.
 pub fn a_position_means_one_place()
-    ensures one {
-        (enc : Encoding) (text : List ℕ) (at : Pos) (offset other : ℕ) →
-        IsOffset enc text at offset → IsOffset enc text at other → offset ≡ other
-    }
-    ensures some {
-        (enc : Encoding) (text : List ℕ) (at : Pos) → IsUtf8 text →
-        (offset : ℕ) × (offset ≤ length text) × IsCharBoundary text offset × IsOffset enc text at offset
-    }
-{
-}
+    ensures one { (enc : Encoding) (text : List ℕ) (at : Pos) (offset other : ℕ) →
+        IsOffset enc text at offset → IsOffset enc text at other → offset ≡ other }
+    ensures some { (enc : Encoding) (text : List ℕ) (at : Pos) → IsUtf8 text →
+        (offset : ℕ) × (offset ≤ length text) × IsCharBoundary text offset × IsOffset enc text at offset }
+{}
 
 /// The position of a place at a character's start, and not inside `\r\n`, means that place.
 pub fn positions_lead_back()
-    ensures {
-        (enc : Encoding) (text : List ℕ) (offset : ℕ) (at : Pos) → IsUtf8 text →
+    ensures { (enc : Encoding) (text : List ℕ) (offset : ℕ) (at : Pos) → IsUtf8 text →
         IsCharBoundary text offset → ¬ (IsInsideBreak text offset) →
-        IsPositionIn enc text offset at → IsOffset enc text at offset
-    }
-{
-}
+        IsPositionIn enc text offset at → IsOffset enc text at offset }
+{}
 
 /// A list of changes makes one text of a text, or has one fault.
 pub fn changes_have_one_outcome()
-    ensures {
-        (enc : Encoding) (text : List ℕ) (changes : List Change) (outcome other : Result (List ℕ) EditFault) →
-        Changes enc text changes outcome → Changes enc text changes other → outcome ≡ other
-    }
-{
-}
+    ensures { (enc : Encoding) (text : List ℕ) (changes : List Change) (outcome other : Result (List ℕ) EditFault) →
+        Changes enc text changes outcome → Changes enc text changes other → outcome ≡ other }
+{}

@@ -23,7 +23,10 @@ pub(crate) fn line_at(text: &str, offset: usize) -> LineStart
     ensures line { IsLineOf text.now offset result.number result.start }
 {
     let bytes = text.as_bytes();
-    let mut line = LineStart { number: 0, start: 0 };
+    let mut line = LineStart {
+        number: 0,
+        start: 0,
+    };
     'lines: while let Some(next) = next_line(bytes, line.start) {
         if next > offset {
             break;
