@@ -1,10 +1,10 @@
 -- The index of a text's lines.
-use Rattle.std.proofs.Common.{◌≡◌, ◌≢◌, ℕ, zero, suc, ◌+◌, ◌<◌, ◌≤◌, ◌⊎◌, inl, inr, ⊎_elim, List, [], ◌∷◌, ◌++◌, length, get_or, drop, refl, sym, ap, ◌∙◌, subst, append_assoc, arith, length-append, IsUtf8, IsCharBoundary}
-use Rattle.std.proofs.lemmas.List.{drop_at, get_or_append_left, get_or_at}
+use Rattle.std.proofs.Common.{◌≡◌, ℕ, zero, suc, ◌+◌, ◌<◌, ◌≤◌, ◌⊎◌, inl, inr, ⊎_elim, List, [], ◌∷◌, ◌++◌, length, get_or, drop, refl, sym, ap, ◌∙◌, subst, append_assoc, arith, length-append, IsUtf8, IsCharBoundary}
+use Rattle.std.proofs.lemmas.List.{drop_at, get_or_at}
 use Rattle.std.proofs.lemmas.List.Sums.{sum_by-cons}
 use Rattle.std.proofs.lemmas.Str.{IsCharBoundary-after_ascii, IsCharBoundary-from_rest, IsCharBoundary-start, IsUtf8-drop}
 use Rattle.lw_text.specs.Lines.{Line, IsEnding, line_feed, both, carriage_return, AreLines, last, next, bytes_of, bytes_of_all}
-use Rattle.lw_text.specs.Position.{IsInLine, IsLineOf}
+use Rattle.lw_text.specs.Position.{IsLineOf}
 use Rattle.lw_text.specs.Starts.{AreStarts, starts_from}
 use Rattle.lw_text.proofs.Lines.{not_none}
 

@@ -3,6 +3,7 @@ pub mod Index
 pub mod Lines
 pub mod Making
 pub mod Offsets
+pub mod Order
 pub mod Outcomes
 pub mod Places
 pub mod Positions

@@ -1,8 +1,8 @@
 -- What changes make of a text.
-use Rattle.std.proofs.Common.{◌≡◌, ℕ, ◌+◌, ◌<◌, ◌≤◌, ◌⊎◌, inl, inr, ⊎_elim, List, [], ◌∷◌, ◌++◌, length, get_or, take, drop, Bor, Option, Some, None, unwrap_or, Result, Ok, Err, IfOk, IfErr, refl, sym, ap, ◌∙◌, subst, arith, length-take-le, take-append-drop}
+use Rattle.std.proofs.Common.{◌≡◌, ℕ, ◌+◌, ◌<◌, ◌≤◌, ◌⊎◌, inl, inr, ⊎_elim, List, [], ◌∷◌, ◌++◌, length, get_or, take, drop, Bor, Option, Some, None, unwrap_or, Result, Ok, Err, IfOk, IfErr, sym, ap, ◌∙◌, subst, arith, length-take-le, take-append-drop}
 use Rattle.std.proofs.lemmas.List.{drop_more, take_more}
 use Rattle.std.specs.Option.{option_copied}
-use Rattle.lw_text.specs.Changes.{AreMade, none, next, Changes, made, refused, HasBadRange, IsChanged, IsMade, IsRefused, bad_range, too_long, IsTextOrFault}
+use Rattle.lw_text.specs.Changes.{AreMade, none, next, Changes, refused, HasBadRange, IsChanged, IsMade, IsRefused, too_long, IsTextOrFault}
 use Rattle.lw_text.specs.declared.change.Change.{Change}
 use Rattle.lw_text.specs.declared.change.EditFault.{EditFault}
 use Rattle.lw_text.specs.declared.change.EditFault.TheVariants.{NoMemory}

@@ -1,13 +1,12 @@
 -- The place that a position means.
-use Rattle.std.proofs.Common.{◌≡◌, ℕ, ◌+◌, ◌-◌, ◌<◌, ◌≤◌, ◌⊎◌, inl, inr, ⊎_elim, List, [], ◌∷◌, ◌++◌, length, sum_by, get_or, take, drop, refl, sym, ap, ap₂, ◌∙◌, subst, subst₂, append_assoc, append-nil, arith, length-append, length-drop, encode_utf8, encode_utf8_all, chars, IsUtf8, IsCharBoundary}
-use Rattle.std.specs.Char.{IsScalar}
+use Rattle.std.proofs.Common.{◌≡◌, ℕ, ◌+◌, ◌-◌, ◌<◌, ◌≤◌, ⊎_elim, List, [], ◌∷◌, ◌++◌, length, get_or, take, drop, refl, sym, ap, ap₂, ◌∙◌, subst, subst₂, append_assoc, append-nil, arith, length-append, encode_utf8_all, chars, IsUtf8, IsCharBoundary}
 use Rattle.std.proofs.lemmas.Bool.{cases_lt}
 use Rattle.std.proofs.lemmas.List.{append_cancel_left, get_or_at, get_or_read, take_at}
 use Rattle.std.proofs.lemmas.Str.{IsCharBoundary-at_seam, IsCharBoundary-before_ascii, IsCharBoundary-end, IsCharBoundary-from_rest, IsUtf8-drop, IsUtf8-take, encodes-chars, scalars-chars}
-use Rattle.lw_text.specs.Lines.{Line, IsEnding, AreLines, bytes_of, bytes_of_all, joined}
+use Rattle.lw_text.specs.Lines.{Line, AreLines, bytes_of_all, joined}
 use Rattle.lw_text.specs.Offset.{IsOffset, in_line, past_lines, IsOffsetInLine, IsOffsetPastLines}
 use Rattle.lw_text.specs.Position.{AreCharsWithin, units_of}
-use Rattle.lw_text.specs.Starts.{AreStarts, IsBreakOrOver, IsLineEnd, starts_from}
+use Rattle.lw_text.specs.Starts.{AreStarts, IsBreakOrOver, IsLineEnd}
 use Rattle.lw_text.specs.declared.place.Pos.{Pos}
 use Rattle.lw_text.specs.declared.units.Encoding.{Encoding}
 use Rattle.lw_text.proofs.Index.{length-starts_from, numbered, start_boundary}
@@ -104,7 +103,7 @@ IsOffset-boundary enc text at offset utf8 (in_line p) =
     (there.0, there)
 
 -- ---- at most one
-same_front : (n : ℕ) (xs ys : List Line) (x y : Line) (r s : List Line) → n ≡ length xs → n ≡ length ys → xs ++ x ∷ r ≡ ys ++ y ∷ s → (xs ≡ ys) × (x ≡ y)
+pub same_front : (n : ℕ) (xs ys : List Line) (x y : Line) (r s : List Line) → n ≡ length xs → n ≡ length ys → xs ++ x ∷ r ≡ ys ++ y ∷ s → (xs ≡ ys) × (x ≡ y)
 same_front n xs ys x y r s p q e =
     let fronts : xs ≡ ys = sym (take_at xs (x ∷ r) n (sym p)) ∙ ap (take n) e ∙ take_at ys (y ∷ s) n (sym q) in
     let rest = append_cancel_left ys (x ∷ r) (y ∷ s) (ap (λ zs. zs ++ x ∷ r) (sym fronts) ∙ e) in

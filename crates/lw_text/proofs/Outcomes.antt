@@ -1,10 +1,10 @@
 -- A list of changes has one outcome.
-use Rattle.std.proofs.Common.{◌≡◌, ℕ, zero, suc, ◌+◌, ◌<◌, ◌≤◌, ◌⊎◌, inl, inr, ⊎_elim, List, [], ◌∷◌, ◌++◌, length, take, drop, Option, Some, None, Result, Ok, Err, refl, sym, ap, ap₂, ◌∙◌, subst, arith}
-use Rattle.lw_text.specs.Changes.{AreMade, none, next, Changes, made, refused, HasBadRange, IsChanged, whole, part, IsMade, IsRefused, bad_range, too_long}
+use Rattle.std.proofs.Common.{◌≡◌, ℕ, ◌+◌, List, [], ◌∷◌, ◌++◌, length, take, drop, Some, Result, Ok, Err, refl, sym, ap, ap₂, ◌∙◌, subst, arith}
+use Rattle.lw_text.specs.Changes.{AreMade, none, next, Changes, made, refused, IsChanged, whole, part, IsMade, IsRefused, bad_range, too_long}
 use Rattle.lw_text.specs.Offset.{IsOffset}
 use Rattle.lw_text.specs.declared.change.Change.{Change}
 use Rattle.lw_text.specs.declared.change.EditFault.{EditFault}
-use Rattle.lw_text.specs.declared.change.EditFault.TheVariants.{BadRange, TooLong}
+use Rattle.lw_text.specs.declared.change.EditFault.TheVariants.{TooLong}
 use Rattle.lw_text.specs.declared.place.Pos.{Pos}
 use Rattle.lw_text.specs.declared.units.Encoding.{Encoding}
 use Rattle.lw_text.proofs.Offsets.{IsOffset-only}

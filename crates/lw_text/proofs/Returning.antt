@@ -1,13 +1,13 @@
 -- The position of a place means that place.
-use Rattle.std.proofs.Common.{◌≡◌, ℕ, ◌+◌, ◌<◌, ◌≤◌, ◌⊎◌, inl, inr, ⊎_elim, List, [], ◌∷◌, ◌++◌, length, append_assoc, sum_by, get_or, take, drop, Some, slice_get, refl, sym, ap, ◌∙◌, subst, subst₂, arith, length-append, length-drop, length-take-le, encode_utf8_all, chars, IsUtf8, IsCharBoundary}
+use Rattle.std.proofs.Common.{◌≡◌, ℕ, ◌+◌, ◌<◌, ◌≤◌, inl, inr, ⊎_elim, List, [], ◌∷◌, ◌++◌, length, append_assoc, sum_by, get_or, take, drop, Some, slice_get, refl, sym, ap, ◌∙◌, subst, subst₂, arith, length-append, length-drop, length-take-le, encode_utf8_all, chars, IsUtf8, IsCharBoundary}
 use Rattle.std.proofs.lemmas.Bool.{cases_lt}
 use Rattle.std.proofs.lemmas.Bool.Decides.{nat_tests}
 use Rattle.std.proofs.lemmas.List.{drop-drop, get_or-drop, get_or_append_left, get_or_at}
 use Rattle.std.proofs.lemmas.Option.{slice_get-get_or}
 use Rattle.std.proofs.lemmas.Str.{IsCharBoundary-from_drop, IsUtf8-drop, IsUtf8-take, encodes-chars}
-use Rattle.lw_text.specs.Lines.{Line, AreLines, bytes_of, bytes_of_all, joined}
+use Rattle.lw_text.specs.Lines.{bytes_of_all, joined}
 use Rattle.lw_text.specs.Offset.{IsOffset, in_line}
-use Rattle.lw_text.specs.Position.{AreCharsWithin, IsInLine, IsInsideBreak, IsPositionIn, units_of, utf8_len}
+use Rattle.lw_text.specs.Position.{AreCharsWithin, IsInsideBreak, IsPositionIn, units_of, utf8_len}
 use Rattle.lw_text.specs.declared.place.Pos.{Pos}
 use Rattle.lw_text.specs.declared.units.Encoding.{Encoding}
 use Rattle.lw_text.specs.declared.units.Encoding.TheVariants.{Utf16}

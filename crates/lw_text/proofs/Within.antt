@@ -1,12 +1,12 @@
 -- The whole characters among the first units of a text.
-use Rattle.std.proofs.Common.{◌≡◌, ℕ, ◌+◌, ◌-◌, ◌<◌, ◌≤◌, ◌⊎◌, inl, inr, ⊎_elim, true, List, [], ◌∷◌, ◌++◌, length, sum_by, take, drop, All, refl, sym, ap, ◌∙◌, subst, append_assoc, append-nil, arith, length-append, length-take-le, take-append-drop, encode_utf8, encode_utf8_all, chars, IsUtf8, IsCharBoundary}
+use Rattle.std.proofs.Common.{◌≡◌, ℕ, ◌+◌, ◌-◌, ◌<◌, ◌≤◌, inl, inr, ⊎_elim, true, List, [], ◌∷◌, ◌++◌, length, sum_by, take, drop, All, refl, sym, ap, ◌∙◌, subst, append_assoc, arith, length-append, length-take-le, take-append-drop, encode_utf8, encode_utf8_all, chars, IsUtf8, IsCharBoundary}
 use Rattle.std.specs.Char.{IsScalar}
 use Rattle.std.specs.Str.{all_scalars}
 use Rattle.std.proofs.lemmas.Bool.{and_parts, cases_lt}
 use Rattle.std.proofs.lemmas.List.{nil_from_length}
 use Rattle.std.proofs.lemmas.List.Elements.{All-nil, All-cons, All-append}
 use Rattle.std.proofs.lemmas.List.Sums.{sum_by-append, sum_by-cons}
-use Rattle.std.proofs.lemmas.Str.{IsUtf8-drop, IsUtf8-take, cons_from_encodes, encodes-append, encodes-chars, scalars-chars}
+use Rattle.std.proofs.lemmas.Str.{IsUtf8-take, cons_from_encodes, encodes-append, encodes-chars, scalars-chars}
 use Rattle.lw_text.specs.Position.{AreCharsWithin}
 use Rattle.lw_text.proofs.Places.{All-IsScalar}
 

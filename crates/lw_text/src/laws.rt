@@ -1,7 +1,7 @@
 // What a reader of the definitions would expect of them: each function has no body and says one law.
 ghost use Rattle.std.specs.Prelude.{◌≡◌, ◌≤◌, ℕ, List, Result, length};
 ghost use Rattle.std.specs.Str.{IsCharBoundary, IsUtf8};
-ghost use Rattle.lw_text.specs.Changes.{Changes};
+ghost use Rattle.lw_text.specs.Changes.{Changes, IsAfter};
 ghost use Rattle.lw_text.specs.Offset.{IsOffset};
 ghost use Rattle.lw_text.specs.Position.{IsInsideBreak, IsPositionIn};
 ghost use Rattle.lw_text.specs.declared.change.Change.{Change};
@@ -29,6 +29,16 @@ pub fn positions_lead_back()
         IsCharBoundary text offset → ¬ (IsInsideBreak text offset) →
         IsPositionIn enc text offset at → IsOffset enc text at offset }
 {}
+
+/// Of two positions the later one does not mean an earlier place. So what a change takes out of a text
+/// stands from the one place on up to the other.
+pub fn positions_keep_their_order()
+    ensures {
+        (enc : Encoding) (text : List ℕ) (at later : Pos) (offset end : ℕ) → IsUtf8 text → ¬ (IsAfter at later) →
+        IsOffset enc text at offset → IsOffset enc text later end → offset ≤ end
+    }
+{
+}
 
 /// A list of changes makes one text of a text, or has one fault.
 pub fn changes_have_one_outcome()

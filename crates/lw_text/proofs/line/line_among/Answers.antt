@@ -1,4 +1,4 @@
-use Rattle.std.proofs.Common.{◌≡◌, ◌<◌, ◌+◌, ◌⊎◌, inl, inr, ⊎_elim, length, get_or, subst, ap, sym, arith}
+use Rattle.std.proofs.Common.{◌≡◌, ◌<◌, ◌+◌, ◌⊎◌, length, get_or, subst, arith}
 use Rattle.lw_text.proofs.Index.{line_between}
 use Rattle.lw_text.proofs.line.line_among.Goals as goal
 

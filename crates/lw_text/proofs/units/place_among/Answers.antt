@@ -1,4 +1,4 @@
-use Rattle.std.proofs.Common.{◌≡◌, ◌≤◌, ◌+◌, ◌++◌, ◌∷◌, [], ◌∙◌, refl, sym, ap, append_assoc, append-nil, length, length-append, sum_by, encode_utf8, encode_utf8_all, arith}
+use Rattle.std.proofs.Common.{◌≡◌, ◌≤◌, ◌++◌, ◌∷◌, [], ◌∙◌, refl, sym, ap, append_assoc, append-nil, length, length-append, sum_by, encode_utf8, encode_utf8_all, arith}
 use Rattle.std.proofs.lemmas.List.Sums.{sum_by_push}
 use Rattle.std.proofs.lemmas.Str.{encodes-append}
 use Rattle.lw_text.specs.Position.{units_of}

@@ -1,4 +1,4 @@
-use Rattle.std.proofs.Common.{ap, subst, unwrap_or}
+use Rattle.std.proofs.Common.{subst, unwrap_or}
 use Rattle.lw_text.specs.Changes.{AreMade, made}
 use Rattle.lw_text.proofs.doc.TextDoc.apply.Goals as goal
 

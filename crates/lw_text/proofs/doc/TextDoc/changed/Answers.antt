@@ -1,4 +1,4 @@
-use Rattle.std.proofs.Common.{inl, inr, refl, sym, subst, ◌∙◌, ◌++◌, take, drop}
+use Rattle.std.proofs.Common.{inr, sym, subst, ◌∙◌, ◌++◌, take, drop}
 use Rattle.std.proofs.lemmas.Bool.{false≢true}
 use Rattle.lw_text.specs.Changes.{bad_range, HasBadRange, IsChanged, part, whole}
 use Rattle.lw_text.proofs.Making.{one_change}
