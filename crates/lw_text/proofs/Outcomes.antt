@@ -1,13 +1,19 @@
 -- A list of changes has one outcome.
-use Rattle.std.proofs.Common.{◌≡◌, ℕ, ◌+◌, List, [], ◌∷◌, ◌++◌, length, take, drop, Some, Result, Ok, Err, refl, sym, ap, ap₂, ◌∙◌, subst, arith}
-use Rattle.lw_text.specs.Changes.{AreMade, none, next, Changes, made, refused, IsChanged, whole, part, IsMade, IsRefused, bad_range, too_long}
+use Rattle.std.proofs.Common.{◌≡◌, ℕ, ◌+◌, List, [], ◌∷◌, ◌++◌, length, take, drop, Some, Result, Ok, Err, refl, sym, ap, ap₂, ◌∙◌, subst, arith, All, IsUtf8, append-nil, append_assoc, None, Option, ⊎_elim, inl, inr, ◌⊎◌}
+use Rattle.std.proofs.lemmas.Bool.{cases_eq, cases_lt}
+use Rattle.std.proofs.lemmas.List.Elements.{All-head, All-tail}
+use Rattle.std.proofs.lemmas.Str.{IsUtf8-append, IsUtf8-drop, IsUtf8-take}
+use Rattle.std.specs.Option.{IsSomeAnd}
+use Rattle.lw_text.specs.Changes.{IsAfter, AreMade, none, next, Changes, made, refused, IsChanged, whole, part, IsMade, IsRefused, bad_range, too_long, HasBadRange}
 use Rattle.lw_text.specs.Offset.{IsOffset}
 use Rattle.lw_text.specs.declared.change.Change.{Change}
 use Rattle.lw_text.specs.declared.change.EditFault.{EditFault}
-use Rattle.lw_text.specs.declared.change.EditFault.TheVariants.{TooLong}
+use Rattle.lw_text.specs.declared.change.EditFault.TheVariants.{TooLong, BadRange}
 use Rattle.lw_text.specs.declared.place.Pos.{Pos}
 use Rattle.lw_text.specs.declared.units.Encoding.{Encoding}
-use Rattle.lw_text.proofs.Offsets.{IsOffset-only}
+use Rattle.lw_text.specs.declared.change.TheConstants.{MAX_BYTES}
+use Rattle.lw_text.proofs.Making.{AreMade-push}
+use Rattle.lw_text.proofs.Offsets.{IsOffset-only, IsOffset-some}
 
 module _ (enc : Encoding) where
   -- ---- one change
@@ -76,3 +82,46 @@ module _ (enc : Encoding) where
   Changes-only text changes a b (refused before change after middle e some r) (made {new} m) = absurd (made_not_refused before change after (subst (λ cs. AreMade enc text cs new) e m) some r)
   Changes-only text changes a b (refused before change after middle e some r) (refused before' change' after' middle' e' some' r') =
       ap (λ fault. Err fault) (same_fault before before' change change' after after' (length before) (length before') (sym e ∙ e') (omega arith) some some' r r')
+
+  -- ---- there is one
+  -- a change of a text is made or refused
+  abbrev Decided : List ℕ → Change → ℕ → Type 0
+  Decided text change number = ((new : List ℕ) × IsUtf8 new × IsMade enc text change new) ⊎ ((fault : EditFault) × IsRefused enc text change number fault)
+
+  -- by the length of the text that it makes
+  by_length : (text : List ℕ) (change : Change) (number : ℕ) (new : List ℕ) → ¬ (HasBadRange change) → IsUtf8 new → IsChanged enc text change new → Decided text change number
+  by_length text change number new ordered utf8 changed =
+      ⊎_elim (λ long. inr (TooLong (length new), too_long ordered changed long)) (λ fits. inl (new, utf8, record { ordered = ordered; changed = changed; fits = fits })) (cases_lt MAX_BYTES (length new))
+
+  decide_after : (a b : Pos) → (IsAfter a b) ⊎ ¬ (IsAfter a b)
+  decide_after a b =
+      ⊎_elim (λ less. inl (inl less))
+      (λ lines. ⊎_elim
+      (λ same. ⊎_elim (λ less. inl (inr (same, less))) (λ characters. inr (λ after. ⊎_elim (λ less. omega arith) (λ w. omega (arith, w.1)) after)) (cases_lt b.character a.character))
+      (λ differ. inr (λ after. ⊎_elim (λ less. omega arith) (λ w. differ w.0) after))
+      (cases_eq a.line b.line))
+      (cases_lt b.line a.line)
+
+  by_range : (text : List ℕ) (change : Change) (number : ℕ) (range : Option (Pos × Pos)) → change.range ≡ range → IsUtf8 text → IsUtf8 change.text → Decided text change number
+  by_range text change number None e utf8 new =
+      by_length text change number change.text (λ bad. subst (λ r. IsSomeAnd r (λ range. IsAfter range.0 range.1)) e bad) new (whole e)
+  by_range text change number (Some range) e utf8 new =
+      ⊎_elim
+      (λ after. inr (BadRange number, bad_range (subst (λ r. IsSomeAnd r (λ range. IsAfter range.0 range.1)) (sym e) after)))
+      (λ ordered. let i = IsOffset-some enc text range.0 utf8 in
+      let j = IsOffset-some enc text range.1 utf8 in
+      let spelled = IsUtf8-append (take i.0 text ++ change.text) (drop j.0 text) (IsUtf8-append (take i.0 text) change.text (IsUtf8-take text i.0 utf8 i.2) new) (IsUtf8-drop text j.0 utf8 j.2) in
+      by_length text change number (take i.0 text ++ change.text ++ drop j.0 text) (λ bad. ordered (subst (λ r. IsSomeAnd r (λ range. IsAfter range.0 range.1)) e bad)) spelled (part range.0 range.1 e i.3 j.3))
+      (decide_after range.0 range.1)
+
+  some_from : (first : List ℕ) (all done rest : List Change) (text : List ℕ) → all ≡ done ++ rest → AreMade enc first done text → IsUtf8 text → All (λ change. IsUtf8 change.text) rest →
+      (outcome : Result (List ℕ) EditFault) × Changes enc first all outcome
+  some_from first all done [] text e so_far utf8 news = (Ok text, made (subst (λ cs. AreMade enc first cs text) (sym (e ∙ append-nil done)) so_far))
+  some_from first all done (change ∷ rest) text e so_far utf8 news =
+      ⊎_elim
+      (λ m. some_from first all (done ++ change ∷ []) rest m.0 (e ∙ sym (append_assoc done (change ∷ []) rest)) (AreMade-push enc so_far m.2) m.1 (All-tail (λ c. IsUtf8 c.text) change rest news))
+      (λ r. (Err r.0, refused done change rest text e so_far r.1))
+      (by_range text change (length done) change.range refl utf8 (All-head (λ c. IsUtf8 c.text) change rest news))
+
+  pub Changes-some : (text : List ℕ) (changes : List Change) → IsUtf8 text → All (λ change. IsUtf8 change.text) changes → (outcome : Result (List ℕ) EditFault) × Changes enc text changes outcome
+  Changes-some text changes utf8 news = some_from text changes [] changes text refl none utf8 news

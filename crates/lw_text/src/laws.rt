@@ -1,5 +1,5 @@
 // What a reader of the definitions would expect of them: each function has no body and says one law.
-ghost use Rattle.std.specs.Prelude.{◌≡◌, ◌≤◌, ℕ, List, Result, length};
+ghost use Rattle.std.specs.Prelude.{◌≡◌, ◌≤◌, ℕ, List, Result, length, All};
 ghost use Rattle.std.specs.Str.{IsCharBoundary, IsUtf8};
 ghost use Rattle.lw_text.specs.Changes.{Changes, IsAfter};
 ghost use Rattle.lw_text.specs.Offset.{IsOffset};
@@ -33,15 +33,14 @@ pub fn positions_lead_back()
 /// Of two positions the later one does not mean an earlier place. So what a change takes out of a text
 /// stands from the one place on up to the other.
 pub fn positions_keep_their_order()
-    ensures {
-        (enc : Encoding) (text : List ℕ) (at later : Pos) (offset end : ℕ) → IsUtf8 text → ¬ (IsAfter at later) →
-        IsOffset enc text at offset → IsOffset enc text later end → offset ≤ end
-    }
-{
-}
+    ensures { (enc : Encoding) (text : List ℕ) (at later : Pos) (offset end : ℕ) → IsUtf8 text → ¬ (IsAfter at later) →
+        IsOffset enc text at offset → IsOffset enc text later end → offset ≤ end }
+{}
 
 /// A list of changes makes one text of a text, or has one fault.
 pub fn changes_have_one_outcome()
-    ensures { (enc : Encoding) (text : List ℕ) (changes : List Change) (outcome other : Result (List ℕ) EditFault) →
+    ensures one { (enc : Encoding) (text : List ℕ) (changes : List Change) (outcome other : Result (List ℕ) EditFault) →
         Changes enc text changes outcome → Changes enc text changes other → outcome ≡ other }
+    ensures some { (enc : Encoding) (text : List ℕ) (changes : List Change) → IsUtf8 text → All (λ change. IsUtf8 change.text) changes →
+        (outcome : Result (List ℕ) EditFault) × Changes enc text changes outcome }
 {}

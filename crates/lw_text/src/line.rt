@@ -1,6 +1,5 @@
 // The lines of a text.
 ghost use Rattle.std.specs.Prelude.{◌≡◌, ◌<◌, ◌≤◌, ◌^◌, ℕ, length, IfOk, MatchOption, All, drop};
-ghost use Rattle.std.specs.Str.{IsCharBoundary};
 ghost use Rattle.lw_text.specs.Lines.{IsNoBreak};
 ghost use Rattle.lw_text.specs.Position.{IsLineOf};
 ghost use Rattle.lw_text.specs.Starts.{AreStarts, IsLineEnd, IsNextLine};

@@ -1,5 +1,5 @@
 // Places, positions and changes, by hand.
-ghost use Rattle.std.specs.Prelude.{◌≡◌, ◌≤◌, length};
+ghost use Rattle.std.specs.Prelude.{◌≡◌};
 
 use crate::{Change, EditFault, Encoding, MAX_BYTES, Pos, TextDoc, position};
 use lw_base::{Items, Name, NoMemory};
