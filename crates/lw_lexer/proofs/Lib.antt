@@ -1,3 +1,2 @@
 pub mod KeywordLemmas
 pub mod TerminalLemmas
-pub mod OneCut

@@ -1,7 +1,7 @@
 // Texts and their tokens, worked by hand from the five rules, and that the calls succeed where there is
 // memory.
 ghost use Rattle.std.specs.Prelude.{IfOk};
-ghost use Rattle.lw_terminals.specs.TokenKinds.{AreKeywords};
+ghost use Rattle.lw_tokens.specs.Keywords.{AreKeywords};
 
 use crate::{LexFault, lex};
 use lw_base::{Name, NoMemory, Token};

@@ -4,3 +4,5 @@ pub mod Building
 pub mod Events
 pub mod Answers
 pub mod Sessions
+pub mod Validity
+pub mod Laws

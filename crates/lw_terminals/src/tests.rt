@@ -1,6 +1,6 @@
 // That sets are made where there is memory, and what patterns are refused, by values worked by hand.
 ghost use Rattle.std.specs.Prelude.{IfOk};
-ghost use Rattle.lw_terminals.specs.TokenKinds.{AreKeywords};
+ghost use Rattle.lw_tokens.specs.Keywords.{AreKeywords};
 
 use crate::{MakeTokensFault, TerminalSource, TokenSet};
 use lw_base::{KindId, Name, NoMemory};

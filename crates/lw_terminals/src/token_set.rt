@@ -37,7 +37,8 @@ impl Model for TokenSet {
 
 impl TokenSet {
     ghost use Rattle.std.specs.Prelude.{◌≡◌, ◌↔◌, ℕ, ◌+◌, ◌<◌, ◌≤◌, All, IsTrue, IfOk, OnOk, Err, length, slice_get, Some};
-    ghost use Rattle.lw_terminals.specs.TokenKinds.{AreKeywords, AreTokenKinds};
+    ghost use Rattle.lw_tokens.specs.Keywords.{AreKeywords};
+    ghost use Rattle.lw_terminals.specs.TokenKinds.{AreTokenKinds};
     ghost use Rattle.lw_terminals.specs.Starting.{AreStarting};
     ghost use Rattle.lw_terminals.specs.Made.{kinds_of, IsUsable, IsRefusedAt, MatchesEmptyAt, Counts, Keeps};
 

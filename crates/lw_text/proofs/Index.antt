@@ -1,10 +1,10 @@
 -- The index of a text's lines.
-use Rattle.std.proofs.Common.{◌≡◌, ◌≢◌, ℕ, zero, suc, ◌+◌, ◌<◌, ◌≤◌, ◌⊎◌, inl, inr, ⊎_elim, List, [], ◌∷◌, ◌++◌, length, get_or, drop, refl, sym, ap, ◌∙◌, subst, append_assoc, arith, length-append, IsUtf8, IsCharBoundary}
-use Rattle.std.proofs.lemmas.List.{drop_at, get_or_append_left, get_or_at}
+use Rattle.std.proofs.Common.{◌≡◌, ℕ, zero, suc, ◌+◌, ◌<◌, ◌≤◌, ◌⊎◌, inl, inr, ⊎_elim, List, [], ◌∷◌, ◌++◌, length, get_or, drop, refl, sym, ap, ◌∙◌, subst, append_assoc, arith, length-append, IsUtf8, IsCharBoundary}
+use Rattle.std.proofs.lemmas.List.{drop_at, get_or_at}
 use Rattle.std.proofs.lemmas.List.Sums.{sum_by-cons}
 use Rattle.std.proofs.lemmas.Str.{IsCharBoundary-after_ascii, IsCharBoundary-from_rest, IsCharBoundary-start, IsUtf8-drop}
 use Rattle.lw_text.specs.Lines.{Line, IsEnding, line_feed, both, carriage_return, AreLines, last, next, bytes_of, bytes_of_all}
-use Rattle.lw_text.specs.Position.{IsInLine, IsLineOf}
+use Rattle.lw_text.specs.Position.{IsLineOf}
 use Rattle.lw_text.specs.Starts.{AreStarts, starts_from}
 use Rattle.lw_text.proofs.Lines.{not_none}
 
@@ -110,16 +110,18 @@ line_between text starts offset n are within from to =
     let inside : (offset < get_or starts n 0 + bytes_of found.line) ⊎ (found.after ≡ []) =
     ⊎_elim (λ over. inr over)
     (λ more. ⊎_elim (λ end. absurd (omega (arith, more.0, ap length places))) (λ ahead. inl (omega (arith, more.1))) to)
-    found.ends in
-    (record {
-      before = found.before;
-      line = found.line;
-      after = found.after;
-      cut = cut;
-      begins = start;
-      inside = (from, inside);
-      number = found.number;
-    }, omega (arith, few_before found.before found.line found.after cut, found.number))
+    found.ends in (
+      record {
+        before = found.before;
+        line = found.line;
+        after = found.after;
+        cut = cut;
+        begins = start;
+        inside = (from, inside);
+        number = found.number;
+      },
+      omega (arith, few_before found.before found.line found.after cut, found.number),
+    )
 
 pub IsLineOf-boundary : (text : List ℕ) (offset count start : ℕ) → IsUtf8 text → IsLineOf text offset count start → IsCharBoundary text start
 IsLineOf-boundary text offset count start utf8 at = subst (λ n. IsCharBoundary text n) (sym at.begins) (start_boundary text at.before at.line at.after utf8 at.cut)

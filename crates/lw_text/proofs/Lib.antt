@@ -1,7 +1,12 @@
 pub mod Counts
 pub mod Index
 pub mod Lines
+pub mod Making
+pub mod Offsets
+pub mod Order
+pub mod Outcomes
 pub mod Places
 pub mod Positions
 pub mod Reaching
+pub mod Returning
 pub mod Within

@@ -14,16 +14,16 @@ use Rattle.lw_text.proofs.Lines.{AreLines-joined, not_none}
 
 -- ---- a line among the lines of a text
 -- these bytes begin with the line, and go on with the lines after it
-record BeginsWith (bytes : List ℕ) (line : Line) (after : List Line) : Type 0 where
-  bare : All IsNoBreak line.content
-  parts : bytes ≡ line.content ++ (line.ending ++ joined after)
-  ends : ((line.ending ≡ []) × (after ≡ [])) ⊎ (IsEnding (joined after) line.ending × (after ≢ []))
+pub record BeginsWith (bytes : List ℕ) (line : Line) (after : List Line) : Type 0 where
+  pub bare : All IsNoBreak line.content
+  pub parts : bytes ≡ line.content ++ (line.ending ++ joined after)
+  pub ends : ((line.ending ≡ []) × (after ≡ [])) ⊎ (IsEnding (joined after) line.ending × (after ≢ []))
 
 some_lines : {text : List ℕ} {lines : List Line} → AreLines text lines → lines ≢ []
 some_lines (last _) e = cc
 some_lines (next _ _ _) e = cc
 
-line_in : (before : List Line) {text : List ℕ} {lines : List Line} → AreLines text lines → (line : Line) (after : List Line) → lines ≡ before ++ line ∷ after → BeginsWith (drop (bytes_of_all before) text) line after
+pub line_in : (before : List Line) {text : List ℕ} {lines : List Line} → AreLines text lines → (line : Line) (after : List Line) → lines ≡ before ++ line ∷ after → BeginsWith (drop (bytes_of_all before) text) line after
 line_in [] (last {content} bare) line after e =
     let first : record { content = content; ending = [] } ≡ line = cc in
     let rest : [] ≡ after = cc in
@@ -169,7 +169,7 @@ low_ending bytes both = omega arith
 low_ending bytes (carriage_return _) = omega arith
 
 -- only `\r\n` has a place inside
-inside_ending : {rest ending : List ℕ} (size into : ℕ) → IsEnding rest ending → size < into → into < size + length ending → (ending ≡ 13 ∷ 10 ∷ []) × (into ≡ size + 1)
+pub inside_ending : {rest ending : List ℕ} (size into : ℕ) → IsEnding rest ending → size < into → into < size + length ending → (ending ≡ 13 ∷ 10 ∷ []) × (into ≡ size + 1)
 inside_ending size into line_feed behind before = absurd (omega arith)
 inside_ending size into both behind before = (refl, omega arith)
 inside_ending size into (carriage_return _) behind before = absurd (omega arith)

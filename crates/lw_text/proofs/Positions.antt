@@ -67,6 +67,19 @@ module _ (size : ℕ → ℕ) where
       ap₂ (λ x xs. x ∷ xs) same.0
       (same_chars cs ds r s n (base + size c) same.1 (subst (λ k. k ≤ n) here a) (subst (λ k. k ≤ n) there b) (subst (λ k. EndsBehind size n k r) here p) (subst (λ k. EndsBehind size n k s) there q))
 
+  -- more units, no fewer characters
+  more_chars : (cs ds r s : List ℕ) (n m base : ℕ) → encode_utf8_all cs ++ r ≡ encode_utf8_all ds ++ s → n ≤ m → base + sum_by size cs ≤ n → EndsBehind size m (base + sum_by size ds) s →
+      length (encode_utf8_all cs) ≤ length (encode_utf8_all ds)
+  more_chars [] ds r s n m base e more a p = omega arith
+  more_chars (c ∷ cs) [] r s n m base e more a p = absurd (not_behind c cs s r m base (sym e) (omega (arith, sum_by-cons size c cs)) p)
+  more_chars (c ∷ cs) (d ∷ ds) r s n m base e more a p =
+      let same = encode_same c d (encode_utf8_all cs ++ r) (encode_utf8_all ds ++ s) (sym (append_assoc (encode_utf8 c) (encode_utf8_all cs) r) ∙ e ∙ append_assoc (encode_utf8 d) (encode_utf8_all ds) s) in
+      let sizes : size c ≡ size d = ap size same.0 in
+      let bytes : length (encode_utf8 c) ≡ length (encode_utf8 d) = ap (λ x. length (encode_utf8 x)) same.0 in
+      let there : base + sum_by size (d ∷ ds) ≡ base + size c + sum_by size ds = omega (arith, sizes, sum_by-cons size d ds) in
+      let rest = more_chars cs ds r s n m (base + size c) same.1 more (omega (arith, sum_by-cons size c cs)) (subst (λ k. EndsBehind size m k s) there p) in
+      omega (arith, rest, bytes, length-append (encode_utf8 c) (encode_utf8_all cs), length-append (encode_utf8 d) (encode_utf8_all ds))
+
 -- the whole characters among the first n units are these alone
 pub AreCharsWithin-only : (size : ℕ → ℕ) (bytes : List ℕ) (n : ℕ) (cs ds : List ℕ) → AreCharsWithin size bytes n cs → AreCharsWithin size bytes n ds → cs ≡ ds
 AreCharsWithin-only size bytes n cs ds a b =
@@ -74,6 +87,12 @@ AreCharsWithin-only size bytes n cs ds a b =
     same_chars size cs ds a.rest b.rest n 0 (sym a.parts ∙ b.parts) (omega (arith, a.within)) (omega (arith, b.within))
     (subst (λ k. EndsBehind size n k a.rest) (zeroth (sum_by size cs)) a.whole)
     (subst (λ k. EndsBehind size n k b.rest) (zeroth (sum_by size ds)) b.whole)
+
+-- and no fewer among more units
+pub AreCharsWithin-more : (size : ℕ → ℕ) (bytes : List ℕ) (n m : ℕ) (cs ds : List ℕ) → n ≤ m → AreCharsWithin size bytes n cs → AreCharsWithin size bytes m ds → length (encode_utf8_all cs) ≤ length (encode_utf8_all ds)
+AreCharsWithin-more size bytes n m cs ds more a b =
+    let zeroth : sum_by size ds ≡ 0 + sum_by size ds = omega arith in
+    more_chars size cs ds a.rest b.rest n m 0 (sym a.parts ∙ b.parts) more (omega (arith, a.within)) (subst (λ k. EndsBehind size m k b.rest) zeroth b.whole)
 
 -- ---- the position
 pub IsPositionIn-only : (enc : Encoding) (text : List ℕ) (offset : ℕ) (a b : Pos) → IsPositionIn enc text offset a → IsPositionIn enc text offset b → a ≡ b

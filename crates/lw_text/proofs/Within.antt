@@ -1,24 +1,24 @@
 -- The whole characters among the first units of a text.
-use Rattle.std.proofs.Common.{◌≡◌, ℕ, ◌+◌, ◌-◌, ◌<◌, ◌≤◌, ◌⊎◌, inl, inr, ⊎_elim, true, List, [], ◌∷◌, ◌++◌, length, sum_by, take, drop, All, refl, sym, ap, ◌∙◌, subst, append_assoc, append-nil, arith, length-append, length-take-le, take-append-drop, encode_utf8, encode_utf8_all, chars, IsUtf8, IsCharBoundary}
+use Rattle.std.proofs.Common.{◌≡◌, ℕ, ◌+◌, ◌-◌, ◌<◌, ◌≤◌, inl, inr, ⊎_elim, true, List, [], ◌∷◌, ◌++◌, length, sum_by, take, drop, All, refl, sym, ap, ◌∙◌, subst, append_assoc, arith, length-append, length-take-le, take-append-drop, encode_utf8, encode_utf8_all, chars, IsUtf8, IsCharBoundary}
 use Rattle.std.specs.Char.{IsScalar}
 use Rattle.std.specs.Str.{all_scalars}
 use Rattle.std.proofs.lemmas.Bool.{and_parts, cases_lt}
 use Rattle.std.proofs.lemmas.List.{nil_from_length}
 use Rattle.std.proofs.lemmas.List.Elements.{All-nil, All-cons, All-append}
 use Rattle.std.proofs.lemmas.List.Sums.{sum_by-append, sum_by-cons}
-use Rattle.std.proofs.lemmas.Str.{IsUtf8-drop, IsUtf8-take, cons_from_encodes, encodes-append, encodes-chars, scalars-chars}
+use Rattle.std.proofs.lemmas.Str.{IsUtf8-take, cons_from_encodes, encodes-append, encodes-chars, scalars-chars}
 use Rattle.lw_text.specs.Position.{AreCharsWithin}
 use Rattle.lw_text.proofs.Places.{All-IsScalar}
 
 -- ---- what a text begins with
--- these characters begin a text, and these follow
-record Begins (ds cs rest : List ℕ) : Type 0 where
-  scalars : All IsScalar cs
-  more : List ℕ
-  more_scalars : all_scalars more ≡ true
-  left : encode_utf8_all more ≡ rest
+-- these characters begin a text, and these bytes follow
+pub record Begins (ds cs rest : List ℕ) : Type 0 where
+  pub scalars : All IsScalar cs
+  pub more : List ℕ
+  pub more_scalars : all_scalars more ≡ true
+  pub left : encode_utf8_all more ≡ rest
 
-begins : (cs ds rest : List ℕ) → all_scalars ds ≡ true → encode_utf8_all ds ≡ encode_utf8_all cs ++ rest → Begins ds cs rest
+pub begins : (cs ds rest : List ℕ) → all_scalars ds ≡ true → encode_utf8_all ds ≡ encode_utf8_all cs ++ rest → Begins ds cs rest
 begins [] ds rest scalars e = record { scalars = All-nil IsScalar; more = ds; more_scalars = scalars; left = e }
 begins (c ∷ cs) ds rest scalars e =
     let found = cons_from_encodes ds (encode_utf8_all cs ++ rest) c (e ∙ append_assoc (encode_utf8 c) (encode_utf8_all cs) rest) in
@@ -60,7 +60,7 @@ module _ (size : ℕ → ℕ) (text : List ℕ) (place left n : ℕ) (ds : List 
         scalars = All-append IsScalar cs ds (All-IsScalar cs (scalars-chars (take place text) front_utf8)) found.scalars;
         rest = found.rest;
         parts = sym (take-append-drop place text) ∙ ap (λ bytes. take place text ++ bytes) found.parts ∙ ap (λ bytes. bytes ++ (encode_utf8_all ds ++ found.rest)) (sym spelled)
-        ∙ sym (append_assoc (encode_utf8_all cs) (encode_utf8_all ds) found.rest) ∙ ap (λ bytes. bytes ++ found.rest) (sym (encodes-append cs ds));
+            ∙ sym (append_assoc (encode_utf8_all cs) (encode_utf8_all ds) found.rest) ∙ ap (λ bytes. bytes ++ found.rest) (sym (encodes-append cs ds));
         within = omega (arith, found.within);
         whole = ⊎_elim (λ over. inl over) (λ w. inr (w.0, w.1, w.2, w.3, omega (arith, w.4))) found.whole;
       }
@@ -80,13 +80,16 @@ some_chars size (c ∷ cs) n scalars =
     (λ past. ([], record { scalars = All-nil IsScalar; rest = encode_utf8_all (c ∷ cs); parts = refl; within = omega arith; whole = inr (c, parts.0, encode_utf8_all cs, refl, omega arith) }))
     (λ fits. let found = some_chars size cs (n - size c) parts.1 in
     let total : sum_by size (c ∷ found.0) ≡ size c + sum_by size found.0 = sum_by-cons size c found.0 in
-    let result : (ds : List ℕ) × AreCharsWithin size (encode_utf8_all (c ∷ cs)) n ds = (c ∷ found.0, record {
-      scalars = All-cons IsScalar c found.0 parts.0 found.1.scalars;
-      rest = found.1.rest;
-      parts = ap (λ bytes. encode_utf8 c ++ bytes) found.1.parts ∙ sym (append_assoc (encode_utf8 c) (encode_utf8_all found.0) found.1.rest);
-      within = omega (arith, found.1.within);
-      whole = ⊎_elim (λ over. inl over) (λ w. inr (w.0, w.1, w.2, w.3, omega (arith, w.4))) found.1.whole;
-    }) in result)
+    let result : (ds : List ℕ) × AreCharsWithin size (encode_utf8_all (c ∷ cs)) n ds = (
+      c ∷ found.0,
+      record {
+        scalars = All-cons IsScalar c found.0 parts.0 found.1.scalars;
+        rest = found.1.rest;
+        parts = ap (λ bytes. encode_utf8 c ++ bytes) found.1.parts ∙ sym (append_assoc (encode_utf8 c) (encode_utf8_all found.0) found.1.rest);
+        within = omega (arith, found.1.within);
+        whole = ⊎_elim (λ over. inl over) (λ w. inr (w.0, w.1, w.2, w.3, omega (arith, w.4))) found.1.whole;
+      },
+    ) in result)
     (cases_lt n (size c))
 
 pub AreCharsWithin-some : (size : ℕ → ℕ) (text : List ℕ) (n : ℕ) → IsUtf8 text → (cs : List ℕ) × AreCharsWithin size text n cs

@@ -15,6 +15,21 @@ pub struct Change {
     pub text: Name,
 }
 
+impl Change {
+    ghost use Rattle.std.specs.Prelude.{◌↔◌, IsTrue};
+    ghost use Rattle.lw_text.specs.Changes.{HasBadRange};
+
+    /// Whether there is a range whose start comes after its end: by line, then by character.
+    pub(crate) fn has_bad_range(&self) -> bool
+        ensures { IsTrue result ↔ HasBadRange self.now }
+    {
+        match self.range {
+            Some((start, end)) => start > end,
+            None => false,
+        }
+    }
+}
+
 /// Why a text was not made or not changed.
 #[derive(Clone, Copy, Debug, PartialEq, Eq)]
 pub enum EditFault {

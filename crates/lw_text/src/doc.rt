@@ -6,9 +6,9 @@ ghost use Rattle.lw_text.specs.Offset.{IsOffset};
 ghost use Rattle.lw_text.specs.Position.{IsPositionIn};
 
 use crate::change::{Change, EditFault, MAX_BYTES};
-use crate::line::{line_among, line_end, line_starts};
-use crate::place::{Pos, position_in};
-use crate::units::{Encoding, place_behind};
+use crate::line::{line_among, line_starts};
+use crate::place::{Pos, offset_in, position_in};
+use crate::units::Encoding;
 use lw_base::{Items, Name, NoMemory};
 use std::alloc::Global;
 use std::marker::Model;
@@ -91,15 +91,7 @@ impl TextDoc {
         ensures within { result ≤ length self.now }
         ensures boundary { IsCharBoundary self.now result }
     {
-        let text = self.text.as_str();
-        match self.starts.get(at.line as usize) {
-            None => text.len() as u32,
-            Some(start) => {
-                let start = *start as usize;
-                let content = &text[start..line_end(text.as_bytes(), start)];
-                (start + place_behind(content, at.character, enc)) as u32
-            }
-        }
+        offset_in(self.text.as_str(), self.starts.as_slice(), at, enc) as u32
     }
 
     /// The position of the byte `off`. Inside a character it is where the character begins, and inside
@@ -120,7 +112,12 @@ impl TextDoc {
     /// where memory is refused, the text stays as it was.
     ///
     /// Each change costs one copy of the text that it makes, and one look through it for its lines.
-    pub fn apply(&mut self, alloc: Global, changes: &[Change], enc: Encoding) -> Result<(), EditFault>
+    pub fn apply(
+        &mut self,
+        alloc: Global,
+        changes: &[Change],
+        enc: Encoding,
+    ) -> Result<(), EditFault>
         ensures changed { OnOk result (Changes enc self.old changes.now (Ok self.new)) }
         ensures fault { IfErr result (λ fault. (fault ≡ EditFault.NoMemory) ⊎ Changes enc self.old changes.now (Err fault)) }
         ensures unchanged { OnErr result (self.new ≡ self.old) }
@@ -132,39 +129,53 @@ impl TextDoc {
     }
 
     /// What the changes make of the text; None where there is no change.
-    fn changed_by_all(&self, alloc: Global, changes: &[Change], enc: Encoding) -> Result<Option<TextDoc>, EditFault>
+    fn changed_by_all(
+        &self,
+        alloc: Global,
+        changes: &[Change],
+        enc: Encoding,
+    ) -> Result<Option<TextDoc>, EditFault>
         ensures made { IfOk result (λ doc. AreMade enc self.now changes.now (unwrap_or doc self.now)) }
         ensures fault { IfErr result (λ fault. (fault ≡ EditFault.NoMemory) ⊎ Changes enc self.now changes.now (Err fault)) }
     {
         let mut latest = None;
         for (number, change) in changes.iter().enumerate() {
-            let doc = match &latest {
-                None => self.changed(alloc, change, number as u64, enc)?,
-                Some(doc) => TextDoc::changed(doc, alloc, change, number as u64, enc)?,
-            };
-            latest = Some(doc);
+            let text = latest.as_ref().unwrap_or(self);
+            latest = Some(text.changed(alloc, change, number as u64, enc)?);
         }
         Ok(latest)
     }
 
     /// What the change makes of the text. `number` is its place in its list.
-    fn changed(&self, alloc: Global, change: &Change, number: u64, enc: Encoding) -> Result<TextDoc, EditFault>
+    fn changed(
+        &self,
+        alloc: Global,
+        change: &Change,
+        number: u64,
+        enc: Encoding,
+    ) -> Result<TextDoc, EditFault>
         ensures made { IfOk result (IsMade enc self.now change.now) }
         ensures fault { IfErr result (λ fault. (fault ≡ EditFault.NoMemory) ⊎ IsRefused enc self.now change.now number fault) }
     {
+        if change.has_bad_range() {
+            return Err(EditFault::BadRange(number));
+        }
         let Some((start, end)) = change.range else {
             return TextDoc::from_text(alloc, change.text.text());
         };
-        if start > end {
-            return Err(EditFault::BadRange(number));
-        }
         let from = self.offset(start, enc) as usize;
         let to = self.offset(end, enc) as usize;
         self.replaced(alloc, from, to, change.text.text())
     }
 
     /// The text with `new` in place of what stands from `from` to `to`.
-    fn replaced(&self, alloc: Global, from: usize, to: usize, new: &str) -> Result<TextDoc, EditFault>
+    fn replaced(
+        &self,
+        alloc: Global,
+        from: usize,
+        to: usize,
+        new: &str,
+    ) -> Result<TextDoc, EditFault>
         requires from { IsCharBoundary self.now from }
         requires to { IsCharBoundary self.now to }
         ensures { IsTextOrFault (take from self.now ++ new.now ++ drop to self.now) result }

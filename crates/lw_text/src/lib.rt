@@ -7,7 +7,7 @@
 //! counts is a matter of the [`Encoding`], of which there is one: UTF-16.
 //!
 //! It promises that each place has one position and each position means one place, that these lead back
-//! to the place they came from, that changes are made all in order or not at all, and that the calls give
+//! to the place they came from and keep their order, that changes are made all in order or not at all, and that the calls give
 //! what the definitions say. A [`TextDoc`] knows where its lines begin, so that a place is found by
 //! looking at its line alone, and without memory; [`position`] is for a text that is looked at once.
 #![tactic(auto)]
@@ -24,7 +24,7 @@ pub use change::{Change, EditFault, MAX_BYTES};
 pub use doc::TextDoc;
 pub use laws::{
     a_place_has_one_position, a_position_means_one_place, changes_have_one_outcome,
-    positions_lead_back,
+    positions_keep_their_order, positions_lead_back,
 };
 pub use place::{Pos, position};
 pub use shown::Shown;

@@ -1,6 +1,5 @@
 // The lines of a text.
 ghost use Rattle.std.specs.Prelude.{◌≡◌, ◌<◌, ◌≤◌, ◌^◌, ℕ, length, IfOk, MatchOption, All, drop};
-ghost use Rattle.std.specs.Str.{IsCharBoundary};
 ghost use Rattle.lw_text.specs.Lines.{IsNoBreak};
 ghost use Rattle.lw_text.specs.Position.{IsLineOf};
 ghost use Rattle.lw_text.specs.Starts.{AreStarts, IsLineEnd, IsNextLine};
@@ -23,7 +22,10 @@ pub(crate) fn line_at(text: &str, offset: usize) -> LineStart
     ensures line { IsLineOf text.now offset result.number result.start }
 {
     let bytes = text.as_bytes();
-    let mut line = LineStart { number: 0, start: 0 };
+    let mut line = LineStart {
+        number: 0,
+        start: 0,
+    };
     'lines: while let Some(next) = next_line(bytes, line.start) {
         if next > offset {
             break;

@@ -1,10 +1,13 @@
 // Lines and characters.
 ghost use Rattle.std.specs.Prelude.{◌≡◌, ◌<◌, ◌≤◌, ◌^◌, ℕ, length};
+ghost use Rattle.std.specs.Str.{IsCharBoundary};
+ghost use Rattle.lw_text.specs.Offset.{IsOffset};
+ghost use Rattle.lw_text.specs.Starts.{AreStarts};
 ghost use Rattle.lw_text.specs.Position.{IsLineOf, IsPosition, IsPositionIn};
 ghost use Rattle.lw_text.specs.declared.place.Pos.{Pos};
 
-use crate::line::{LineStart, line_at};
-use crate::units::{Encoding, units_in};
+use crate::line::{LineStart, line_at, line_end};
+use crate::units::{Encoding, place_behind, units_in};
 
 /// A position in a text: its line, and the character in that line in units of the encoding that is
 /// agreed on, both counted from zero (Language Server Protocol 3.17, "Position").
@@ -42,4 +45,20 @@ pub(crate) fn position_in(text: &str, offset: usize, line: LineStart, enc: Encod
         line: line.number,
         character: units_in(content, enc),
     }
+}
+
+/// The byte that the position means, in a text whose lines begin at these places.
+pub(crate) fn offset_in(text: &str, starts: &[u32], at: Pos, enc: Encoding) -> usize
+    requires starts { AreStarts text.now starts.now }
+    requires small { length text.now < 2 ^ 32 }
+    ensures offset { IsOffset enc text.now at result }
+    ensures within { result ≤ length text.now }
+    ensures boundary { IsCharBoundary text.now result }
+{
+    let Some(start) = starts.get(at.line as usize) else {
+        return text.len();
+    };
+    let start = *start as usize;
+    let content = &text[start..line_end(text.as_bytes(), start)];
+    start + place_behind(content, at.character, enc)
 }

@@ -1,12 +1,22 @@
-// The positions of places, by hand.
+// Places, positions and changes, by hand.
 ghost use Rattle.std.specs.Prelude.{◌≡◌};
 
-use crate::{Pos, position};
+use crate::{Change, EditFault, Encoding, MAX_BYTES, Pos, TextDoc, position};
+use lw_base::{Items, Name, NoMemory};
+use std::alloc::Global;
+use std::process::Abort;
+use std::test::Fail;
+
+const ENC: Encoding = Encoding::Utf16;
+
+fn doc(alloc: Global, text: &str) -> Result<TextDoc, EditFault> {
+    TextDoc::new(alloc, Name::from_text(alloc, text)?)
+}
 
 #[test]
-fn places_have_positions(rt: HostRuntime) {
+fn places_have_positions(rt: HostRuntime) -> Result<(), Fail> {
     for (text, offset, line, character) in [
-        ("", 0usize, 0u32, 0u32),
+        ("", 0u32, 0u32, 0u32),
         ("model state", 6, 0, 6),
         // A character of four bytes takes two units, and the places inside it are where it begins.
         ("a😀b", 0, 0, 0),
@@ -39,12 +49,193 @@ fn places_have_positions(rt: HostRuntime) {
         ("last\r", 5, 1, 0),
         ("last\n", 5, 1, 0),
     ] {
-        assert!(rt; offset <= text.len());
+        assert!(rt; offset as usize <= text.len());
         assert!(rt; text.len() < 100);
-        assert_eq!(rt;
-            position(text, offset),
-            Pos { line, character },
-            "{text:?} at {offset}"
-        );
+        let at = Pos { line, character };
+        assert_eq!(rt; position(text, offset as usize), at, "{text:?} at {offset}");
+        let doc = doc(rt.alloc(), text)?;
+        assert!(rt; offset <= doc.len());
+        assert_eq!(rt; doc.position(offset, ENC), at, "{text:?} at {offset}");
     }
+    Ok(())
+}
+
+#[test]
+fn positions_mean_places(rt: HostRuntime) -> Result<(), Fail> {
+    for (text, line, character, offset) in [
+        ("a😀b", 0u32, 0u32, 0u32),
+        ("a😀b", 0, 1, 1),
+        ("a😀b", 0, 2, 1),
+        ("a😀b", 0, 3, 5),
+        ("a😀b", 0, 4, 6),
+        ("a😀b", 0, 99, 6),
+        ("a😀b", 1, 0, 6),
+        ("", 0, 0, 0),
+        ("", 0, 7, 0),
+        ("", 7, 0, 0),
+        // A character past the line's end is the line's end, before what ends the line.
+        ("ab\r\ncd", 0, 2, 2),
+        ("ab\r\ncd", 0, 3, 2),
+        ("ab\r\ncd", 0, 4, 2),
+        ("ab\r\ncd", 1, 0, 4),
+        ("ab\r\ncd", 1, 9, 6),
+        ("ab\r\ncd", 2, 0, 6),
+        ("a\rb", 0, 9, 1),
+        ("a\rb", 1, 0, 2),
+        ("é\n😀", 1, 1, 3),
+        ("é\n😀", 1, 2, 7),
+        ("last\n", 1, 0, 5),
+        ("last\n", 1, 1, 5),
+        ("last\n", 2, 0, 5),
+    ] {
+        let doc = doc(rt.alloc(), text)?;
+        let at = Pos { line, character };
+        assert_eq!(rt; doc.offset(at, ENC), offset, "{text:?} at {at:?}");
+    }
+    Ok(())
+}
+
+#[test]
+fn long_lines_are_counted(rt: HostRuntime) -> Result<(), Fail> {
+    let mut text = String::new(rt.alloc());
+    for _ in 0..1000u32 {
+        text.push_str("a€😀")?;
+    }
+    let doc = doc(rt.alloc(), text.as_str())?;
+    for (character, offset) in [
+        (0u32, 0u32),
+        (511, 1020),
+        (512, 1024),
+        (514, 1028),
+        (515, 1028),
+        (1999, 3996),
+        (3999, 7996),
+        (4000, 8000),
+        (4001, 8000),
+    ] {
+        let at = Pos { line: 0, character };
+        assert_eq!(rt; doc.offset(at, ENC), offset, "at {character}");
+    }
+    Ok(())
+}
+
+/// A change as a test writes it: line and character of the start and of the end, and the text.
+type Edit<'a> = (Option<(u32, u32, u32, u32)>, &'a str);
+
+fn changes(alloc: Global, edits: &[Edit<'_>]) -> Result<Items<Change>, NoMemory> {
+    let mut changes = Items::new(alloc);
+    for (range, text) in edits {
+        changes.push(Change {
+            range: range.map(|(line, character, end, behind)| {
+                (
+                    Pos { line, character },
+                    Pos {
+                        line: end,
+                        character: behind,
+                    },
+                )
+            }),
+            text: Name::from_text(alloc, text)?,
+        })?;
+    }
+    Ok(changes)
+}
+
+/// The edits give the answer, and leave this text.
+fn leaves(
+    rt: &impl Abort,
+    alloc: Global,
+    text: &str,
+    edits: &[Edit<'_>],
+    answer: Result<(), EditFault>,
+    left: &str,
+) -> Result<(), EditFault> {
+    let mut doc = doc(alloc, text)?;
+    let changes = changes(alloc, edits)?;
+    assert_eq!(rt;
+        doc.apply(alloc, changes.as_slice(), ENC),
+        answer,
+        "{text:?}"
+    );
+    assert_eq!(rt; doc.text(alloc)?.text(), left, "{text:?}");
+    Ok(())
+}
+
+#[test]
+fn changes_are_made_in_order(rt: HostRuntime) -> Result<(), Fail> {
+    let alloc = rt.alloc();
+    let first: Edit<'_> = (Some((0, 3, 0, 99)), "c\r\nd");
+    let second: Edit<'_> = (Some((0, 4, 1, 0)), "");
+    let bad: Edit<'_> = (Some((0, 2, 0, 1)), "x");
+    let bad_lines: Edit<'_> = (Some((1, 0, 0, 5)), "x");
+    leaves(&rt, alloc, "a😀b", &[first], Ok(()), "a😀c\r\nd")?;
+    leaves(&rt, alloc, "a😀c\r\nd", &[second], Ok(()), "a😀cd")?;
+    leaves(&rt, alloc, "a😀b", &[first, second], Ok(()), "a😀cd")?;
+    leaves(&rt, alloc, "a😀b", &[], Ok(()), "a😀b")?;
+    leaves(
+        &rt,
+        alloc,
+        "a😀b",
+        &[bad],
+        Err(EditFault::BadRange(0)),
+        "a😀b",
+    )?;
+    leaves(
+        &rt,
+        alloc,
+        "a😀b",
+        &[first, bad_lines, second],
+        Err(EditFault::BadRange(1)),
+        "a😀b",
+    )?;
+    // The whole text, the very end, past the last line, and inside a character.
+    leaves(
+        &rt,
+        alloc,
+        "a😀b",
+        &[(None, "\n"), (Some((1, 0, 1, 0)), "é")],
+        Ok(()),
+        "\né",
+    )?;
+    leaves(
+        &rt,
+        alloc,
+        "ab",
+        &[(Some((0, 2, 0, 2)), "c")],
+        Ok(()),
+        "abc",
+    )?;
+    leaves(
+        &rt,
+        alloc,
+        "ab",
+        &[(Some((9, 0, 9, 9)), "c")],
+        Ok(()),
+        "abc",
+    )?;
+    leaves(&rt, alloc, "a😀b", &[(Some((0, 2, 0, 3)), "")], Ok(()), "ab")?;
+    leaves(&rt, alloc, "", &[(Some((0, 0, 0, 0)), "\r")], Ok(()), "\r")?;
+    Ok(())
+}
+
+#[test]
+fn a_text_has_a_longest_length(rt: HostRuntime) -> Result<(), Fail> {
+    let alloc = rt.alloc();
+    let most = MAX_BYTES as u64;
+    let mut text = String::from_str(alloc, "a")?;
+    for _ in 0..26u32 {
+        let half = text.clone()?;
+        text.push_str(half.as_str())?;
+    }
+    let mut doc = doc(alloc, text.as_str())?;
+    assert_eq!(rt; doc.len() as usize, MAX_BYTES);
+    text.push_str("b")?;
+    let over = TextDoc::new(alloc, Name::from_text(alloc, text.as_str())?);
+    assert!(rt; over.is_err_and(|fault| fault == EditFault::TooLong(most + 1)));
+    // The first of these changes keeps the length.
+    let edits = [(Some((0, 0, 0, 1)), "c"), (Some((7, 0, 7, 0)), "b")];
+    let answer = doc.apply(alloc, changes(alloc, &edits)?.as_slice(), ENC);
+    assert_eq!(rt; answer, Err(EditFault::TooLong(most + 1)));
+    assert!(rt; doc.as_text().starts_with("a"));
+    Ok(())
 }

@@ -88,11 +88,11 @@ fn place_among(text: &str, units: u32, enc: Encoding) -> usize
     let mut place = 0;
     let mut left = units;
     for c in text.chars() {
-        let taken = units_at(c, enc);
-        if taken > left {
+        let size = units_at(c, enc);
+        if size > left {
             break;
         }
-        left -= taken;
+        left -= size;
         place += c.len_utf8();
     }
     place

@@ -1,5 +1,5 @@
 -- The cut of a text into tokens: at each place the next token, until the text ends.
-use Rattle.std.specs.Prelude.{ℕ, ◌≡◌, ◌+◌, ◌<◌, List, [], ◌∷◌, ◌++◌, Some, None, Bool, not, filter, map, drop, length, encode_utf8}
+use Rattle.std.specs.Prelude.{ℕ, ◌≡◌, ◌+◌, ◌<◌, List, [], ◌∷◌, ◌++◌, Some, None, not, filter, map, drop, length, encode_utf8}
 use Rattle.std.specs.Char.{IsScalar}
 use Rattle.lw_base.specs.declared.token.Span.{Span}
 use Rattle.lw_base.specs.declared.token.Token.{Token}

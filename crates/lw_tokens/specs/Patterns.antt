@@ -1,6 +1,6 @@
 -- The regular expression of a terminal, as text: the least relation with these cases.
 -- Held against the Langium documentation, "Grammar language: terminal rules", with its EBNF forms.
-use Rattle.std.specs.Prelude.{ℕ, ◌≡◌, ◌+◌, ◌≤◌, ◌==◌, List, [], ◌∷◌, ◌++◌, true, codes, if◌then◌else◌, encode_utf8_all, Option, Some, None}
+use Rattle.std.specs.Prelude.{ℕ, ◌≡◌, ◌≤◌, ◌==◌, List, [], ◌∷◌, ◌++◌, true, codes, if◌then◌else◌, encode_utf8_all, Option, Some, None}
 use Rattle.std.specs.Fmt.{digits}
 use Rattle.std.specs.Str.{chars}
 use Rattle.regex.specs.Patterns.{escaped_text}

@@ -5,7 +5,7 @@ use Rattle.lw_tokens.specs.Cut as cut
 use Rattle.lw_tokens.specs.Cut.{IsCut, IsCutTo, HasNoTokenAt}
 use Rattle.lw_tokens.specs.NextToken.{IsNext}
 use Rattle.lw_lexer.specs.Place.{next_of}
-use Rattle.lw_lexer.proofs.OneCut.{one_cut, no_cut, one_place}
+use Rattle.lw_tokens.proofs.OneCut.{one_cut, no_cut, one_place}
 use Rattle.lw_lexer.proofs.lexer.lex.Goals as goal
 
 pub cutting-init : goal.cutting-init

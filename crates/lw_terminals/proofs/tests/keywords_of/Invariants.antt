@@ -1,4 +1,4 @@
-use Rattle.lw_terminals.specs.TokenKinds.{AreKeywords}
+use Rattle.lw_tokens.specs.Keywords.{AreKeywords}
 use Rattle.lw_terminals.proofs.tests.keywords_of.Given as goal
 
 abbrev pub invariant-loop-word : goal.invariant-loop-word

@@ -1,9 +1,9 @@
-use Rattle.std.proofs.Common.{◌≡◌, ◌<◌, ◌+◌, ◌⊎◌, inl, inr, ⊎_elim, length, get_or, subst, ap, sym, arith}
+use Rattle.std.proofs.Common.{◌≡◌, ◌<◌, ◌+◌, ◌⊎◌, length, get_or, subst, arith}
 use Rattle.lw_text.proofs.Index.{line_between}
 use Rattle.lw_text.proofs.line.line_among.Goals as goal
 
 pub overflow_cast-result : goal.overflow_cast-result
-overflow_cast-result c = 
+overflow_cast-result c =
     let text = c.args.text.now in
     let starts = c.args.starts.now in
     let so_far = c.halves.invariant in

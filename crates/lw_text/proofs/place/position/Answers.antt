@@ -1,4 +1,3 @@
-use Rattle.std.proofs.Common.{sym}
 use Rattle.lw_text.specs.declared.units.Encoding.TheVariants.{Utf16}
 use Rattle.lw_text.proofs.Positions.{IsPositionIn-only}
 use Rattle.lw_text.proofs.place.position.Goals as goal

@@ -1,4 +1,4 @@
-use Rattle.std.proofs.Common.{◌≡◌, ◌+◌, ◌-◌, ◌≤◌, length, sum_by, take, chars, IsCharBoundary}
+use Rattle.std.proofs.Common.{◌≡◌, ◌+◌, ◌-◌, length, sum_by, take, chars, IsCharBoundary}
 use Rattle.lw_text.specs.Position.{units_of}
 use Rattle.lw_text.proofs.units.pass_over.Given as goal
 

@@ -1,4 +1,4 @@
-use Rattle.std.proofs.Common.{◌≡◌, ◌≤◌, ◌+◌, ◌++◌, ◌∷◌, [], ◌∙◌, refl, sym, ap, append_assoc, append-nil, length, length-append, sum_by, encode_utf8, encode_utf8_all, arith}
+use Rattle.std.proofs.Common.{◌≡◌, ◌≤◌, ◌++◌, ◌∷◌, [], ◌∙◌, refl, sym, ap, append_assoc, append-nil, length, length-append, sum_by, encode_utf8, encode_utf8_all, arith}
 use Rattle.std.proofs.lemmas.List.Sums.{sum_by_push}
 use Rattle.std.proofs.lemmas.Str.{encodes-append}
 use Rattle.lw_text.specs.Position.{units_of}
@@ -29,7 +29,7 @@ loop-c-preserved c =
     record {
       parts = so_far.parts ∙ ap (λ bytes. encode_utf8_all cs ++ bytes) c.in-Some.ensures.steps.0 ∙ sym (append_assoc (encode_utf8_all cs) (encode_utf8 one) more) ∙ ap (λ bytes. bytes ++ more) (sym spelled);
       far = omega (arith, so_far.far, ap length spelled, length-append (encode_utf8_all cs) (encode_utf8 one), c.len_utf8-place.ensures.len);
-      counted = omega (arith, so_far.counted, sum_by_push (units_of c.args.enc) cs one, c.units_at-taken.ensures);
+      counted = omega (arith, so_far.counted, sum_by_push (units_of c.args.enc) cs one, c.units_at-size.ensures);
     }
 
 pub returns-in-None : goal.returns-in-None
@@ -38,10 +38,10 @@ returns-in-None c =
     let within : sum_by (units_of c.args.enc) c.loop-c.yielded ≤ c.args.units = omega (arith, so_far.counted) in
     (c.loop-c.yielded, AreCharsWithin-all (units_of c.args.enc) c.args.text.now c.args.units c.loop-c.yielded c.loop-c.c-iterator.rest.now c.utf8.text so_far.parts within c.in-None.ensures.steps.0.0, so_far.far)
 
-pub returns-then-taken-left : goal.returns-then-taken-left
-returns-then-taken-left c =
+pub returns-then-size-left : goal.returns-then-size-left
+returns-then-size-left c =
     let so_far = c.loop-c.invariant in
     let cs = c.loop-c.yielded in
     let size = units_of c.args.enc in
     let within : sum_by size cs ≤ c.args.units = omega (arith, so_far.counted) in
-    (cs, AreCharsWithin-cut size c.args.text.now c.args.units cs c.loop-c.c-iterator.rest.now c.utf8.text so_far.parts within c.in-Some.c c.next.new.self.rest.now c.in-Some.ensures.steps.0 (omega (arith, so_far.counted, c.units_at-taken.ensures, c.if-taken-left.true)), so_far.far)
+    (cs, AreCharsWithin-cut size c.args.text.now c.args.units cs c.loop-c.c-iterator.rest.now c.utf8.text so_far.parts within c.in-Some.c c.next.new.self.rest.now c.in-Some.ensures.steps.0 (omega (arith, so_far.counted, c.units_at-size.ensures, c.if-size-left.true)), so_far.far)

@@ -12,6 +12,8 @@ returns c =
     let at = c.pass_over-place.ensures.boundary in
     let counted = c.pass_over-place.ensures.left in
     let ds = c.place_among.ensures.0 in
-    let found = subst (λ bytes. AreCharsWithin size bytes left ds) c.range_from.ensures.value c.place_among.ensures.1 in
-    (chars (take place text) ++ ds, AreCharsWithin-after size text place left c.args.units ds c.utf8.text at counted found,
-    ap (λ n. place + n) c.place_among.ensures.2 ∙ length-after size text place left c.args.units ds c.utf8.text at counted found)
+    let found = subst (λ bytes. AreCharsWithin size bytes left ds) c.range_from.ensures.value c.place_among.ensures.1 in (
+      chars (take place text) ++ ds,
+      AreCharsWithin-after size text place left c.args.units ds c.utf8.text at counted found,
+      ap (λ n. place + n) c.place_among.ensures.2 ∙ length-after size text place left c.args.units ds c.utf8.text at counted found,
+    )

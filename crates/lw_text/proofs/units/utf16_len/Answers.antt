@@ -1,4 +1,4 @@
-use Rattle.std.proofs.Common.{rules, tests, arith, ◌∙◌, subst, length, sym, ap}
+use Rattle.std.proofs.Common.{rules, tests, arith, ◌∙◌, length, ap}
 use Rattle.std.proofs.lemmas.Iterator.{YieldsList-from_chars, YieldsList-from_map}
 use Rattle.std.proofs.lemmas.Iterator.Consumers.{YieldsList-at, fits_by_from_yields_list}
 use Rattle.lw_lanes.specs.Utf8.{in_utf16}

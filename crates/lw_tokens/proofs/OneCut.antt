@@ -4,7 +4,7 @@ use Rattle.std.proofs.lemmas.Bool.{cases_lt}
 use Rattle.std.proofs.lemmas.Option.{same_Some, slice_get_within, get_or_from_slice_get}
 use Rattle.std.proofs.lemmas.Slice.Eq.{bytes_eq-Decides}
 use Rattle.lw_base.specs.declared.token.Token.{Token}
-use Rattle.lw_terminals.specs.TokenKinds.{AreKeywords}
+use Rattle.lw_tokens.specs.Keywords.{AreKeywords}
 use Rattle.lw_tokens.specs.Lexicon.{Lexicon, TerminalForm}
 use Rattle.lw_tokens.specs.NextToken.{Next, IsNext, IsLongest, HasNone, IsFirstOver, NoneOver, Begins, lengths, longer_terminal, keyword, terminal, no_token}
 use Rattle.lw_tokens.specs.Cut.{IsCutTo, IsCut, HasNoTokenAt, token_at, start, then}

@@ -1,0 +1,12 @@
+pub mod Places
+pub mod Entries
+pub mod FirstOf
+pub mod Sums
+pub mod Steps
+pub mod Validity
+pub mod Contents
+pub mod OneBuild
+pub mod News
+pub mod OneOutcome
+pub mod Current
+pub mod HasEnd

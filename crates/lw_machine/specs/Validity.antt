@@ -1,0 +1,41 @@
+-- What holds of the documents of a session at every moment, and of each of them at the end of a build.
+-- Held against Langium's document lifecycle, "Document states", and the Language Server Protocol 3.17, "PublishDiagnostics Notification".
+use Rattle.std.specs.Prelude.{ℕ, ℤ, ◌≡◌, ◌≤◌, List, Bool, Option, Some, option_map}
+use Rattle.std.specs.FinMap.{get}
+use Rattle.lw_grammar.specs.declared.grammar.Grammar.{Grammar}
+use Rattle.lw_text.specs.declared.shown.Shown.{Shown}
+use Rattle.lw_scopes.specs.Diagnostics.{AreDiagnostics, IsList}
+use Rattle.lw_machine.specs.Documents.{Document, Documents, rank, shown_texts}
+use Rattle.lw_machine.specs.declared.state.State.TheVariants.{Validated}
+
+-- what editors and files say of a document: its text, its version, and whether it is open
+abbrev pub content : Document → List ℕ × Option ℤ × Bool
+content d = (d.text, d.version, d.is_open)
+
+-- the same addresses hold documents, of the same content
+abbrev pub HaveSameContent : Documents → Documents → Type 0
+HaveSameContent m n = (address : List ℕ) → option_map content (get n address) ≡ option_map content (get m address)
+
+module _ (g : Grammar) (m : Documents) where
+  -- the list that was published last of a document is the one that the shown texts give it
+  abbrev pub IsTold : List ℕ → Document → Type 0
+  IsTold address d = (list : List Shown) × (d.published ≡ Some list) × AreDiagnostics g (shown_texts m) address list
+
+  -- each text has a list
+  abbrev pub HaveLists : Type 0
+  HaveLists = (address : List ℕ) (d : Document) → get m address ≡ Some d → (list : List Shown) × IsList g d.text list
+
+  -- others see the present text of each document that is indexed, and the list of each that is validated is told
+  pub record IsValid : Type 0 where
+    pub shown : (address : List ℕ) (d : Document) → get m address ≡ Some d → 2 ≤ rank d.state → d.shown ≡ Some d.text
+    pub told : (address : List ℕ) (d : Document) → get m address ≡ Some d → d.state ≡ Validated → IsTold address d
+
+  -- nothing is left to do for a document
+  pub record IsCurrent (address : List ℕ) (d : Document) : Type 0 where
+    pub state : d.state ≡ Validated
+    pub shown : d.shown ≡ Some d.text
+    pub told : IsTold address d
+
+  -- nor for any
+  abbrev pub AreCurrent : Type 0
+  AreCurrent = (address : List ℕ) (d : Document) → get m address ≡ Some d → IsCurrent address d

@@ -1,0 +1,2 @@
+pub mod OneKinds
+pub mod OneReading

@@ -1,0 +1,92 @@
+-- A grammar has one list of kinds, and its keywords can be told apart where none is empty.
+use Rattle.std.proofs.Common.{◌≡◌, ◌≢◌, ℕ, zero, suc, ◌<◌, Bool, true, false, ◌||◌, cond, List, [], ◌∷◌, length, get_or, slice_get, Some, AllPairs, bytes_eq, refl, sym, ap, ap₂, ◌∙◌, subst, arith, true≢false}
+use Rattle.std.specs.List.{list_any, flat_map}
+use Rattle.std.proofs.lemmas.Option.{slice_get-get_or, same_Some}
+use Rattle.std.proofs.lemmas.Slice.Eq.{bytes_eq-Decides}
+use Rattle.lw_grammar.specs.declared.grammar.Grammar.{Grammar}
+use Rattle.lw_grammar.specs.declared.rule.Rule.{Rule}
+use Rattle.lw_grammar.specs.Kept.{KeepsFrom, Keeps}
+use Rattle.lw_grammar.specs.Kept as keep
+use Rattle.lw_grammar.specs.Leaves.{keywords_in}
+use Rattle.lw_grammar.specs.Reached.{IsReached}
+use Rattle.lw_grammar.specs.Kinds.{Kinds, AreKinds, IsKindTerminal, first_uses}
+use Rattle.lw_tokens.specs.Keywords.{AreKeywords}
+use Rattle.lw_reading.specs.KindTexts.{AreKindTexts, IsKindText, texts_of}
+use Rattle.lw_reading.specs.Laws.{HasNoEmptyKeyword}
+
+-- which items are kept is settled
+kept_once : {X : Type 0} (passes : ℕ → Type 0) {i : ℕ} {xs ys zs : List X} → KeepsFrom passes i xs ys → KeepsFrom passes i xs zs → ys ≡ zs
+kept_once passes keep.nothing keep.nothing = refl
+kept_once passes (keep.kept {x} p k) (keep.kept q l) = ap (λ ys. x ∷ ys) (kept_once passes k l)
+kept_once passes (keep.kept p k) (keep.left_out q l) = absurd (q p)
+kept_once passes (keep.left_out p k) (keep.kept q l) = absurd (p q)
+kept_once passes (keep.left_out p k) (keep.left_out q l) = kept_once passes k l
+
+-- whether a text stands in a list
+abbrev stands_in : List ℕ → List (List ℕ) → Bool
+stands_in text texts = list_any (bytes_eq text) texts
+
+later : (a b : Bool) → (a || b) ≡ false → b ≡ false
+later true b h = absurd (true≢false h)
+later false b h = h
+
+sooner : (a b : Bool) → (a || b) ≡ false → a ≡ false
+sooner true b h = h
+sooner false b h = refl
+
+-- the first uses are none of those that were seen before
+abbrev AreUnseen : List (List ℕ) → List (List ℕ) → Type 0
+AreUnseen seen uses = (k : ℕ) (d : List ℕ) → k < length uses → stands_in (get_or uses k d) seen ≡ false
+
+unseen : (seen texts : List (List ℕ)) → AreUnseen seen (first_uses seen texts)
+unseen seen [] = λ k d inside. absurd (omega arith)
+unseen seen (text ∷ texts) = by (stands_in text seen) refl (unseen seen texts) (unseen (text ∷ seen) texts)
+  where
+    by : (b : Bool) → stands_in text seen ≡ b → AreUnseen seen (first_uses seen texts) → AreUnseen (text ∷ seen) (first_uses (text ∷ seen) texts) →
+        AreUnseen seen (cond b (first_uses seen texts) (text ∷ first_uses (text ∷ seen) texts))
+    by true is same new k d inside = same k d inside
+    by false is same new zero d inside = is
+    by false is same new (suc k) d inside = later _ _ (new k d (omega arith))
+
+-- and no two of them are equal
+differ : (a b : List ℕ) → bytes_eq b a ≡ false → a ≢ b
+differ a b apart same = true≢false (sym ((bytes_eq-Decides b a).1 (sym same)) ∙ apart)
+
+apart : (seen texts : List (List ℕ)) → AllPairs (λ a b. a ≢ b) (first_uses seen texts)
+apart seen [] = λ i j d below inside. absurd (omega arith)
+apart seen (text ∷ texts) = by (stands_in text seen) (apart seen texts) (apart (text ∷ seen) texts)
+  where
+    by : (b : Bool) → AllPairs (λ a b. a ≢ b) (first_uses seen texts) → AllPairs (λ a b. a ≢ b) (first_uses (text ∷ seen) texts) →
+        AllPairs (λ a b. a ≢ b) (cond b (first_uses seen texts) (text ∷ first_uses (text ∷ seen) texts))
+    by true same new i j d below inside = same i j d below inside
+    by false same new zero zero d below inside = absurd (omega arith)
+    by false same new zero (suc j) d below inside = differ _ _ (sooner _ _ (unseen (text ∷ seen) texts j d (omega arith)))
+    by false same new (suc i) zero d below inside = absurd (omega arith)
+    by false same new (suc i) (suc j) d below inside = new i j d (omega arith) (omega arith)
+
+module _ (g : Grammar) where
+  -- a grammar has one list of kinds
+  pub one_kinds : (a b : Kinds) → AreKinds g a → AreKinds g b → a ≡ b
+  one_kinds a b is was =
+      ap₂ (λ words terminals. record { keywords = words; terminals = terminals })
+      (is.keywords ∙ ap (λ rules. first_uses [] (flat_map (λ (rule : Rule). keywords_in rule.body) rules)) (kept_once (IsReached g) is.reached was.reached) ∙ sym was.keywords)
+      (kept_once (IsKindTerminal g) is.terminals was.terminals)
+
+  -- and its keywords can be told apart
+  pub can_be_told_apart : (of : Kinds) → HasNoEmptyKeyword g → AreKinds g of → AreKeywords of.keywords
+  can_be_told_apart of filled are = record {
+    not_empty = λ k d inside. not_nothing (get_or of.keywords k d) (λ is. filled of k are (slice_get-get_or of.keywords k d inside ∙ ap Some is));
+    distinct = subst (AllPairs (λ a b. a ≢ b)) (sym are.keywords) (apart [] (flat_map (λ (rule : Rule). keywords_in rule.body) are.rules));
+  }
+    where
+      not_nothing : (text : List ℕ) → text ≢ [] → 0 < length text
+      not_nothing [] not = absurd (not refl)
+      not_nothing (b ∷ text) not = omega arith
+
+  one_list_of_texts : (texts others : List (List ℕ)) → AreKindTexts g texts → AreKindTexts g others → texts ≡ others
+  one_list_of_texts texts others (of, are, is) (kinds, were, was) = is ∙ ap texts_of (one_kinds of kinds are were) ∙ sym was
+
+  -- a kind has one text
+  pub one_kind_text : (k : ℕ) (text other : List ℕ) → IsKindText g k text → IsKindText g k other → text ≡ other
+  one_kind_text k text other (texts, are, is) (others, were, was) =
+      same_Some text other (sym is ∙ ap (λ ts. slice_get ts k) (one_list_of_texts texts others are were) ∙ was)

@@ -1,0 +1,17 @@
+// What a reader may expect of readings, whatever the grammar and the text.
+ghost use Rattle.std.specs.Prelude.{◌≡◌, ℕ, List};
+ghost use Rattle.lw_grammar.specs.declared.grammar.Grammar.{Grammar};
+ghost use Rattle.lw_reading.specs.KindTexts.{IsKindText};
+ghost use Rattle.lw_reading.specs.Laws.{HasNoEmptyKeyword};
+ghost use Rattle.lw_reading.specs.Reading.{Reads};
+ghost use Rattle.lw_reading.specs.declared.issue.Parsed.{Parsed};
+
+/// A text has at most one reading by a grammar that has no empty keyword.
+pub fn one_reading()
+    ensures { (g : Grammar) → HasNoEmptyKeyword g → (text : List ℕ) (p q : Parsed) → Reads g text p → Reads g text q → p ≡ q }
+{}
+
+/// A kind of a grammar is told by one text.
+pub fn one_kind_text()
+    ensures { (g : Grammar) (k : ℕ) (text other : List ℕ) → IsKindText g k text → IsKindText g k other → text ≡ other }
+{}

@@ -1,0 +1,2 @@
+pub mod OneCut
+pub mod OnePattern
