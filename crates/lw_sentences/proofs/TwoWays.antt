@@ -217,7 +217,7 @@ module _ (word : List ℕ) (k : ℕ) (is_kind : IsKeywordKind kinds word k) wher
       let all : List Mark = (mark.Token a ∷ []) ++ (put ++ ((mark.Token c ∷ []) ++ [])) in (
         all,
         y.yields (subst (λ f. Gives E kinds f all) (sym (outs-Group (way_parts word) nowhere))
-        (y.grouped (y.more (keyword_can (codes "a") a refl) (y.more second (y.more (keyword_can (codes "c") c refl) y.none))))),
+            (y.grouped (y.more (keyword_can (codes "a") a refl) (y.more second (y.more (keyword_can (codes "c") c refl) y.none))))),
         refl,
       )
 
