@@ -1,9 +1,9 @@
 -- The tokens of a cut have kinds of the lexicon, and begin inside the text.
-use Rattle.std.proofs.Common.{◌≡◌, ℕ, ◌+◌, ◌<◌, ◌≤◌, List, [], ◌∷◌, ◌++◌, Some, None, length, slice_get, map, arith, ap, sym, ◌∙◌, All, Option, IfSome}
+use Rattle.std.proofs.Common.{◌≡◌, ℕ, ◌+◌, ◌<◌, ◌≤◌, List, [], ◌∷◌, ◌++◌, length, arith, All, Option, IfSome}
 use Rattle.std.proofs.lemmas.List.Elements.{All-nil, All-head, All-tail, All-push, All-filter}
 use Rattle.std.proofs.lemmas.Option.{slice_get_within}
 use Rattle.lw_base.specs.declared.token.Token.{Token}
-use Rattle.lw_tokens.specs.Lexicon.{Lexicon, TerminalForm}
+use Rattle.lw_tokens.specs.Lexicon.{Lexicon}
 use Rattle.lw_tokens.specs.NextToken as next
 use Rattle.lw_tokens.specs.NextToken.{Next, IsNext}
 use Rattle.lw_tokens.specs.Cut as cut

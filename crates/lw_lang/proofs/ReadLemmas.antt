@@ -1,11 +1,10 @@
 -- What a language reads, by what it keeps.
-use Rattle.std.proofs.Common.{◌≡◌, ℕ, ◌+◌, ◌<◌, ◌≤◌, List, [], ◌∷◌, ◌++◌, length, map, arith, refl, sym, subst, ap, ◌∙◌, length-append}
+use Rattle.std.proofs.Common.{◌≡◌, ℕ, ◌+◌, ◌≤◌, List, [], ◌∷◌, length, map, arith, refl, subst, ap, ◌∙◌, length-append}
 use Rattle.std.proofs.lemmas.List.{length-map}
 use Rattle.lw_base.specs.declared.token.Span.{Span}
 use Rattle.lw_base.specs.declared.token.Token.{Token}
-use Rattle.lw_grammar.specs.declared.grammar.Grammar.{Grammar}
-use Rattle.lw_grammar.specs.Kinds.{Kinds, AreKinds}
-use Rattle.lw_tokens.specs.Lexicon.{Lexicon, IsLexicon, HasForm}
+use Rattle.lw_grammar.specs.Kinds.{Kinds}
+use Rattle.lw_tokens.specs.Lexicon.{HasForm}
 use Rattle.std.specs.List.{AllZip}
 use Rattle.lw_tokens.specs.Cut.{IsCut, HasNoTokenAt, IsCharacterAt, visible}
 use Rattle.lw_reading.specs.declared.issue.Issue.TheVariants.{Lexical}
@@ -14,7 +13,7 @@ use Rattle.lw_reading.specs.declared.issue.Parsed.TheVariants.{Broken}
 use Rattle.lw_reading.specs.Reading.{Reads, longest_document}
 use Rattle.lw_reading.specs.Reading as reading
 use Rattle.lw_lang.specs.Rows.{ReadsRow}
-use Rattle.lw_reading.specs.KindTexts.{texts_of, quoted}
+use Rattle.lw_reading.specs.KindTexts.{texts_of}
 use Rattle.lw_lang.specs.Language.{LanguageView, IfBroken, IsNamed, IsWithin}
 use Rattle.lw_lang.specs.Ready.{seen_as, IsReady}
 use Rattle.lw_lang.specs.declared.language.Language.TheInside.{Inside}
