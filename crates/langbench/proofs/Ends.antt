@@ -1,9 +1,9 @@
 -- How a run ends, from what the work answered.
 use Rattle.std.proofs.Common.{◌≡◌, ◌⊎◌, inl, inr, ℕ, ◌<◌, ◌≤◌, List, Option, Some, None, Result, Ok, Err, IfSome, ◌≢◌, refl, sym, ap, subst, ◌∙◌, arith, take, length, Contains, ⊎_elim, IsUtf8}
-use Rattle.std.specs.Io.KnownBytes.{Appends, Keeps}
+use Rattle.std.specs.Io.KnownBytes.{Keeps}
 use Rattle.lw_grammar.specs.declared.grammar.Grammar.{Grammar}
 use Rattle.std.proofs.lemmas.Option.{same_Some, slice_get_within, get_or_from_slice_get}
-use Rattle.lw_io.specs.Causes.{Rose, Faulted}
+use Rattle.lw_io.specs.Causes.{Rose}
 use Rattle.lw_lang.specs.Small.{SaysSmall}
 use Rattle.lw_lang.specs.Obstacles.{HasObstacle, MatchesEmpty}
 use Rattle.lw_lang.specs.Refused.{FirstMatchesEmpty}
@@ -18,7 +18,7 @@ use Rattle.langbench.specs.declared.stop.Stop.TheVariants as stop
 use Rattle.langbench.specs.Checked.{Checked, ok_line}
 use Rattle.langbench.specs.Run as run
 use Rattle.langbench.specs.Run.{Files, Faults, NoneRose, Failed, GrammarFails, CheckEnds, CheckDone, WritesSome, fault_code, most_read}
-use Rattle.langbench.specs.Stops.{EndsWith, Works, SourceCounts, OutCounts, StoreCounts, PatternCounts, code_of}
+use Rattle.langbench.specs.Stops.{EndsWith, Works, SourceCounts, OutCounts, StoreCounts, PatternCounts}
 use Rattle.langbench.proofs.Grammars.{says_same, same_grammar, same_text}
 
 -- ---- statuses

@@ -1,17 +1,16 @@
 -- What a run notes, from what the work answered.
-use Rattle.std.proofs.Common.{◌≡◌, ◌≢◌, ◌⊎◌, inl, inr, ℕ, ◌≤◌, List, [], ◌∷◌, Option, Some, None, Result, Ok, Err, IfSome, OnErr, MatchOption, codes, refl, sym, ap, subst, ◌∙◌, arith}
+use Rattle.std.proofs.Common.{◌≡◌, ◌≢◌, ◌⊎◌, inl, inr, ℕ, List, [], ◌∷◌, Option, Some, None, Result, Ok, Err, IfSome, MatchOption, codes, sym, subst, ◌∙◌, arith}
 use Rattle.std.specs.Option.{option_copied}
 use denote.Ref.{Bor}
-use Rattle.std.specs.Io.KnownBytes.{Appends, Keeps}
-use Rattle.lw_lang.specs.declared.fault.CompileFault.{CompileFault}
+use Rattle.std.specs.Io.KnownBytes.{Appends}
 use Rattle.langbench.specs.declared.report.Verdict.{Verdict}
 use Rattle.langbench.specs.declared.report.Verdict.TheVariants.{Whole, Broken}
 use Rattle.langbench.specs.declared.stop.Stop.{Stop}
 use Rattle.langbench.specs.declared.stop.Stop.TheVariants as stop
 use Rattle.langbench.specs.Words.{IsCheck}
-use Rattle.langbench.specs.Run.{Files, Faults, GrammarFails, fault_code}
+use Rattle.langbench.specs.Run.{Files, Faults}
 use Rattle.langbench.specs.Stops.{EndsWith, HasCause, StoreCounts, PatternCounts}
-use Rattle.langbench.specs.Notes.{usage_line, read_line, write_line, fault_line, NotesStop, NotesOutcome, NotesStatus, NotesFault}
+use Rattle.langbench.specs.Notes.{NotesOutcome, NotesStatus, NotesFault}
 use Rattle.langbench.proofs.Ends.{fault_bound, failed_of}
 
 pub not_seven : (code : ℕ) → (code ≡ 3) ⊎ (code ≡ 6) → code ≢ 7
