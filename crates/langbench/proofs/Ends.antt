@@ -1,11 +1,12 @@
 -- How a run ends, from what the work answered.
-use Rattle.std.proofs.Common.{◌≡◌, ◌⊎◌, inl, inr, ℕ, ◌<◌, ◌≤◌, List, Option, Some, None, Result, Ok, Err, IfSome, ◌≢◌, refl, sym, ap, subst, ◌∙◌, arith, take, length, ⊎_elim, IsUtf8}
-use Rattle.std.specs.Io.KnownBytes.{Appends, Keeps}
+use Rattle.std.proofs.Common.{◌≡◌, ◌⊎◌, inl, inr, ℕ, ◌<◌, ◌≤◌, List, Option, Some, None, Result, Ok, Err, IfSome, ◌≢◌, refl, sym, ap, subst, ◌∙◌, arith, take, length, Contains, ⊎_elim, IsUtf8}
+use Rattle.std.specs.Io.KnownBytes.{Keeps}
 use Rattle.lw_grammar.specs.declared.grammar.Grammar.{Grammar}
-use Rattle.std.proofs.lemmas.Option.{same_Some}
-use Rattle.lw_io.specs.Causes.{Rose, Faulted}
+use Rattle.std.proofs.lemmas.Option.{same_Some, slice_get_within, get_or_from_slice_get}
+use Rattle.lw_io.specs.Causes.{Rose}
 use Rattle.lw_lang.specs.Small.{SaysSmall}
 use Rattle.lw_lang.specs.Obstacles.{HasObstacle, MatchesEmpty}
+use Rattle.lw_lang.specs.Refused.{FirstMatchesEmpty}
 use Rattle.lw_lang.specs.Compiled as compiled
 use Rattle.lw_lang.specs.Compiled.{HoldsGrammar, IsClear, Causes}
 use Rattle.lw_lang.specs.declared.fault.CompileFault.{CompileFault}
@@ -17,7 +18,7 @@ use Rattle.langbench.specs.declared.stop.Stop.TheVariants as stop
 use Rattle.langbench.specs.Checked.{Checked, ok_line}
 use Rattle.langbench.specs.Run as run
 use Rattle.langbench.specs.Run.{Files, Faults, NoneRose, Failed, GrammarFails, CheckEnds, CheckDone, WritesSome, fault_code, most_read}
-use Rattle.langbench.specs.Stops.{EndsWith, Works, SourceCounts, OutCounts, StoreCounts, PatternCounts, code_of}
+use Rattle.langbench.specs.Stops.{EndsWith, Works, SourceCounts, OutCounts, StoreCounts, PatternCounts}
 use Rattle.langbench.proofs.Grammars.{says_same, same_grammar, same_text}
 
 -- ---- statuses
@@ -32,7 +33,7 @@ fault_codes (fault.Unbuilt s at) = inl refl
 fault_codes (fault.PatternRefused rule name at) = inl refl
 fault_codes fault.NoMemory = inr (inr refl)
 
-fault_bound : (found : CompileFault) → (3 ≤ fault_code found) × (fault_code found ≤ 7) × (fault_code found ≡ 4 → ⊥) × (fault_code found ≡ 5 → ⊥)
+pub fault_bound : (found : CompileFault) → (3 ≤ fault_code found) × (fault_code found ≤ 7) × (fault_code found ≡ 4 → ⊥) × (fault_code found ≡ 5 → ⊥)
 fault_bound (fault.Absent path) = (omega arith, omega arith, λ e. absurd (omega (arith, e)), λ e. absurd (omega (arith, e)))
 fault_bound (fault.NotUtf8 path) = (omega arith, omega arith, λ e. absurd (omega (arith, e)), λ e. absurd (omega (arith, e)))
 fault_bound (fault.TooLong path) = (omega arith, omega arith, λ e. absurd (omega (arith, e)), λ e. absurd (omega (arith, e)))
@@ -138,11 +139,11 @@ module _ (before now : ℕ) where
 
 -- ---- what was read and written
 
-abbrev stopped : CompileFault → Result Verdict Stop
+abbrev pub stopped : CompileFault → Result Verdict Stop
 stopped found = Err (stop.Grammar found)
 
 -- what was handed in failed, where a fault says so
-failed_of : (store store' patterns patterns' : ℕ) (found : CompileFault) → StoreCounts store store' (stopped found) →
+pub failed_of : (store store' patterns patterns' : ℕ) (found : CompileFault) → StoreCounts store store' (stopped found) →
     PatternCounts patterns patterns' (stopped found) → Failed store store' patterns patterns' found
 failed_of a b c d (fault.Absent path) sc pc = tt
 failed_of a b c d (fault.NotUtf8 path) sc pc = tt
@@ -151,6 +152,13 @@ failed_of a b c d (fault.StoreFault path) sc pc = sc.rose
 failed_of a b c d (fault.Unbuilt s at) sc pc = tt
 failed_of a b c d (fault.PatternRefused rule name at) sc pc = pc.rose
 failed_of a b c d fault.NoMemory sc pc = tt
+
+-- the first pattern that matches the empty text is one
+matches_empty : (g : Grammar) → FirstMatchesEmpty g → MatchesEmpty g
+matches_empty g (terminal, pattern, tried, matches) =
+    let in' : Contains tried.kinds.terminals terminal =
+    (tried.number, slice_get_within tried.kinds.terminals tried.number terminal tried.there, get_or_from_slice_get tried.kinds.terminals tried.number terminal terminal tried.there) in
+    (pattern, (tried.kinds, tried.are, terminal, in', tried.written), matches)
 
 module _ (files : Files) (path held : List ℕ) (refused old new : Option (List ℕ)) (faults : Faults) where
   abbrev Ends : ℕ → Type 0
@@ -206,7 +214,7 @@ module _ (files : Files) (path held : List ℕ) (refused old new : Option (List 
         unbuilt (compiled.says_nothing nothing tokens cut unexpected) = nothing g (subst (λ t. SaysSmall path t g) (sym (same_text files path g holds cause.0 cause.1)) holds.says.says)
         unbuilt (compiled.has_condition h says condition at_start) =
             let same : h ≡ g = says_same files path g holds cause.0 h cause.1 says.says in
-            ⊎_elim (λ o. clear.0 (subst HasObstacle same o)) (λ m. clear.1 (subst MatchesEmpty same m)) condition
+            ⊎_elim (λ o. clear.0 (subst HasObstacle same o)) (λ m. clear.1 (matches_empty g (subst FirstMatchesEmpty same m))) condition
     no_cause (fault.PatternRefused rule name at) cause failed other = none.patterns failed
     no_cause fault.NoMemory cause failed other = other refl
 

@@ -1,5 +1,5 @@
 -- What a report prints, and that a line of a fault is not `ok`.
-use Rattle.std.proofs.Common.{◌≡◌, ◌≢◌, ℕ, ◌+◌, ◌≤◌, List, [], ◌∷◌, ◌++◌, Bool, true, false, ◌||◌, ◌==◌, Result, Ok, Err, IfOk, codes, decimal, get_or, length, refl, sym, ap, subst, ◌∙◌, arith, string_bytes}
+use Rattle.std.proofs.Common.{◌≡◌, ◌≢◌, ℕ, List, [], ◌∷◌, ◌++◌, Bool, true, false, ◌||◌, ◌==◌, Result, Ok, Err, IfOk, codes, decimal, get_or, refl, sym, ap, subst, ◌∙◌, arith, string_bytes}
 use Rattle.std.specs.List.{list_any}
 use Rattle.std.proofs.lemmas.List.Folds.{list_any-append}
 use Rattle.lw_grammar.specs.declared.grammar.Grammar.{Grammar}

@@ -1,6 +1,6 @@
 -- What printing a report leaves.
-use Rattle.std.proofs.Common.{◌≡◌, ◌⊎◌, inl, inr, ℕ, List, Option, Some, None, Result, Ok, Err, IfOk, OnOk, OnErr, IfSome, take, string_bytes, refl, sym, ap, subst, ◌∙◌}
-use Rattle.std.specs.Io.KnownBytes.{Appends, Keeps}
+use Rattle.std.proofs.Common.{◌≡◌, ◌⊎◌, inl, inr, ℕ, List, Option, Some, None, Result, Ok, Err, IfOk, OnOk, OnErr, IfSome, take, string_bytes, sym, subst}
+use Rattle.std.specs.Io.KnownBytes.{Appends}
 use Rattle.lw_grammar.specs.declared.grammar.Grammar.{Grammar}
 use Rattle.lw_io.specs.Whole.{WritesFront}
 use Rattle.lw_lang.specs.Compiled.{HoldsGrammar, IsClear}
@@ -9,7 +9,7 @@ use Rattle.langbench.specs.declared.report.Verdict.{Verdict}
 use Rattle.langbench.specs.declared.report.Verdict.TheVariants.{Whole, Broken}
 use Rattle.langbench.specs.declared.stop.Stop.{Stop}
 use Rattle.langbench.specs.declared.stop.Stop.TheVariants as stop
-use Rattle.langbench.specs.Checked.{Checked, ok_line}
+use Rattle.langbench.specs.Checked.{ok_line}
 use Rattle.langbench.specs.Reports.{IsReport, IsVerdict}
 use Rattle.langbench.specs.Run.{Files, Prints, WritesSome, most_read}
 use Rattle.langbench.specs.Stops.{Works}

@@ -3,3 +3,4 @@ pub mod Checked
 pub mod Reports
 pub mod Run
 pub mod Stops
+pub mod Notes

@@ -1,5 +1,5 @@
 -- How a run ends, by what the store and the source held.
-use Rattle.std.specs.Prelude.{ℕ, ◌≡◌, ◌≢◌, ◌+◌, ◌<◌, ◌≤◌, ◌⊎◌, List, [], ◌∷◌, Option, Result, Ok, Err, take, length}
+use Rattle.std.specs.Prelude.{ℕ, ◌≡◌, ◌≢◌, ◌+◌, ◌⊎◌, List, Option, take}
 use Rattle.std.specs.Io.KnownBytes.{Appends, Keeps}
 use Rattle.lw_grammar.specs.declared.grammar.Grammar as plain
 use Rattle.lw_io.specs.Causes.{Rose}

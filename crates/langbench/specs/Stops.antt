@@ -67,6 +67,11 @@ Works files path held refused old new (Err Read) = Keeps old new
 Works files path held refused old new (Err Write) = WritesSome files path held old new
 Works files path held refused old new (Err Memory) = Keeps old new ⊎ WritesSome files path held old new
 
+-- a fault of the grammar at this path has its cause
+abbrev pub HasCause : {T : Type 0} → Files → List ℕ → Option (List ℕ) → Result T Stop → Type 0
+HasCause files path refused (Err (Grammar found)) = Causes files path refused found
+HasCause files path refused _ = Unit {0}
+
 -- the status that an answer ends with: for a stop its own, or 7 where there was no memory for the note
 abbrev pub EndsWith : Result Verdict Stop → ℕ → Type 0
 EndsWith (Ok Whole) code = code ≡ 0

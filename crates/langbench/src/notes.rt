@@ -1,28 +1,41 @@
 // The notes: one line of why a run stopped.
-ghost use Rattle.std.specs.Prelude.{◌≡◌, IfOk, string_bytes};
+ghost use Rattle.std.specs.Prelude.{◌≡◌, IfOk, IfSome, IsTrue, string_bytes};
+ghost use Rattle.std.specs.Option.{option_copied};
+ghost use Rattle.lw_io.specs.Causes.{Rose};
+ghost use Rattle.langbench.specs.Notes.{file_line, placed_line, refused_text, fault_line, IsStopLine, NotesStop};
 
 use crate::stop::Stop;
-use crate::words::checked_grammar;
 use lw_base::{Name, NoMemory};
 use lw_io::{Sink, WriteFault, write_all};
 use lw_lang::CompileFault;
 use lw_text::Pos;
 use std::alloc::Global;
 
-/// Writes the line for a stop. False where memory was refused for it; that a sink fails changes nothing.
-pub(crate) fn note<N: Sink>(alloc: Global, notes: &mut N, words: &[Name], stop: &Stop) -> bool {
-    match note_line(alloc, words, stop) {
+/// Writes the line for a stop; `grammar` is the path of the grammar that the words name. False where
+/// memory was refused for it; that a sink fails changes nothing.
+pub(crate) fn note<N: Sink>(
+    alloc: Global,
+    notes: &mut N,
+    grammar: Option<&Name>,
+    stop: &Stop,
+) -> bool
+    ensures { IsTrue result → ¬ Rose (N.count notes.old) (N.count notes.new)
+        → NotesStop (option_copied grammar.entry) stop.now (N.written notes.old) (N.written notes.new) }
+{
+    match stop_line(alloc, grammar, stop) {
         Ok(line) => !matches!(write_all(notes, line.as_bytes()), Err(WriteFault::NoMemory)),
         Err(NoMemory) => false,
     }
 }
 
-fn note_line(alloc: Global, words: &[Name], stop: &Stop) -> Result<String, NoMemory> {
+fn stop_line(alloc: Global, grammar: Option<&Name>, stop: &Stop) -> Result<String, NoMemory>
+    ensures { IfOk result (λ line. IsStopLine (option_copied grammar.entry) stop.now (string_bytes line)) }
+{
     let text = match stop {
         Stop::Words => {
             "usage: langbench check|serve|replay|make GRAMMAR [--lookahead K] [FILE or N]\n"
         }
-        Stop::Grammar(fault) => return grammar_line(alloc, words, fault),
+        Stop::Grammar(fault) => return grammar_line(alloc, grammar, fault),
         Stop::Read => "read failed\n",
         Stop::Write => "write failed\n",
         Stop::Memory => "out of memory\n",
@@ -30,27 +43,54 @@ fn note_line(alloc: Global, words: &[Name], stop: &Stop) -> Result<String, NoMem
     Ok(String::from_str(alloc, text)?)
 }
 
-fn grammar_line(alloc: Global, words: &[Name], fault: &CompileFault) -> Result<String, NoMemory> {
+// Only words that name a grammar lead to its faults.
+fn grammar_line(
+    alloc: Global,
+    grammar: Option<&Name>,
+    fault: &CompileFault,
+) -> Result<String, NoMemory>
+    ensures { IfOk result (λ line. IfSome (option_copied grammar.entry) (λ path. string_bytes line ≡ fault_line path fault.now)) }
+{
+    match grammar {
+        Some(path) => fault_line(alloc, path, fault),
+        None => Ok(String::new(alloc)),
+    }
+}
+
+fn fault_line(alloc: Global, path: &Name, fault: &CompileFault) -> Result<String, NoMemory>
+    ensures { IfOk result (λ line. string_bytes line ≡ fault_line path.now fault.now) }
+{
     match fault {
-        CompileFault::Absent(path) => Ok(format!(in alloc; "{path}: absent\n")?),
-        CompileFault::NotUtf8(path) => Ok(format!(in alloc; "{path}: not UTF-8\n")?),
-        CompileFault::TooLong(path) => Ok(format!(in alloc; "{path}: too long\n")?),
-        CompileFault::StoreFault(path) => Ok(format!(in alloc; "{path}: failed\n")?),
-        CompileFault::Unbuilt(_, at) => placed_line(alloc, words, *at, "not built"),
-        CompileFault::PatternRefused(_, name, at) => {
-            let what = format!(in alloc; "terminal {name}: pattern refused")?;
-            placed_line(alloc, words, *at, what.as_str())
-        }
+        CompileFault::Absent(file) => file_line(alloc, file, "absent"),
+        CompileFault::NotUtf8(file) => file_line(alloc, file, "not UTF-8"),
+        CompileFault::TooLong(file) => file_line(alloc, file, "too long"),
+        CompileFault::StoreFault(file) => file_line(alloc, file, "failed"),
+        CompileFault::Unbuilt(_, at) => placed_line(alloc, path, *at, "not built"),
+        CompileFault::PatternRefused(_, name, at) => refused_line(alloc, path, name, *at),
         CompileFault::NoMemory => Ok(String::from_str(alloc, "out of memory\n")?),
     }
 }
 
-// `PATH:LINE:COL: WHAT`, for the grammar that the words name.
-fn placed_line(alloc: Global, words: &[Name], at: Pos, what: &str) -> Result<String, NoMemory> {
+// `PATH: WHAT`
+fn file_line(alloc: Global, path: &Name, what: &str) -> Result<String, NoMemory>
+    ensures { IfOk result (λ line. string_bytes line ≡ file_line path.now what.now) }
+{
+    Ok(format!(in alloc; "{path}: {what}\n")?)
+}
+
+// `PATH:LINE:COL: WHAT`
+fn placed_line(alloc: Global, path: &Name, at: Pos, what: &str) -> Result<String, NoMemory>
+    ensures { IfOk result (λ line. string_bytes line ≡ placed_line path.now at what.now) }
+{
     let line = u64::from(at.line) + 1;
     let column = u64::from(at.character) + 1;
-    match checked_grammar(words) {
-        Some(path) => Ok(format!(in alloc; "{path}:{line}:{column}: {what}\n")?),
-        None => Ok(format!(in alloc; "{line}:{column}: {what}\n")?),
-    }
+    Ok(format!(in alloc; "{path}:{line}:{column}: {what}\n")?)
+}
+
+// `PATH:LINE:COL: terminal NAME: pattern refused`
+fn refused_line(alloc: Global, path: &Name, name: &Name, at: Pos) -> Result<String, NoMemory>
+    ensures { IfOk result (λ line. string_bytes line ≡ placed_line path.now at (refused_text name.now)) }
+{
+    let what = format!(in alloc; "terminal {name}: pattern refused")?;
+    placed_line(alloc, path, at, what.as_str())
 }

@@ -94,6 +94,15 @@ fn checked(alloc: Global, grammar: &str, text: &[u8]) -> Result<Ran, NoMemory> {
     )
 }
 
+// Each allocation of this run may be made to fail in turn.
+#[test]
+fn the_first_document_is_ok(rt: HostRuntime) -> Result<(), Fail> {
+    let ran = checked(rt.alloc(), FLAT, b"model m")?;
+    assert_eq!(rt; ran.code, 0);
+    assert_eq!(rt; ran.out.as_slice(), b"ok\n".as_slice());
+    Ok(())
+}
+
 #[test]
 fn documents_have_their_lines(rt: HostRuntime) -> Result<(), Fail> {
     let table = [

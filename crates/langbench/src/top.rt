@@ -1,5 +1,6 @@
 // The top call: what the words name is done, and how it ended is told.
-ghost use Rattle.std.specs.Prelude.{◌≡◌, ◌⊎◌, ◌<◌, ◌≤◌, List, ℕ, IfOk, IfSome, Err, OnOk, OnErr, take, string_bytes};
+ghost use Rattle.std.specs.Prelude.{◌≡◌, ◌≢◌, ◌⊎◌, ◌<◌, ◌≤◌, List, ℕ, IfOk, IfSome, Err, OnOk, OnErr, take, string_bytes};
+ghost use Rattle.std.specs.Option.{option_copied};
 ghost use Rattle.std.specs.Io.KnownBytes.{Appends, Keeps};
 ghost use Rattle.lw_grammar.specs.declared.grammar.Grammar as plain;
 ghost use Rattle.lw_io.specs.Causes.{Rose};
@@ -8,7 +9,8 @@ ghost use Rattle.lw_lang.specs.Compiled.{HoldsGrammar, IsClear};
 ghost use Rattle.langbench.specs.Words.{IsCheck};
 ghost use Rattle.langbench.specs.Reports.{IsReport};
 ghost use Rattle.langbench.specs.Run.{CheckEnds, CheckDone, NoneRose, most_read};
-ghost use Rattle.langbench.specs.Stops.{EndsWith, Works, SourceCounts, OutCounts, StoreCounts, PatternCounts};
+ghost use Rattle.langbench.specs.Notes.{NotesStatus, NotesFault, NotesOutcome};
+ghost use Rattle.langbench.specs.Stops.{EndsWith, Works, HasCause, SourceCounts, OutCounts, StoreCounts, PatternCounts};
 
 use crate::notes::note;
 use crate::report::{Report, Verdict, report_on};
@@ -73,19 +75,34 @@ pub fn run<S: Source, K: Sink, N: Sink, F: Store, P: Patterns>(
     ensures store_told { F.count store.old < F.count store.new → (result.code ≡ 6) ⊎ (result.code ≡ 7) }
     ensures patterns_told { P.count patterns.old < P.count patterns.new → (result.code ≡ 3) ⊎ (result.code ≡ 7) }
     ensures status { result.code ≤ 7 }
+
+    // What is noted, where the notes did not fail and there was memory: nothing at 0 and 1, and else one line.
+    ensures noted { result.code ≢ 7 → ¬ Rose (N.count notes.old) (N.count notes.new)
+        → NotesStatus result.code (N.written notes.old) (N.written notes.new) }
+    ensures fault_noted { (result.code ≡ 3) ⊎ (result.code ≡ 6) → ¬ Rose (N.count notes.old) (N.count notes.new)
+        → (path : List ℕ) → IsCheck words.now path → IfSome (F.files store.old) (λ files.
+        NotesFault files path (P.last_refused patterns.new) (record {
+          source = (S.count source.old, S.count source.new);
+          out = (K.count out.old, K.count out.new);
+          store = (F.count store.old, F.count store.new);
+          patterns = (P.count patterns.old, P.count patterns.new);
+        }) result.code (N.written notes.old) (N.written notes.new)) }
 {
     let outcome = act(alloc, words, source, out, store, patterns);
-    finish(alloc, notes, words, outcome)
+    finish(alloc, notes, checked_grammar(words), outcome)
 }
 
-// Turns what the work answered into a status, and notes why it stopped.
+// Turns what the work answered into a status, and notes why it stopped. `grammar` is the path of the
+// grammar that the words name.
 fn finish<N: Sink>(
     alloc: Global,
     notes: &mut N,
-    words: &[Name],
+    grammar: Option<&Name>,
     outcome: Result<Verdict, Stop>,
 ) -> Status
-    ensures { EndsWith outcome result.code }
+    ensures ends { EndsWith outcome result.code }
+    ensures noted { result.code ≢ 7 → ¬ Rose (N.count notes.old) (N.count notes.new)
+        → NotesOutcome (option_copied grammar.entry) outcome (N.written notes.old) (N.written notes.new) }
 {
     let stop = match outcome {
         Ok(Verdict::Whole) => return Status { code: 0 },
@@ -93,7 +110,7 @@ fn finish<N: Sink>(
         Err(stop) => stop,
     };
     let code = stop.code();
-    if note(alloc, notes, words, &stop) {
+    if note(alloc, notes, grammar, &stop) {
         Status { code }
     } else {
         Status { code: 7 }
@@ -110,6 +127,7 @@ fn act<S: Source, K: Sink, F: Store, P: Patterns>(
 ) -> Result<Verdict, Stop>
     ensures works { (path : List ℕ) → IsCheck words.now path → IfSome (F.files store.old) (λ files. IfSome (S.left source.old) (λ held.
         Works files path held (P.last_refused patterns.new) (K.written out.old) (K.written out.new) result)) }
+    ensures cause { (path : List ℕ) → IsCheck words.now path → IfSome (F.files store.old) (λ files. HasCause files path (P.last_refused patterns.new) result) }
     ensures words { result ≡ Err Stop.Words → (path : List ℕ) → ¬ IsCheck words.now path }
     ensures other_words { ((path : List ℕ) → ¬ IsCheck words.now path) → (result ≡ Err Stop.Words) × Keeps (K.written out.old) (K.written out.new) }
     ensures source { SourceCounts (S.count source.old) (S.count source.new) result }
@@ -134,6 +152,7 @@ fn check<S: Source, K: Sink, F: Store, P: Patterns>(
 ) -> Result<Verdict, Stop>
     ensures works { IfSome (F.files store.old) (λ files. IfSome (S.left source.old) (λ held.
         Works files path.now held (P.last_refused patterns.new) (K.written out.old) (K.written out.new) result)) }
+    ensures cause { IfSome (F.files store.old) (λ files. HasCause files path.now (P.last_refused patterns.new) result) }
     ensures not_words { ¬ (result ≡ Err Stop.Words) }
     ensures source { SourceCounts (S.count source.old) (S.count source.new) result }
     ensures out { OutCounts (K.count out.old) (K.count out.new) result }

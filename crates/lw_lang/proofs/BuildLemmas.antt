@@ -1,27 +1,26 @@
 -- A grammar that was made ready, and its patterns.
-use Rattle.std.proofs.Common.{◌≡◌, ◌≢◌, ◌⊎◌, inl, inr, ℕ, ◌+◌, List, [], ◌∷◌, ◌++◌, Some, All, Contains, map, slice_get, option_map, refl, sym, ap, subst, ◌∙◌}
+use Rattle.std.proofs.Common.{◌≡◌, ◌⊎◌, inl, inr, ℕ, List, [], ◌∷◌, ◌++◌, Some, All, Contains, map, option_map, refl, sym, ap, subst, ◌∙◌}
 use Rattle.std.specs.List.{AllZip}
 use Rattle.std.proofs.lemmas.List.Elements.{All-contains}
-use Rattle.std.proofs.lemmas.Option.{same_Some}
 use Rattle.lw_grammar.specs.declared.grammar.Grammar.{Grammar}
 use Rattle.lw_grammar.specs.declared.terminal.Terminal.{Terminal}
 use Rattle.lw_grammar.specs.declared.terminal.TermElement.{out-TermElement}
 use Rattle.lw_grammar.specs.Kept as keep
 use Rattle.lw_grammar.specs.Kept.{KeepsFrom}
 use Rattle.lw_grammar.specs.Kinds.{Kinds, AreKinds, IsKindTerminal}
-use Rattle.lw_tokens.specs.Lexicon.{Lexicon, HasForm, IsLexicon}
+use Rattle.lw_tokens.specs.Lexicon.{HasForm}
 use Rattle.lw_tokens.specs.Matching.{match_length}
 use Rattle.lw_tokens.specs.Patterns.{TerminalPattern, as_pattern, unescaped}
 use Rattle.lw_terminals.specs.declared.source.TerminalSource.{TerminalSource}
 use Rattle.lw_terminals.specs.TokenKinds.{TokenKinds}
-use Rattle.lw_terminals.specs.Made.{kinds_of, form_of, IsUsable, MatchesEmptyAt}
+use Rattle.lw_terminals.specs.Made.{kinds_of, form_of, IsUsable}
 use Rattle.lw_lang.specs.Shape.{HasShape, IsPlainTerminal}
-use Rattle.lw_lang.specs.Obstacles.{HasKindPattern, MatchesEmpty}
+use Rattle.lw_lang.specs.Obstacles.{MatchesEmpty}
 use Rattle.lw_reading.specs.KindTexts.{texts_of, quoted}
 use Rattle.lw_lang.specs.Flat.{IsSource, IsFlat}
 use Rattle.lw_lang.specs.Prepared.{IsPrepared}
 use Rattle.lw_lang.specs.declared.flat.Flat.{Flat}
-use Rattle.lw_lang.proofs.Lists.{here, there, in_cons, in_nothing, at_place, zip_left, zip_at}
+use Rattle.lw_lang.proofs.Lists.{here, there, in_cons, zip_left}
 use Rattle.lw_lang.proofs.FlatKinds.{kept_once}
 use Rattle.lw_lang.proofs.FlatObstacles.{pattern_once}
 
@@ -55,21 +54,16 @@ module _ (g : Grammar) (shape : HasShape g) (flat : Flat) (is : IsFlat g flat) w
   kinds_once : (other : Kinds) → AreKinds g other → other.terminals ≡ is.of.terminals
   kinds_once other are = kept_once (IsKindTerminal g) are.terminals is.kinds.terminals
 
+  -- a terminal that is a kind is one of the grammar's
+  pub kind_there : (terminal : Terminal) → Contains is.of.terminals terminal → Contains g.terminals terminal
+  kind_there terminal in' = kept_from (IsKindTerminal g) terminal is.kinds.terminals in'
+
   -- a terminal that is a kind has one pattern
   one_pattern : (terminal : Terminal) (p q : List ℕ) → Contains is.of.terminals terminal → TerminalPattern g terminal p → TerminalPattern g terminal q → p ≡ q
   one_pattern terminal p q in' tp tq =
-      let plain : IsPlainTerminal terminal = All-contains IsPlainTerminal g.terminals terminal shape.terminals (kept_from (IsKindTerminal g) terminal is.kinds.terminals in') in
+      let plain : IsPlainTerminal terminal = All-contains IsPlainTerminal g.terminals terminal shape.terminals (kind_there terminal in') in
       let written : option_map unescaped (as_pattern (out-TermElement terminal.body)) ≡ Some (unescaped plain.1) = ap (λ f. option_map unescaped (as_pattern f)) plain.3 in
       pattern_once g terminal (unescaped plain.1) written p tp ∙ sym (pattern_once g terminal (unescaped plain.1) written q tq)
-
-  -- the pattern of a source is that of a kind
-  pub has_kind : (i : ℕ) (source : TerminalSource) → slice_get flat.terminals.items i ≡ Some source → HasKindPattern g source.pattern
-  has_kind i source at =
-      let z = zip_at (IsSource g) is.of.terminals flat.terminals.items i source is.terminals at in
-      (is.of, is.kinds, z.0, at_place is.of.terminals i z.1, z.2.pattern)
-
-  pub matches_empty : (i : ℕ) → MatchesEmptyAt flat.terminals.items i → MatchesEmpty g
-  matches_empty i at = (at.terminal.pattern, has_kind i at.terminal at.reached.there, at.matches_empty)
 
   pub none_empty : All IsUsable flat.terminals.items → MatchesEmpty g → ⊥
   none_empty usable empty =

@@ -1,19 +1,20 @@
 -- Why a grammar is not compiled, from the parts of the work.
-use Rattle.std.proofs.Common.{◌≡◌, ◌⊎◌, inl, inr, ℕ, ◌<◌, ◌≤◌, List, [], ◌∷◌, ◌++◌, Option, Some, None, Result, Ok, Err, IfSome, IfOk, IfErr, All, length, refl, sym, ap, subst, ◌∙◌, arith}
+use Rattle.std.proofs.Common.{◌≡◌, ◌⊎◌, ℕ, ◌≤◌, List, [], ◌∷◌, ◌++◌, Option, Some, None, Result, Ok, Err, IfSome, IfOk, IfErr, All, length, slice_get, refl, sym, ap, subst, ◌∙◌, arith}
 use Rattle.std.proofs.lemmas.List.Elements.{All-head, All-tail}
 use Rattle.std.specs.Str.{IsUtf8}
 use Rattle.lw_base.specs.declared.token.Span.{Span}
 use Rattle.lw_grammar.specs.declared.grammar.Grammar.{Grammar}
+use Rattle.lw_grammar.specs.declared.terminal.Terminal.{Terminal}
 use Rattle.lw_gramread.specs.declared.token.FileToken.{FileToken}
 use Rattle.lw_gramread.specs.FileCut.{IsFileCut}
 use Rattle.lw_gramread.specs.Places.{IsPlace}
-use Rattle.lw_io.specs.Causes.{Faulted}
 use Rattle.lw_io.specs.Store.{file_at, Fits, Answers}
 use Rattle.lw_io.specs.declared.store.Found.TheVariants as found
 use Rattle.lw_text.specs.Position.{IsPosition}
 use Rattle.lw_lang.specs.Small.{IsSmall, SaysSmall, IsUnexpected}
 use Rattle.lw_lang.specs.Small as small
-use Rattle.lw_lang.specs.Obstacles.{HasObstacle, MatchesEmpty, HasKindPattern}
+use Rattle.lw_lang.specs.Obstacles.{HasObstacle}
+use Rattle.lw_lang.specs.Refused.{FirstMatchesEmpty, IsToldBy, IsTried}
 use Rattle.lw_lang.specs.Language.{LanguageView}
 use Rattle.lw_lang.specs.Compiled as compiled
 use Rattle.lw_lang.specs.Compiled.{Says, HoldsText, HoldsGrammar, IsNotBuilt, Causes, FileCauses, GrammarCauses, NothingSaid, IsUnbuiltAt, IsPatternFault, PatternCounts, longest_file}
@@ -41,9 +42,6 @@ module _ (root file : List ℕ) (tokens : List FileToken) where
     small_here : (g : Grammar) → SaysSmall root file g → IsSmall file root tokens g
     small_here g says = subst (λ ts. IsSmall file root ts g) (once says.0 says.1) says.2
 
-    pub says_it : (g : Grammar) → IsSmall file root tokens g → ((other : Grammar) → IsSmall file root tokens other → other ≡ g) → Says root file g
-    says_it g says only = record { says = (tokens, cut, says); only = λ other told. only other (small_here other told) }
-
     pub nothing_said : (s : Span) (f : CompileFault) → ((g : Grammar) → ¬ IsSmall file root tokens g) → IsUnexpected file tokens s → IsUnbuiltAt file s f → NothingSaid root file f
     nothing_said s (fault.Unbuilt t at) nothing unexpected is = (
       subst (λ u. IsNotBuilt root file u) (sym is.0) (compiled.says_nothing (λ g says. nothing g (small_here g says)) tokens cut unexpected),
@@ -59,7 +57,7 @@ module _ (root file : List ℕ) (tokens : List FileToken) where
 -- ---- a grammar
 
 module _ (g : Grammar) (file : List ℕ) (refused : Option (List ℕ)) where
-  pub condition_causes : (f : CompileFault) → IsUnbuiltAt file start f → HasObstacle g ⊎ MatchesEmpty g → GrammarCauses g file refused f
+  pub condition_causes : (f : CompileFault) → IsUnbuiltAt file start f → HasObstacle g ⊎ FirstMatchesEmpty g → GrammarCauses g file refused f
   condition_causes (fault.Unbuilt t at) is condition = (condition, is.0, is.1)
   condition_causes (fault.Absent p) is condition = absurd is
   condition_causes (fault.NotUtf8 p) is condition = absurd is
@@ -68,67 +66,34 @@ module _ (g : Grammar) (file : List ℕ) (refused : Option (List ℕ)) where
   condition_causes (fault.PatternRefused rule name at) is condition = absurd is
   condition_causes fault.NoMemory is condition = absurd is
 
-  pub pattern_causes : (f : CompileFault) → IsPatternFault f → (HasObstacle g → ⊥) → (pattern : List ℕ) → refused ≡ Some pattern → HasKindPattern g pattern → GrammarCauses g file refused f
-  pattern_causes (fault.PatternRefused rule name at) is clear pattern same has = (clear, pattern, same, has)
-  pattern_causes (fault.Unbuilt t at) is clear pattern same has = absurd is
-  pattern_causes (fault.Absent p) is clear pattern same has = absurd is
-  pattern_causes (fault.NotUtf8 p) is clear pattern same has = absurd is
-  pattern_causes (fault.TooLong p) is clear pattern same has = absurd is
-  pattern_causes (fault.StoreFault p) is clear pattern same has = absurd is
-  pattern_causes fault.NoMemory is clear pattern same has = absurd is
+  pub pattern_causes : (name : List ℕ) (f : CompileFault) → IsPatternFault g file name f → (HasObstacle g → ⊥) → (pattern : List ℕ) → refused ≡ Some pattern →
+      (terminal : Terminal) → IsTried g terminal pattern → ((i : ℕ) (other : Terminal) → slice_get g.terminals i ≡ Some other → other.name ≡ name → other ≡ terminal) →
+      GrammarCauses g file refused f
+  pattern_causes name (fault.PatternRefused rule told at) is clear pattern same terminal tried once = record {
+    clear = clear;
+    terminal = terminal;
+    pattern = pattern;
+    tried = tried;
+    last = same;
+    told = subst (λ t. IsToldBy g file t rule told at) (once is.2.place is.0 is.2.there is.1) is.2;
+  }
+  pattern_causes name (fault.Unbuilt t at) is clear pattern same terminal tried once = absurd is
+  pattern_causes name (fault.Absent p) is clear pattern same terminal tried once = absurd is
+  pattern_causes name (fault.NotUtf8 p) is clear pattern same terminal tried once = absurd is
+  pattern_causes name (fault.TooLong p) is clear pattern same terminal tried once = absurd is
+  pattern_causes name (fault.StoreFault p) is clear pattern same terminal tried once = absurd is
+  pattern_causes name fault.NoMemory is clear pattern same terminal tried once = absurd is
 
   -- the cause by the grammar is one by the text that says it
   pub file_causes : (root : List ℕ) (f : CompileFault) → Says root file g → GrammarCauses g file refused f → FileCauses root file refused f
   file_causes root (fault.Unbuilt t at) says cause =
       (compiled.has_condition g says cause.0 cause.1, subst (λ u. IsPosition file u.start at) (sym cause.1) cause.2)
-  file_causes root (fault.PatternRefused rule name at) says cause = (g, says, cause.0, cause.1, cause.2, cause.3)
+  file_causes root (fault.PatternRefused rule name at) says cause = (g, says, cause)
   file_causes root (fault.Absent p) says cause = absurd cause
   file_causes root (fault.NotUtf8 p) says cause = absurd cause
   file_causes root (fault.TooLong p) says cause = absurd cause
   file_causes root (fault.StoreFault p) says cause = absurd cause
   file_causes root fault.NoMemory says cause = tt
-
-pub nothing_causes : (root file : List ℕ) (refused : Option (List ℕ)) (f : CompileFault) → NothingSaid root file f → FileCauses root file refused f
-nothing_causes root file refused (fault.Unbuilt t at) cause = cause
-nothing_causes root file refused (fault.PatternRefused rule name at) cause = absurd cause
-nothing_causes root file refused (fault.Absent p) cause = absurd cause
-nothing_causes root file refused (fault.NotUtf8 p) cause = absurd cause
-nothing_causes root file refused (fault.TooLong p) cause = absurd cause
-nothing_causes root file refused (fault.StoreFault p) cause = absurd cause
-nothing_causes root file refused fault.NoMemory cause = tt
-
--- ---- counts
-
-module _ (T : Type 0) (before now : ℕ) where
-  abbrev failed : CompileFault → Result T CompileFault
-  failed f = Err f
-
-  pub unbuilt_counts : (file : List ℕ) (s : Span) (f : CompileFault) → IsUnbuiltAt file s f → now ≡ before → PatternCounts before now (failed f)
-  unbuilt_counts file s (fault.Unbuilt t at) is same = same
-  unbuilt_counts file s (fault.Absent p) is same = absurd is
-  unbuilt_counts file s (fault.NotUtf8 p) is same = absurd is
-  unbuilt_counts file s (fault.TooLong p) is same = absurd is
-  unbuilt_counts file s (fault.StoreFault p) is same = absurd is
-  unbuilt_counts file s (fault.PatternRefused rule name at) is same = absurd is
-  unbuilt_counts file s fault.NoMemory is same = absurd is
-
-  pub pattern_counts : (f : CompileFault) → IsPatternFault f → Faulted before now → PatternCounts before now (failed f)
-  pattern_counts (fault.PatternRefused rule name at) is rose = rose
-  pattern_counts (fault.Unbuilt t at) is rose = absurd is
-  pattern_counts (fault.Absent p) is rose = absurd is
-  pattern_counts (fault.NotUtf8 p) is rose = absurd is
-  pattern_counts (fault.TooLong p) is rose = absurd is
-  pattern_counts (fault.StoreFault p) is rose = absurd is
-  pattern_counts fault.NoMemory is rose = absurd is
-
-  pub nothing_counts : (root file : List ℕ) (f : CompileFault) → NothingSaid root file f → now ≡ before → PatternCounts before now (failed f)
-  nothing_counts root file (fault.Unbuilt t at) is same = same
-  nothing_counts root file (fault.Absent p) is same = absurd is
-  nothing_counts root file (fault.NotUtf8 p) is same = absurd is
-  nothing_counts root file (fault.TooLong p) is same = absurd is
-  nothing_counts root file (fault.StoreFault p) is same = absurd is
-  nothing_counts root file (fault.PatternRefused rule name at) is same = absurd is
-  nothing_counts root file fault.NoMemory is same = same
 
 -- ---- what a store holds
 
@@ -143,7 +108,7 @@ module _ (files : List (List ℕ × List ℕ)) (root file : List ℕ) where
   pub causes : (refused : Option (List ℕ)) (f : CompileFault) → HoldsText files root file → FileCauses root file refused f → Causes files root refused f
   causes refused (fault.Unbuilt t at) holds cause = (file, holds, cause.0, cause.1)
   causes refused (fault.PatternRefused rule name at) holds cause =
-      (cause.0, record { text = file; holds = holds; says = cause.1 }, cause.2, cause.3, cause.4, cause.5)
+      (cause.0, record { text = file; holds = holds; says = cause.1 }, cause.2)
   causes refused (fault.Absent p) holds cause = absurd cause
   causes refused (fault.NotUtf8 p) holds cause = absurd cause
   causes refused (fault.TooLong p) holds cause = absurd cause
@@ -164,46 +129,6 @@ module _ (told : Option (List (List ℕ × List ℕ))) (root : List ℕ) (refuse
       by : (t : Option (List (List ℕ × List ℕ))) → Answers t root (found.Text file) → IfSome t (λ files. Causes files root refused f)
       by None a = tt
       by (Some files) a = causes files root file refused f (holds_text files root file a) cause
-
-  pub told_absent : (path : List ℕ) → path ≡ root → Answers told root found.Absent → IfSome told (λ files. Causes files root refused (fault.Absent path))
-  told_absent path same answers = by told answers
-    where
-      at : (files : List (List ℕ × List ℕ)) (o : Option (List ℕ)) → file_at files root ≡ o → Fits o found.Absent → file_at files root ≡ None
-      at files None is f = is
-      at files (Some bytes) is f = absurd f
-
-      by : (t : Option (List (List ℕ × List ℕ))) → Answers t root found.Absent → IfSome t (λ files. Causes files root refused (fault.Absent path))
-      by None a = tt
-      by (Some files) a = (same, at files (file_at files root) refl a)
-
-  pub told_not_utf8 : (path : List ℕ) → path ≡ root → Answers told root found.NotUtf8 → IfSome told (λ files. Causes files root refused (fault.NotUtf8 path))
-  told_not_utf8 path same answers = by told answers
-    where
-      at : (files : List (List ℕ × List ℕ)) (o : Option (List ℕ)) → file_at files root ≡ o → Fits o found.NotUtf8 → Causes files root refused (fault.NotUtf8 path)
-      at files None is f = absurd f
-      at files (Some bytes) is f = (same, (bytes, is, f.0, f.1))
-
-      by : (t : Option (List (List ℕ × List ℕ))) → Answers t root found.NotUtf8 → IfSome t (λ files. Causes files root refused (fault.NotUtf8 path))
-      by None a = tt
-      by (Some files) a = at files (file_at files root) refl a
-
-  pub told_too_long : (path : List ℕ) → path ≡ root → Answers told root found.TooLong → IfSome told (λ files. Causes files root refused (fault.TooLong path))
-  told_too_long path same answers = by told answers
-    where
-      at : (files : List (List ℕ × List ℕ)) (o : Option (List ℕ)) → file_at files root ≡ o → Fits o found.TooLong → Causes files root refused (fault.TooLong path)
-      at files None is f = absurd f
-      at files (Some bytes) is f = (same, (bytes, is, f))
-
-      by : (t : Option (List (List ℕ × List ℕ))) → Answers t root found.TooLong → IfSome t (λ files. Causes files root refused (fault.TooLong path))
-      by None a = tt
-      by (Some files) a = at files (file_at files root) refl a
-
-  pub told_failed : (path : List ℕ) → path ≡ root → IfSome told (λ files. Causes files root refused (fault.StoreFault path))
-  told_failed path same = by told
-    where
-      by : (t : Option (List (List ℕ × List ℕ))) → IfSome t (λ files. Causes files root refused (fault.StoreFault path))
-      by None = tt
-      by (Some files) = same
 
 -- ---- the same of answers
 

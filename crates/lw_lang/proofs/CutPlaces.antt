@@ -3,7 +3,7 @@ use Rattle.std.proofs.Common.{◌≡◌, ℕ, ◌+◌, ◌<◌, ◌≤◌, List,
 use Rattle.std.proofs.lemmas.List.Elements.{All-nil, All-head, All-tail, All-push, All-filter, All-weaker}
 use Rattle.std.proofs.lemmas.Option.{slice_get_within}
 use Rattle.lw_base.specs.declared.token.Token.{Token}
-use Rattle.lw_tokens.specs.Lexicon.{Lexicon, TerminalForm}
+use Rattle.lw_tokens.specs.Lexicon.{Lexicon}
 use Rattle.lw_tokens.specs.NextToken as next
 use Rattle.lw_tokens.specs.NextToken.{Next, IsNext}
 use Rattle.lw_tokens.specs.Cut as cut

@@ -20,4 +20,5 @@ pub mod SmallOnly
 pub mod SmallShape
 pub mod SmallSteps
 pub mod CompileLemmas
+pub mod Refusals
 pub mod PlainParts

@@ -3,9 +3,8 @@ use Rattle.std.proofs.Common.{◌≡◌, ℕ, ◌+◌, ◌<◌, ◌≤◌, List,
 use Rattle.std.proofs.lemmas.List.{length-map}
 use Rattle.lw_base.specs.declared.token.Span.{Span}
 use Rattle.lw_base.specs.declared.token.Token.{Token}
-use Rattle.lw_grammar.specs.declared.grammar.Grammar.{Grammar}
-use Rattle.lw_grammar.specs.Kinds.{Kinds, AreKinds}
-use Rattle.lw_tokens.specs.Lexicon.{Lexicon, IsLexicon, HasForm}
+use Rattle.lw_grammar.specs.Kinds.{Kinds}
+use Rattle.lw_tokens.specs.Lexicon.{HasForm}
 use Rattle.std.specs.List.{AllZip}
 use Rattle.lw_tokens.specs.Cut.{IsCut, HasNoTokenAt, IsCharacterAt, visible}
 use Rattle.lw_reading.specs.declared.issue.Issue.TheVariants.{Lexical}

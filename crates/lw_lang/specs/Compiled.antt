@@ -1,16 +1,17 @@
 -- What compiling a root file answers, by what the store holds.
-use Rattle.std.specs.Prelude.{ℕ, ◌≡◌, ◌≤◌, ◌<◌, ◌⊎◌, List, Option, Some, None, Result, Ok, Err, IfSome, length}
+use Rattle.std.specs.Prelude.{ℕ, ◌≡◌, ◌≤◌, ◌<◌, ◌⊎◌, List, Option, Some, None, Result, Err, length}
 use Rattle.std.specs.Str.{IsUtf8}
 use Rattle.lw_base.specs.declared.token.Span.{Span}
 use Rattle.lw_grammar.specs.declared.grammar.Grammar.{Grammar}
+use Rattle.lw_grammar.specs.declared.terminal.Terminal.{Terminal}
 use Rattle.lw_io.specs.Causes.{Faulted}
 use Rattle.lw_io.specs.Store.{file_at}
 use Rattle.lw_text.specs.Position.{IsPosition}
-use Rattle.lw_text.specs.declared.place.Pos.{Pos}
 use Rattle.lw_gramread.specs.declared.token.FileToken.{FileToken}
 use Rattle.lw_gramread.specs.FileCut.{IsFileCut}
 use Rattle.lw_lang.specs.Small.{SaysSmall, IsUnexpected}
-use Rattle.lw_lang.specs.Obstacles.{HasObstacle, MatchesEmpty, HasKindPattern}
+use Rattle.lw_lang.specs.Obstacles.{HasObstacle, MatchesEmpty}
+use Rattle.lw_lang.specs.Refused.{FirstMatchesEmpty, IsToldBy, IsPatternRefused}
 use Rattle.lw_lang.specs.declared.fault.CompileFault.{CompileFault}
 use Rattle.lw_lang.specs.declared.fault.CompileFault.TheVariants.{Absent, NotUtf8, TooLong, StoreFault, Unbuilt, PatternRefused, NoMemory}
 
@@ -44,7 +45,7 @@ IsClear g = (¬ HasObstacle g) × (¬ MatchesEmpty g)
 pub data IsNotBuilt (path text : List ℕ) (s : Span) : Type 0 where
   says_nothing : ((g : Grammar) → ¬ SaysSmall path text g) → (tokens : List FileToken) → IsFileCut text tokens → IsUnexpected text tokens s →
       IsNotBuilt path text s
-  has_condition : (g : Grammar) → Says path text g → HasObstacle g ⊎ MatchesEmpty g → s ≡ record { start = 0; end = 0 } → IsNotBuilt path text s
+  has_condition : (g : Grammar) → Says path text g → HasObstacle g ⊎ FirstMatchesEmpty g → s ≡ record { start = 0; end = 0 } → IsNotBuilt path text s
 
 -- why each fault comes, by the files and the text that the patterns refused last
 abbrev pub Causes : List (List ℕ × List ℕ) → List ℕ → Option (List ℕ) → CompileFault → Type 0
@@ -54,7 +55,7 @@ Causes files root refused (TooLong path) = (path ≡ root) × ((bytes : List ℕ
 Causes files root refused (StoreFault path) = path ≡ root
 Causes files root refused (Unbuilt s at) = (text : List ℕ) × HoldsText files root text × IsNotBuilt root text s × IsPosition text s.start at
 Causes files root refused (PatternRefused rule name at) =
-    (g : Grammar) × HoldsGrammar files root g × (¬ HasObstacle g) × (pattern : List ℕ) × (refused ≡ Some pattern) × HasKindPattern g pattern
+    (g : Grammar) × (holds : HoldsGrammar files root g) × IsPatternRefused g holds.text refused rule name at
 Causes files root refused NoMemory = Unit {0}
 
 -- the same by the text of the file, where it is one
@@ -64,8 +65,7 @@ FileCauses root text refused (NotUtf8 path) = ⊥
 FileCauses root text refused (TooLong path) = ⊥
 FileCauses root text refused (StoreFault path) = ⊥
 FileCauses root text refused (Unbuilt s at) = IsNotBuilt root text s × IsPosition text s.start at
-FileCauses root text refused (PatternRefused rule name at) =
-    (g : Grammar) × Says root text g × (¬ HasObstacle g) × (pattern : List ℕ) × (refused ≡ Some pattern) × HasKindPattern g pattern
+FileCauses root text refused (PatternRefused rule name at) = (g : Grammar) × Says root text g × IsPatternRefused g text refused rule name at
 FileCauses root text refused NoMemory = Unit {0}
 
 -- the same by the grammar that a text says
@@ -74,8 +74,8 @@ GrammarCauses g text refused (Absent path) = ⊥
 GrammarCauses g text refused (NotUtf8 path) = ⊥
 GrammarCauses g text refused (TooLong path) = ⊥
 GrammarCauses g text refused (StoreFault path) = ⊥
-GrammarCauses g text refused (Unbuilt s at) = (HasObstacle g ⊎ MatchesEmpty g) × (s ≡ record { start = 0; end = 0 }) × IsPosition text 0 at
-GrammarCauses g text refused (PatternRefused rule name at) = (¬ HasObstacle g) × (pattern : List ℕ) × (refused ≡ Some pattern) × HasKindPattern g pattern
+GrammarCauses g text refused (Unbuilt s at) = (HasObstacle g ⊎ FirstMatchesEmpty g) × (s ≡ record { start = 0; end = 0 }) × IsPosition text 0 at
+GrammarCauses g text refused (PatternRefused rule name at) = IsPatternRefused g text refused rule name at
 GrammarCauses g text refused NoMemory = Unit {0}
 
 -- a text that says no grammar
@@ -89,10 +89,14 @@ abbrev pub IsUnbuiltAt : List ℕ → Span → CompileFault → Type 0
 IsUnbuiltAt text span (Unbuilt s at) = (s ≡ span) × IsPosition text span.start at
 IsUnbuiltAt text span _ = ⊥
 
--- the fault that a pattern was refused
-abbrev pub IsPatternFault : CompileFault → Type 0
-IsPatternFault (PatternRefused rule name at) = Unit {0}
-IsPatternFault _ = ⊥
+-- the name of the terminal begins in the file or at its end
+abbrev pub StandsIn : List ℕ → Terminal → Type 0
+StandsIn text terminal = terminal.span.start ≤ length text
+
+-- the fault that the pattern of the terminal of this name was refused
+abbrev pub IsPatternFault : Grammar → List ℕ → List ℕ → CompileFault → Type 0
+IsPatternFault g text name (PatternRefused rule told at) = (terminal : Terminal) × (terminal.name ≡ name) × IsToldBy g text terminal rule told at
+IsPatternFault g text name _ = ⊥
 
 -- the count of the store rises at `StoreFault`, and stands still at every other answer
 abbrev pub StoreCounts : {T : Type 0} → ℕ → ℕ → Result T CompileFault → Type 0

@@ -1,6 +1,7 @@
 pub mod Small
 pub mod Shape
 pub mod Obstacles
+pub mod Refused
 pub mod Rows
 pub mod Flat
 pub mod FlatParts

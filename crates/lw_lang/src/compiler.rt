@@ -1,6 +1,6 @@
 // From a grammar file to a language.
-ghost use Rattle.std.specs.Prelude.{◌≡◌, ◌≤◌, ◌<◌, length, IfOk, IfErr, IfSome, OnErr, All, map};
-ghost use Rattle.lw_lang.specs.Compiled.{Says, HoldsGrammar, IsClear, Causes, FileCauses, GrammarCauses, NothingSaid, IsUnbuiltAt, IsPatternFault, StoreCounts, PatternCounts, longest_file};
+ghost use Rattle.std.specs.Prelude.{◌≡◌, ◌+◌, ◌≤◌, ◌<◌, length, slice_get, IfOk, IfErr, IfSome, All, Any, bytes_eq, map, position};
+ghost use Rattle.lw_lang.specs.Compiled.{Says, HoldsGrammar, IsClear, Causes, FileCauses, GrammarCauses, NothingSaid, IsUnbuiltAt, StandsIn, IsPatternFault, StoreCounts, PatternCounts, longest_file};
 ghost use Rattle.lw_lang.specs.Obstacles.{HasObstacle};
 ghost use Rattle.lw_lang.specs.Flat.{IsFlat, IsReady};
 ghost use Rattle.lw_reading.specs.KindTexts.{AreKindTexts};
@@ -11,7 +11,7 @@ use crate::flat::{Flat, FlatFault, make_flat};
 use crate::language::Language;
 use crate::small::{SmallFault, read_small};
 use lw_base::{Name, NoMemory, RuleId, Span};
-use lw_grammar::Grammar;
+use lw_grammar::{Grammar, Terminal};
 use lw_gramread::file_tokens;
 use lw_io::{Found, Patterns, Store};
 use lw_terminals::{MakeTokensFault, TerminalSource, TokenSet};
@@ -79,6 +79,7 @@ fn grammar_of(alloc: Global, root: &Name, file: &Name) -> Result<Grammar, Compil
     requires { length file.now ≤ longest_file }
     ensures says { IfOk result (Says root.now file.now) }
     ensures shape { IfOk result HasShape }
+    ensures stand { IfOk result (λ grammar. All (StandsIn file.now) grammar.terminals) }
     ensures fault { IfErr result (NothingSaid root.now file.now) }
 {
     let tokens = file_tokens(alloc, file)?;
@@ -107,6 +108,7 @@ fn build<P: Patterns>(
     patterns: &mut P,
 ) -> Result<Language, CompileFault>
     requires shape { HasShape grammar }
+    requires stand { All (StandsIn file.now) grammar.terminals }
     requires short { length file.now ≤ longest_file }
     ensures grammar { IfOk result (λ language. language.grammar ≡ grammar) }
     ensures clear { IfOk result (λ language. IsClear language.grammar) }
@@ -130,6 +132,7 @@ fn language_of<P: Patterns>(
     patterns: &mut P,
 ) -> Result<Language, CompileFault>
     requires shape { HasShape grammar }
+    requires stand { All (StandsIn file.now) grammar.terminals }
     requires short { length file.now ≤ longest_file }
     requires flat { IsFlat grammar flat }
     requires ready { IsReady flat }
@@ -145,11 +148,11 @@ fn language_of<P: Patterns>(
         terminals,
         row,
     } = flat;
-    let names = names_of(alloc, &terminals)?;
+    let mut names = names_of(alloc, &terminals)?;
     match TokenSet::make(alloc, keywords, terminals, patterns) {
         Ok(tokens) => Ok(Language::new(grammar, tokens, row)),
         Err(MakeTokensFault::EmptyMatch(_)) => Err(unbuilt(file, Span { start: 0, end: 0 })),
-        Err(MakeTokensFault::Refused(i)) => Err(refused(file, &grammar, names, i)),
+        Err(MakeTokensFault::Refused(i)) => Err(refused(file, &grammar, names.swap_remove(i))),
         Err(MakeTokensFault::NoMemory) => Err(CompileFault::NoMemory),
     }
 }
@@ -165,19 +168,36 @@ fn names_of(alloc: Global, terminals: &[TerminalSource]) -> Result<Vec<Name>, No
     Ok(names)
 }
 
-// The fault of the terminal kind at this place, whose pattern was refused: its number behind the
-// rules, its name, and where its name stands.
-fn refused(file: &Name, grammar: &Grammar, mut names: Vec<Name>, i: usize) -> CompileFault
-    requires within { i < length names.items }
+// The fault of the terminal of this name, whose pattern was refused: its number behind the rules, its
+// name, and where its name stands.
+fn refused(file: &Name, grammar: &Grammar, name: Name) -> CompileFault
+    requires named { Any (λ terminal. terminal.name ≡ name) grammar.now.terminals }
+    requires few { length grammar.now.rules + length grammar.now.terminals ≤ 65535 }
+    requires stand { All (StandsIn file.now) grammar.now.terminals }
     requires short { length file.now ≤ longest_file }
-    ensures { IsPatternFault result }
+    ensures { IsPatternFault grammar.now file.now name result }
 {
-    let name = names.swap_remove(i);
-    let rules = grammar.rules.len();
     let terminals = grammar.terminals.as_slice();
-    let number = terminals.iter().position(|t| t.name == name).unwrap_or(0);
-    let start = terminals.get(number).map_or(0, |t| t.span.start as usize);
-    let rule = u16::try_from(rules.saturating_add(number)).unwrap_or(u16::MAX);
-    let at = position(file.text(), start.min(file.bytes().len()));
-    CompileFault::PatternRefused(RuleId(rule), name, at)
+    let place = place_of(terminals, &name);
+    let number = grammar.rules.len() + place;
+    let at = position(file.text(), terminals[place].span.start as usize);
+    CompileFault::PatternRefused(RuleId(number as u16), name, at)
+}
+
+// The place of the first terminal of this name.
+fn place_of(terminals: &[Terminal], name: &Name) -> usize
+    requires { Any (λ terminal. terminal.name ≡ name.now) terminals.now }
+    ensures within { result < length terminals.now }
+    ensures named { IfSome (slice_get terminals.now result) (λ terminal. terminal.name ≡ name.now) }
+{
+    match find_named(terminals, name) {
+        Some(place) => place,
+        None => unreachable!(),
+    }
+}
+
+fn find_named(terminals: &[Terminal], name: &Name) -> Option<usize>
+    ensures { result ≡ position (λ terminal. bytes_eq terminal.name name.now) terminals.now }
+{
+    terminals.iter().position(|t| t.name == *name)
 }

@@ -19,7 +19,8 @@ pub enum CompileFault {
     /// The file is not of a form that is built so far: the first token that cannot follow, and its
     /// position. Where the file is of such a form and a condition fails, this is the file's start.
     Unbuilt(Span, Pos),
-    /// The pattern of this terminal was refused: its number, its name and the position of its name.
+    /// The pattern of this terminal was refused: its number among the rules and terminals, of which the
+    /// rules come first, its name, and the position where its name begins, line and UTF-16 unit from zero.
     PatternRefused(RuleId, Name, Pos),
     /// There was no memory.
     NoMemory,

@@ -1,7 +1,10 @@
--- A grammar of two ways that begin alike, `grammar E entry A: 'a' x='b' | 'a' y='c';`: after `a` comes `b` or `c`, and never another `a`.
-use Rattle.std.proofs.Common.{◌≡◌, ℕ, zero, suc, Option, slice_get, List, [], ◌∷◌, ◌++◌, Some, true, false, codes, Contains, ◌⊎◌, inl, inr, refl, sym, ap, ◌∙◌, subst, arith, true≢false}
+-- A grammar of two ways that begin and end alike, `grammar E entry A: 'a' b='b' 'c' | 'a' d='d' 'c';`: its sentences are `a b c` and `a d c`,
+-- so that `a` begins one, and `a c` begins none, though `c` ends both ways.
+use Rattle.std.proofs.Common.{◌≡◌, ◌≢◌, ◌<◌, ℕ, zero, suc, slice_get, List, [], ◌∷◌, ◌++◌, map, Some, true, false, codes, lit<, All, AllPairs, Contains, ◌⊎◌, inl, inr, refl, sym, ap, ◌∙◌, subst, arith, true≢false}
+use Rattle.std.specs.List.{flat_map}
 use Rattle.std.proofs.lemmas.List.{append-nil}
-use Rattle.std.proofs.lemmas.List.Elements.{Contains-append_left, Contains-append_right}
+use Rattle.std.proofs.lemmas.List.Elements.{All-nil, All-cons, All-head, All-tail}
+use Rattle.std.proofs.lemmas.List.Kept.{AllPairs-cons}
 use Rattle.std.proofs.lemmas.Option.{none-some, same_Some}
 use Rattle.lw_base.specs.declared.token.Span.{Span}
 use Rattle.lw_grammar.specs.declared.grammar.Grammar.{Grammar}
@@ -12,180 +15,274 @@ use Rattle.lw_grammar.specs.declared.rule.Element.{Element, out-Element, fold_ou
 use Rattle.lw_grammar.specs.declared.rule.Element.TheFolds.{map-Element}
 use Rattle.lw_grammar.specs.declared.rule.Element.TheVariants.{Keyword, Assign, Group, Choice, outs-Keyword, outs-Assign, outs-Group, outs-Choice}
 use Rattle.lw_grammar.specs.declared.rule.Element.TheOpen as layer
-use Rattle.lw_grammar.specs.declared.rule.Value0.{Value0}
+use Rattle.lw_grammar.specs.declared.rule.Value0.{Value0, fold_out-Value0}
+use Rattle.lw_grammar.specs.declared.rule.Value0.TheFolds.{map-Value0}
 use Rattle.lw_grammar.specs.declared.rule.Value0.TheVariants as value
 use Rattle.lw_grammar.specs.declared.rule.Value0.TheOpen as value_layer
-use Rattle.lw_grammar.specs.Leaves.{Leaf, leaves, layer_leaves}
+use Rattle.lw_grammar.specs.Leaves.{Leaf, leaves, layer_leaves, ValueLeaf, value_leaves, layer_values, keywords_in, keywords_of, literals_of}
 use Rattle.lw_grammar.specs.Leaves as leaf
+use Rattle.lw_grammar.specs.Named.{IsEntry}
 use Rattle.lw_grammar.specs.Nodes.{MakesNodes, assigns}
-use Rattle.lw_grammar.specs.Kinds.{Kinds, IsKeywordKind}
+use Rattle.lw_grammar.specs.Reached as reached
+use Rattle.lw_grammar.specs.Kept as keep
+use Rattle.lw_grammar.specs.Kinds.{Kinds, AreKinds, IsKeywordKind, first_uses}
 use Rattle.lw_sentences.specs.Marks.{Mark, kinds_of}
 use Rattle.lw_sentences.specs.Marks as mark
-use Rattle.lw_sentences.specs.Yields.{Yields, Gives, YieldsAll, RuleGives, Reads, ReadsLayer}
+use Rattle.lw_sentences.specs.Yields.{Yields, Gives, RuleGives, Reads, ReadsLayer}
 use Rattle.lw_sentences.specs.Yields as y
-use Rattle.lw_sentences.specs.Sentences.{Starts}
-use Rattle.lw_sentences.proofs.KeywordRows.{kinds_join}
+use Rattle.lw_sentences.specs.Sentences.{IsWhole, Starts}
+use Rattle.lw_sentences.proofs.KeywordRows.{kinds_join, keyword_once}
 
 abbrev pub nowhere : Span
 nowhere = record { start = 0; end = 0 }
 
--- one way: the keyword `a`, and then a word that goes into a property
-abbrev pub way : List ℕ → List ℕ → Element
-way p word = Group (Keyword (codes "a") nowhere ∷ Assign p One (value.Keyword word nowhere) nowhere ∷ []) nowhere
+abbrev pub keyword : List ℕ → Element
+keyword word = Keyword word nowhere
+
+-- the word goes into the property that is named like it
+abbrev pub assignment : List ℕ → Element
+assignment word = Assign word One (value.Keyword word nowhere) nowhere
+
+abbrev pub way_parts : List ℕ → List Element
+way_parts word = keyword (codes "a") ∷ assignment word ∷ keyword (codes "c") ∷ []
+
+-- one way: the keyword `a`, a word that is assigned, and the keyword `c`
+abbrev pub way : List ℕ → Element
+way word = Group (way_parts word) nowhere
+
+abbrev pub ways : List Element
+ways = way (codes "b") ∷ way (codes "d") ∷ []
 
 abbrev pub A : Rule
-A = record {
-  name = codes "A";
-  file = 0;
-  span = nowhere;
-  is_entry = true;
-  is_fragment = false;
-  result = Own;
-  body = Choice (way (codes "x") (codes "b") ∷ way (codes "y") (codes "c") ∷ []) nowhere;
-}
+A = record { name = codes "A"; file = 0; span = nowhere; is_entry = true; is_fragment = false; result = Own; body = Choice ways nowhere }
 
 abbrev pub E : Grammar
 E = record { name = codes "E"; files = []; rules = A ∷ []; terminals = []; interfaces = []; unions = []; imports = [] }
 
--- its keywords, in their order: `a` is 0, `b` is 1 and `c` is 2
+-- its keywords, in the order of their first use
 abbrev pub kinds : Kinds
-kinds = record { keywords = codes "a" ∷ codes "b" ∷ codes "c" ∷ []; terminals = [] }
+kinds = record { keywords = codes "a" ∷ codes "b" ∷ codes "c" ∷ codes "d" ∷ []; terminals = [] }
 
-first_code : (a b : ℕ) → ◌≡◌ {A = Option (List ℕ)} (Some (a ∷ [])) (Some (b ∷ [])) → a ≡ b
-first_code a b is = cc
+abbrev pub a : ℕ
+a = 0
 
-only_a : (k : ℕ) → IsKeywordKind kinds (codes "a") k → k ≡ 0
-only_a zero is = refl
-only_a (suc zero) is = absurd (omega (arith, first_code 98 97 is))
-only_a (suc (suc zero)) is = absurd (omega (arith, first_code 99 97 is))
-only_a (suc (suc (suc k))) is = absurd (none-some (codes "a") is)
+abbrev pub b : ℕ
+b = 1
 
-only_b : (k : ℕ) → IsKeywordKind kinds (codes "b") k → k ≡ 1
-only_b zero is = absurd (omega (arith, first_code 97 98 is))
-only_b (suc zero) is = refl
-only_b (suc (suc zero)) is = absurd (omega (arith, first_code 99 98 is))
-only_b (suc (suc (suc k))) is = absurd (none-some (codes "b") is)
+abbrev pub c : ℕ
+c = 2
 
-only_c : (k : ℕ) → IsKeywordKind kinds (codes "c") k → k ≡ 2
-only_c zero is = absurd (omega (arith, first_code 97 99 is))
-only_c (suc zero) is = absurd (omega (arith, first_code 98 99 is))
-only_c (suc (suc zero)) is = refl
-only_c (suc (suc (suc k))) is = absurd (none-some (codes "c") is)
+abbrev pub d : ℕ
+d = 3
 
--- what one way yields
-module _ (p word : List ℕ) (k : ℕ) (is_kind : IsKeywordKind kinds word k) (once : (l : ℕ) → IsKeywordKind kinds word l → l ≡ k) where
-  first_gives : {m : List Mark} → Gives E kinds (layer.Keyword (codes "a") nowhere) m → kinds_of m ≡ 0 ∷ []
-  first_gives (y.keyword {k = l} at) = ap (λ n. n ∷ []) (only_a l at)
-
-  value_gives : {v c : Value0} {m : List Mark} → ReadsLayer E kinds v (value_layer.Keyword word nowhere) c m → kinds_of m ≡ k ∷ []
-  value_gives (y.keyword_value {k = l} at) = ap (λ n. n ∷ []) (once l at)
-
-  second_gives : {m : List Mark} → Gives E kinds (layer.Assign p One (value.Keyword word nowhere) nowhere) m → kinds_of m ≡ k ∷ []
-  second_gives (y.assigned {m} (y.reads {c} layered)) =
-      kinds_join m (mark.End ∷ []) ∙ append-nil (kinds_of m)
-      ∙ value_gives (subst (λ f. ReadsLayer E kinds (value.Keyword word nowhere) f c m) (value.outs-Keyword word nowhere) layered)
-
-  row_gives : {m : List Mark} → Gives E kinds (layer.Group (Keyword (codes "a") nowhere ∷ Assign p One (value.Keyword word nowhere) nowhere ∷ []) nowhere) m →
-      kinds_of m ≡ 0 ∷ k ∷ []
-  row_gives (y.grouped (y.more {m} {n} (y.yields first) (y.more {m = o} (y.yields second) y.none))) =
-      kinds_join m n
-      ∙ ap (λ ks. ks ++ kinds_of n) (first_gives (subst (λ f. Gives E kinds f m) (outs-Keyword (codes "a") nowhere) first))
-      ∙ ap (λ ks. 0 ∷ ks) (kinds_join o [] ∙ append-nil (kinds_of o)
-      ∙ second_gives (subst (λ f. Gives E kinds f o) (outs-Assign p One (value.Keyword word nowhere) nowhere) second))
-
-  pub way_gives : {m : List Mark} → Yields E kinds (way p word) m → kinds_of m ≡ 0 ∷ k ∷ []
-  way_gives {m} (y.yields gives) = row_gives (subst (λ f. Gives E kinds f m) (outs-Group _ nowhere) gives)
-
-  -- and it does yield it
-  pub way_can : (m : List Mark) × Yields E kinds (way p word) m × (kinds_of m ≡ 0 ∷ k ∷ [])
-  way_can =
-      let first : Yields E kinds (Keyword (codes "a") nowhere) (mark.Token 0 ∷ []) =
-      y.yields (subst (λ f. Gives E kinds f (mark.Token 0 ∷ [])) (sym (outs-Keyword (codes "a") nowhere)) (y.keyword refl)) in
-      let word_value : Value0 = value.Keyword word nowhere in
-      let read : Reads E kinds word_value word_value (mark.Token k ∷ []) =
-      y.reads (subst (λ f. ReadsLayer E kinds word_value f word_value (mark.Token k ∷ [])) (sym (value.outs-Keyword word nowhere)) (y.keyword_value is_kind)) in
-      let put : List Mark = mark.Put p One word_value ∷ (mark.Token k ∷ []) ++ mark.End ∷ [] in
-      let second : Yields E kinds (Assign p One word_value nowhere) put =
-      y.yields (subst (λ f. Gives E kinds f put) (sym (outs-Assign p One word_value nowhere)) (y.assigned read)) in
-      let all : List Mark = (mark.Token 0 ∷ []) ++ (put ++ []) in
-      (all, y.yields (subst (λ f. Gives E kinds f all) (sym (outs-Group _ nowhere)) (y.grouped (y.more first (y.more second y.none)))), refl)
+-- ---- its kinds are these
 
 leaves_layer : (e : Element) (f : layer.Element-F Element) → out-Element e ≡ f → leaves e ≡ layer_leaves (map-Element Element (List Leaf) leaves f)
 leaves_layer e f is = fold_out-Element (List Leaf) layer_leaves e ∙ ap (λ f. layer_leaves (map-Element Element (List Leaf) leaves f)) is
 
+keyword_leaf : (word : List ℕ) → leaves (keyword word) ≡ leaf.Keyword word nowhere ∷ []
+keyword_leaf word = leaves_layer (keyword word) (layer.Keyword word nowhere) (outs-Keyword word nowhere)
+
+abbrev assigned : List ℕ → Leaf
+assigned word = leaf.Assign word One (value.Keyword word nowhere) nowhere
+
+assignment_leaf : (word : List ℕ) → leaves (assignment word) ≡ assigned word ∷ []
+assignment_leaf word =
+    leaves_layer (assignment word) (layer.Assign word One (value.Keyword word nowhere) nowhere) (outs-Assign word One (value.Keyword word nowhere) nowhere)
+
+abbrev way_leaves : List ℕ → List Leaf
+way_leaves word = leaf.Keyword (codes "a") nowhere ∷ assigned word ∷ leaf.Keyword (codes "c") nowhere ∷ []
+
+leaves_of_way : (word : List ℕ) → leaves (way word) ≡ way_leaves word
+leaves_of_way word =
+    leaves_layer (way word) (layer.Group (way_parts word) nowhere) (outs-Group (way_parts word) nowhere)
+    ∙ joined _ _ _ (keyword_leaf (codes "a")) (assignment_leaf word) (keyword_leaf (codes "c"))
+  where
+    joined : (p q r : List Leaf) {x y z : Leaf} → p ≡ x ∷ [] → q ≡ y ∷ [] → r ≡ z ∷ [] → p ++ (q ++ (r ++ [])) ≡ x ∷ y ∷ z ∷ []
+    joined p q r f g h = rw (f, g, h) refl
+
+all_leaves : leaves A.body ≡ way_leaves (codes "b") ++ way_leaves (codes "d")
+all_leaves =
+    leaves_layer A.body (layer.Choice ways nowhere) (outs-Choice ways nowhere) ∙ joined _ _ _ _ (leaves_of_way (codes "b")) (leaves_of_way (codes "d"))
+  where
+    joined : (p q x y : List Leaf) → p ≡ x → q ≡ y → p ++ (q ++ []) ≡ x ++ y
+    joined p q x y f g = ap (λ r. p ++ r) (append-nil q) ∙ ap (λ r. r ++ q) f ∙ ap (λ r. x ++ r) g
+
+value_leaf : (word : List ℕ) → value_leaves (value.Keyword word nowhere) ≡ leaf.Literal word nowhere ∷ []
+value_leaf word =
+    fold_out-Value0 (List ValueLeaf) layer_values (value.Keyword word nowhere)
+    ∙ ap (λ f. layer_values (map-Value0 Value0 (List ValueLeaf) value_leaves f)) (value.outs-Keyword word nowhere)
+
+assigned_keyword : (word : List ℕ) → keywords_of (assigned word) ≡ word ∷ []
+assigned_keyword word = ap (flat_map literals_of) (value_leaf word)
+
+all_keywords : keywords_in A.body ≡ codes "a" ∷ codes "b" ∷ codes "c" ∷ codes "a" ∷ codes "d" ∷ codes "c" ∷ []
+all_keywords = ap (flat_map keywords_of) all_leaves ∙ joined _ _ (assigned_keyword (codes "b")) (assigned_keyword (codes "d"))
+  where
+    joined : (p q : List (List ℕ)) → p ≡ codes "b" ∷ [] → q ≡ codes "d" ∷ [] →
+        codes "a" ∷ (p ++ (codes "c" ∷ codes "a" ∷ (q ++ (codes "c" ∷ [])))) ≡ codes "a" ∷ codes "b" ∷ codes "c" ∷ codes "a" ∷ codes "d" ∷ codes "c" ∷ []
+    joined p q f g = rw (f, g) refl
+
+is_entry : IsEntry E 0 A
+is_entry = record { there = refl; does = (refl, refl); none_before = λ j other below. absurd (omega arith) }
+
+pub are_kinds : AreKinds E kinds
+are_kinds = record {
+  rules = A ∷ [];
+  reached = keep.kept (reached.entry A is_entry) keep.nothing;
+  keywords = sym (ap (first_uses []) (append-nil (keywords_in A.body) ∙ all_keywords));
+  terminals = keep.nothing;
+}
+
+-- ---- a keyword has one kind
+
+abbrev Differ : List ℕ → List ℕ → Type 0
+Differ x y = x ≢ y
+
+letters_differ : (x y : ℕ) → (x ≡ y → ⊥) → Differ (x ∷ []) (y ∷ [])
+letters_differ x y apart same = apart (first_of same)
+  where
+    first_of : x ∷ [] ≡ y ∷ [] → x ≡ y
+    first_of same = cc
+
+-- a letter before others that are later in the alphabet
+one_more : (x : ℕ) (ys : List ℕ) → All (λ y. x < y) ys → All (Differ (x ∷ [])) (map (λ y. y ∷ []) ys)
+one_more x [] later = All-nil (Differ (x ∷ []))
+one_more x (y ∷ ys) later =
+    let below : x < y = All-head (λ y. x < y) y ys later in
+    All-cons (Differ (x ∷ [])) (y ∷ []) (map (λ y. y ∷ []) ys) (letters_differ x y (λ same. omega (arith, below, same))) (one_more x ys (All-tail (λ y. x < y) y ys later))
+
+keywords_differ : AllPairs Differ kinds.keywords
+keywords_differ =
+    AllPairs-cons Differ (codes "a") (codes "b" ∷ codes "c" ∷ codes "d" ∷ []) (one_more 97 (98 ∷ 99 ∷ 100 ∷ []) (three 97 98 99 100 (lit< tt) (lit< tt) (lit< tt)))
+    (AllPairs-cons Differ (codes "b") (codes "c" ∷ codes "d" ∷ []) (one_more 98 (99 ∷ 100 ∷ []) (two 98 99 100 (lit< tt) (lit< tt)))
+    (AllPairs-cons Differ (codes "c") (codes "d" ∷ []) (one_more 99 (100 ∷ []) (one 99 100 (lit< tt))) (λ i j x below inside. absurd (omega arith))))
+  where
+    one : (x u : ℕ) → x < u → All (λ y. x < y) (u ∷ [])
+    one x u p = All-cons (λ y. x < y) u [] p (All-nil (λ y. x < y))
+
+    two : (x u v : ℕ) → x < u → x < v → All (λ y. x < y) (u ∷ v ∷ [])
+    two x u v p q = All-cons (λ y. x < y) u (v ∷ []) p (one x v q)
+
+    three : (x u v w : ℕ) → x < u → x < v → x < w → All (λ y. x < y) (u ∷ v ∷ w ∷ [])
+    three x u v w p q r = All-cons (λ y. x < y) u (v ∷ w ∷ []) p (two x v w q r)
+
+once : (word : List ℕ) (k l : ℕ) → IsKeywordKind kinds word k → IsKeywordKind kinds word l → l ≡ k
+once word k l at_k at_l = keyword_once E kinds keywords_differ word l k at_l at_k
+
+-- ---- what its ways yield
+
+keyword_gives : (word : List ℕ) (k : ℕ) → IsKeywordKind kinds word k → {m : List Mark} → Yields E kinds (keyword word) m → kinds_of m ≡ k ∷ []
+keyword_gives word k is {m} (y.yields gives) = inside (subst (λ f. Gives E kinds f m) (outs-Keyword word nowhere) gives)
+  where
+    inside : {m : List Mark} → Gives E kinds (layer.Keyword word nowhere) m → kinds_of m ≡ k ∷ []
+    inside (y.keyword {k = l} at) = ap (λ n. n ∷ []) (once word k l is at)
+
+keyword_can : (word : List ℕ) (k : ℕ) → IsKeywordKind kinds word k → Yields E kinds (keyword word) (mark.Token k ∷ [])
+keyword_can word k is = y.yields (subst (λ f. Gives E kinds f (mark.Token k ∷ [])) (sym (outs-Keyword word nowhere)) (y.keyword is))
+
+module _ (word : List ℕ) (k : ℕ) (is_kind : IsKeywordKind kinds word k) where
+  value_gives : {v w : Value0} {m : List Mark} → ReadsLayer E kinds v (value_layer.Keyword word nowhere) w m → kinds_of m ≡ k ∷ []
+  value_gives (y.keyword_value {k = l} at) = ap (λ n. n ∷ []) (once word k l is_kind at)
+
+  assignment_gives : {m : List Mark} → Yields E kinds (assignment word) m → kinds_of m ≡ k ∷ []
+  assignment_gives {m} (y.yields gives) = inside (subst (λ f. Gives E kinds f m) (outs-Assign word One (value.Keyword word nowhere) nowhere) gives)
+    where
+      inside : {m : List Mark} → Gives E kinds (layer.Assign word One (value.Keyword word nowhere) nowhere) m → kinds_of m ≡ k ∷ []
+      inside (y.assigned {m} (y.reads {c} layered)) =
+          kinds_join m (mark.End ∷ []) ∙ append-nil (kinds_of m)
+          ∙ value_gives (subst (λ f. ReadsLayer E kinds (value.Keyword word nowhere) f c m) (value.outs-Keyword word nowhere) layered)
+
+  pub way_gives : {m : List Mark} → Yields E kinds (way word) m → kinds_of m ≡ a ∷ k ∷ c ∷ []
+  way_gives {m} (y.yields gives) = inside (subst (λ f. Gives E kinds f m) (outs-Group (way_parts word) nowhere) gives)
+    where
+      joined : (m n o : List Mark) → kinds_of m ≡ a ∷ [] → kinds_of n ≡ k ∷ [] → kinds_of o ≡ c ∷ [] → kinds_of (m ++ (n ++ (o ++ []))) ≡ a ∷ k ∷ c ∷ []
+      joined m n o first second third =
+          kinds_join m (n ++ (o ++ [])) ∙ ap (λ ks. kinds_of m ++ ks) (kinds_join n (o ++ []) ∙ ap (λ ks. kinds_of n ++ ks) (kinds_join o [] ∙ append-nil (kinds_of o) ∙ third))
+          ∙ ap (λ ks. ks ++ (kinds_of n ++ c ∷ [])) first ∙ ap (λ ks. a ∷ ks ++ c ∷ []) second
+
+      inside : {m : List Mark} → Gives E kinds (layer.Group (way_parts word) nowhere) m → kinds_of m ≡ a ∷ k ∷ c ∷ []
+      inside (y.grouped (y.more {m} first (y.more {m = n} second (y.more {m = o} third y.none)))) =
+          joined m n o (keyword_gives (codes "a") a refl first) (assignment_gives second) (keyword_gives (codes "c") c refl third)
+
+  -- and it does yield it
+  pub way_can : (m : List Mark) × Yields E kinds (way word) m × (kinds_of m ≡ a ∷ k ∷ c ∷ [])
+  way_can =
+      let word_value : Value0 = value.Keyword word nowhere in
+      let read : Reads E kinds word_value word_value (mark.Token k ∷ []) =
+      y.reads (subst (λ f. ReadsLayer E kinds word_value f word_value (mark.Token k ∷ [])) (sym (value.outs-Keyword word nowhere)) (y.keyword_value is_kind)) in
+      let put : List Mark = mark.Put word One word_value ∷ (mark.Token k ∷ []) ++ mark.End ∷ [] in
+      let second : Yields E kinds (assignment word) put =
+      y.yields (subst (λ f. Gives E kinds f put) (sym (outs-Assign word One word_value nowhere)) (y.assigned read)) in
+      let all : List Mark = (mark.Token a ∷ []) ++ (put ++ ((mark.Token c ∷ []) ++ [])) in (
+        all,
+        y.yields (subst (λ f. Gives E kinds f all) (sym (outs-Group (way_parts word) nowhere))
+            (y.grouped (y.more (keyword_can (codes "a") a refl) (y.more second (y.more (keyword_can (codes "c") c refl) y.none))))),
+        refl,
+      )
+
+-- ---- its sentences
+
 -- the rule assigns, so it makes nodes
 makes : MakesNodes E A
-makes =
-    let word : Value0 = value.Keyword (codes "b") nowhere in
-    let it : Leaf = leaf.Assign (codes "x") One word nowhere in
-    let one : leaves (Assign (codes "x") One word nowhere) ≡ it ∷ [] =
-    leaves_layer (Assign (codes "x") One word nowhere) (layer.Assign (codes "x") One word nowhere) (outs-Assign (codes "x") One word nowhere) in
-    let row : List Element = Keyword (codes "a") nowhere ∷ Assign (codes "x") One word nowhere ∷ [] in
-    let first : leaves (way (codes "x") (codes "b")) ≡ leaves (Keyword (codes "a") nowhere) ++ (leaves (Assign (codes "x") One word nowhere) ++ []) =
-    leaves_layer (way (codes "x") (codes "b")) (layer.Group row nowhere) (outs-Group row nowhere) in
-    let ways : List Element = way (codes "x") (codes "b") ∷ way (codes "y") (codes "c") ∷ [] in
-    let whole : leaves A.body ≡ leaves (way (codes "x") (codes "b")) ++ (leaves (way (codes "y") (codes "c")) ++ []) =
-    leaves_layer A.body (layer.Choice ways nowhere) (outs-Choice ways nowhere) in
-    let in_one : Contains (leaves (Assign (codes "x") One word nowhere)) it = subst (λ ls. Contains ls it) (sym one) (0, omega arith, refl) in
-    let in_row : Contains (leaves (way (codes "x") (codes "b"))) it =
-    subst (λ ls. Contains ls it) (sym first)
-    (Contains-append_right (leaves (Keyword (codes "a") nowhere)) _ it (Contains-append_left (leaves (Assign (codes "x") One word nowhere)) [] it in_one)) in
-    assigns (codes "x") One word nowhere
-    (subst (λ ls. Contains ls it) (sym whole) (Contains-append_left (leaves (way (codes "x") (codes "b"))) (leaves (way (codes "y") (codes "c")) ++ []) it in_row))
+makes = assigns (codes "b") One (value.Keyword (codes "b") nowhere) nowhere (subst (λ ls. Contains ls (assigned (codes "b"))) (sym all_leaves) (1, omega arith, refl))
 
-either : {m : List Mark} → Yields E kinds A.body m → (kinds_of m ≡ 0 ∷ 1 ∷ []) ⊎ (kinds_of m ≡ 0 ∷ 2 ∷ [])
-either {m} (y.yields gives) = inside (subst (λ f. Gives E kinds f m) (outs-Choice _ nowhere) gives)
+-- the kinds of the one way or of the other
+abbrev pub IsEither : List ℕ → Type 0
+IsEither ks = (ks ≡ a ∷ b ∷ c ∷ []) ⊎ (ks ≡ a ∷ d ∷ c ∷ [])
+
+either : {m : List Mark} → Yields E kinds A.body m → IsEither (kinds_of m)
+either {m} (y.yields gives) = inside (subst (λ f. Gives E kinds f m) (outs-Choice ways nowhere) gives)
   where
-    inside : {m : List Mark} → Gives E kinds (layer.Choice (way (codes "x") (codes "b") ∷ way (codes "y") (codes "c") ∷ []) nowhere) m →
-        (kinds_of m ≡ 0 ∷ 1 ∷ []) ⊎ (kinds_of m ≡ 0 ∷ 2 ∷ [])
+    inside : {m : List Mark} → Gives E kinds (layer.Choice ways nowhere) m → IsEither (kinds_of m)
     inside (y.chosen {e} {m} has p) = by has
       where
-        by : Contains (way (codes "x") (codes "b") ∷ way (codes "y") (codes "c") ∷ []) e → (kinds_of m ≡ 0 ∷ 1 ∷ []) ⊎ (kinds_of m ≡ 0 ∷ 2 ∷ [])
-        by (zero, below, is) = inl (way_gives (codes "x") (codes "b") 1 refl only_b (subst (λ e. Yields E kinds e m) (sym is) p))
-        by (suc zero, below, is) = inr (way_gives (codes "y") (codes "c") 2 refl only_c (subst (λ e. Yields E kinds e m) (sym is) p))
+        by : Contains ways e → IsEither (kinds_of m)
+        by (zero, below, is) = inl (way_gives (codes "b") b refl (subst (λ e. Yields E kinds e m) (sym is) p))
+        by (suc zero, below, is) = inr (way_gives (codes "d") d refl (subst (λ e. Yields E kinds e m) (sym is) p))
         by (suc (suc i), below, is) = absurd (omega arith)
 
-sentence_kinds : {r : ℕ} {m : List Mark} → RuleGives E kinds r A m → (kinds_of m ≡ 0 ∷ 1 ∷ []) ⊎ (kinds_of m ≡ 0 ∷ 2 ∷ [])
-sentence_kinds (y.fragment is _) = absurd (true≢false (sym is))
-sentence_kinds (y.data_type _ none _) = absurd (none makes)
-sentence_kinds (y.node {m} _ _ p) = by (either p)
-  where
-    by : (kinds_of m ≡ 0 ∷ 1 ∷ []) ⊎ (kinds_of m ≡ 0 ∷ 2 ∷ []) → (kinds_of (m ++ mark.Shut ∷ []) ≡ 0 ∷ 1 ∷ []) ⊎ (kinds_of (m ++ mark.Shut ∷ []) ≡ 0 ∷ 2 ∷ [])
-    by (inl is) = inl (kinds_join m (mark.Shut ∷ []) ∙ append-nil (kinds_of m) ∙ is)
-    by (inr is) = inr (kinds_join m (mark.Shut ∷ []) ∙ append-nil (kinds_of m) ∙ is)
+rule_kinds : {r : ℕ} {m : List Mark} → RuleGives E kinds r A m → IsEither (kinds_of m)
+rule_kinds (y.fragment is _) = absurd (true≢false (sym is))
+rule_kinds (y.data_type _ none _) = absurd (none makes)
+rule_kinds (y.node {m} _ _ p) = subst IsEither (sym (kinds_join m (mark.Shut ∷ []) ∙ append-nil (kinds_of m))) (either p)
 
 only_A : (r : ℕ) (rule : Rule) → slice_get (A ∷ []) r ≡ Some rule → A ≡ rule
 only_A zero rule is = same_Some A rule is
 only_A (suc r) rule is = absurd (none-some rule is)
 
-second : (k l : ℕ) (rest : List ℕ) → 0 ∷ k ∷ [] ≡ 0 ∷ l ∷ rest → k ≡ l
-second k l rest is = cc
+-- its sentences are the two ways
+pub sentence_kinds : (ks : List ℕ) → IsWhole E kinds ks → IsEither ks
+sentence_kinds ks (marks, sentence, is) =
+    subst IsEither is
+    (rule_kinds (subst (λ rule. RuleGives E kinds sentence.number rule marks) (sym (only_A sentence.number sentence.rule sentence.entry.there)) sentence.gives))
 
--- `a` and then `a` begins no sentence
-pub no_second_a : ¬ Starts E kinds (0 ∷ 0 ∷ [])
-no_second_a (rest, (marks, sentence, is)) =
-    by (sentence_kinds (subst (λ rule. RuleGives E kinds sentence.number rule marks) (sym (only_A sentence.number sentence.rule sentence.entry.there)) sentence.gives))
-  where
-    by : (kinds_of marks ≡ 0 ∷ 1 ∷ []) ⊎ (kinds_of marks ≡ 0 ∷ 2 ∷ []) → ⊥
-    by (inl b) = omega (arith, second 1 0 rest (sym b ∙ is))
-    by (inr c) = omega (arith, second 2 0 rest (sym c ∙ is))
-
--- `a` and then `c` begins one, by the second way
-pub a_then_c : Starts E kinds (0 ∷ 2 ∷ [])
-a_then_c =
-    let second = way_can (codes "y") (codes "c") 2 refl only_c in
-    let ways : List Element = way (codes "x") (codes "b") ∷ way (codes "y") (codes "c") ∷ [] in
-    let body : Yields E kinds A.body second.0 =
-    y.yields (subst (λ f. Gives E kinds f second.0) (sym (outs-Choice ways nowhere)) (y.chosen (1, omega arith, refl) second.1)) in (
-      [],
-      (
-        mark.Open 0 ∷ second.0 ++ mark.Shut ∷ [],
-        record {
-          number = 0;
-          rule = A;
-          entry = record { there = refl; does = (refl, refl); none_before = λ j other below. absurd (omega arith) };
-          gives = y.node refl makes body;
-        },
-        kinds_join second.0 (mark.Shut ∷ []) ∙ append-nil (kinds_of second.0) ∙ second.2,
-      ),
+way_is_whole : (word : List ℕ) (k : ℕ) → IsKeywordKind kinds word k → Contains ways (way word) → IsWhole E kinds (a ∷ k ∷ c ∷ [])
+way_is_whole word k is has =
+    let some = way_can word k is in
+    let body : Yields E kinds A.body some.0 = y.yields (subst (λ f. Gives E kinds f some.0) (sym (outs-Choice ways nowhere)) (y.chosen has some.1)) in (
+      mark.Open 0 ∷ some.0 ++ mark.Shut ∷ [],
+      record { number = 0; rule = A; entry = is_entry; gives = y.node refl makes body },
+      kinds_join some.0 (mark.Shut ∷ []) ∙ append-nil (kinds_of some.0) ∙ some.2,
     )
+
+pub first_way : IsWhole E kinds (a ∷ b ∷ c ∷ [])
+first_way = way_is_whole (codes "b") b refl (0, omega arith, refl)
+
+pub second_way : IsWhole E kinds (a ∷ d ∷ c ∷ [])
+second_way = way_is_whole (codes "d") d refl (1, omega arith, refl)
+
+-- `a` begins a sentence, by either way
+pub a_starts : Starts E kinds (a ∷ [])
+a_starts = (b ∷ c ∷ [], first_way)
+
+second_of : (k l : ℕ) (rest others : List ℕ) → a ∷ k ∷ rest ≡ a ∷ l ∷ others → k ≡ l
+second_of k l rest others is = cc
+
+-- `a` and then `c` begins none
+pub no_c_after_a : ¬ Starts E kinds (a ∷ c ∷ [])
+no_c_after_a (rest, whole) = by (sentence_kinds (a ∷ c ∷ rest) whole)
+  where
+    by : IsEither (a ∷ c ∷ rest) → ⊥
+    by (inl is) = omega (arith, second_of c b rest (c ∷ []) is)
+    by (inr is) = omega (arith, second_of c d rest (c ∷ []) is)

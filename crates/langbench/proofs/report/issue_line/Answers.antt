@@ -1,4 +1,4 @@
-use Rattle.std.proofs.Common.{◌≡◌, ℕ, List, ◌∙◌, subst, string_bytes, codes}
+use Rattle.std.proofs.Common.{◌≡◌, ◌∙◌, subst, string_bytes, codes}
 use Rattle.langbench.specs.Checked as checked
 use Rattle.langbench.specs.Checked.{IsErrorLine, unexpected}
 use Rattle.langbench.proofs.ReportLemmas.{IfOk-issue}

@@ -1,4 +1,4 @@
-use Rattle.std.proofs.Common.{◌≡◌, ℕ, List, ◌∙◌, sym, subst, string_bytes, arith}
+use Rattle.std.proofs.Common.{◌∙◌, arith}
 use Rattle.langbench.specs.Checked as checked
 use Rattle.langbench.specs.Checked.{Checked}
 use Rattle.langbench.proofs.ReportLemmas.{not_text_is_not_ok, too_large_is_not_ok, broken_report}

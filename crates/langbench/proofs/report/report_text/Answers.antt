@@ -1,4 +1,4 @@
-use Rattle.std.proofs.Common.{◌≡◌, ℕ, List, ◌∙◌, sym, subst, string_bytes, arith}
+use Rattle.std.proofs.Common.{sym, subst, string_bytes}
 use Rattle.langbench.specs.Checked as checked
 use Rattle.langbench.specs.Checked.{Checked, IsIssueLine}
 use Rattle.langbench.proofs.ReportLemmas.{issue_line_is_not_ok, broken_report}

@@ -1,4 +1,4 @@
-use Rattle.std.proofs.Common.{◌≡◌, ℕ, ◌<◌, ◌∙◌, arith, length, map, sym, ap, Err}
+use Rattle.std.proofs.Common.{arith, length, map, ap, Err}
 use Rattle.lw_reading.specs.Reading as reading
 use Rattle.lw_lang.proofs.ReadLemmas.{read_fault, read_tokens, named, within, character_within}
 use Rattle.lw_lang.proofs.language.Language.read.Goals as goal

@@ -1,0 +1,96 @@
+-- What a run notes, from what the work answered.
+use Rattle.std.proofs.Common.{◌≡◌, ◌≢◌, ◌⊎◌, inl, inr, ℕ, List, [], ◌∷◌, Option, Some, None, Result, Ok, Err, IfSome, MatchOption, codes, sym, subst, ◌∙◌, arith}
+use Rattle.std.specs.Option.{option_copied}
+use denote.Ref.{Bor}
+use Rattle.std.specs.Io.KnownBytes.{Appends}
+use Rattle.langbench.specs.declared.report.Verdict.{Verdict}
+use Rattle.langbench.specs.declared.report.Verdict.TheVariants.{Whole, Broken}
+use Rattle.langbench.specs.declared.stop.Stop.{Stop}
+use Rattle.langbench.specs.declared.stop.Stop.TheVariants as stop
+use Rattle.langbench.specs.Words.{IsCheck}
+use Rattle.langbench.specs.Run.{Files, Faults}
+use Rattle.langbench.specs.Stops.{EndsWith, HasCause, StoreCounts, PatternCounts}
+use Rattle.langbench.specs.Notes.{NotesOutcome, NotesStatus, NotesFault}
+use Rattle.langbench.proofs.Ends.{fault_bound, failed_of}
+
+pub not_seven : (code : ℕ) → (code ≡ 3) ⊎ (code ≡ 6) → code ≢ 7
+not_seven code (inl three) seven = omega (arith, three, seven)
+not_seven code (inr six) seven = omega (arith, six, seven)
+
+-- a status of no fault of a grammar
+not_this : (code n : ℕ) → (code ≡ 3) ⊎ (code ≡ 6) → code ≡ n → (n ≡ 3 → ⊥) → (n ≡ 6 → ⊥) → ⊥
+not_this code n (inl three) is not_3 not_6 = not_3 (sym is ∙ three)
+not_this code n (inr six) is not_3 not_6 = not_6 (sym is ∙ six)
+
+-- the words name one grammar
+pub named : (words : List (List ℕ)) (found : Option (Bor (List ℕ))) (path : List ℕ) → MatchOption found ((p : List ℕ) → ¬ IsCheck words p) (λ p. IsCheck words p.now) →
+    IsCheck words path → option_copied found ≡ Some path
+named words None path none is = absurd (none path is)
+named words (Some p) path is' is = let same : codes "check" ∷ p.now ∷ [] ≡ codes "check" ∷ path ∷ [] = sym is'.0 ∙ is.0 in cc
+
+pub status_noted : (path : Option (List ℕ)) (r : Result Verdict Stop) (code : ℕ) (old new : Option (List ℕ)) → EndsWith r code → code ≢ 7 → NotesOutcome path r old new →
+    NotesStatus code old new
+status_noted path (Ok Whole) code old new ends other noted = record {
+  done = λ _. noted;
+  usage = λ is. absurd (omega (arith, ends, is));
+  unread = λ is. absurd (omega (arith, ends, is));
+  unwritten = λ is. absurd (omega (arith, ends, is));
+}
+status_noted path (Ok Broken) code old new ends other noted = record {
+  done = λ _. noted;
+  usage = λ is. absurd (omega (arith, ends, is));
+  unread = λ is. absurd (omega (arith, ends, is));
+  unwritten = λ is. absurd (omega (arith, ends, is));
+}
+status_noted path (Err e) code old new (inr seven) other noted = absurd (other seven)
+status_noted path (Err stop.Words) code old new (inl e) other noted = record {
+  done = λ few. absurd (omega (arith, e, few));
+  usage = λ is. subst (Appends old new) noted.1 noted.2;
+  unread = λ is. absurd (omega (arith, e, is));
+  unwritten = λ is. absurd (omega (arith, e, is));
+}
+status_noted path (Err (stop.Grammar found)) code old new (inl e) other noted = record {
+  done = λ few. absurd (omega (arith, e, few, (fault_bound found).0));
+  usage = λ is. absurd (omega (arith, e, is, (fault_bound found).0));
+  unread = λ is. absurd ((fault_bound found).2 (sym e ∙ is));
+  unwritten = λ is. absurd ((fault_bound found).3 (sym e ∙ is));
+}
+status_noted path (Err stop.Read) code old new (inl e) other noted = record {
+  done = λ few. absurd (omega (arith, e, few));
+  usage = λ is. absurd (omega (arith, e, is));
+  unread = λ is. subst (Appends old new) noted.1 noted.2;
+  unwritten = λ is. absurd (omega (arith, e, is));
+}
+status_noted path (Err stop.Write) code old new (inl e) other noted = record {
+  done = λ few. absurd (omega (arith, e, few));
+  usage = λ is. absurd (omega (arith, e, is));
+  unread = λ is. absurd (omega (arith, e, is));
+  unwritten = λ is. subst (Appends old new) noted.1 noted.2;
+}
+status_noted path (Err stop.Memory) code old new (inl e) other noted = absurd (other e)
+
+-- ---- a fault of the grammar
+
+module _ (files : Files) (path : List ℕ) (refused : Option (List ℕ)) (faults : Faults) (code : ℕ) (old new : Option (List ℕ)) (which : (code ≡ 3) ⊎ (code ≡ 6)) where
+  fault : (r : Result Verdict Stop) → EndsWith r code → NotesOutcome (Some path) r old new → HasCause files path refused r →
+      StoreCounts faults.store.0 faults.store.1 r → PatternCounts faults.patterns.0 faults.patterns.1 r → NotesFault files path refused faults code old new
+  fault (Ok Whole) ends noted cause tc pc = absurd (not_this code 0 which ends (λ is. omega (arith, is)) (λ is. omega (arith, is)))
+  fault (Ok Broken) ends noted cause tc pc = absurd (not_this code 1 which ends (λ is. omega (arith, is)) (λ is. omega (arith, is)))
+  fault (Err e) (inr seven) noted cause tc pc = absurd (not_seven code which seven)
+  fault (Err stop.Words) (inl e) noted cause tc pc = absurd (not_this code 2 which e (λ is. omega (arith, is)) (λ is. omega (arith, is)))
+  fault (Err (stop.Grammar found)) (inl e) noted cause tc pc = record {
+    fails = record { found = found; status = sym e; cause = cause; failed = failed_of _ _ _ _ found tc pc };
+    noted = subst (Appends old new) noted.1 noted.2;
+  }
+  fault (Err stop.Read) (inl e) noted cause tc pc = absurd (not_this code 4 which e (λ is. omega (arith, is)) (λ is. omega (arith, is)))
+  fault (Err stop.Write) (inl e) noted cause tc pc = absurd (not_this code 5 which e (λ is. omega (arith, is)) (λ is. omega (arith, is)))
+  fault (Err stop.Memory) (inl e) noted cause tc pc = absurd (not_seven code which e)
+
+pub fault_noted : (told : Option Files) (path : List ℕ) (refused : Option (List ℕ)) (faults : Faults) (code : ℕ) (r : Result Verdict Stop) (named_path old new : Option (List ℕ)) → EndsWith r code → (code ≡ 3) ⊎ (code ≡ 6) → named_path ≡ Some path → NotesOutcome named_path r old new →
+    IfSome told (λ files. HasCause files path refused r) → StoreCounts faults.store.0 faults.store.1 r → PatternCounts faults.patterns.0 faults.patterns.1 r →
+    IfSome told (λ files. NotesFault files path refused faults code old new)
+fault_noted told path refused faults code r named_path old new ends which is noted cause tc pc = by told cause
+  where
+    by : (told : Option Files) → IfSome told (λ files. HasCause files path refused r) → IfSome told (λ files. NotesFault files path refused faults code old new)
+    by None c = tt
+    by (Some files) c = fault files path refused faults code old new which r ends (subst (λ p. NotesOutcome p r old new) is noted) c tc pc

@@ -1,0 +1,79 @@
+-- The one line of why a run stopped, which is written beside what it prints. A place is told as compilers tell one, `PATH:LINE:COL: WHAT`,
+-- with line and column counted from 1 and columns in UTF-16 units (Language Server Protocol 3.17, "Position").
+use Rattle.std.specs.Prelude.{ℕ, ◌≡◌, ◌≤◌, List, ◌++◌, codes, Option, Result, Ok, Err, IfSome}
+use Rattle.std.specs.Io.KnownBytes.{Appends, Keeps}
+use Rattle.lw_text.specs.declared.place.Pos.{Pos}
+use Rattle.lw_lang.specs.declared.fault.CompileFault.{CompileFault}
+use Rattle.lw_lang.specs.declared.fault.CompileFault.TheVariants as fault
+use Rattle.langbench.specs.declared.report.Verdict.{Verdict}
+use Rattle.langbench.specs.declared.stop.Stop.{Stop}
+use Rattle.langbench.specs.declared.stop.Stop.TheVariants as stop
+use Rattle.langbench.specs.Checked.{line, printed}
+use Rattle.langbench.specs.Run.{Files, Faults, GrammarFails}
+
+-- LINES
+
+abbrev pub usage_line : List ℕ
+usage_line = line (codes "usage: langbench check|serve|replay|make GRAMMAR [--lookahead K] [FILE or N]")
+
+abbrev pub read_line : List ℕ
+read_line = line (codes "read failed")
+
+abbrev pub write_line : List ℕ
+write_line = line (codes "write failed")
+
+abbrev pub memory_line : List ℕ
+memory_line = line (codes "out of memory")
+
+-- what is wrong with a file
+abbrev pub file_line : List ℕ → List ℕ → List ℕ
+file_line path what = line (path ++ codes ": " ++ what)
+
+-- what is wrong at a position of a file
+abbrev pub placed_line : List ℕ → Pos → List ℕ → List ℕ
+placed_line path at what = file_line (path ++ codes ":" ++ printed at) what
+
+-- a terminal whose pattern was refused
+abbrev pub refused_text : List ℕ → List ℕ
+refused_text name = codes "terminal " ++ name ++ codes ": pattern refused"
+
+-- a fault of the grammar at this path
+abbrev pub fault_line : List ℕ → CompileFault → List ℕ
+fault_line path (fault.Absent p) = file_line p (codes "absent")
+fault_line path (fault.NotUtf8 p) = file_line p (codes "not UTF-8")
+fault_line path (fault.TooLong p) = file_line p (codes "too long")
+fault_line path (fault.StoreFault p) = file_line p (codes "failed")
+fault_line path (fault.Unbuilt s at) = placed_line path at (codes "not built")
+fault_line path (fault.PatternRefused rule name at) = placed_line path at (refused_text name)
+fault_line path fault.NoMemory = memory_line
+
+-- why a run stopped, where this is the path of the grammar that its words name
+abbrev pub IsStopLine : Option (List ℕ) → Stop → List ℕ → Type 0
+IsStopLine path stop.Words output = output ≡ usage_line
+IsStopLine path (stop.Grammar found) output = IfSome path (λ p. output ≡ fault_line p found)
+IsStopLine path stop.Read output = output ≡ read_line
+IsStopLine path stop.Write output = output ≡ write_line
+IsStopLine path stop.Memory output = output ≡ memory_line
+
+-- WHAT IS ADDED TO THE NOTES
+
+-- the line of a stop
+abbrev pub NotesStop : Option (List ℕ) → Stop → Option (List ℕ) → Option (List ℕ) → Type 0
+NotesStop path found old new = (output : List ℕ) × IsStopLine path found output × Appends old new output
+
+-- by what the work answered: nothing where it was done
+abbrev pub NotesOutcome : Option (List ℕ) → Result Verdict Stop → Option (List ℕ) → Option (List ℕ) → Type 0
+NotesOutcome path (Ok verdict) old new = Keeps old new
+NotesOutcome path (Err found) old new = NotesStop path found old new
+
+-- by the status, where the status alone settles it
+pub record NotesStatus (code : ℕ) (old new : Option (List ℕ)) : Type 0 where
+  pub done : code ≤ 1 → Keeps old new
+  pub usage : code ≡ 2 → Appends old new usage_line
+  pub unread : code ≡ 4 → Appends old new read_line
+  pub unwritten : code ≡ 5 → Appends old new write_line
+
+-- by the fault of the grammar at this path, which ended the run with this status
+pub record NotesFault (files : Files) (path : List ℕ) (refused : Option (List ℕ)) (faults : Faults) (code : ℕ) (old new : Option (List ℕ)) : Type 0 where
+  pub fails : GrammarFails files path refused faults code
+  pub noted : Appends old new (fault_line path fails.found)
