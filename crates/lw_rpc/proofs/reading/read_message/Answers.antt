@@ -3,6 +3,7 @@ use Rattle.std.proofs.lemmas.Bool.{false_from_ne_true}
 use Rattle.std.proofs.lemmas.Str.{IsUtf8-from_is_utf8, is_utf8-from_IsUtf8}
 use Rattle.std.specs.Str.{is_utf8}
 use Rattle.lw_rpc.specs.Messages.{message_of}
+use Rattle.lw_rpc.proofs.CauseLemmas.{IsCall-call_of, IsResponse-call_of}
 use Rattle.lw_rpc.proofs.reading.read_message.Goals as goal
 
 pub returns-in-Err : goal.returns-in-Err
