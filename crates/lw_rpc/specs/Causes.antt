@@ -53,6 +53,7 @@ pub record Opens (d : Data) (uri : List ℕ) (version : ℤ) (text : List ℕ) :
   pub is_whole : as_i64 number_of ≡ Some version
   pub has_text : get (codes "text") document ≡ Some (string text)
 
+-- The rules. Each body meets the rule of exactly one message.
 pub data IsMessage (body : List ℕ) : Message → Type 0 where
   bad_json : ((d : Data) → ¬ HasValue body d) → IsMessage body BadJson
   bad_request : (d : Data) → HasValue body d → ¬ IsResponse d → ((id : Option Id) (method : List ℕ) → ¬ IsCall d id method) → IsMessage body BadRequest
