@@ -1,15 +1,14 @@
 -- No reply has a float in it, and none nests deeper than a reader goes.
-use Rattle.std.proofs.Common.{◌≡◌, ◌≤◌, ℕ, ℤ, pos, negsuc, max, List, [], ◌∷◌, map, true, false, codes, Option, Some, None, refl, arith}
-use Rattle.serde_json.specs.Data.{depth, items_depth, members_depth}
+use Rattle.std.proofs.Common.{◌≡◌, ◌≤◌, ℕ, ℤ, pos, negsuc, List, [], ◌∷◌, map, false, Option, Some, None, refl, arith}
+use Rattle.serde_json.specs.Data.{depth, items_depth}
 use Rattle.serde_json.specs.Read.{max_depth}
 use Rattle.serde_json.specs.View.{items_of}
-use Rattle.serde_json.specs.Written.{has_float, items_have_float, members_have_float}
+use Rattle.serde_json.specs.Written.{has_float, items_have_float}
 use Rattle.lw_text.specs.declared.shown.Shown.{Shown}
 use Rattle.lw_rpc.specs.Values as spec
 use Rattle.lw_rpc.specs.Values.{value_of}
 use Rattle.lw_rpc.specs.declared.message.Id.{Id}
 use Rattle.lw_rpc.specs.declared.message.Id.TheVariants.{Whole, Words}
-use Rattle.lw_rpc.specs.declared.reply.Outcome.{Outcome}
 use Rattle.lw_rpc.specs.declared.reply.Outcome.TheVariants.{Nothing, Hello}
 use Rattle.lw_rpc.specs.declared.reply.Reply.{Reply}
 use Rattle.lw_rpc.specs.declared.reply.Reply.TheVariants.{Done, Error, Publish, Log}

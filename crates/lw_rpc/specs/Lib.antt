@@ -3,3 +3,4 @@ pub mod Params
 pub mod Messages
 pub mod Values
 pub mod Replies
+pub mod Causes

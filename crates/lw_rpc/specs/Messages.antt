@@ -12,8 +12,8 @@ use Rattle.lw_rpc.specs.declared.message.Message.{Message}
 use Rattle.lw_rpc.specs.declared.message.Message.TheVariants.{BadJson, BadRequest, Response, Unknown, BadParams, Initialize, Shutdown, Exit}
 
 -- The requests. `initialize` and `shutdown` ask nothing of their parameters.
-abbrev pub request_message : Id → List ℕ → Option Data → Message
-request_message id method params =
+abbrev pub request_message : Id → List ℕ → Message
+request_message id method =
     if bytes_eq method (codes "initialize") then Initialize id
     else (if bytes_eq method (codes "shutdown") then Shutdown id
     else Unknown (Some id) method)
@@ -27,7 +27,7 @@ notification_message method params =
 
 -- by the kind of the message and its parameters
 abbrev pub call_message : Call → Option Data → Message
-call_message (request id method) params = request_message id method params
+call_message (request id method) params = request_message id method
 call_message (notification method) params = notification_message method params
 call_message response params = Response
 call_message neither params = BadRequest

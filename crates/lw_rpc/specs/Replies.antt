@@ -1,7 +1,7 @@
 -- The bytes of a reply: compact JSON (RFC 8259), keys in byte order, texts quoted as `serde_json` quotes them. JSON-RPC 2.0, "Response
 -- object" and "Error object"; Language Server Protocol 3.17, "InitializeResult", "PublishDiagnosticsParams", "Diagnostic" and
 -- "LogMessageParams".
-use Rattle.std.specs.Prelude.{ℕ, ℤ, List, [], ◌∷◌, ◌++◌, map, codes, decimal, Option, Some, None}
+use Rattle.std.specs.Prelude.{ℕ, ℤ, List, [], ◌++◌, map, codes, decimal, Option, Some, None}
 use Rattle.std.specs.Fmt.{signed_decimal}
 use Rattle.std.specs.List.{join_with_byte}
 use Rattle.json.specs.Print.{quoted}

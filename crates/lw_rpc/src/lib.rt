@@ -1,4 +1,18 @@
-//! Message bodies as messages, and replies as bodies.
+//! What the bodies of messages say, and replies as bodies: JSON-RPC 2.0 with the methods of the Language
+//! Server Protocol 3.17 that the server knows.
+//!
+//! Its model: a body is its list of bytes. `specs/Messages.antt` is a function from a body to its
+//! [`Message`], by way of the JSON value that `serde_json` reads, the kind of the value by its keys
+//! (`specs/Calls.antt`) and the shape of its parameters (`specs/Params.antt`); `specs/Causes.antt` says the
+//! same as rules, one for each message. `specs/Replies.antt` gives the bytes of a [`Reply`], and
+//! `specs/Values.antt` the JSON value that they are.
+//!
+//! It promises that [`read_message`] gives exactly that message, each refusal by its own rule alone; that
+//! [`reply_text`] gives exactly those bytes, and that they read back as that value. Either call may be
+//! refused memory instead.
+//!
+//! A further method is one more case in `specs/Messages.antt`, `specs/Causes.antt` and `src/methods.rt`, and
+//! a further reply one in `specs/Replies.antt`, `specs/Values.antt` and `src/writing.rt`.
 #![tactic(auto)]
 
 mod hello;

@@ -1,5 +1,5 @@
 // The methods: one case for each, in the order of `specs/Messages.antt`.
-ghost use Rattle.std.specs.Prelude.{◌≡◌, IfOk, None, option_map};
+ghost use Rattle.std.specs.Prelude.{◌≡◌, IfOk, option_map};
 ghost use Rattle.serde_json.specs.View.{view};
 ghost use Rattle.lw_rpc.specs.Messages.{request_message, notification_message};
 
@@ -11,7 +11,7 @@ use std::alloc::Global;
 
 /// The message of a request.
 pub fn request(alloc: Global, id: Id, method: &str) -> Result<Message, NoMemory>
-    ensures { IfOk result (λ message. message ≡ request_message id method.now None) }
+    ensures { IfOk result (λ message. message ≡ request_message id method.now) }
 {
     if method == "initialize" {
         return Ok(Message::Initialize { id });

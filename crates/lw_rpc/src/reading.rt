@@ -1,10 +1,12 @@
 // A body as a message: its bytes, its text, its JSON value, the kind that the value has by JSON-RPC.
-ghost use Rattle.std.specs.Prelude.{◌≡◌, codes, IfOk, option_and_then};
+ghost use Rattle.std.specs.Prelude.{◌≡◌, codes, Some, None, IfOk, option_and_then};
 ghost use Rattle.serde_json.specs.Find.{get, as_str};
 ghost use Rattle.serde_json.specs.Read.{read};
 ghost use Rattle.serde_json.specs.View.{view};
-ghost use Rattle.lw_rpc.specs.Calls.{id_of, is_version, with_method as called, without_method as uncalled};
-ghost use Rattle.lw_rpc.specs.Messages.{message_of, read_value_message, value_message, call_message};
+ghost use Rattle.lw_rpc.specs.Calls.{id_of, is_version};
+ghost use Rattle.lw_rpc.specs.Causes.{IsMessage};
+ghost use Rattle.lw_rpc.specs.Messages.{message_of, read_value_message, value_message};
+ghost use Rattle.lw_rpc.specs.declared.message.Message.{Message};
 
 use crate::methods::{notification, request};
 use crate::{Id, Message};
@@ -12,9 +14,16 @@ use lw_base::{Name, NoMemory};
 use serde_json::Value;
 use std::alloc::Global;
 
-/// The message that a body is.
+/// The message that a body is (JSON-RPC 2.0; Language Server Protocol 3.17).
+///
+/// Every body is some message; a faulty one is [`Message::BadJson`], [`Message::BadRequest`],
+/// [`Message::Unknown`] or [`Message::BadParams`], in this order where several would do. The message has
+/// texts of its own. Memory is taken in proportion to the body, and time too, but for keeping the keys of
+/// each object in order.
 pub fn read_message(alloc: Global, body: &[u8]) -> Result<Message, NoMemory>
     ensures message { IfOk result (λ message. message ≡ message_of body.now) }
+    ensures rule { IfOk result (λ message. IsMessage body.now message) }
+    ensures only { (other : Message) → IsMessage body.now other → IfOk result (λ message. message ≡ other) }
 {
     match str::from_utf8(body) {
         Ok(text) => text_message(alloc, text),
@@ -46,7 +55,8 @@ fn json_message(alloc: Global, value: &Value) -> Result<Message, NoMemory>
 }
 
 fn without_method(value: &Value) -> Message
-    ensures { result ≡ call_message (uncalled (get (codes "jsonrpc") (view value.now)) (get (codes "id") (view value.now))) (get (codes "params") (view value.now)) }
+    requires { get (codes "method") (view value.now) ≡ None }
+    ensures { result ≡ value_message (view value.now) }
 {
     if value.get("jsonrpc").is_some() && value.get("id").is_some() {
         Message::Response
@@ -56,8 +66,8 @@ fn without_method(value: &Value) -> Message
 }
 
 fn with_method(alloc: Global, value: &Value, method: &Value) -> Result<Message, NoMemory>
-    ensures { IfOk result (λ message. message
-        ≡ call_message (called (is_version (option_and_then as_str (get (codes "jsonrpc") (view value.now)))) (as_str (view method.now)) (get (codes "id") (view value.now))) (get (codes "params") (view value.now))) }
+    requires { get (codes "method") (view value.now) ≡ Some (view method.now) }
+    ensures { IfOk result (λ message. message ≡ value_message (view value.now)) }
 {
     let Some(method) = method.as_str() else {
         return Ok(Message::BadRequest);

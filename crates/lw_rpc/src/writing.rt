@@ -13,7 +13,8 @@ use lw_base::{Name, NoMemory};
 use serde_json::Value;
 use std::alloc::Global;
 
-/// The bytes of a reply.
+/// The bytes of a reply: compact JSON, keys in byte order (JSON-RPC 2.0; Language Server Protocol 3.17).
+/// Time and memory are in proportion to their number.
 pub fn reply_text(alloc: Global, reply: &Reply) -> Result<Name, NoMemory>
     ensures bytes { IfOk result (λ text. text ≡ reply_bytes reply.now) }
     ensures reads_back { IfOk result (λ text. read text ≡ Some (spec.value_of reply.now)) }
@@ -22,8 +23,8 @@ pub fn reply_text(alloc: Global, reply: &Reply) -> Result<Name, NoMemory>
     Name::from_text(alloc, text.as_str())
 }
 
-#[tactic(auto, unfolding(crate::specs::Values::value_of))]
 /// The JSON value of a reply: one case for each of them.
+#[tactic(auto, unfolding(crate::specs::Values::value_of))]
 fn reply_value(alloc: Global, reply: &Reply) -> Result<Value, NoMemory>
     ensures { IfOk result (λ value. view value ≡ spec.value_of reply.now) }
 {

@@ -1,0 +1,66 @@
+-- When a body is which message, one rule for each. JSON-RPC 2.0, "Request object", "Notification" and "Response object"; Language Server
+-- Protocol 3.17, "Base types", "Request Message", "DidOpenTextDocumentParams" and "TextDocumentItem".
+use Rattle.std.specs.Prelude.{◌≡◌, ◌⊎◌, ℕ, ℤ, List, codes, Option, Some, None, IsSome, IsUtf8}
+use Rattle.serde_json.specs.Data.{Data, Num, string, number}
+use Rattle.serde_json.specs.Find.{get, as_i64}
+use Rattle.serde_json.specs.Read.{read}
+use Rattle.lw_rpc.specs.declared.message.Id.{Id}
+use Rattle.lw_rpc.specs.declared.message.Id.TheVariants.{Whole, Words}
+use Rattle.lw_rpc.specs.declared.message.Message.{Message}
+use Rattle.lw_rpc.specs.declared.message.Message.TheVariants.{BadJson, BadRequest, Response, Unknown, BadParams, Initialize, Shutdown, Exit, DidOpen}
+
+-- the body is UTF-8 and reads as the value
+pub record HasValue (body : List ℕ) (d : Data) : Type 0 where
+  pub utf8 : IsUtf8 body
+  pub value : read body ≡ Some d
+
+-- the value is the id: a text, or a whole number from -2^63 to 2^63-1
+pub data IsId : Data → Id → Type 0 where
+  text_id : {text : List ℕ} → IsId (string text) (Words text)
+  whole_id : {n : Num} {z : ℤ} → as_i64 n ≡ Some z → IsId (number n) (Whole z)
+
+-- the object has the id, or no member `id`
+abbrev pub HasId : Data → Option Id → Type 0
+HasId d (Some id) = (w : Data) × (get (codes "id") d ≡ Some w) × IsId w id
+HasId d None = get (codes "id") d ≡ None
+
+-- a request with this id, or a notification without one
+pub record IsCall (d : Data) (id : Option Id) (method : List ℕ) : Type 0 where
+  pub says_version : get (codes "jsonrpc") d ≡ Some (string (codes "2.0"))
+  pub has_id : HasId d id
+  pub has_method : get (codes "method") d ≡ Some (string method)
+
+-- a response has `jsonrpc` and `id`, whatever their values
+pub record IsResponse (d : Data) : Type 0 where
+  pub has_version : IsSome (get (codes "jsonrpc") d)
+  pub has_id : IsSome (get (codes "id") d)
+  pub no_method : get (codes "method") d ≡ None
+
+-- the methods of requests, and those of notifications
+abbrev pub IsKnown : Option Id → List ℕ → Type 0
+IsKnown (Some id) method = (method ≡ codes "initialize") ⊎ (method ≡ codes "shutdown")
+IsKnown None method = (method ≡ codes "exit") ⊎ (method ≡ codes "textDocument/didOpen")
+
+-- the parameters of `textDocument/didOpen`
+pub record Opens (d : Data) (uri : List ℕ) (version : ℤ) (text : List ℕ) : Type 0 where
+  pub params : Data
+  pub document : Data
+  pub number_of : Num
+  pub has_params : get (codes "params") d ≡ Some params
+  pub has_document : get (codes "textDocument") params ≡ Some document
+  pub has_uri : get (codes "uri") document ≡ Some (string uri)
+  pub has_version : get (codes "version") document ≡ Some (number number_of)
+  pub is_whole : as_i64 number_of ≡ Some version
+  pub has_text : get (codes "text") document ≡ Some (string text)
+
+-- The rules. Each body meets the rule of exactly one message.
+pub data IsMessage (body : List ℕ) : Message → Type 0 where
+  bad_json : ((d : Data) → ¬ HasValue body d) → IsMessage body BadJson
+  bad_request : (d : Data) → HasValue body d → ¬ IsResponse d → ((id : Option Id) (method : List ℕ) → ¬ IsCall d id method) → IsMessage body BadRequest
+  response : (d : Data) → HasValue body d → IsResponse d → IsMessage body Response
+  unknown : (d : Data) {id : Option Id} {method : List ℕ} → HasValue body d → IsCall d id method → ¬ IsKnown id method → IsMessage body (Unknown id method)
+  initialize : (d : Data) {id : Id} → HasValue body d → IsCall d (Some id) (codes "initialize") → IsMessage body (Initialize id)
+  shutdown : (d : Data) {id : Id} → HasValue body d → IsCall d (Some id) (codes "shutdown") → IsMessage body (Shutdown id)
+  exit : (d : Data) → HasValue body d → IsCall d None (codes "exit") → IsMessage body Exit
+  opened : (d : Data) {uri : List ℕ} {version : ℤ} {text : List ℕ} → HasValue body d → IsCall d None (codes "textDocument/didOpen") → Opens d uri version text → IsMessage body (DidOpen uri version text)
+  not_opened : (d : Data) → HasValue body d → IsCall d None (codes "textDocument/didOpen") → ((uri : List ℕ) (version : ℤ) (text : List ℕ) → ¬ Opens d uri version text) → IsMessage body (BadParams None (codes "textDocument/didOpen"))
