@@ -53,12 +53,16 @@ words_told (Err stop.Read) code (inr e) is = absurd (omega (arith, e, is))
 words_told (Err stop.Write) code (inl e) is = absurd (omega (arith, e, is))
 words_told (Err stop.Write) code (inr e) is = absurd (omega (arith, e, is))
 words_told (Err stop.Memory) code (inl e) is = absurd (omega (arith, e, is))
+words_told (Err (stop.Frames wrong)) code (inl e) is = absurd (omega (arith, e, is))
+words_told (Err stop.Limit) code (inl e) is = absurd (omega (arith, e, is))
 words_told (Err stop.Memory) code (inr e) is = absurd (omega (arith, e, is))
+words_told (Err (stop.Frames wrong)) code (inr e) is = absurd (omega (arith, e, is))
+words_told (Err stop.Limit) code (inr e) is = absurd (omega (arith, e, is))
 
 pub words_end : (r : Result Verdict Stop) (code : ℕ) → EndsWith r code → r ≡ Err stop.Words → (code ≡ 2) ⊎ (code ≡ 7)
 words_end r code ends is = subst (λ r. EndsWith r code) is ends
 
-pub status_bound : (r : Result Verdict Stop) (code : ℕ) → EndsWith r code → code ≤ 7
+pub status_bound : (r : Result Verdict Stop) (code : ℕ) → EndsWith r code → code ≤ 10
 status_bound (Ok Whole) code ends = omega (arith, ends)
 status_bound (Ok Broken) code ends = omega (arith, ends)
 status_bound (Err stop.Words) code (inl e) = omega (arith, e)
@@ -66,6 +70,8 @@ status_bound (Err (stop.Grammar found)) code (inl e) = omega (arith, e, (fault_b
 status_bound (Err stop.Read) code (inl e) = omega (arith, e)
 status_bound (Err stop.Write) code (inl e) = omega (arith, e)
 status_bound (Err stop.Memory) code (inl e) = omega (arith, e)
+status_bound (Err (stop.Frames wrong)) code (inl e) = omega (arith, e)
+status_bound (Err stop.Limit) code (inl e) = omega (arith, e)
 status_bound (Err e) code (inr seven) = omega (arith, seven)
 
 module _ (before now : ℕ) where
@@ -77,6 +83,8 @@ module _ (before now : ℕ) where
   source_rose (Err stop.Read) code ends counts is = counts.rose
   source_rose (Err stop.Write) code (inl e) counts is = absurd (omega (arith, e, is))
   source_rose (Err stop.Memory) code (inl e) counts is = absurd (omega (arith, e, is))
+  source_rose (Err (stop.Frames wrong)) code (inl e) counts is = absurd (omega (arith, e, is))
+  source_rose (Err stop.Limit) code (inl e) counts is = absurd (omega (arith, e, is))
   source_rose (Err e) code (inr seven) counts is = absurd (omega (arith, seven, is))
 
   pub source_told : (r : Result Verdict Stop) (code : ℕ) → EndsWith r code → SourceCounts before now r → before < now → (code ≡ 4) ⊎ (code ≡ 7)
@@ -87,6 +95,8 @@ module _ (before now : ℕ) where
   source_told (Err stop.Read) code ends counts grew = ends
   source_told (Err stop.Write) code ends counts grew = absurd (omega (arith, counts, grew))
   source_told (Err stop.Memory) code ends counts grew = absurd (omega (arith, counts, grew))
+  source_told (Err (stop.Frames wrong)) code ends counts grew = absurd (omega (arith, counts, grew))
+  source_told (Err stop.Limit) code ends counts grew = absurd (omega (arith, counts, grew))
 
   pub out_rose : (r : Result Verdict Stop) (code : ℕ) → EndsWith r code → OutCounts before now r → code ≡ 5 → Rose before now
   out_rose (Ok Whole) code ends counts is = absurd (omega (arith, ends, is))
@@ -96,6 +106,8 @@ module _ (before now : ℕ) where
   out_rose (Err stop.Read) code (inl e) counts is = absurd (omega (arith, e, is))
   out_rose (Err stop.Write) code ends counts is = counts.rose
   out_rose (Err stop.Memory) code (inl e) counts is = absurd (omega (arith, e, is))
+  out_rose (Err (stop.Frames wrong)) code (inl e) counts is = absurd (omega (arith, e, is))
+  out_rose (Err stop.Limit) code (inl e) counts is = absurd (omega (arith, e, is))
   out_rose (Err e) code (inr seven) counts is = absurd (omega (arith, seven, is))
 
   pub out_told : (r : Result Verdict Stop) (code : ℕ) → EndsWith r code → OutCounts before now r → before < now → (code ≡ 5) ⊎ (code ≡ 7)
@@ -106,6 +118,8 @@ module _ (before now : ℕ) where
   out_told (Err stop.Read) code ends counts grew = absurd (omega (arith, counts, grew))
   out_told (Err stop.Write) code ends counts grew = ends
   out_told (Err stop.Memory) code ends counts grew = absurd (omega (arith, counts, grew))
+  out_told (Err (stop.Frames wrong)) code ends counts grew = absurd (omega (arith, counts, grew))
+  out_told (Err stop.Limit) code ends counts grew = absurd (omega (arith, counts, grew))
 
   pub store_told : (r : Result Verdict Stop) (code : ℕ) → EndsWith r code → StoreCounts before now r → before < now → (code ≡ 6) ⊎ (code ≡ 7)
   store_told (Ok Whole) code ends counts grew = absurd (omega (arith, counts, grew))
@@ -121,6 +135,8 @@ module _ (before now : ℕ) where
   store_told (Err stop.Read) code ends counts grew = absurd (omega (arith, counts, grew))
   store_told (Err stop.Write) code ends counts grew = absurd (omega (arith, counts, grew))
   store_told (Err stop.Memory) code ends counts grew = absurd (omega (arith, counts, grew))
+  store_told (Err (stop.Frames wrong)) code ends counts grew = absurd (omega (arith, counts, grew))
+  store_told (Err stop.Limit) code ends counts grew = absurd (omega (arith, counts, grew))
 
   pub patterns_told : (r : Result Verdict Stop) (code : ℕ) → EndsWith r code → PatternCounts before now r → before < now → (code ≡ 3) ⊎ (code ≡ 7)
   patterns_told (Ok Whole) code ends counts grew = absurd (omega (arith, counts, grew))
@@ -136,6 +152,8 @@ module _ (before now : ℕ) where
   patterns_told (Err stop.Read) code ends counts grew = absurd (omega (arith, counts, grew))
   patterns_told (Err stop.Write) code ends counts grew = absurd (omega (arith, counts, grew))
   patterns_told (Err stop.Memory) code ends counts grew = absurd (omega (arith, counts, grew))
+  patterns_told (Err (stop.Frames wrong)) code ends counts grew = absurd (omega (arith, counts, grew))
+  patterns_told (Err stop.Limit) code ends counts grew = absurd (omega (arith, counts, grew))
 
 -- ---- what was read and written
 
@@ -193,6 +211,8 @@ module _ (files : Files) (path held : List ℕ) (refused old new : Option (List 
     ended (Err stop.Write) (inr e) works sc oc tc pc = at_code 7 e (run.no_memory (inr works))
     ended (Err stop.Memory) (inl e) works sc oc tc pc = at_code 7 e (run.no_memory works)
     ended (Err stop.Memory) (inr e) works sc oc tc pc = at_code 7 e (run.no_memory works)
+    ended (Err (stop.Frames wrong)) e works sc oc tc pc = absurd works
+    ended (Err stop.Limit) e works sc oc tc pc = absurd works
 
   -- ---- where nothing fails
 

@@ -35,12 +35,14 @@ status_noted path (Ok Whole) code old new ends other noted = record {
   usage = λ is. absurd (omega (arith, ends, is));
   unread = λ is. absurd (omega (arith, ends, is));
   unwritten = λ is. absurd (omega (arith, ends, is));
+  limit = λ is. absurd (omega (arith, ends, is));
 }
 status_noted path (Ok Broken) code old new ends other noted = record {
   done = λ _. noted;
   usage = λ is. absurd (omega (arith, ends, is));
   unread = λ is. absurd (omega (arith, ends, is));
   unwritten = λ is. absurd (omega (arith, ends, is));
+  limit = λ is. absurd (omega (arith, ends, is));
 }
 status_noted path (Err e) code old new (inr seven) other noted = absurd (other seven)
 status_noted path (Err stop.Words) code old new (inl e) other noted = record {
@@ -48,26 +50,44 @@ status_noted path (Err stop.Words) code old new (inl e) other noted = record {
   usage = λ is. subst (Appends old new) noted.1 noted.2;
   unread = λ is. absurd (omega (arith, e, is));
   unwritten = λ is. absurd (omega (arith, e, is));
+  limit = λ is. absurd (omega (arith, e, is));
 }
 status_noted path (Err (stop.Grammar found)) code old new (inl e) other noted = record {
   done = λ few. absurd (omega (arith, e, few, (fault_bound found).0));
   usage = λ is. absurd (omega (arith, e, is, (fault_bound found).0));
   unread = λ is. absurd ((fault_bound found).2 (sym e ∙ is));
   unwritten = λ is. absurd ((fault_bound found).3 (sym e ∙ is));
+  limit = λ is. absurd (omega (arith, e, is, (fault_bound found).1));
 }
 status_noted path (Err stop.Read) code old new (inl e) other noted = record {
   done = λ few. absurd (omega (arith, e, few));
   usage = λ is. absurd (omega (arith, e, is));
   unread = λ is. subst (Appends old new) noted.1 noted.2;
   unwritten = λ is. absurd (omega (arith, e, is));
+  limit = λ is. absurd (omega (arith, e, is));
 }
 status_noted path (Err stop.Write) code old new (inl e) other noted = record {
   done = λ few. absurd (omega (arith, e, few));
   usage = λ is. absurd (omega (arith, e, is));
   unread = λ is. absurd (omega (arith, e, is));
   unwritten = λ is. subst (Appends old new) noted.1 noted.2;
+  limit = λ is. absurd (omega (arith, e, is));
 }
 status_noted path (Err stop.Memory) code old new (inl e) other noted = absurd (other e)
+status_noted path (Err (stop.Frames wrong)) code old new (inl e) other noted = record {
+  done = λ few. absurd (omega (arith, e, few));
+  usage = λ is. absurd (omega (arith, e, is));
+  unread = λ is. absurd (omega (arith, e, is));
+  unwritten = λ is. absurd (omega (arith, e, is));
+  limit = λ is. absurd (omega (arith, e, is));
+}
+status_noted path (Err stop.Limit) code old new (inl e) other noted = record {
+  done = λ few. absurd (omega (arith, e, few));
+  usage = λ is. absurd (omega (arith, e, is));
+  unread = λ is. absurd (omega (arith, e, is));
+  unwritten = λ is. absurd (omega (arith, e, is));
+  limit = λ is. subst (Appends old new) noted.1 noted.2;
+}
 
 -- ---- a fault of the grammar
 
@@ -85,6 +105,8 @@ module _ (files : Files) (path : List ℕ) (refused : Option (List ℕ)) (faults
   fault (Err stop.Read) (inl e) noted cause tc pc = absurd (not_this code 4 which e (λ is. omega (arith, is)) (λ is. omega (arith, is)))
   fault (Err stop.Write) (inl e) noted cause tc pc = absurd (not_this code 5 which e (λ is. omega (arith, is)) (λ is. omega (arith, is)))
   fault (Err stop.Memory) (inl e) noted cause tc pc = absurd (not_seven code which e)
+  fault (Err (stop.Frames wrong)) (inl e) noted cause tc pc = absurd (not_this code 8 which e (λ is. omega (arith, is)) (λ is. omega (arith, is)))
+  fault (Err stop.Limit) (inl e) noted cause tc pc = absurd (not_this code 10 which e (λ is. omega (arith, is)) (λ is. omega (arith, is)))
 
 pub fault_noted : (told : Option Files) (path : List ℕ) (refused : Option (List ℕ)) (faults : Faults) (code : ℕ) (r : Result Verdict Stop) (named_path old new : Option (List ℕ)) → EndsWith r code → (code ≡ 3) ⊎ (code ≡ 6) → named_path ≡ Some path → NotesOutcome named_path r old new →
     IfSome told (λ files. HasCause files path refused r) → StoreCounts faults.store.0 faults.store.1 r → PatternCounts faults.patterns.0 faults.patterns.1 r →

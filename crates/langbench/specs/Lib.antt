@@ -4,3 +4,5 @@ pub mod Reports
 pub mod Run
 pub mod Stops
 pub mod Notes
+pub mod Serving
+pub mod Talking

@@ -2,6 +2,9 @@
 -- with line and column counted from 1 and columns in UTF-16 units (Language Server Protocol 3.17, "Position").
 use Rattle.std.specs.Prelude.{ℕ, ◌≡◌, ◌≤◌, List, ◌++◌, codes, Option, Result, Ok, Err, IfSome}
 use Rattle.std.specs.Io.KnownBytes.{Appends, Keeps}
+use Rattle.std.specs.Fmt.{decimal}
+use Rattle.lw_frame.specs.declared.fault.FrameFault.{FrameFault}
+use Rattle.lw_frame.specs.declared.fault.FrameFault.TheVariants as frame
 use Rattle.lw_text.specs.declared.place.Pos.{Pos}
 use Rattle.lw_lang.specs.declared.fault.CompileFault.{CompileFault}
 use Rattle.lw_lang.specs.declared.fault.CompileFault.TheVariants as fault
@@ -24,6 +27,16 @@ write_line = line (codes "write failed")
 
 abbrev pub memory_line : List ℕ
 memory_line = line (codes "out of memory")
+
+abbrev pub limit_line : List ℕ
+limit_line = line (codes "input limit reached")
+
+-- a fault of the frames of a session; offsets and lengths are bytes
+abbrev pub frame_line : FrameFault → List ℕ
+frame_line (frame.BadHeader at) = line (codes "frame header fault at byte " ++ decimal at)
+frame_line (frame.NoLength at) = line (codes "frame without length at byte " ++ decimal at)
+frame_line (frame.TooLong size) = line (codes "frame of " ++ decimal size ++ codes " bytes is too long")
+frame_line (frame.Truncated missing) = line (codes "frame truncated: " ++ decimal missing ++ codes " bytes missing")
 
 -- what is wrong with a file
 abbrev pub file_line : List ℕ → List ℕ → List ℕ
@@ -54,6 +67,8 @@ IsStopLine path (stop.Grammar found) output = IfSome path (λ p. output ≡ faul
 IsStopLine path stop.Read output = output ≡ read_line
 IsStopLine path stop.Write output = output ≡ write_line
 IsStopLine path stop.Memory output = output ≡ memory_line
+IsStopLine path (stop.Frames found) output = output ≡ frame_line found
+IsStopLine path stop.Limit output = output ≡ limit_line
 
 -- WHAT IS ADDED TO THE NOTES
 
@@ -72,6 +87,7 @@ pub record NotesStatus (code : ℕ) (old new : Option (List ℕ)) : Type 0 where
   pub usage : code ≡ 2 → Appends old new usage_line
   pub unread : code ≡ 4 → Appends old new read_line
   pub unwritten : code ≡ 5 → Appends old new write_line
+  pub limit : code ≡ 10 → Appends old new limit_line
 
 -- by the fault of the grammar at this path, which ended the run with this status
 pub record NotesFault (files : Files) (path : List ℕ) (refused : Option (List ℕ)) (faults : Faults) (code : ℕ) (old new : Option (List ℕ)) : Type 0 where

@@ -12,7 +12,7 @@ use Rattle.lw_lang.specs.declared.fault.CompileFault.TheVariants as fault
 use Rattle.langbench.specs.declared.report.Verdict.{Verdict}
 use Rattle.langbench.specs.declared.report.Verdict.TheVariants.{Whole, Broken}
 use Rattle.langbench.specs.declared.stop.Stop.{Stop}
-use Rattle.langbench.specs.declared.stop.Stop.TheVariants.{Words, Grammar, Read, Write, Memory}
+use Rattle.langbench.specs.declared.stop.Stop.TheVariants.{Words, Grammar, Read, Write, Memory, Frames, Limit}
 use Rattle.langbench.specs.Checked.{ok_line}
 use Rattle.langbench.specs.Run.{Files, Prints, WritesSome, fault_code}
 
@@ -23,6 +23,8 @@ code_of (Grammar found) = fault_code found
 code_of Read = 4
 code_of Write = 5
 code_of Memory = 7
+code_of (Frames found) = 8
+code_of Limit = 10
 
 -- why a run stops where a read, a write or the compiling of a grammar failed
 abbrev pub stop_of_read : ReadFault → Stop
@@ -66,6 +68,8 @@ Works files path held refused old new (Err (Grammar found)) = Causes files path 
 Works files path held refused old new (Err Read) = Keeps old new
 Works files path held refused old new (Err Write) = WritesSome files path held old new
 Works files path held refused old new (Err Memory) = Keeps old new ⊎ WritesSome files path held old new
+Works files path held refused old new (Err (Frames found)) = ⊥
+Works files path held refused old new (Err Limit) = ⊥
 
 -- a fault of the grammar at this path has its cause
 abbrev pub HasCause : {T : Type 0} → Files → List ℕ → Option (List ℕ) → Result T Stop → Type 0

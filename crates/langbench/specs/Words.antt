@@ -1,5 +1,7 @@
 -- The words of the command line.
 use Rattle.std.specs.Prelude.{ℕ, ◌≡◌, ◌≢◌, List, [], ◌∷◌, codes}
+use Rattle.langbench.specs.declared.words.Command.{Command}
+use Rattle.langbench.specs.declared.words.Command.TheVariants.{Check, Serve}
 
 -- a word that is no option: one that does not begin with `-`, which is 45
 abbrev pub IsOperand : List ℕ → Type 0
@@ -8,3 +10,16 @@ IsOperand word = (rest : List ℕ) → word ≢ 45 ∷ rest
 -- `check GRAMMAR`
 abbrev pub IsCheck : List (List ℕ) → List ℕ → Type 0
 IsCheck words path = (words ≡ codes "check" ∷ path ∷ []) × IsOperand path
+
+-- `serve GRAMMAR`
+abbrev pub IsServe : List (List ℕ) → List ℕ → Type 0
+IsServe words path = (words ≡ codes "serve" ∷ path ∷ []) × IsOperand path
+
+-- no command
+abbrev pub IsNoCommand : List (List ℕ) → Type 0
+IsNoCommand words = (path : List ℕ) → (¬ IsCheck words path) × (¬ IsServe words path)
+
+-- the command that the words are
+abbrev pub IsCommand : List (List ℕ) → Command → Type 0
+IsCommand words (Check path) = IsCheck words path.now
+IsCommand words (Serve path) = IsServe words path.now

@@ -6,15 +6,22 @@
 //! command line, and ends with the status.
 #![tactic(auto)]
 
+ghost use Rattle.std.specs.Prelude.{◌≡◌, ◌<◌};
+
+mod desk;
 mod notes;
 mod report;
+mod serve;
 mod stop;
 mod top;
 mod words;
 
-use lw_base::{Name, NoMemory};
+use desk::Desk;
+use lw_base::{Name, NoMemory, Steps};
 use lw_io::{FileStore, RealPatterns, StdSink, StdSource};
+use std::marker::Brand;
 use std::process::ExitCode;
+use std::sync::ledger::{Blank, Ledger};
 use std::{env, io};
 use top::run;
 
@@ -51,17 +58,24 @@ fn words_of(rt: &HostRuntime) -> Result<Vec<Name>, WordsFault> {
 }
 
 // Hands the real objects to the top call. Words that are no UTF-8 are no command, as no words are.
-fn start(rt: &HostRuntime) -> u8 {
+fn start<L: Ledger>(rt: &HostRuntime, blank: Blank) -> u8
+    requires name { blank.name ≡ L.name }
+    requires parts { blank.parts ≡ L.parts }
+    requires some { 0 < blank.parts }
+{
     let words = match words_of(rt) {
         Ok(words) => words,
         Err(WordsFault::NotUtf8) => Vec::new(rt.alloc()),
         Err(WordsFault::NoMemory) => return 7,
     };
+    let (book, share) = blank.open::<L>();
+    let mut steps = Steps::new(book, share);
     let mut source = StdSource::new(rt.stdin());
     let mut out = StdSink::new(rt.stdout());
     let mut notes = StdSink::new(rt.stderr());
     let mut store = FileStore::new(rt);
     let mut patterns = RealPatterns::new();
+    let mut desk = Desk::Empty;
     run(
         rt.alloc(),
         &words,
@@ -70,12 +84,14 @@ fn start(rt: &HostRuntime) -> u8 {
         &mut notes,
         &mut store,
         &mut patterns,
+        &mut desk,
+        &mut steps,
     )
     .code
 }
 
 fn main(rt: HostRuntime) -> ExitCode {
-    ExitCode::from(start(&rt))
+    ExitCode::from(start::<Brand>(&rt, Blank::new(1)))
 }
 
 #[cfg(test)]

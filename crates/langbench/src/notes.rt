@@ -2,10 +2,11 @@
 ghost use Rattle.std.specs.Prelude.{◌≡◌, IfOk, IfSome, IsTrue, string_bytes};
 ghost use Rattle.std.specs.Option.{option_copied};
 ghost use Rattle.lw_io.specs.Causes.{Rose};
-ghost use Rattle.langbench.specs.Notes.{file_line, placed_line, refused_text, fault_line, IsStopLine, NotesStop};
+ghost use Rattle.langbench.specs.Notes.{file_line, placed_line, refused_text, fault_line, frame_line, IsStopLine, NotesStop};
 
 use crate::stop::Stop;
 use lw_base::{Name, NoMemory};
+use lw_frame::FrameFault;
 use lw_io::{Sink, WriteFault, write_all};
 use lw_lang::CompileFault;
 use lw_text::Pos;
@@ -39,8 +40,27 @@ fn stop_line(alloc: Global, grammar: Option<&Name>, stop: &Stop) -> Result<Strin
         Stop::Read => "read failed\n",
         Stop::Write => "write failed\n",
         Stop::Memory => "out of memory\n",
+        Stop::Frames(fault) => return frame_line(alloc, *fault),
+        Stop::Limit => "input limit reached\n",
     };
     Ok(String::from_str(alloc, text)?)
+}
+
+fn frame_line(alloc: Global, fault: FrameFault) -> Result<String, NoMemory>
+    ensures { IfOk result (λ line. string_bytes line ≡ frame_line fault) }
+{
+    match fault {
+        FrameFault::BadHeader(at) => {
+            Ok(format!(in alloc; "frame header fault at byte {at}\n")?)
+        }
+        FrameFault::NoLength(at) => {
+            Ok(format!(in alloc; "frame without length at byte {at}\n")?)
+        }
+        FrameFault::TooLong(size) => Ok(format!(in alloc; "frame of {size} bytes is too long\n")?),
+        FrameFault::Truncated(missing) => {
+            Ok(format!(in alloc; "frame truncated: {missing} bytes missing\n")?)
+        }
+    }
 }
 
 // Only words that name a grammar lead to its faults.

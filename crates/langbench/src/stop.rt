@@ -5,6 +5,7 @@ ghost use Rattle.langbench.specs.Run.{fault_code};
 ghost use Rattle.langbench.specs.declared.stop.Stop.TheVariants.{Memory as memory};
 
 use lw_base::NoMemory;
+use lw_frame::FrameFault;
 use lw_io::{ReadFault, WriteFault};
 use lw_lang::CompileFault;
 
@@ -21,6 +22,10 @@ pub(crate) enum Stop {
     Write,
     /// There was no memory.
     Memory,
+    /// The frames of a session have a fault.
+    Frames(FrameFault),
+    /// A session has as many bytes as it may have, and goes on.
+    Limit,
 }
 
 impl Stop {
@@ -34,6 +39,8 @@ impl Stop {
             Stop::Read => 4,
             Stop::Write => 5,
             Stop::Memory => 7,
+            Stop::Frames(_) => 8,
+            Stop::Limit => 10,
         }
     }
 }

@@ -6,37 +6,44 @@ ghost use Rattle.lw_grammar.specs.declared.grammar.Grammar as plain;
 ghost use Rattle.lw_io.specs.Causes.{Rose};
 ghost use Rattle.lw_io.specs.Whole.{WritesFront};
 ghost use Rattle.lw_lang.specs.Compiled.{HoldsGrammar, IsClear};
-ghost use Rattle.langbench.specs.Words.{IsCheck};
+ghost use Rattle.lw_frame.specs.declared.fault.FrameFault.{FrameFault};
+ghost use Rattle.langbench.specs.Words.{IsCheck, IsServe, IsNoCommand};
+ghost use Rattle.langbench.specs.Serving.{OfGrammar, WentWrong, ServeEnds, ServeWorks};
 ghost use Rattle.langbench.specs.Reports.{IsReport};
 ghost use Rattle.langbench.specs.Run.{CheckEnds, CheckDone, NoneRose, most_read};
-ghost use Rattle.langbench.specs.Notes.{NotesStatus, NotesFault, NotesOutcome};
+ghost use Rattle.langbench.specs.Notes.{NotesStatus, NotesFault, NotesOutcome, frame_line};
 ghost use Rattle.langbench.specs.Stops.{EndsWith, Works, HasCause, SourceCounts, OutCounts, StoreCounts, PatternCounts};
 
 use crate::notes::note;
 use crate::report::{Report, Verdict, report_on};
 use crate::stop::Stop;
-use crate::words::checked_grammar;
-use lw_base::Name;
+use crate::desk::Desk;
+use crate::serve::serve;
+use crate::words::{Command, command_of, grammar_named};
+use lw_base::{Name, Steps};
 use lw_io::{Patterns, Sink, Source, Store, read_all, write_all};
 use lw_lang::{LONGEST_DOCUMENT, Language, compile};
 use std::alloc::Global;
+use std::sync::ledger::Ledger;
 
 /// How a run ends, as a process tells it.
 #[derive(Clone, Copy, Debug, PartialEq, Eq)]
 pub struct Status {
-    /// 0: the work was done. 1: `check` printed anything but `ok`. 2: the words are no command. 3: the
-    /// grammar has a fault. 4, 5: the source, the sink failed. 6: the grammar could not be read. 7: there
-    /// was no memory.
+    /// 0: the work was done. 1: `check` printed anything but `ok`, or the session of `serve` ended without
+    /// `shutdown` or without `exit`. 2: the words are no command. 3: the grammar has a fault. 4, 5: the
+    /// source, the sink failed. 6: the grammar could not be read. 7: there was no memory. 8: the frames of
+    /// the session have a fault. 10: the session has 2^40 bytes and goes on.
     pub code: u8,
 }
 
 /// Runs the command that the words name.
 ///
 /// `check GRAMMAR` reads the grammar from the store and a document from the source, and writes one
-/// line: `ok`, or the document's fault. The first that is met in this order ends the run: the words, the
-/// grammar, the source, the sink. From status 2 on one line of why goes to `notes`; that a note fails
-/// changes nothing.
-pub fn run<S: Source, K: Sink, N: Sink, F: Store, P: Patterns>(
+/// line: `ok`, or the document's fault. `serve GRAMMAR` answers the session of the source frame by frame,
+/// each reply before the next read, and leaves the session on the desk. The first that is met in this order
+/// ends the run: the words, the grammar, then the source in its order, each reply in its place. From status 2
+/// on one line of why goes to `notes`; that a note fails changes nothing.
+pub fn run<S: Source, K: Sink, N: Sink, F: Store, P: Patterns, L: Ledger>(
     alloc: Global,
     words: &[Name],
     source: &mut S,
@@ -44,7 +51,11 @@ pub fn run<S: Source, K: Sink, N: Sink, F: Store, P: Patterns>(
     notes: &mut N,
     store: &mut F,
     patterns: &mut P,
+    desk: &mut Desk,
+    steps: &mut Steps<L>,
 ) -> Status
+    requires { desk.old ≡ Desk.Empty }
+
     // What `check` does and how it ends, by what the store and the source held.
     ensures ended { (path : List ℕ) → IsCheck words.now path → IfSome (F.files store.old) (λ files. IfSome (S.left source.old) (λ held.
         CheckEnds files path held (P.last_refused patterns.new) (K.written out.old) (K.written out.new) (record {
@@ -63,9 +74,18 @@ pub fn run<S: Source, K: Sink, N: Sink, F: Store, P: Patterns>(
           patterns = (P.count patterns.old, P.count patterns.new);
         }) → CheckDone g held (K.written out.old) (K.written out.new) result.code)) }
 
+    // What `serve` does and how it ends, by what the store holds and what the source gives.
+    ensures served { (path : List ℕ) → IsServe words.now path → IfSome (F.files store.old) (λ files.
+        ServeEnds files path (P.last_refused patterns.new) (S.left source.old) (S.left source.new) (K.written out.old) (K.written out.new) (record {
+          source = (S.count source.old, S.count source.new);
+          out = (K.count out.old, K.count out.new);
+          store = (F.count store.old, F.count store.new);
+          patterns = (P.count patterns.old, P.count patterns.new);
+        }) result.code) }
+
     // Which words are refused, and that nothing is written then.
-    ensures words { result.code ≡ 2 → (path : List ℕ) → ¬ IsCheck words.now path }
-    ensures other_words { ((path : List ℕ) → ¬ IsCheck words.now path) → ((result.code ≡ 2) ⊎ (result.code ≡ 7)) × Keeps (K.written out.old) (K.written out.new) }
+    ensures words { result.code ≡ 2 → IsNoCommand words.now }
+    ensures other_words { IsNoCommand words.now → ((result.code ≡ 2) ⊎ (result.code ≡ 7)) × Keeps (K.written out.old) (K.written out.new) }
 
     // A fault is told only where its count rose, and where that grew, no other status but 7.
     ensures read { result.code ≡ 4 → Rose (S.count source.old) (S.count source.new) }
@@ -74,22 +94,26 @@ pub fn run<S: Source, K: Sink, N: Sink, F: Store, P: Patterns>(
     ensures write_told { K.count out.old < K.count out.new → (result.code ≡ 5) ⊎ (result.code ≡ 7) }
     ensures store_told { F.count store.old < F.count store.new → (result.code ≡ 6) ⊎ (result.code ≡ 7) }
     ensures patterns_told { P.count patterns.old < P.count patterns.new → (result.code ≡ 3) ⊎ (result.code ≡ 7) }
-    ensures status { result.code ≤ 7 }
+    ensures status { result.code ≤ 10 }
 
     // What is noted, where the notes did not fail and there was memory: nothing at 0 and 1, and else one line.
     ensures noted { result.code ≢ 7 → ¬ Rose (N.count notes.old) (N.count notes.new)
         → NotesStatus result.code (N.written notes.old) (N.written notes.new) }
     ensures fault_noted { (result.code ≡ 3) ⊎ (result.code ≡ 6) → ¬ Rose (N.count notes.old) (N.count notes.new)
-        → (path : List ℕ) → IsCheck words.now path → IfSome (F.files store.old) (λ files.
+        → (path : List ℕ) → IsCheck words.now path ⊎ IsServe words.now path → IfSome (F.files store.old) (λ files.
         NotesFault files path (P.last_refused patterns.new) (record {
           source = (S.count source.old, S.count source.new);
           out = (K.count out.old, K.count out.new);
           store = (F.count store.old, F.count store.new);
           patterns = (P.count patterns.old, P.count patterns.new);
         }) result.code (N.written notes.old) (N.written notes.new)) }
+    ensures frames_noted { result.code ≡ 8 → ¬ Rose (N.count notes.old) (N.count notes.new)
+        → (path : List ℕ) → IsServe words.now path → IfSome (F.files store.old) (λ files.
+        (found : FrameFault) × OfGrammar files path (λ g. WentWrong g (S.left source.old) (S.left source.new) (K.written out.old) (K.written out.new) found)
+        × Appends (N.written notes.old) (N.written notes.new) (frame_line found)) }
 {
-    let outcome = act(alloc, words, source, out, store, patterns);
-    finish(alloc, notes, checked_grammar(words), outcome)
+    let outcome = act(alloc, words, source, out, store, patterns, desk, steps);
+    finish(alloc, notes, grammar_named(words), outcome)
 }
 
 // Turns what the work answered into a status, and notes why it stopped. `grammar` is the path of the
@@ -117,26 +141,34 @@ fn finish<N: Sink>(
     }
 }
 
-fn act<S: Source, K: Sink, F: Store, P: Patterns>(
+fn act<S: Source, K: Sink, F: Store, P: Patterns, L: Ledger>(
     alloc: Global,
     words: &[Name],
     source: &mut S,
     out: &mut K,
     store: &mut F,
     patterns: &mut P,
+    desk: &mut Desk,
+    steps: &mut Steps<L>,
 ) -> Result<Verdict, Stop>
     ensures works { (path : List ℕ) → IsCheck words.now path → IfSome (F.files store.old) (λ files. IfSome (S.left source.old) (λ held.
         Works files path held (P.last_refused patterns.new) (K.written out.old) (K.written out.new) result)) }
     ensures cause { (path : List ℕ) → IsCheck words.now path → IfSome (F.files store.old) (λ files. HasCause files path (P.last_refused patterns.new) result) }
-    ensures words { result ≡ Err Stop.Words → (path : List ℕ) → ¬ IsCheck words.now path }
-    ensures other_words { ((path : List ℕ) → ¬ IsCheck words.now path) → (result ≡ Err Stop.Words) × Keeps (K.written out.old) (K.written out.new) }
+    ensures serves { (path : List ℕ) → IsServe words.now path → IfSome (F.files store.old) (λ files.
+        ServeWorks files path (P.last_refused patterns.new) (S.left source.old) (S.left source.new) (K.written out.old) (K.written out.new) result) }
+    ensures serve_cause { (path : List ℕ) → IsServe words.now path → IfSome (F.files store.old) (λ files. HasCause files path (P.last_refused patterns.new) result) }
+    ensures words { result ≡ Err Stop.Words → IsNoCommand words.now }
+    ensures other_words { IsNoCommand words.now → (result ≡ Err Stop.Words) × Keeps (K.written out.old) (K.written out.new) }
     ensures source { SourceCounts (S.count source.old) (S.count source.new) result }
     ensures out { OutCounts (K.count out.old) (K.count out.new) result }
     ensures store { StoreCounts (F.count store.old) (F.count store.new) result }
     ensures patterns { PatternCounts (P.count patterns.old) (P.count patterns.new) result }
 {
-    match checked_grammar(words) {
-        Some(path) => check(alloc, path, source, out, store, patterns),
+    match command_of(words) {
+        Some(Command::Check(path)) => check(alloc, path, source, out, store, patterns),
+        Some(Command::Serve(path)) => {
+            serve(alloc, path, source, out, store, patterns, desk, steps)
+        }
         None => Err(Stop::Words),
     }
 }

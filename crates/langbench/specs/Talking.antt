@@ -1,0 +1,67 @@
+-- A session that is under way: what its parts leave.
+use Rattle.std.specs.Prelude.{ℕ, ◌≡◌, ◌<◌, ◌≤◌, ◌⊎◌, List, [], ◌∷◌, ◌++◌, length, true, false, Option, Some, None, Result, Ok, Err}
+use Rattle.std.specs.List.{flat_map}
+use Rattle.std.specs.Io.KnownBytes.{Appends, Consumes, IsAtEnd, Keeps}
+use Rattle.lw_grammar.specs.declared.grammar.Grammar as plain
+use Rattle.lw_frame.specs.Frames.{bodies_of, fault_of, frame_of, rest_of}
+use Rattle.lw_frame.specs.Stream.{Stream, with_piece, next_answer}
+use Rattle.lw_frame.specs.declared.fault.FrameFault.{FrameFault}
+use Rattle.lw_machine.specs.Answers.{Standing, beginning}
+use Rattle.lw_machine.specs.Sessions.{Handles, Serves, framed}
+use Rattle.lw_machine.specs.declared.ended.Ended.{Ended}
+use Rattle.lw_machine.specs.declared.ended.Ended.TheVariants.{No}
+use Rattle.lw_rpc.specs.Messages.{message_of}
+use Rattle.lw_rpc.specs.declared.reply.Reply.{Reply}
+use Rattle.langbench.specs.declared.stop.Stop.{Stop}
+use Rattle.langbench.specs.declared.stop.Stop.TheVariants as stop
+use Rattle.langbench.specs.Serving.{WritesPart}
+
+-- bodies, each in a frame
+abbrev pub in_frames : List (List ℕ) → List ℕ
+in_frames bodies = flat_map frame_of bodies
+
+-- All that was taken was answered: the stream is open and without a fault, each of its bodies was handed out and answered, and all replies were written.
+pub record IsUnderway (g : plain.Grammar) (before now old new : Option (List ℕ)) (stream : Stream) (standing : Standing) : Type 0 where
+  pub replies : List Reply
+  pub going_on : stream.closed ≡ false
+  pub all_given : stream.given ≡ length (bodies_of stream.fed)
+  pub sound : fault_of stream.fed false ≡ None
+  pub consumed : Consumes before now stream.fed
+  pub serves : Serves g beginning (bodies_of stream.fed) standing replies No
+  pub written : Appends old new (framed replies)
+
+-- The piece does not reach behind the message that is being read: it brings no body, or one with nothing behind it, or a fault and no body.
+pub data StaysWithin (fed piece : List ℕ) : Type 0 where
+  no_body : bodies_of (fed ++ piece) ≡ bodies_of fed → StaysWithin fed piece
+  one_body : (body : List ℕ) → bodies_of (fed ++ piece) ≡ bodies_of fed ++ body ∷ [] → rest_of (fed ++ piece) ≡ [] → fault_of (fed ++ piece) false ≡ None → StaysWithin fed piece
+
+-- what was taken from the source and fed to the reader
+pub data TakesPiece (before now : Option (List ℕ)) (s : Stream) : Stream → ℕ → Type 0 where
+  at_end : IsAtEnd now → Keeps before now → TakesPiece before now s s 0
+  piece : (bytes : List ℕ) → 0 < length bytes → Consumes before now bytes → StaysWithin s.fed bytes → TakesPiece before now s (with_piece s bytes) (length bytes)
+
+-- what was taken where memory was refused
+pub data LosesPiece (before now : Option (List ℕ)) (s : Stream) : Stop → Type 0 where
+  unread : Keeps before now → LosesPiece before now s stop.Read
+  lost : (bytes : List ℕ) → Consumes before now bytes → StaysWithin s.fed bytes → LosesPiece before now s stop.Memory
+
+module _ (g : plain.Grammar) (s : Standing) (old new : Option (List ℕ)) where
+  -- a body was answered, and all replies to it were written
+  pub record Responds (body : List ℕ) (t : Standing) (ended : Ended) : Type 0 where
+    pub replies : List Reply
+    pub handles : Handles g s (message_of body) t replies ended
+    pub written : Appends old new (framed replies)
+
+  -- a body was answered, and a part of the replies was written, or nothing was
+  pub data RespondsPartly (body : List ℕ) : Type 0 where
+    nothing : Keeps old new → RespondsPartly body
+    part : {t : Standing} {replies : List Reply} {ended : Ended} → Handles g s (message_of body) t replies ended → WritesPart old new (framed replies) → RespondsPartly body
+
+  -- what is done with what the reader hands out
+  abbrev pub AnswersNext : Result (Option (List ℕ)) FrameFault → Standing → Result Ended Stop → Type 0
+  AnswersNext (Ok (Some body)) t (Ok ended) = Responds body t ended
+  AnswersNext (Ok (Some body)) t (Err stop.Write) = RespondsPartly body
+  AnswersNext (Ok (Some body)) t (Err stop.Memory) = RespondsPartly body
+  AnswersNext (Ok (Some body)) t (Err _) = ⊥
+  AnswersNext (Ok None) t outcome = (outcome ≡ Ok No) × (t ≡ s) × Keeps old new
+  AnswersNext (Err found) t outcome = (outcome ≡ Err (stop.Frames found)) × (t ≡ s) × Keeps old new

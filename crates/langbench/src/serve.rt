@@ -1,0 +1,176 @@
+// The session of `serve`: bodies out of the source, replies into the sink.
+ghost use Rattle.std.specs.Prelude.{◌≡◌, ◌+◌, ◌<◌, ◌≤◌, ◌^◌, ◌⊎◌, IfOk, IfErr, IfSome, OnOk, OnErr, Err, None, false, length};
+ghost use Rattle.std.specs.Io.KnownBytes.{Appends};
+ghost use Rattle.lw_frame.specs.Frames.{bodies_of, fault_of};
+ghost use Rattle.lw_frame.specs.Stream.{after_next, next_answer};
+ghost use Rattle.lw_machine.specs.Answers.{beginning};
+ghost use Rattle.langbench.specs.Serving.{Conversed, ServeWorks, WritesPart};
+ghost use Rattle.langbench.specs.Stops.{HasCause, SourceCounts, OutCounts, StoreCounts, PatternCounts};
+ghost use Rattle.langbench.specs.Talking.{AnswersNext, LosesPiece, Responds, RespondsPartly, TakesPiece, in_frames};
+
+use crate::desk::Desk;
+use crate::report::Verdict;
+use crate::stop::Stop;
+use lw_base::{Name, Steps};
+use lw_frame::{FrameReader, frame};
+use lw_io::{Patterns, Read, Sink, Source, Store, write_all};
+use lw_lang::compile;
+use lw_session::{Ended, Mode, Session};
+use std::alloc::Global;
+use std::sync::ledger::Ledger;
+
+/// How many bytes of a session are taken at most.
+const MOST_TAKEN: u64 = 1 << 40;
+
+/// Reads the grammar, then answers the session of the source frame by frame, and leaves it on the desk.
+pub(crate) fn serve<S: Source, K: Sink, F: Store, P: Patterns, L: Ledger>(
+    alloc: Global,
+    path: &Name,
+    source: &mut S,
+    out: &mut K,
+    store: &mut F,
+    patterns: &mut P,
+    desk: &mut Desk,
+    steps: &mut Steps<L>,
+) -> Result<Verdict, Stop>
+    ensures works { IfSome (F.files store.old) (λ files.
+        ServeWorks files path.now (P.last_refused patterns.new) (S.left source.old) (S.left source.new) (K.written out.old) (K.written out.new) result) }
+    ensures cause { IfSome (F.files store.old) (λ files. HasCause files path.now (P.last_refused patterns.new) result) }
+    ensures not_words { ¬ (result ≡ Err Stop.Words) }
+    ensures source { SourceCounts (S.count source.old) (S.count source.new) result }
+    ensures out { OutCounts (K.count out.old) (K.count out.new) result }
+    ensures store { StoreCounts (F.count store.old) (F.count store.new) result }
+    ensures patterns { PatternCounts (P.count patterns.old) (P.count patterns.new) result }
+{
+    let language = compile(alloc, path, 2, store, patterns)?;
+    let mut session = Session::new(alloc, language, Mode::Full)?;
+    let outcome = converse(alloc, &mut session, source, out, store, steps);
+    *desk = Desk::Serving(session);
+    outcome
+}
+
+// Answers body after body up to `exit`, each before the next read. No byte behind the message that is
+// being read is taken from the source.
+fn converse<S: Source, K: Sink, F: Store, L: Ledger>(
+    alloc: Global,
+    session: &mut Session,
+    source: &mut S,
+    out: &mut K,
+    store: &mut F,
+    steps: &mut Steps<L>,
+) -> Result<Verdict, Stop>
+    requires { session.old.standing ≡ beginning }
+    ensures conversed { Conversed session.old.grammar (S.left source.old) (S.left source.new) (K.written out.old) (K.written out.new) result }
+    ensures source { SourceCounts (S.count source.old) (S.count source.new) result }
+    ensures out { OutCounts (K.count out.old) (K.count out.new) result }
+    ensures store { F.count store.new ≡ F.count store.old }
+{
+    let mut reader = FrameReader::new(alloc);
+    let mut taken = 0;
+    'taking: while taken < MOST_TAKEN {
+        let count = take_piece(source, &mut reader, MOST_TAKEN - taken)?;
+        if count == 0 {
+            return run_out(&mut reader);
+        }
+        taken += count as u64;
+        match answer_next(alloc, session, &mut reader, out, store, steps)? {
+            Ended::No => {}
+            Ended::Clean => return Ok(Verdict::Whole),
+            Ended::Early => return Ok(Verdict::Broken),
+        }
+    }
+    Err(Stop::Limit)
+}
+
+// Feeds the reader with the next bytes of the source, none of them behind the message that is being
+// read, and answers how many: 0 where the source is at its end.
+fn take_piece<S: Source>(source: &mut S, reader: &mut FrameReader, room: u64) -> Result<usize, Stop>
+    requires open { reader.old.stream.closed ≡ false }
+    requires sound { fault_of reader.old.stream.fed false ≡ None }
+    requires all_given { reader.old.stream.given ≡ length (bodies_of reader.old.stream.fed) }
+    requires room { 0 < room }
+    requires session { length reader.old.stream.fed + room ≤ 2 ^ 40 }
+    ensures taken { IfOk result (TakesPiece (S.left source.old) (S.left source.new) reader.old.stream reader.new.stream) }
+    ensures within { IfOk result (λ count. count ≤ room) }
+    ensures fault { IfErr result (LosesPiece (S.left source.old) (S.left source.new) reader.old.stream) }
+    ensures source { SourceCounts (S.count source.old) (S.count source.new) result }
+{
+    let mut buffer = [0u8; 8192];
+    let most = reader.wanted().min(buffer.len()).min(room as usize);
+    match source.read(&mut buffer[..most]) {
+        Read::Got(count) => {
+            if reader.feed(&buffer[..count]).is_err() {
+                return Err(Stop::Memory);
+            }
+            Ok(count)
+        }
+        Read::End => Ok(0),
+        Read::Failed => Err(Stop::Read),
+    }
+}
+
+// How a session ends whose bytes are over: between two messages, or inside one.
+fn run_out(reader: &mut FrameReader) -> Result<Verdict, Stop>
+{
+    reader.close();
+    match reader.next() {
+        Ok(_) => Ok(Verdict::Broken),
+        Err(fault) => Err(Stop::Frames(fault)),
+    }
+}
+
+// Answers the body that the reader hands out, if it does.
+fn answer_next<K: Sink, F: Store, L: Ledger>(
+    alloc: Global,
+    session: &mut Session,
+    reader: &mut FrameReader,
+    out: &mut K,
+    store: &mut F,
+    steps: &mut Steps<L>,
+) -> Result<Ended, Stop>
+    ensures answered { AnswersNext session.old.grammar session.old.standing (K.written out.old) (K.written out.new) (next_answer reader.old.stream) session.new.standing result }
+    ensures stream { reader.new.stream ≡ after_next reader.old.stream }
+    ensures grammar { session.new.grammar ≡ session.old.grammar }
+    ensures out { OutCounts (K.count out.old) (K.count out.new) result }
+    ensures store { F.count store.new ≡ F.count store.old }
+{
+    match reader.next() {
+        Ok(Some(body)) => respond(alloc, session, body.bytes(), out, store, steps),
+        Ok(None) => Ok(Ended::No),
+        Err(fault) => Err(Stop::Frames(fault)),
+    }
+}
+
+// Answers one body, and writes each reply in a frame of its own.
+fn respond<K: Sink, F: Store, L: Ledger>(
+    alloc: Global,
+    session: &mut Session,
+    body: &[u8],
+    out: &mut K,
+    store: &mut F,
+    steps: &mut Steps<L>,
+) -> Result<Ended, Stop>
+    ensures answered { IfOk result (λ ended. Responds session.old.grammar session.old.standing (K.written out.old) (K.written out.new) body.now session.new.standing ended) }
+    ensures part { OnErr result (RespondsPartly session.old.grammar session.old.standing (K.written out.old) (K.written out.new) body.now) }
+    ensures fault { OnErr result ((result ≡ Err Stop.Write) ⊎ (result ≡ Err Stop.Memory)) }
+    ensures grammar { session.new.grammar ≡ session.old.grammar }
+    ensures out { OutCounts (K.count out.old) (K.count out.new) result }
+    ensures store { F.count store.new ≡ F.count store.old }
+{
+    let handled = session.handle(body, store, steps)?;
+    write_replies(alloc, out, handled.replies.as_slice())?;
+    Ok(handled.ended)
+}
+
+fn write_replies<K: Sink>(alloc: Global, out: &mut K, replies: &[Name]) -> Result<(), Stop>
+    ensures whole { OnOk result (Appends (K.written out.old) (K.written out.new) (in_frames replies.now)) }
+    ensures part { OnErr result (WritesPart (K.written out.old) (K.written out.new) (in_frames replies.now)) }
+    ensures fault { OnErr result ((result ≡ Err Stop.Write) ⊎ (result ≡ Err Stop.Memory)) }
+    ensures out { OutCounts (K.count out.old) (K.count out.new) result }
+{
+    'replies: for reply in replies {
+        let framed = frame(alloc, reply)?;
+        write_all(out, framed.bytes())?;
+    }
+    Ok(())
+}
