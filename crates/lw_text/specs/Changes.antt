@@ -10,11 +10,6 @@ use Rattle.lw_text.specs.declared.change.TheConstants.{MAX_BYTES}
 use Rattle.lw_text.specs.declared.place.Pos.{Pos}
 use Rattle.lw_text.specs.declared.units.Encoding.{Encoding}
 
--- a text of these bytes, or why there is none: they are too many, or memory was refused
-abbrev pub IsTextOrFault : List ℕ → Result (List ℕ) EditFault → Type 0
-IsTextOrFault bytes (Ok text) = (text ≡ bytes) × (length bytes ≤ MAX_BYTES)
-IsTextOrFault bytes (Err fault) = (fault ≡ NoMemory) ⊎ ((fault ≡ TooLong (length bytes)) × (MAX_BYTES < length bytes))
-
 -- a comes after b: by line, then by character, both as given
 abbrev pub IsAfter : Pos → Pos → Type 0
 IsAfter a b = (b.line < a.line) ⊎ ((a.line ≡ b.line) × (b.character < a.character))
@@ -52,3 +47,8 @@ pub data Changes (enc : Encoding) (text : List ℕ) (changes : List Change) : Re
   made : {new : List ℕ} → AreMade enc text changes new → Changes enc text changes (Ok new)
   refused : (before : List Change) (change : Change) (after : List Change) (middle : List ℕ) {fault : EditFault} → changes ≡ before ++ change ∷ after →
       AreMade enc text before middle → IsRefused enc middle change (length before) fault → Changes enc text changes (Err fault)
+
+-- a text of these bytes, or why there is none: they are too many, or memory was refused
+abbrev pub IsTextOrFault : List ℕ → Result (List ℕ) EditFault → Type 0
+IsTextOrFault bytes (Ok text) = (text ≡ bytes) × (length bytes ≤ MAX_BYTES)
+IsTextOrFault bytes (Err fault) = (fault ≡ NoMemory) ⊎ ((fault ≡ TooLong (length bytes)) × (MAX_BYTES < length bytes))

@@ -42,7 +42,8 @@ pub record IsLineOf (text : List ℕ) (offset count start : ℕ) : Type 0 where
   pub inside : IsInLine offset start line after
   pub number : count ≡ length before
 
--- The position of the byte offset, in the encoding. A place inside what ends a line is the end of that line, and one inside a character is where the character begins.
+-- The position of the byte offset, in the encoding. A place inside what ends a line is the end of that line, and one inside a character is
+-- where the character begins.
 pub record IsPositionIn (enc : Encoding) (text : List ℕ) (offset : ℕ) (at : Pos) : Type 0 where
   pub before : List Line
   pub line : Line

@@ -9,7 +9,7 @@ pub const MAX_BYTES: usize = 67_108_864;
 /// A change of a text: its new text, in place of what stands in the range, from its start up to its
 /// end, or of the whole text where there is no range (Language Server Protocol 3.17,
 /// "TextDocumentContentChangeEvent").
-#[derive(Debug, Drop)]
+#[derive(Debug, PartialEq, Eq, Drop)]
 pub struct Change {
     pub range: Option<(Pos, Pos)>,
     pub text: Name,

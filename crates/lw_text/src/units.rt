@@ -58,7 +58,7 @@ pub(crate) fn place_behind(text: &str, units: u32, enc: Encoding) -> usize
 }
 
 /// A place in the text before which the characters take at most `units` units, and how many of these
-/// are left there. Behind it there is less than [`STRIDE`] to look through.
+/// are left there. The place that all of them reach is at most [`STRIDE`] bytes further on.
 fn pass_over(text: &str, units: u32, enc: Encoding) -> (usize, u32)
     requires { length text.now < 2 ^ 32 }
     ensures boundary { IsCharBoundary text.now result.0 }
