@@ -3,8 +3,9 @@ use Rattle.std.specs.Prelude.{ℕ, ◌≡◌, ◌<◌, ◌≤◌, ◌⊎◌, Lis
 use Rattle.std.specs.List.{flat_map}
 use Rattle.std.specs.Io.KnownBytes.{Appends, Consumes, IsAtEnd, Keeps}
 use Rattle.lw_grammar.specs.declared.grammar.Grammar as plain
-use Rattle.lw_frame.specs.Frames.{bodies_of, fault_of, frame_of, rest_of}
-use Rattle.lw_frame.specs.Stream.{Stream, with_piece, next_answer}
+use Rattle.lw_frame.specs.Frames.{bodies_of, fault_of, frame_of}
+use Rattle.lw_frame.specs.Stream.{Stream, with_piece}
+use Rattle.lw_frame.specs.Wanted.{IsWithin}
 use Rattle.lw_frame.specs.declared.fault.FrameFault.{FrameFault}
 use Rattle.lw_machine.specs.Answers.{Standing, beginning}
 use Rattle.lw_machine.specs.Sessions.{Handles, Serves, framed}
@@ -30,20 +31,15 @@ pub record IsUnderway (g : plain.Grammar) (before now old new : Option (List ℕ
   pub serves : Serves g beginning (bodies_of stream.fed) standing replies No
   pub written : Appends old new (framed replies)
 
--- The piece does not reach behind the message that is being read: it brings no body, or one with nothing behind it, or a fault and no body.
-pub data StaysWithin (fed piece : List ℕ) : Type 0 where
-  no_body : bodies_of (fed ++ piece) ≡ bodies_of fed → StaysWithin fed piece
-  one_body : (body : List ℕ) → bodies_of (fed ++ piece) ≡ bodies_of fed ++ body ∷ [] → rest_of (fed ++ piece) ≡ [] → fault_of (fed ++ piece) false ≡ None → StaysWithin fed piece
-
 -- what was taken from the source and fed to the reader
 pub data TakesPiece (before now : Option (List ℕ)) (s : Stream) : Stream → ℕ → Type 0 where
   at_end : IsAtEnd now → Keeps before now → TakesPiece before now s s 0
-  piece : (bytes : List ℕ) → 0 < length bytes → Consumes before now bytes → StaysWithin s.fed bytes → TakesPiece before now s (with_piece s bytes) (length bytes)
+  piece : (bytes : List ℕ) → 0 < length bytes → Consumes before now bytes → IsWithin s.fed bytes → TakesPiece before now s (with_piece s bytes) (length bytes)
 
 -- what was taken where memory was refused
 pub data LosesPiece (before now : Option (List ℕ)) (s : Stream) : Stop → Type 0 where
   unread : Keeps before now → LosesPiece before now s stop.Read
-  lost : (bytes : List ℕ) → Consumes before now bytes → StaysWithin s.fed bytes → LosesPiece before now s stop.Memory
+  lost : (bytes : List ℕ) → Consumes before now bytes → IsWithin s.fed bytes → LosesPiece before now s stop.Memory
 
 module _ (g : plain.Grammar) (s : Standing) (old new : Option (List ℕ)) where
   -- a body was answered, and all replies to it were written
