@@ -8,3 +8,4 @@ pub mod Reading
 pub mod Events
 pub mod Kept
 pub mod Pieces
+pub mod Wanted

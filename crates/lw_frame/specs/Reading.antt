@@ -1,8 +1,8 @@
 -- The message that is being read, and what a piece of the stream makes of it.
-use Rattle.std.specs.Prelude.{◌≡◌, ℕ, ◌+◌, ◌≤◌, List, [], ◌∷◌, ◌++◌, length, take, Bool, true, false, ◌==◌, Option, Some, None}
+use Rattle.std.specs.Prelude.{◌≡◌, ℕ, ◌+◌, ◌<◌, ◌≤◌, List, [], ◌∷◌, ◌++◌, length, take, Bool, true, false, ◌==◌, Option, Some, None}
 use Rattle.std.specs.List.{list_any}
 use Rattle.lw_frame.specs.Frames.{Split, split, bodies_of}
-use Rattle.lw_frame.specs.Header.{faulty, header_of}
+use Rattle.lw_frame.specs.Header.{faulty, whole, header_of}
 use Rattle.lw_frame.specs.Stage.{IsAt}
 use Rattle.lw_frame.specs.declared.fault.FrameFault.{FrameFault}
 use Rattle.lw_frame.specs.declared.stage.Stage.{Stage}
@@ -114,3 +114,14 @@ ReadsTo (Some fault) start bytes bodies m = EndsIn fault start bytes bodies m
 pub record Feeds (piece : List ℕ) (known now : Option FrameFault) (old new : Incoming) (bodies : List (List ℕ)) : Type 0 where
   pub bodies_are : (fed : List ℕ) → ReadsTo known 0 fed (bodies_of fed) old → bodies_of (fed ++ piece) ≡ bodies_of fed ++ bodies
   pub reads_to : (fed : List ℕ) → ReadsTo known 0 fed (bodies_of fed) old → ReadsTo now 0 (fed ++ piece) (bodies_of (fed ++ piece)) new
+
+-- no message that begins with these bytes ends before so many further ones are there
+abbrev pub EndsBehind : ℕ → List ℕ → ℕ → Type 0
+EndsBehind start bytes most = (piece : List ℕ) → length piece ≤ most → (size body : ℕ) → header_of start (bytes ++ piece) ≡ whole size body → length (bytes ++ piece) ≤ size + body
+
+-- inside a body, the number of the bytes that are missing
+abbrev pub IsLeft : Stage → ℕ → Type 0
+IsLeft (stage.Header line given) most = 0 < most
+IsLeft (stage.Content missing) most = most ≡ missing
+IsLeft stage.Whole most = 0 < most
+IsLeft (stage.Failed fault) most = 0 < most

@@ -1,5 +1,5 @@
 // A stream that comes in pieces.
-ghost use Rattle.std.specs.Prelude.{◌≡◌, ◌≤◌, ◌+◌, ◌^◌, length, OnOk, OnErr, false};
+ghost use Rattle.std.specs.Prelude.{◌≡◌, ◌<◌, ◌≤◌, ◌+◌, ◌^◌, length, OnOk, OnErr, false};
 
 use crate::history::{Event, History};
 use crate::incoming::Incoming;
@@ -40,6 +40,8 @@ impl Model for FrameReader {
 }
 
 impl FrameReader {
+    ghost use Rattle.lw_frame.specs.Frames.{bodies_of};
+    ghost use Rattle.lw_frame.specs.Wanted.{IsMissing, LeavesNothing, StaysWithin};
     ghost use Rattle.lw_frame.specs.Stream.{start, with_piece, at_end, next_answer, Answers, after_next, needed, BodiesStay, FaultStays};
 
     /// A reader of a stream of which nothing has come. It takes no memory.
@@ -79,6 +81,26 @@ impl FrameReader {
         )?;
         self.history = self.history.then(&Event::Fed(piece));
         Ok(())
+    }
+
+    /// How many further bytes can be fed at once, at least one, without going past the end of the
+    /// message that is being read: inside a body as many as are missing, else one. Behind a fault the
+    /// number says nothing. It costs the same at each call.
+    ///
+    /// So a server that never reads more than this from its source leaves there what is behind the
+    /// message that it answers last. By the base protocol a message ends with its content part, and what
+    /// is behind `exit` is not the server's.
+    pub fn wanted(&self) -> usize
+        ensures some { 0 < result }
+        ensures within { StaysWithin self.now.stream.fed result }
+        ensures missing { IsMissing self.now.stream.fed result }
+        ensures leaves { LeavesNothing self.now.stream result }
+        ensures given { self.now.stream.given ≤ length (bodies_of self.now.stream.fed) }
+    {
+        if self.fault.is_some() {
+            return 1;
+        }
+        self.incoming.wanted()
     }
 
     /// Says that the stream has ended.
