@@ -31,7 +31,7 @@ uncut true part others h = cc
 uncut false part others h = refl
 
 -- open bytes are one part
-parts-open : (bytes : List ℕ) → is_open bytes ≡ true → parts bytes ≡ bytes ∷ []
+pub parts-open : (bytes : List ℕ) → is_open bytes ≡ true → parts bytes ≡ bytes ∷ []
 parts-open [] h = refl
 parts-open (b ∷ bytes) h =
     let test = both (not (starts_with nat_eq (b ∷ bytes) line_end)) (is_open bytes) h in

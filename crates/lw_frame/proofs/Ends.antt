@@ -1,18 +1,23 @@
 -- Where a header part ends at the soonest.
-use Rattle.std.proofs.Common.{◌≡◌, ◌∙◌, ◌<◌, ◌≤◌, ◌+◌, ◌-◌, ◌==◌, ◌⊎◌, inl, inr, ⊎_elim, ℕ, List, [], ◌∷◌, ◌++◌, length, take, drop, nat_eq, nat_le, nat_lt, Bool, true, false, not, ◌||◌, if◌then◌else◌, Option, Some, None, refl, sym, ap, arith, subst, append_assoc, append-nil, length-append}
+use Rattle.std.proofs.Common.{◌≡◌, ◌∙◌, ◌<◌, ◌≤◌, ◌+◌, ◌-◌, max, ◌==◌, ◌⊎◌, inl, inr, ⊎_elim, ℕ, List, [], ◌∷◌, ◌++◌, length, take, drop, nat_eq, nat_le, nat_lt, Bool, true, false, cond, not, ◌&&◌, ◌||◌, if◌then◌else◌, Option, Some, None, refl, sym, ap, arith, subst, append_assoc, append-nil, length-append, length-take, length-drop, codes, find, option_and_then}
 use Rattle.std.proofs.Math.Seq.{drop-append_seam}
 use Rattle.std.proofs.Math.Dec.{eqb-suc-zero}
 use Rattle.std.proofs.lemmas.Grind.{flat_map-append}
 use Rattle.std.proofs.lemmas.List.Folds.{list_any-append}
 use Rattle.std.proofs.lemmas.Slice.Eq.{bytes_eq-Decides}
 use Rattle.std.proofs.lemmas.Bool.Decides.{nat_tests}
-use Rattle.std.specs.List.{starts_with, ends_with, onto_first, before_first, list_any}
-use Rattle.lw_frame.specs.Lines.{line_end, cut_first, parts, front, lines, joined, is_empty}
-use Rattle.lw_frame.specs.Header.{unfinished, faulty, whole, header_of, header_limit, body_limit, fields, has_end, near_lines, ended, judged, before_bad, good_so_far, length_of}
+use Rattle.std.proofs.lemmas.List.{length-map}
+use Rattle.std.proofs.lemmas.Bool.{cases_lt}
+use Rattle.std.specs.Str.{all_ascii_digits, str_eq_ignore_ascii_case, str_to_ascii_lowercase}
+use Rattle.std.specs.Str.Parse.{digits_value}
+use Rattle.std.specs.Char.{to_ascii_lowercase}
+use Rattle.std.specs.List.{starts_with, ends_with, onto_first, before_first, list_any, position_or_len, prefix_len, suffix_len}
+use Rattle.lw_frame.specs.Lines.{line_end, cut_first, parts, front, lines, joined, is_empty, last_part, current_line}
+use Rattle.lw_frame.specs.Header.{unfinished, faulty, whole, header_of, header_limit, body_limit, fields, has_end, near_lines, ended, judged, before_bad, good_so_far, length_of, names_length, length_in, is_colon, is_blank, name, value, without_blanks_before, without_blanks_after}
 use Rattle.lw_frame.specs.Stage.{IsAt, IsHeader, is_open}
 use Rattle.lw_frame.specs.Reading.{EndsBehind}
-use Rattle.lw_frame.specs.Wanted.{fewest_left}
-use Rattle.lw_frame.proofs.Cuts.{both, parts-nonempty, lines-joined}
+use Rattle.lw_frame.specs.Wanted.{shortest_header, fewest_left}
+use Rattle.lw_frame.proofs.Cuts.{both, parts-nonempty, parts-open, parts-joined, lines-joined}
 use Rattle.lw_frame.proofs.Headers.{keeps_first, before_empty, near}
 use Rattle.lw_frame.specs.declared.fault.FrameFault.TheVariants.{BadHeader, TooLong}
 use Rattle.lw_frame.specs.declared.stage.Stage.TheVariants as stage
@@ -163,8 +168,70 @@ header_goes_on start header line given piece n m is uncut short said =
     let bytes_are : joined (fields (header ++ piece)) ≡ joined is.before ++ joined (before_first is_empty (lines (current ++ more))) = ap joined fields_are ∙ flat_map-append (λ line. line ++ line_end) is.before (before_first is_empty (lines (current ++ more))) in
     omega (arith, told.size_is, ap length bytes_are, length-append (joined is.before) (joined (before_first is_empty (lines (current ++ more)))), ap length is.bytes, length-append (joined is.before) current, lines_end current more uncut some)
 
-pub header_ends : (start : ℕ) (header body : List ℕ) (line : ℕ) (given : Option ℕ) → IsAt (stage.Header line given) start header body → EndsBehind start (header ++ body) (fewest_left (drop line header))
+-- THE SHORTEST ONE
+
+same_size : (xs ys : List ℕ) → str_eq_ignore_ascii_case xs ys ≡ true → length xs ≡ length ys
+same_size xs ys h =
+    let same : str_to_ascii_lowercase xs ≡ str_to_ascii_lowercase ys = (bytes_eq-Decides (str_to_ascii_lowercase xs) (str_to_ascii_lowercase ys)).0 h in
+    simp length-map at (ap length same)
+
+some_digits : (a b c : Bool) (v n : ℕ) → (if a && b && c then Some v else None) ≡ Some n → a ≡ true
+some_digits true b c v n h = refl
+some_digits false b c v n h = cc
+
+at_least_one : (n : ℕ) → nat_le 1 n ≡ true → 1 ≤ n
+at_least_one n h = grind (arith, nat_tests)
+
+-- a field that gives a length
+field_size : (line : List ℕ) (n : ℕ) → names_length line ≡ true → length_in line ≡ Some n → 16 ≤ length line
+field_size line n named gives =
+    let at : ℕ = position_or_len is_colon line in
+    let right : List ℕ = without_blanks_before (value line) in
+    let text : List ℕ = without_blanks_after right in
+    let name_size : length (name line) ≡ 14 = same_size (name line) (codes "content-length") named in
+    let digits : 1 ≤ length text = at_least_one (length text) (some_digits (nat_le 1 (length text)) (nat_le (length text) 10) (all_ascii_digits text) (digits_value 10 text) n gives) in
+    let text_size : length text ≤ length right = omega (arith, length-take (length right - suffix_len is_blank right) right) in
+    let right_size : length right ≤ length (value line) = omega (arith, length-drop (prefix_len is_blank (value line)) (value line)) in
+    omega (arith, length-take at line, length-drop (at + 1) line)
+
+-- the lines of which one gives a length
+fields_size : (ls : List (List ℕ)) (n : ℕ) → length_of ls ≡ Some n → 18 ≤ length (joined ls)
+fields_size [] n h = cc
+fields_size (l ∷ ls) n h = field_step (names_length l) refl (fields_size ls n) h
+  where
+    size : length (joined (l ∷ ls)) ≡ length l + 2 + length (joined ls)
+    size = length-append (l ++ line_end) (joined ls) ∙ ap (λ k. k + length (joined ls)) (length-append l line_end)
+
+    field_step : (named : Bool) → names_length l ≡ named → (length_of ls ≡ Some n → 18 ≤ length (joined ls)) → option_and_then length_in (cond named (Some l) (find names_length ls)) ≡ Some n → 18 ≤ length (joined (l ∷ ls))
+    field_step true e others h = let long = field_size l n e h in omega (arith, size)
+    field_step false e others h = let long = others h in omega (arith, size)
+
+header_size : (start : ℕ) (bytes : List ℕ) (n m : ℕ) → header_of start bytes ≡ whole n m → shortest_header ≤ n
+header_size start bytes n m said =
+    let told = is_ended start bytes n m said in
+    omega (arith, told.size_is, fields_size (fields bytes) m told.gives)
+
+-- THE SOONEST END
+
+either : (n a b : ℕ) → n ≤ max a b → (n ≤ a) ⊎ (n ≤ b)
+either n a b h = ⊎_elim (λ less. inr (omega arith)) (λ more. inl (omega arith)) (cases_lt a b)
+
+pub header_ends : (start : ℕ) (header body : List ℕ) (line : ℕ) (given : Option ℕ) → IsAt (stage.Header line given) start header body
+    → EndsBehind start (header ++ body) (max (shortest_header - length header) (fewest_left (drop line header)))
 header_ends start header body line given (none, is, uncut, short) piece size n m said =
     let bytes_are : (header ++ body) ++ piece ≡ header ++ piece = ap (λ bs. (header ++ bs) ++ piece) none ∙ ap (λ bs. bs ++ piece) (append-nil header) in
-    let long = header_goes_on start header line given piece n m is uncut short (ap (header_of start) (sym bytes_are) ∙ said) in
-    omega (arith, ap length bytes_are, length-append header piece, long)
+    let said_here : header_of start (header ++ piece) ≡ whole n m = ap (header_of start) (sym bytes_are) ∙ said in
+    let long = header_goes_on start header line given piece n m is uncut short said_here in
+    let least = header_size start (header ++ piece) n m said_here in
+    let all : length ((header ++ body) ++ piece) ≡ length header + length piece = ap length bytes_are ∙ length-append header piece in
+    ⊎_elim (λ (few : length piece ≤ shortest_header - length header). omega arith) (λ (few : length piece ≤ fewest_left (drop line header)). omega arith) (either (length piece) (shortest_header - length header) (fewest_left (drop line header)) size)
+
+last_push : (ls : List (List ℕ)) (line : List ℕ) → last_part (ls ++ line ∷ []) ≡ line
+last_push [] line = refl
+last_push (l ∷ []) line = refl
+last_push (l ∷ k ∷ ls) line = last_push (k ∷ ls) line
+
+-- the current line of a header part that has not ended
+pub current_is : (header : List ℕ) (line : ℕ) (given : Option ℕ) → IsHeader header line given → is_open (drop line header) ≡ true → current_line header ≡ drop line header
+current_is header line given is uncut =
+    ap current_line is.bytes ∙ ap last_part (parts-joined is.before (drop line header) is.good.cut ∙ ap (λ qs. is.before ++ qs) (parts-open (drop line header) uncut)) ∙ last_push is.before (drop line header)

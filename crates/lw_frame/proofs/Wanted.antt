@@ -1,15 +1,17 @@
 -- How far a message can be read on.
-use Rattle.std.proofs.Common.{◌≡◌, ◌∙◌, ◌<◌, ◌≤◌, ◌+◌, ◌-◌, ◌⊎◌, inl, inr, ⊎_elim, ℕ, List, [], ◌∷◌, ◌++◌, length, take, drop, Bool, true, false, if◌then◌else◌, Option, Some, None, refl, sym, ap, arith, subst, append_assoc, append-nil, length-append, length-drop, nat_le, IsTrue, slice_get}
+use Rattle.std.proofs.Common.{◌≡◌, ◌∙◌, ◌<◌, ◌≤◌, ◌+◌, ◌-◌, max, ◌⊎◌, inl, inr, ⊎_elim, ℕ, List, [], ◌∷◌, ◌++◌, length, take, drop, Bool, true, false, if◌then◌else◌, Option, Some, None, refl, sym, ap, arith, subst, append_assoc, append-nil, length-append, length-drop, nat_le, IsTrue, slice_get}
 use Rattle.std.proofs.Math.ListN.{drop_of_length-le}
+use Rattle.std.proofs.Math.Seq.{drop-append_seam}
 use Rattle.std.specs.List.{concat}
 use Rattle.lw_frame.specs.Lines.{is_empty}
 use Rattle.lw_frame.specs.Header.{Header, unfinished, faulty, whole, header_of}
 use Rattle.lw_frame.specs.Frames.{content, message, Split, split, rest_fault, bodies_of, fault_of, rest_of}
 use Rattle.lw_frame.specs.Stage.{IsAt}
 use Rattle.lw_frame.specs.Stream.{Stream, with_piece, next_body, after_next, handed, needed, unfinished as rest_needed}
-use Rattle.lw_frame.specs.Reading.{bytes_of, with_bodies, WaitsFor, EndsIn, ReadsTo, EndsBehind, IsLeft, is_waiting}
-use Rattle.lw_frame.specs.Wanted.{IsWithin, StaysWithin, IsMissing, LeavesNothing}
-use Rattle.lw_frame.proofs.Messages.{truncated_header, truncated_body}
+use Rattle.lw_frame.specs.Reading.{bytes_of, with_bodies, WaitsFor, EndsIn, ReadsTo, EndsBehind, left_at, is_waiting}
+use Rattle.lw_frame.specs.Wanted.{IsWithin, StaysWithin, LeavesNothing, bytes_left, wanted_of, shortest_header, fewest_left}
+use Rattle.lw_frame.proofs.Messages.{header_open, header_closed}
+use Rattle.lw_frame.proofs.Ends.{current_is}
 use Rattle.lw_frame.proofs.Splits.{split_none, split_message}
 use Rattle.lw_frame.proofs.Streams.{split_waits, fault_to}
 use Rattle.lw_frame.proofs.Handing.{got_none, got_within}
@@ -43,40 +45,42 @@ no_rest : (closed : Bool) → rest_fault unfinished [] closed ≡ None
 no_rest true = refl
 no_rest false = refl
 
--- a stream that waits for a message goes not past it
-pub stays_within : (fed : List ℕ) (m : Incoming) (most : ℕ) → WaitsFor 0 fed (bodies_of fed) m → EndsBehind m.start (bytes_of m) most → StaysWithin fed most
-stays_within fed m most w behind piece size =
-    let is : split 0 (fed ++ piece) ≡ with_bodies (bodies_of fed) (split m.start (bytes_of m ++ piece)) = w.goes_on piece in
+-- behind bodies that are known
+behind : (fed piece : List ℕ) (s : Split) → split 0 (fed ++ piece) ≡ with_bodies (bodies_of fed) s
+    → (s.bodies ≡ []) ⊎ ((body : List ℕ) × (at : ℕ) × (s ≡ record { bodies = body ∷ []; start = at; rest = [] })) → IsWithin fed piece
+behind fed piece s is =
     ⊎_elim (λ none. inl (ap (λ (s : Split). s.bodies) is ∙ ap (λ bs. bodies_of fed ++ bs) none ∙ append-nil (bodies_of fed)))
     (λ one.
-    let whole_is = is ∙ ap (with_bodies (bodies_of fed)) one.2 in
+    let whole_is : split 0 (fed ++ piece) ≡ record { bodies = bodies_of fed ++ one.0 ∷ []; start = one.1; rest = [] } = is ∙ ap (with_bodies (bodies_of fed)) one.2 in
     inr (one.0, ap (λ (s : Split). s.bodies) whole_is, ap (λ (s : Split). s.rest) whole_is, λ closed. ap (λ (s : Split). rest_fault (header_of s.start s.rest) s.rest closed) whole_is ∙ no_rest closed))
-    (split_ends m.start (bytes_of m ++ piece) (behind piece size))
+
+-- a stream that waits for a message goes not past it
+pub stays_within : (fed : List ℕ) (m : Incoming) (most : ℕ) → WaitsFor 0 fed (bodies_of fed) m → EndsBehind m.start (bytes_of m) most → StaysWithin fed most
+stays_within fed m most w ends piece size = behind fed piece (split m.start (bytes_of m ++ piece)) (w.goes_on piece) (split_ends m.start (bytes_of m ++ piece) (ends piece size))
 
 -- and one that has ended in a fault gets no further body
 pub stays_faulty : (fault : FrameFault) (fed : List ℕ) (m : Incoming) (most : ℕ) → EndsIn fault 0 fed (bodies_of fed) m → StaysWithin fed most
 stays_faulty fault fed m most e piece size = inl (e.bodies_are piece)
 
-header_is_short : (b : Bool) (n : ℕ) → (if b then None else Some (Truncated 0)) ≡ Some (Truncated n) → n ≡ 0
-header_is_short true n h = cc
-header_is_short false n h = cc
+left_is : (s : Stage) (start : ℕ) (header body : List ℕ) → IsAt s start header body → is_waiting s ≡ true → left_at s header ≡ bytes_left (header_of start (header ++ body)) (header ++ body)
+left_is (stage.Header line given) start header body at waits =
+    ap (max (shortest_header - length header)) (ap fewest_left (sym (current_is header line given at.1 at.2)))
+    ∙ ap (bytes_left unfinished) (sym (ap (λ bs. header ++ bs) at.0 ∙ append-nil header))
+    ∙ ap (λ h. bytes_left h (header ++ body)) (sym (header_open start header body line given at))
+left_is (stage.Content missing) start header body at waits =
+    let left : length body + missing - length (drop (length header) (header ++ body)) ≡ missing = ap (λ bs. length body + missing - length bs) (drop-append_seam header body) ∙ omega arith in
+    sym (ap (λ h. bytes_left h (header ++ body)) (header_closed start header body missing at) ∙ left)
+left_is stage.Whole start header body at waits = cc
+left_is (stage.Failed fault) start header body at waits = cc
 
-missing_at : (s : Stage) (start : ℕ) (header body : List ℕ) (most n : ℕ) → IsAt s start header body → is_waiting s ≡ true → IsLeft s most → rest_fault (header_of start (header ++ body)) (header ++ body) true ≡ Some (Truncated n) → 0 < n → most ≡ n
-missing_at (stage.Header line given) start header body most n at waits left e some =
-    let none : n ≡ 0 = header_is_short (is_empty header) n (sym (truncated_header start header body line given at) ∙ e) in
-    absurd (omega arith)
-missing_at (stage.Content missing) start header body most n at waits left e some = let same = truncated_body start header body missing at in cc
-missing_at stage.Whole start header body most n at waits left e some = cc
-missing_at (stage.Failed fault) start header body most n at waits left e some = cc
+-- the number, where the stream waits
+pub wanted_waiting : (fed : List ℕ) (m : Incoming) → WaitsFor 0 fed (bodies_of fed) m → left_at m.stage m.header.items ≡ wanted_of fed
+wanted_waiting fed m w =
+    left_is m.stage m.start m.header.items m.body.items w.read w.waiting ∙ sym (ap (λ (s : Split). bytes_left (header_of s.start s.rest) s.rest) (split_waits 0 fed (bodies_of fed) m w))
 
--- inside a body, all that is missing
-pub is_missing : (fed : List ℕ) (m : Incoming) (most : ℕ) → WaitsFor 0 fed (bodies_of fed) m → IsLeft m.stage most → IsMissing fed most
-is_missing fed m most w left missing sound e some =
-    missing_at m.stage m.start m.header.items m.body.items most missing w.read w.waiting left (sym (ap (λ (s : Split). rest_fault (header_of s.start s.rest) s.rest true) (split_waits 0 fed (bodies_of fed) m w)) ∙ e) some
-
--- a fault says nothing of what is missing
-pub none_missing : (fault : FrameFault) (fed : List ℕ) (m : Incoming) (most : ℕ) → EndsIn fault 0 fed (bodies_of fed) m → IsMissing fed most
-none_missing fault fed m most e missing sound truncated some = let is = fault_to (Some fault) fed (bodies_of fed) m e in cc
+-- and where it has ended in a fault
+pub wanted_faulty : (fault : FrameFault) (fed : List ℕ) (m : Incoming) → EndsIn fault 0 fed (bodies_of fed) m → 1 ≡ wanted_of fed
+wanted_faulty fault fed m e = sym (ap wanted_of (sym (append-nil fed)) ∙ ap (λ h. bytes_left h (split 0 (fed ++ [])).rest) (e.fault_is []))
 
 no_more : (f : Option FrameFault) → rest_needed f [] ≡ []
 no_more None = refl

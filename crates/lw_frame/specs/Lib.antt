@@ -2,10 +2,10 @@ pub mod Lines
 pub mod Header
 pub mod Frames
 pub mod Stream
+pub mod Wanted
 pub mod Field
 pub mod Stage
 pub mod Reading
 pub mod Events
 pub mod Kept
 pub mod Pieces
-pub mod Wanted

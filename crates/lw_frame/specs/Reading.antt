@@ -1,9 +1,10 @@
 -- The message that is being read, and what a piece of the stream makes of it.
-use Rattle.std.specs.Prelude.{◌≡◌, ℕ, ◌+◌, ◌<◌, ◌≤◌, List, [], ◌∷◌, ◌++◌, length, take, Bool, true, false, ◌==◌, Option, Some, None}
+use Rattle.std.specs.Prelude.{◌≡◌, ℕ, ◌+◌, ◌-◌, max, ◌≤◌, List, [], ◌∷◌, ◌++◌, length, take, drop, Bool, true, false, ◌==◌, Option, Some, None}
 use Rattle.std.specs.List.{list_any}
 use Rattle.lw_frame.specs.Frames.{Split, split, bodies_of}
 use Rattle.lw_frame.specs.Header.{faulty, whole, header_of}
 use Rattle.lw_frame.specs.Stage.{IsAt}
+use Rattle.lw_frame.specs.Wanted.{shortest_header, fewest_left}
 use Rattle.lw_frame.specs.declared.fault.FrameFault.{FrameFault}
 use Rattle.lw_frame.specs.declared.stage.Stage.{Stage}
 use Rattle.lw_frame.specs.declared.stage.Stage.TheVariants as stage
@@ -119,9 +120,9 @@ pub record Feeds (piece : List ℕ) (known now : Option FrameFault) (old new : I
 abbrev pub EndsBehind : ℕ → List ℕ → ℕ → Type 0
 EndsBehind start bytes most = (piece : List ℕ) → length piece ≤ most → (size body : ℕ) → header_of start (bytes ++ piece) ≡ whole size body → length (bytes ++ piece) ≤ size + body
 
--- inside a body, the number of the bytes that are missing
-abbrev pub IsLeft : Stage → ℕ → Type 0
-IsLeft (stage.Header line given) most = 0 < most
-IsLeft (stage.Content missing) most = most ≡ missing
-IsLeft stage.Whole most = 0 < most
-IsLeft (stage.Failed fault) most = 0 < most
+-- the fewest bytes that end the message
+abbrev pub left_at : Stage → List ℕ → ℕ
+left_at (stage.Header line given) header = max (shortest_header - length header) (fewest_left (drop line header))
+left_at (stage.Content missing) header = missing
+left_at stage.Whole header = 1
+left_at (stage.Failed fault) header = 1
