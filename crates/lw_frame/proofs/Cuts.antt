@@ -11,7 +11,7 @@ use Rattle.lw_frame.specs.declared.stage.Stage.{Stage}
 use Rattle.lw_frame.specs.declared.stage.Stage.TheVariants as stage
 use Rattle.lw_frame.specs.Lines.{line_end, cut_first, parts, front, lines, joined}
 
-both : (a b : Bool) → (a && b) ≡ true → (a ≡ true) × (b ≡ true)
+pub both : (a b : Bool) → (a && b) ≡ true → (a ≡ true) × (b ≡ true)
 both a b h = grind (arith, nat_tests)
 
 cut_one : (test : Bool) (part : List ℕ) (others : List (List ℕ)) → (first : List ℕ) × (rest : List (List ℕ)) × ((if test then [] ∷ drop 2 part ∷ others else part ∷ others) ≡ first ∷ rest)
@@ -19,7 +19,7 @@ cut_one true part others = ([], drop 2 part ∷ others, refl)
 cut_one false part others = (part, others, refl)
 
 -- there is a first part
-parts-nonempty : (bytes : List ℕ) → (first : List ℕ) × (others : List (List ℕ)) × (parts bytes ≡ first ∷ others)
+pub parts-nonempty : (bytes : List ℕ) → (first : List ℕ) × (others : List (List ℕ)) × (parts bytes ≡ first ∷ others)
 parts-nonempty [] = ([], [], refl)
 parts-nonempty (b ∷ bytes) =
     let ps = parts-nonempty bytes in
@@ -31,7 +31,7 @@ uncut true part others h = cc
 uncut false part others h = refl
 
 -- open bytes are one part
-parts-open : (bytes : List ℕ) → is_open bytes ≡ true → parts bytes ≡ bytes ∷ []
+pub parts-open : (bytes : List ℕ) → is_open bytes ≡ true → parts bytes ≡ bytes ∷ []
 parts-open [] h = refl
 parts-open (b ∷ bytes) h =
     let test = both (not (starts_with nat_eq (b ∷ bytes) line_end)) (is_open bytes) h in
@@ -75,7 +75,7 @@ lines-open bytes h = ap front (parts-open bytes h)
 open_two : (a b : ℕ) (bytes : List ℕ) → is_newline b ≡ false → not (starts_with nat_eq (a ∷ b ∷ bytes) line_end) ≡ true
 open_two a b bytes h = grind (arith, nat_tests)
 
-open_one : (a : ℕ) → not (starts_with nat_eq (a ∷ []) line_end) ≡ true
+pub open_one : (a : ℕ) → not (starts_with nat_eq (a ∷ []) line_end) ≡ true
 open_one a = grind (arith, nat_tests)
 
 and_true : (a b : Bool) → a ≡ true → b ≡ true → (a && b) ≡ true

@@ -9,12 +9,12 @@ got [] (suc n) x h = cc
 got (y ∷ xs) zero x h = cc
 got (y ∷ xs) (suc n) x h = got xs n x h
 
-got_none : {A : Type 0} (xs : List A) (n : ℕ) → slice_get xs n ≡ None → length xs ≤ n
+pub got_none : {A : Type 0} (xs : List A) (n : ℕ) → slice_get xs n ≡ None → length xs ≤ n
 got_none [] n h = omega arith
 got_none (y ∷ xs) zero h = cc
 got_none (y ∷ xs) (suc n) h = let less = got_none xs n h in omega arith
 
-got_within : {A : Type 0} (xs : List A) (n : ℕ) (x : A) → slice_get xs n ≡ Some x → n < length xs
+pub got_within : {A : Type 0} (xs : List A) (n : ℕ) (x : A) → slice_get xs n ≡ Some x → n < length xs
 got_within [] zero x h = cc
 got_within [] (suc n) x h = cc
 got_within (y ∷ xs) zero x h = omega arith

@@ -15,13 +15,13 @@ use Rattle.lw_frame.specs.declared.fault.FrameFault.TheVariants.{BadHeader}
 or_false : (a b : Bool) → (a || b) ≡ false → (a ≡ false) × (b ≡ false)
 or_false a b h = grind (arith, nat_tests)
 
-keeps_first : (line : List ℕ) (ls others : List (List ℕ)) → is_empty line ≡ false → before_first is_empty (line ∷ ls) ≡ line ∷ before_first is_empty ls
+pub keeps_first : (line : List ℕ) (ls others : List (List ℕ)) → is_empty line ≡ false → before_first is_empty (line ∷ ls) ≡ line ∷ before_first is_empty ls
 keeps_first line ls others h =
     let test : cond (not (is_empty line)) (1 + position_or_len is_empty ls) 0 ≡ suc (position_or_len is_empty ls) = ap (λ b. cond (not b) (1 + position_or_len is_empty ls) 0) h ∙ omega arith in
     ap (λ n. take n (line ∷ ls)) test
 
 -- lines that are not empty stand before the first empty one
-before_empty : (ls others : List (List ℕ)) → list_any is_empty ls ≡ false → before_first is_empty (ls ++ others) ≡ ls ++ before_first is_empty others
+pub before_empty : (ls others : List (List ℕ)) → list_any is_empty ls ≡ false → before_first is_empty (ls ++ others) ≡ ls ++ before_first is_empty others
 before_empty [] others h = refl
 before_empty (line ∷ ls) others h =
     let test = or_false (is_empty line) (list_any is_empty ls) h in
@@ -33,7 +33,7 @@ header_by_lines : (start : ℕ) (bytes : List ℕ) (ls : List (List ℕ)) (end :
 header_by_lines start bytes ls end e f = rw (e, f) refl
 
 -- what lies within the limit
-near : (bytes more : List ℕ) → length bytes ≤ header_limit → take header_limit (bytes ++ more) ≡ bytes ++ take (header_limit - length bytes) more
+pub near : (bytes more : List ℕ) → length bytes ≤ header_limit → take header_limit (bytes ++ more) ≡ bytes ++ take (header_limit - length bytes) more
 near bytes more h =
     let whole : header_limit ≡ length bytes + (header_limit - length bytes) = omega arith in
     ap (λ n. take n (bytes ++ more)) whole ∙ take-append-add bytes more (header_limit - length bytes)

@@ -11,3 +11,5 @@ pub mod Readings
 pub mod Streams
 pub mod Written
 pub mod Handing
+pub mod Ends
+pub mod Wanted

@@ -30,11 +30,11 @@ message_whole start header body more says =
 pub message_faulty : (start : ℕ) (header more : List ℕ) (fault : FrameFault) → Says start header (faulty fault) → message start (header ++ more) ≡ None
 message_faulty start header more fault says = ap (λ h. content h (header ++ more)) (says more)
 
-header_open : (start : ℕ) (header body : List ℕ) (line : ℕ) (given : Option ℕ) → IsAt (stage.Header line given) start header body → header_of start (header ++ body) ≡ unfinished
+pub header_open : (start : ℕ) (header body : List ℕ) (line : ℕ) (given : Option ℕ) → IsAt (stage.Header line given) start header body → header_of start (header ++ body) ≡ unfinished
 header_open start header body line given (none, is, uncut, short) =
     ap (λ bs. header_of start (header ++ bs)) none ∙ ap (header_of start) (append-nil header) ∙ header_unfinished start header is.before given (drop line header) is.good is.bytes uncut short
 
-header_closed : (start : ℕ) (header body : List ℕ) (missing : ℕ) → IsAt (stage.Content missing) start header body → header_of start (header ++ body) ≡ whole (length header) (length body + missing)
+pub header_closed : (start : ℕ) (header body : List ℕ) (missing : ℕ) → IsAt (stage.Content missing) start header body → header_of start (header ++ body) ≡ whole (length header) (length body + missing)
 header_closed start header body missing (says, some) = says body
 
 -- a message that waits is not all there

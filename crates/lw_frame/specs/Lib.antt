@@ -2,6 +2,7 @@ pub mod Lines
 pub mod Header
 pub mod Frames
 pub mod Stream
+pub mod Wanted
 pub mod Field
 pub mod Stage
 pub mod Reading

@@ -27,6 +27,15 @@ front (part ∷ next ∷ others) = part ∷ front (next ∷ others)
 abbrev pub lines : List ℕ → List (List ℕ)
 lines bytes = front (parts bytes)
 
+-- what stands behind the last line end
+abbrev pub last_part : List (List ℕ) → List ℕ
+last_part [] = []
+last_part (part ∷ []) = part
+last_part (part ∷ next ∷ others) = last_part (next ∷ others)
+
+abbrev pub current_line : List ℕ → List ℕ
+current_line bytes = last_part (parts bytes)
+
 -- the bytes of lines, each with its line end
 abbrev pub joined : List (List ℕ) → List ℕ
 joined ls = flat_map (λ line. line ++ line_end) ls

@@ -1,9 +1,10 @@
 -- The message that is being read, and what a piece of the stream makes of it.
-use Rattle.std.specs.Prelude.{◌≡◌, ℕ, ◌+◌, ◌≤◌, List, [], ◌∷◌, ◌++◌, length, take, Bool, true, false, ◌==◌, Option, Some, None}
+use Rattle.std.specs.Prelude.{◌≡◌, ℕ, ◌+◌, ◌-◌, max, ◌≤◌, List, [], ◌∷◌, ◌++◌, length, take, drop, Bool, true, false, ◌==◌, Option, Some, None}
 use Rattle.std.specs.List.{list_any}
 use Rattle.lw_frame.specs.Frames.{Split, split, bodies_of}
-use Rattle.lw_frame.specs.Header.{faulty, header_of}
+use Rattle.lw_frame.specs.Header.{faulty, whole, header_of}
 use Rattle.lw_frame.specs.Stage.{IsAt}
+use Rattle.lw_frame.specs.Wanted.{shortest_header, fewest_left}
 use Rattle.lw_frame.specs.declared.fault.FrameFault.{FrameFault}
 use Rattle.lw_frame.specs.declared.stage.Stage.{Stage}
 use Rattle.lw_frame.specs.declared.stage.Stage.TheVariants as stage
@@ -114,3 +115,14 @@ ReadsTo (Some fault) start bytes bodies m = EndsIn fault start bytes bodies m
 pub record Feeds (piece : List ℕ) (known now : Option FrameFault) (old new : Incoming) (bodies : List (List ℕ)) : Type 0 where
   pub bodies_are : (fed : List ℕ) → ReadsTo known 0 fed (bodies_of fed) old → bodies_of (fed ++ piece) ≡ bodies_of fed ++ bodies
   pub reads_to : (fed : List ℕ) → ReadsTo known 0 fed (bodies_of fed) old → ReadsTo now 0 (fed ++ piece) (bodies_of (fed ++ piece)) new
+
+-- no message that begins with these bytes ends before so many further ones are there
+abbrev pub EndsBehind : ℕ → List ℕ → ℕ → Type 0
+EndsBehind start bytes most = (piece : List ℕ) → length piece ≤ most → (size body : ℕ) → header_of start (bytes ++ piece) ≡ whole size body → length (bytes ++ piece) ≤ size + body
+
+-- the fewest bytes that end the message
+abbrev pub left_at : Stage → List ℕ → ℕ
+left_at (stage.Header line given) header = max (shortest_header - length header) (fewest_left (drop line header))
+left_at (stage.Content missing) header = missing
+left_at stage.Whole header = 1
+left_at (stage.Failed fault) header = 1

@@ -2,12 +2,16 @@
 ghost use Rattle.std.specs.Prelude.{◌≡◌, ◌≤◌, ◌<◌, ◌+◌, ◌^◌, ◌↔◌, ◌++◌, [], length, take, drop, IsTrue, IfOk, OnErr, OnOk, true, false, position};
 ghost use Rattle.lw_frame.specs.Frames.{rest_fault};
 ghost use Rattle.lw_frame.specs.Header.{header_of};
-ghost use Rattle.lw_frame.specs.Reading.{bytes_of, failure, is_newline, is_waiting, is_whole, Grows, IsMarkOf, IsRead, IsSame, IsThroughNewline, KeepsFront};
+ghost use Rattle.lw_frame.specs.Reading.{bytes_of, failure, is_newline, is_waiting, is_whole, Grows, IsMarkOf, IsRead, IsSame, IsThroughNewline, KeepsFront, EndsBehind, left_at};
+ghost use Rattle.lw_frame.specs.Wanted.{fewest_left};
 
 use crate::stage::{HEADER_LIMIT, Stage, stage_of};
 use crate::{Body, FrameFault};
 use lw_base::NoMemory;
 use std::alloc::Global;
+
+/// The bytes of the shortest header part that gives a length: `Content-Length:0` and two line ends.
+const SHORTEST_HEADER: usize = 20;
 
 /// The message that is being read, which begins at offset `start` of the stream: the bytes of its
 /// header part and of its body that are there, and the stage that they have reached.
@@ -41,6 +45,22 @@ fn through_newline(bytes: &[u8]) -> &[u8]
     match newline_in(bytes) {
         Some(at) => &bytes[..at + 1],
         None => bytes,
+    }
+}
+
+/// The fewest bytes that end a header part behind its current line so far.
+fn least_behind(line: &[u8]) -> usize
+    ensures some { 0 < result }
+    ensures exact { result ≡ fewest_left line.now }
+{
+    if line.is_empty() {
+        2
+    } else if !line.ends_with(b"\r") {
+        4
+    } else if line.len() == 1 {
+        1
+    } else {
+        3
     }
 }
 
@@ -97,6 +117,23 @@ impl Incoming {
             Stage::Header { .. } if !self.header.is_empty() => Some(FrameFault::Truncated(0)),
             Stage::Content { missing } => Some(FrameFault::Truncated(missing)),
             _ => None,
+        }
+    }
+
+    /// How many bytes can be added at once without going past the end of the message.
+    pub(crate) fn wanted(&self) -> usize
+        requires read { IsRead self.now }
+        requires waiting { IsTrue (is_waiting self.now.stage) }
+        ensures some { 0 < result }
+        ensures behind { EndsBehind self.now.start (bytes_of self.now) result }
+        ensures exact { result ≡ left_at self.now.stage self.now.header.items }
+    {
+        match self.stage {
+            Stage::Header { line, .. } => SHORTEST_HEADER
+                .saturating_sub(self.header.len())
+                .max(least_behind(&self.header[line..])),
+            Stage::Content { missing } => missing as usize,
+            _ => 1,
         }
     }
 

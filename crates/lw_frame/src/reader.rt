@@ -1,5 +1,5 @@
 // A stream that comes in pieces.
-ghost use Rattle.std.specs.Prelude.{◌≡◌, ◌≤◌, ◌+◌, ◌^◌, length, OnOk, OnErr, false};
+ghost use Rattle.std.specs.Prelude.{◌≡◌, ◌<◌, ◌≤◌, ◌+◌, ◌^◌, length, OnOk, OnErr, false};
 
 use crate::history::{Event, History};
 use crate::incoming::Incoming;
@@ -40,6 +40,8 @@ impl Model for FrameReader {
 }
 
 impl FrameReader {
+    ghost use Rattle.lw_frame.specs.Frames.{bodies_of};
+    ghost use Rattle.lw_frame.specs.Wanted.{wanted_of, LeavesNothing, StaysWithin};
     ghost use Rattle.lw_frame.specs.Stream.{start, with_piece, at_end, next_answer, Answers, after_next, needed, BodiesStay, FaultStays};
 
     /// A reader of a stream of which nothing has come. It takes no memory.
@@ -79,6 +81,27 @@ impl FrameReader {
         )?;
         self.history = self.history.then(&Event::Fed(piece));
         Ok(())
+    }
+
+    /// How many further bytes can be fed at once, at least one, without going past the end of the
+    /// message that is being read. Inside a body they are those that are missing. Inside a header part
+    /// they are the fewest that can end it: 20 where none of it is there, for no header part with a
+    /// length is shorter, then 4, or 3 behind a `\r`, or 2 at the start of a line, or 1 behind a `\r`
+    /// there. Behind a fault it is 1. The cost is constant.
+    ///
+    /// A server that reads no more than this from its source leaves there all that is behind the
+    /// message that it answers last, and so never takes a byte behind `exit`, which is not its own.
+    pub fn wanted(&self) -> usize
+        ensures exact { result ≡ wanted_of self.now.stream.fed }
+        ensures some { 0 < result }
+        ensures within { StaysWithin self.now.stream.fed result }
+        ensures leaves { LeavesNothing self.now.stream result }
+        ensures given { self.now.stream.given ≤ length (bodies_of self.now.stream.fed) }
+    {
+        if self.fault.is_some() {
+            return 1;
+        }
+        self.incoming.wanted()
     }
 
     /// Says that the stream has ended.
