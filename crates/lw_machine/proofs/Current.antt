@@ -1,5 +1,5 @@
 -- No message breaks what holds of the documents at every moment, and behind each nothing is left to do.
-use Rattle.std.proofs.Common.{◌≡◌, ℕ, ℤ, List, [], ◌∷◌, ◌++◌, length, codes, Bool, true, false, not, ◌&&◌, nat_lt, nat_le, cond, if◌then◌else◌, Option, Some, None, sym, refl, ap, ◌∙◌, subst, true≢false}
+use Rattle.std.proofs.Common.{◌≡◌, ℕ, ℤ, List, [], length, Bool, true, false, not, ◌&&◌, nat_lt, nat_le, cond, Option, Some, None, sym, ◌∙◌, true≢false}
 use Rattle.std.specs.FinMap.{contains_key, len}
 use Rattle.lw_grammar.specs.declared.grammar.Grammar.{Grammar}
 use Rattle.lw_rpc.specs.Messages.{message_of}
@@ -48,8 +48,8 @@ module _ (g : Grammar) where
       answered (IsValid g) s valid (λ address text version is_open. stays_valid g s.documents (put s.documents address text version is_open) [] valid (puts address text version is_open)) m
 
   handled : (s : Standing) (m : Message) (t : Standing) (replies : List Reply) (ended : Ended) → Handles g s m t replies ended → IsKept s → IsKept t
-  handled s m t replies ended (unbuilt no) kept = record { valid = answer_valid s m kept.valid; current = λ yes. absurd (true≢false (sym yes ∙ no)) }
-  handled s m t replies ended (built {n = n} {published = p} yes builds) kept =
+  handled s m t replies ended (unbuilt before) kept = record { valid = answer_valid s m kept.valid; current = λ since. absurd (true≢false (sym since ∙ before)) }
+  handled s m t replies ended (built {n = n} {published = p} since builds) kept =
       let valid = answer_valid s m kept.valid in
       record {
         valid = end_is_valid g (answer s m).standing.documents n p valid builds;
@@ -63,7 +63,7 @@ module _ (g : Grammar) where
       served v t bs r ended rest (handled s (message_of b) v h _ does kept)
 
   begins : IsKept beginning
-  begins = record { valid = begins_valid g; current = λ yes. absurd (true≢false (sym yes)) }
+  begins = record { valid = begins_valid g; current = λ since. absurd (true≢false (sym since)) }
 
   pub session_valid : (bodies : List (List ℕ)) (t : Standing) (replies : List Reply) (ended : Ended) → Serves g beginning bodies t replies ended → IsValid g t.documents
   session_valid bodies t replies ended serves = (served beginning t bodies replies ended serves begins).valid

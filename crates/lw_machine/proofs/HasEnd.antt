@@ -1,5 +1,5 @@
 -- A build can be run to its end: where a document is next a step can be taken, and there are so many of them at most.
-use Rattle.std.proofs.Common.{◌≡◌, ◌≢◌, ℕ, zero, suc, ◌+◌, ◌<◌, ◌≤◌, ℤ, Bool, List, [], ◌∷◌, ◌++◌, Option, Some, None, option_map, option_and_then, inl, inr, ◌⊎◌, sym, refl, ap, ap₂, ◌∙◌, subst, arith}
+use Rattle.std.proofs.Common.{◌≡◌, ◌≢◌, ℕ, zero, suc, ◌≤◌, ℤ, Bool, List, [], ◌∷◌, ◌++◌, Option, Some, None, option_map, option_and_then, inl, inr, ◌⊎◌, sym, refl, ap, ap₂, ◌∙◌, subst, arith}
 use Rattle.std.proofs.lemmas.Bool.{cases_lt}
 use Rattle.std.proofs.lemmas.Option.{same_Some}
 use Rattle.std.specs.FinMap.{get, insert, keys}
@@ -11,7 +11,7 @@ use Rattle.lw_scopes.specs.Diagnostics.{AreDiagnostics, IsList}
 use Rattle.lw_scopes.specs.Links.{AreLinks}
 use Rattle.lw_machine.specs.declared.state.State.{State}
 use Rattle.lw_machine.specs.declared.state.State.TheVariants.{Changed, Parsed, IndexedContent, ComputedScopes, Linked, IndexedReferences, Validated}
-use Rattle.lw_machine.specs.Documents.{Document, Documents, IsBuilt, rank, shown_texts}
+use Rattle.lw_machine.specs.Documents.{Document, Documents, rank, shown_texts}
 use Rattle.lw_machine.specs.Settling as settling
 use Rattle.lw_machine.specs.Settling.{Agree, Settles, SettlesAt, IsSettled}
 use Rattle.lw_machine.specs.Building as building
@@ -19,7 +19,7 @@ use Rattle.lw_machine.specs.Building.{IsNext, Builds, BuildsToEnd, Publishes, ri
 use Rattle.lw_machine.specs.Events as event
 use Rattle.lw_machine.specs.Validity.{content, IsValid, HaveLists}
 use Rattle.lw_machine.specs.Laws.{GoesOn}
-use Rattle.lw_machine.proofs.Places.{one_or_two, put_here, put_elsewhere, held_among}
+use Rattle.lw_machine.proofs.Places.{one_or_two, put_elsewhere, held_among}
 use Rattle.lw_machine.proofs.FirstOf.{goes_on, validated_at}
 use Rattle.lw_machine.proofs.Steps.{left_at, AreAll, steps, one_less}
 use Rattle.lw_machine.proofs.Contents.{builds_same}
@@ -32,7 +32,7 @@ OneOrTwo a b = (a ≡ b) ⊎ (a ≢ b)
 one_number : (a b : ℕ) → OneOrTwo a b
 one_number a b = elim (cases_lt a b) [
   | inl lt ↦ inr (λ same. omega arith)
-  | inr ge ↦ elim (cases_lt b a) [ | inl gt ↦ inr (λ same. omega arith) | inr le ↦ inl (omega arith) ]
+  | inr ge ↦ elim (cases_lt b a) [ inl gt ↦ inr (λ same. omega arith) | inr le ↦ inl (omega arith) ]
 ]
 
 -- two values with parts are one where the parts are
@@ -62,10 +62,10 @@ one_list (x ∷ xs) (y ∷ ys) = one_pair (λ z zs. z ∷ zs) x y xs ys (λ same
 
 told_or_not : (o : Option (List Shown)) (list : List Shown) → OneOrTwo o (Some list)
 told_or_not None list = inr (λ same. cc)
-told_or_not (Some other) list = elim (one_list other list) [ | inl same ↦ inl (ap Some same) | inr apart ↦ inr (λ same. apart (same_Some other list same)) ]
+told_or_not (Some other) list = elim (one_list other list) [ inl same ↦ inl (ap Some same) | inr apart ↦ inr (λ same. apart (same_Some other list same)) ]
 
 publishes : (address : List ℕ) (d : Document) (list : List Shown) → (published : List Reply) × Publishes address d list published
-publishes address d list = elim (told_or_not d.published list) [ | inl is ↦ ([], building.same is) | inr apart ↦ (_, building.other apart) ]
+publishes address d list = elim (told_or_not d.published list) [ inl is ↦ ([], building.same is) | inr apart ↦ (_, building.other apart) ]
 
 module _ (g : Grammar) where
   -- ---- the others stay as they are where a text becomes shown

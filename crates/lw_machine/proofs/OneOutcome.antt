@@ -1,5 +1,5 @@
 -- What a session does with the bodies of a stream is settled, since a build has one outcome.
-use Rattle.std.proofs.Common.{◌≡◌, ◌≢◌, ℕ, List, [], ◌∷◌, ◌++◌, sym, refl, ap, ap₂, ◌∙◌, subst, true≢false}
+use Rattle.std.proofs.Common.{◌≡◌, ℕ, List, ◌++◌, sym, refl, ap, ap₂, ◌∙◌, subst, true≢false}
 use Rattle.lw_grammar.specs.declared.grammar.Grammar.{Grammar}
 use Rattle.lw_reading.specs.Laws.{HasNoEmptyKeyword}
 use Rattle.lw_rpc.specs.Messages.{message_of}
@@ -16,10 +16,10 @@ module _ (g : Grammar) (filled : HasNoEmptyKeyword g) where
   AreOne t p e u q f = (t ≡ u) × (p ≡ q) × (e ≡ f)
 
   one_handled : (s : Standing) (m : Message) (t u : Standing) (p q : List Reply) (e f : Ended) → Handles g s m t p e → Handles g s m u q f → AreOne t p e u q f
-  one_handled s m t u p q e f (unbuilt no) (unbuilt also) = (refl, refl, refl)
-  one_handled s m t u p q e f (unbuilt no) (built yes builds) = absurd (true≢false (sym yes ∙ no))
-  one_handled s m t u p q e f (built yes builds) (unbuilt no) = absurd (true≢false (sym yes ∙ no))
-  one_handled s m t u p q e f (built {n = n} {published = h} yes builds) (built {n = o} {published = k} also too) =
+  one_handled s m t u p q e f (unbuilt before) (unbuilt also) = (refl, refl, refl)
+  one_handled s m t u p q e f (unbuilt before) (built since builds) = absurd (true≢false (sym since ∙ before))
+  one_handled s m t u p q e f (built since builds) (unbuilt before) = absurd (true≢false (sym since ∙ before))
+  one_handled s m t u p q e f (built {n = n} {published = h} since builds) (built {n = o} {published = k} also too) =
       let one = one_build g filled (answer s m).standing.documents n o h k builds too in
       (ap (with_documents (answer s m).standing) one.0, ap (λ x. (answer s m).replies ++ x) one.1, refl)
 

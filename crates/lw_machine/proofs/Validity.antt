@@ -13,7 +13,7 @@ use Rattle.lw_machine.specs.Settling as settling
 use Rattle.lw_machine.specs.Settling.{Settles, SettlesAt, IsSettled, lowered}
 use Rattle.lw_machine.specs.Building.{Builds, BuildsToEnd, risen, indexed, validated, rises, shows, validates, rests, done, step}
 use Rattle.lw_machine.specs.Events.{Happens, puts, closes, removes, builds, resets, with_text, closed, cleared, edits, edited}
-use Rattle.lw_machine.specs.Validity.{IsValid, IsCurrent, AreCurrent}
+use Rattle.lw_machine.specs.Validity.{IsValid, AreCurrent}
 use Rattle.lw_machine.proofs.Places.{order, one_or_two, put_here, put_elsewhere, taken_here, taken_elsewhere}
 
 module _ (g : Grammar) (address : List ℕ) where

@@ -10,7 +10,7 @@ use Rattle.lw_rpc.specs.declared.reply.Reply.{Reply}
 use Rattle.lw_frame.specs.Frames.{frame_of}
 use Rattle.lw_machine.specs.Documents.{Documents}
 use Rattle.lw_machine.specs.Building.{BuildsToEnd}
-use Rattle.lw_machine.specs.Answers.{Standing, Answer, answer}
+use Rattle.lw_machine.specs.Answers.{Standing, answer}
 use Rattle.lw_machine.specs.declared.ended.Ended.{Ended}
 use Rattle.lw_machine.specs.declared.ended.Ended.TheVariants.{No}
 

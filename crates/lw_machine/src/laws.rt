@@ -26,8 +26,7 @@ pub fn build_ends()
 /// Where each text has a list of diagnostics, a build can be run to its end.
 pub fn build_has_end()
     ensures { (g : Grammar) (m : Documents) → IsValid g m → HaveLists g m → (n : Documents) × (published : List Reply) × BuildsToEnd g m n published }
-{
-}
+{}
 
 /// What holds of the documents of a session at every moment: it holds of none, and each event keeps it.
 pub fn stays_valid()
@@ -60,8 +59,7 @@ pub fn publishes_what_differs()
 pub fn one_outcome()
     ensures { (g : Grammar) → HasNoEmptyKeyword g → (s t u : Standing) (bodies : List (List ℕ)) (p q : List Reply) (e f : Ended) →
         Serves g s bodies t p e → Serves g s bodies u q f → (t ≡ u) × (p ≡ q) × (e ≡ f) }
-{
-}
+{}
 
 /// Whatever bodies come, once `initialize` was answered with a result nothing is left to do for any document behind a message.
 pub fn sessions_stay_current()
@@ -69,5 +67,4 @@ pub fn sessions_stay_current()
         Serves g beginning bodies t replies ended → IsValid g t.documents }
     ensures current { (g : Grammar) (bodies : List (List ℕ)) (t : Standing) (replies : List Reply) (ended : Ended) →
         Serves g beginning bodies t replies ended → t.initialized ≡ true → AreCurrent g t.documents }
-{
-}
+{}
