@@ -1,3 +1,4 @@
 pub mod View
 pub mod Lifecycle
+pub mod Keeping
 pub mod Seen

@@ -1,25 +1,44 @@
 // The document that a session holds.
-ghost use Rattle.std.specs.Prelude.{◌≡◌, ◌↔◌, List, IsTrue, IfOk};
-ghost use Rattle.lw_text.specs.declared.shown.Shown.{Shown};
+ghost use Rattle.std.specs.Prelude.{◌≡◌, ◌↔◌, IsTrue, IfOk, Some};
+ghost use Rattle.lw_session.specs.Keeping.{HoldsAnother, last_list};
 
 use lw_base::{Items, Name, NoMemory};
 use lw_text::Shown;
 use std::alloc::Global;
 
-/// An open document, built: its address, its version, its text, and the list that was published last.
+/// What an editor says of a document that it opens.
 #[derive(Drop)]
-pub(crate) struct Held {
+pub(crate) struct Opened {
     pub address: Name,
     pub version: i64,
     pub text: Name,
+}
+
+/// An open document, built, with the list that was published last.
+#[derive(Drop)]
+pub(crate) struct Held {
+    pub opened: Opened,
     pub list: Items<Shown>,
 }
 
-/// Whether two lists of diagnostics are the same.
-pub(crate) fn is_same(a: &[Shown], b: &[Shown]) -> bool
-    ensures { IsTrue result ↔ (a.now ≡ b.now) }
+/// A document at another address is held.
+pub(crate) fn holds_another(document: &Option<Held>, address: &Name) -> bool
+    ensures { IsTrue result ↔ HoldsAnother document.now address.now }
 {
-    a == b
+    match document {
+        Some(held) => held.opened.address != *address,
+        None => false,
+    }
+}
+
+/// The list is the one that was published last.
+pub(crate) fn has_published(document: &Option<Held>, list: &[Shown]) -> bool
+    ensures { IsTrue result ↔ (last_list document.now ≡ Some list.now) }
+{
+    match document {
+        Some(held) => held.list.as_slice() == list,
+        None => false,
+    }
 }
 
 /// The same list, in memory of its own.

@@ -12,8 +12,12 @@
 mod diagnostics;
 mod held;
 mod lifecycle;
+mod opening;
 mod session;
 mod texts;
 
 pub use lw_machine::Ended;
 pub use session::{Handled, Mode, Session};
+
+#[cfg(test)]
+mod tests;

@@ -1,10 +1,11 @@
 // The lifecycle of a session: which messages are answered, refused or dropped by its two facts alone.
 ghost use Rattle.std.specs.Prelude.{◌≡◌, [], ◌∷◌, ◌++◌, IfOk, Some, codes, not, ◌&&◌};
-ghost use Rattle.lw_machine.specs.Answers.{answer, ignores, tells, refuses, request as at_request};
+ghost use Rattle.lw_machine.specs.Answers.{answer, refuses, request as at_request};
 ghost use Rattle.lw_rpc.specs.declared.message.Message.TheVariants as message_;
 ghost use Rattle.lw_rpc.specs.declared.reply.Reply.TheVariants as reply_;
-ghost use Rattle.lw_session.specs.Lifecycle.{IsStep, IsTold};
+ghost use Rattle.lw_session.specs.Lifecycle.{IsStep, IsTold, telling};
 
+use crate::held::Opened;
 use lw_base::{Items, Name, NoMemory};
 use lw_machine::Ended;
 use lw_rpc::{Id, Message, Outcome, Reply};
@@ -32,12 +33,8 @@ pub(crate) struct Told {
 pub(crate) enum Step {
     /// It is answered, and no document changes.
     Tells(Told),
-    /// It opens a document.
-    Opens {
-        address: Name,
-        version: i64,
-        text: Name,
-    },
+    /// It opens a document, in a session that is live.
+    Opens(Opened),
 }
 
 /// The step for a message.
@@ -63,11 +60,11 @@ pub(crate) fn decide(alloc: Global, phase: Phase, message: Message) -> Result<St
         )?)),
         Message::DidOpen { uri, version, text } => {
             if phase.is_live() {
-                Ok(Step::Opens {
+                Ok(Step::Opens(Opened {
                     address: uri,
                     version,
                     text,
-                })
+                }))
             } else {
                 Ok(Step::Tells(phase.keeps_silent(alloc)))
             }
@@ -85,7 +82,7 @@ impl Phase {
 
     // Nothing is told.
     pub(crate) fn keeps_silent(self, alloc: Global) -> Told
-        ensures { IsTold ignores self result }
+        ensures { result ≡ telling self [] }
     {
         Told {
             replies: Items::new(alloc),
@@ -96,7 +93,7 @@ impl Phase {
 
     // One reply is told.
     pub(crate) fn tells(self, alloc: Global, reply: Reply) -> Result<Told, NoMemory>
-        ensures { IfOk result (IsTold (λ s. tells s (reply ∷ [])) self) }
+        ensures { IfOk result (λ told. told ≡ telling self (reply ∷ [])) }
     {
         let mut replies = Items::new(alloc);
         replies.push(reply)?;
@@ -109,7 +106,7 @@ impl Phase {
 
     // The session is over.
     fn ends(self, alloc: Global) -> Told
-        ensures { IsTold (λ s. answer s Message.Exit) self result }
+        ensures { IsTold (λ s. answer s message_.Exit) self result }
     {
         let ended = if self.shut_down {
             Ended::Clean
@@ -130,11 +127,12 @@ fn error(alloc: Global, id: Option<Id>, code: i32, message: &str) -> Result<Repl
     Ok(Reply::Error(id, code, Name::from_text(alloc, message)?))
 }
 
-pub(crate) fn log(alloc: Global, head: &str, name: &Name) -> Result<Reply, NoMemory>
-    ensures { IfOk result (λ reply. reply ≡ reply_.Log (head.now ++ name.now)) }
+/// A line for the log is told.
+pub(crate) fn log(alloc: Global, phase: Phase, head: &str, name: &Name) -> Result<Told, NoMemory>
+    ensures { IfOk result (λ told. told ≡ telling phase (reply_.Log (head.now ++ name.now) ∷ [])) }
 {
     let line = format!(in alloc; "{head}{name}")?;
-    Ok(Reply::Log(Name::from_text(alloc, line.as_str())?))
+    phase.tells(alloc, Reply::Log(Name::from_text(alloc, line.as_str())?))
 }
 
 // A request is refused: before `initialize` and behind `shutdown` for that, else for its own cause.
@@ -192,8 +190,7 @@ fn bad_params(alloc: Global, phase: Phase, id: Option<Id>, method: &Name) -> Res
             if !phase.is_live() {
                 return Ok(phase.keeps_silent(alloc));
             }
-            let reply = log(alloc, "bad params: ", method)?;
-            phase.tells(alloc, reply)
+            log(alloc, phase, "bad params: ", method)
         }
     }
 }

@@ -1,0 +1,71 @@
+// The opening of a document: its text is put and built.
+ghost use Rattle.std.specs.Prelude.{IfOk};
+ghost use Rattle.lw_session.specs.Keeping.{documents_of, IsListTold, IsNext};
+ghost use Rattle.lw_session.specs.Lifecycle.{standing_of, IsLive, opens};
+
+use crate::diagnostics::diagnostics;
+use crate::held::{Held, Opened, copied, has_published, holds_another};
+use crate::lifecycle::{Phase, Told, log};
+use lw_base::NoMemory;
+use lw_lang::Language;
+use lw_rpc::Reply;
+use std::alloc::Global;
+
+/// The longest text that a document may have, in bytes.
+const LONGEST_TEXT: usize = 67_108_864;
+
+/// What is told at a message, and the document that takes the place of the one that is held, where there
+/// is one.
+#[derive(Drop)]
+pub(crate) struct Next {
+    pub told: Told,
+    pub put: Option<Held>,
+}
+
+/// Puts the text of a document and builds it, in a session that is live.
+pub(crate) fn open(
+    alloc: Global,
+    language: &Language,
+    document: &Option<Held>,
+    phase: Phase,
+    opened: Opened,
+) -> Result<Next, NoMemory>
+    requires { IsLive phase }
+    ensures { IfOk result (IsNext language.now.grammar (standing_of (documents_of document.now) phase) (opens opened)) }
+{
+    if opened.text.bytes().len() > LONGEST_TEXT {
+        let told = log(alloc, phase, "text too long: ", &opened.address)?;
+        return Ok(Next { told, put: None });
+    }
+    if holds_another(document, &opened.address) {
+        let told = log(alloc, phase, "too many documents: ", &opened.address)?;
+        return Ok(Next { told, put: None });
+    }
+    let list = diagnostics(alloc, language, &opened.text)?;
+    let held = Held { opened, list };
+    let told = publish(alloc, phase, document, &held)?;
+    Ok(Next {
+        told,
+        put: Some(held),
+    })
+}
+
+// Tells the list of a document, unless it is the one that was published last.
+fn publish(
+    alloc: Global,
+    phase: Phase,
+    document: &Option<Held>,
+    held: &Held,
+) -> Result<Told, NoMemory>
+    ensures { IfOk result (IsListTold phase document.now held.now) }
+{
+    if has_published(document, held.list.as_slice()) {
+        return Ok(phase.keeps_silent(alloc));
+    }
+    let address = held.opened.address.copy(alloc)?;
+    let list = copied(alloc, held.list.as_slice())?;
+    phase.tells(
+        alloc,
+        Reply::Publish(address, Some(held.opened.version), list),
+    )
+}

@@ -1,0 +1,220 @@
+// What the clauses do not say: that a session answers where there is memory. The bodies are those of the
+// Language Server Protocol 3.17 and of JSON-RPC 2.0, and so are the codes of the errors.
+ghost use Rattle.std.specs.Prelude.{◌≡◌, ◌<◌};
+
+use crate::{Ended, Mode, Session};
+use lw_base::{Items, Name, NoMemory, Steps};
+use lw_io::{MemPatterns, MemStore};
+use lw_lang::{Language, compile};
+use std::alloc::Global;
+use std::marker::Brand;
+use std::process::Abort;
+use std::sync::ledger::{Blank, Ledger};
+use std::test::Fail;
+
+const GRAMMAR: &str = "grammar F entry Model: 'model' name=ID; hidden terminal WS: /\\s+/; terminal ID: /[_a-zA-Z][\\w_]*/;";
+
+const HELLO: &str = "{\"id\":1,\"jsonrpc\":\"2.0\",\"result\":{\"capabilities\":{\"completionProvider\":{},\"definitionProvider\":true,\"positionEncoding\":\"utf-16\",\"referencesProvider\":true,\"renameProvider\":true,\"textDocumentSync\":{\"change\":2,\"openClose\":true}},\"serverInfo\":{\"name\":\"langbench\"}}}\n";
+
+const INITIALIZE: &str = "{\"jsonrpc\":\"2.0\",\"id\":1,\"method\":\"initialize\",\"params\":{}}";
+
+const SHUTDOWN: &str = "{\"jsonrpc\":\"2.0\",\"id\":2,\"method\":\"shutdown\"}";
+
+const EXIT: &str = "{\"jsonrpc\":\"2.0\",\"method\":\"exit\"}";
+
+fn language(rt: &impl Abort, alloc: Global) -> Result<Language, NoMemory> {
+    let root = Name::from_text(alloc, "f.langium")?;
+    let mut files = Vec::new(alloc);
+    files.push((root.copy(alloc)?, GRAMMAR.as_bytes().to_vec(alloc)?))?;
+    let mut store = MemStore::new(files, Vec::new(alloc));
+    let mut patterns = MemPatterns::new(Vec::new(alloc));
+    let made = compile(alloc, &root, 2, &mut store, &mut patterns);
+    Ok(made.expect(rt, "the grammar is built"))
+}
+
+// The bodies, each on a line of its own.
+fn lines(alloc: Global, bodies: &Items<Name>) -> Result<String, NoMemory> {
+    let mut lines = String::new(alloc);
+    'bodies: for body in bodies.as_slice() {
+        lines.push_str(body.text())?;
+        lines.push_str("\n")?;
+    }
+    Ok(lines)
+}
+
+// One session: to each body these replies, and whether it is over then.
+fn played<L: Ledger>(
+    rt: &impl Abort,
+    alloc: Global,
+    blank: Blank,
+    rows: &[(&str, &str, Ended)],
+) -> Result<(), NoMemory>
+    requires name { blank.name ≡ L.name }
+    requires parts { blank.parts ≡ L.parts }
+    requires some { 0 < blank.parts }
+{
+    let (book, share) = blank.open::<L>();
+    let mut steps = Steps::new(book, share);
+    let mut store = MemStore::new(Vec::new(alloc), Vec::new(alloc));
+    let mut session = Session::new(alloc, language(rt, alloc)?, Mode::Full)?;
+    'rows: for (body, replies, ended) in rows {
+        let handled = session.handle(body.as_bytes(), &mut store, &mut steps)?;
+        let told = lines(alloc, &handled.replies)?;
+        assert!(rt; told.as_str() == *replies, "{body} is answered {told}");
+        assert!(rt; handled.ended == *ended, "after {body}");
+    }
+    Ok(())
+}
+
+#[test]
+fn one_document_is_served(rt: HostRuntime) -> Result<(), Fail> {
+    played::<Brand>(
+        &rt,
+        rt.alloc(),
+        Blank::new(1),
+        &[
+            (INITIALIZE, HELLO, Ended::No),
+            (
+                "{\"jsonrpc\":\"2.0\",\"method\":\"textDocument/didOpen\",\"params\":{\"textDocument\":{\"uri\":\"file:///m.s\",\"languageId\":\"f\",\"version\":1,\"text\":\"model m\"}}}",
+                "{\"jsonrpc\":\"2.0\",\"method\":\"textDocument/publishDiagnostics\",\"params\":{\"diagnostics\":[],\"uri\":\"file:///m.s\",\"version\":1}}\n",
+                Ended::No,
+            ),
+            (
+                SHUTDOWN,
+                "{\"id\":2,\"jsonrpc\":\"2.0\",\"result\":null}\n",
+                Ended::No,
+            ),
+            (EXIT, "", Ended::Clean),
+        ],
+    )?;
+    Ok(())
+}
+
+#[test]
+fn the_lifecycle_decides_first(rt: HostRuntime) -> Result<(), Fail> {
+    played::<Brand>(
+        &rt,
+        rt.alloc(),
+        Blank::new(1),
+        &[
+            (
+                "{",
+                "{\"error\":{\"code\":-32700,\"message\":\"parse error\"},\"id\":null,\"jsonrpc\":\"2.0\"}\n",
+                Ended::No,
+            ),
+            (
+                "{\"jsonrpc\":\"2.0\",\"id\":1.5,\"method\":\"initialize\"}",
+                "{\"error\":{\"code\":-32600,\"message\":\"invalid request\"},\"id\":null,\"jsonrpc\":\"2.0\"}\n",
+                Ended::No,
+            ),
+            (
+                SHUTDOWN,
+                "{\"error\":{\"code\":-32002,\"message\":\"server not initialized\"},\"id\":2,\"jsonrpc\":\"2.0\"}\n",
+                Ended::No,
+            ),
+            (
+                "{\"jsonrpc\":\"2.0\",\"id\":\"a\",\"method\":\"foo/bar\"}",
+                "{\"error\":{\"code\":-32002,\"message\":\"server not initialized\"},\"id\":\"a\",\"jsonrpc\":\"2.0\"}\n",
+                Ended::No,
+            ),
+            (
+                "{\"jsonrpc\":\"2.0\",\"method\":\"textDocument/didOpen\",\"params\":{\"textDocument\":{\"uri\":\"u\",\"version\":1,\"text\":\"\"}}}",
+                "",
+                Ended::No,
+            ),
+            (
+                "{\"jsonrpc\":\"2.0\",\"method\":\"textDocument/didOpen\"}",
+                "",
+                Ended::No,
+            ),
+            (INITIALIZE, HELLO, Ended::No),
+            (
+                INITIALIZE,
+                "{\"error\":{\"code\":-32600,\"message\":\"invalid request\"},\"id\":1,\"jsonrpc\":\"2.0\"}\n",
+                Ended::No,
+            ),
+            (
+                "{\"jsonrpc\":\"2.0\",\"id\":\"a\",\"method\":\"foo/bar\"}",
+                "{\"error\":{\"code\":-32601,\"message\":\"method not found\"},\"id\":\"a\",\"jsonrpc\":\"2.0\"}\n",
+                Ended::No,
+            ),
+            (
+                "{\"jsonrpc\":\"2.0\",\"method\":\"$/setTrace\",\"params\":{\"value\":\"off\"}}",
+                "",
+                Ended::No,
+            ),
+            ("{\"jsonrpc\":\"2.0\",\"id\":7,\"result\":null}", "", Ended::No),
+            (
+                "{\"jsonrpc\":\"2.0\",\"method\":\"textDocument/didOpen\",\"params\":{\"textDocument\":{\"uri\":\"u\",\"version\":\"1\",\"text\":\"\"}}}",
+                "{\"jsonrpc\":\"2.0\",\"method\":\"window/logMessage\",\"params\":{\"message\":\"bad params: textDocument/didOpen\",\"type\":1}}\n",
+                Ended::No,
+            ),
+            (
+                SHUTDOWN,
+                "{\"id\":2,\"jsonrpc\":\"2.0\",\"result\":null}\n",
+                Ended::No,
+            ),
+            (
+                SHUTDOWN,
+                "{\"error\":{\"code\":-32600,\"message\":\"invalid request\"},\"id\":2,\"jsonrpc\":\"2.0\"}\n",
+                Ended::No,
+            ),
+            (
+                "{\"jsonrpc\":\"2.0\",\"id\":\"a\",\"method\":\"foo/bar\"}",
+                "{\"error\":{\"code\":-32600,\"message\":\"invalid request\"},\"id\":\"a\",\"jsonrpc\":\"2.0\"}\n",
+                Ended::No,
+            ),
+            (
+                "{\"jsonrpc\":\"2.0\",\"method\":\"textDocument/didOpen\"}",
+                "",
+                Ended::No,
+            ),
+            (EXIT, "", Ended::Clean),
+        ],
+    )?;
+    Ok(())
+}
+
+#[test]
+fn lists_are_told_where_they_differ(rt: HostRuntime) -> Result<(), Fail> {
+    played::<Brand>(
+        &rt,
+        rt.alloc(),
+        Blank::new(1),
+        &[
+            (INITIALIZE, HELLO, Ended::No),
+            (
+                "{\"jsonrpc\":\"2.0\",\"method\":\"textDocument/didOpen\",\"params\":{\"textDocument\":{\"uri\":\"u\",\"version\":1,\"text\":\"model\"}}}",
+                "{\"jsonrpc\":\"2.0\",\"method\":\"textDocument/publishDiagnostics\",\"params\":{\"diagnostics\":[{\"code\":2,\"message\":\"Unexpected end of text.\",\"range\":{\"end\":{\"character\":5,\"line\":0},\"start\":{\"character\":5,\"line\":0}},\"severity\":1}],\"uri\":\"u\",\"version\":1}}\n",
+                Ended::No,
+            ),
+            (
+                "{\"jsonrpc\":\"2.0\",\"method\":\"textDocument/didOpen\",\"params\":{\"textDocument\":{\"uri\":\"u\",\"version\":2,\"text\":\"model\"}}}",
+                "",
+                Ended::No,
+            ),
+            (
+                "{\"jsonrpc\":\"2.0\",\"method\":\"textDocument/didOpen\",\"params\":{\"textDocument\":{\"uri\":\"v\",\"version\":1,\"text\":\"model m\"}}}",
+                "{\"jsonrpc\":\"2.0\",\"method\":\"window/logMessage\",\"params\":{\"message\":\"too many documents: v\",\"type\":1}}\n",
+                Ended::No,
+            ),
+            (
+                "{\"jsonrpc\":\"2.0\",\"method\":\"textDocument/didOpen\",\"params\":{\"textDocument\":{\"uri\":\"u\",\"version\":3,\"text\":\"model\\n€\"}}}",
+                "{\"jsonrpc\":\"2.0\",\"method\":\"textDocument/publishDiagnostics\",\"params\":{\"diagnostics\":[{\"code\":1,\"message\":\"Unexpected character.\",\"range\":{\"end\":{\"character\":1,\"line\":1},\"start\":{\"character\":0,\"line\":1}},\"severity\":1}],\"uri\":\"u\",\"version\":3}}\n",
+                Ended::No,
+            ),
+            (
+                "{\"jsonrpc\":\"2.0\",\"method\":\"textDocument/didOpen\",\"params\":{\"textDocument\":{\"uri\":\"u\",\"version\":4,\"text\":\"model model\"}}}",
+                "{\"jsonrpc\":\"2.0\",\"method\":\"textDocument/publishDiagnostics\",\"params\":{\"diagnostics\":[{\"code\":2,\"message\":\"Unexpected 'model'.\",\"range\":{\"end\":{\"character\":11,\"line\":0},\"start\":{\"character\":6,\"line\":0}},\"severity\":1}],\"uri\":\"u\",\"version\":4}}\n",
+                Ended::No,
+            ),
+            (
+                "{\"jsonrpc\":\"2.0\",\"method\":\"textDocument/didOpen\",\"params\":{\"textDocument\":{\"uri\":\"u\",\"version\":5,\"text\":\"model m\"}}}",
+                "{\"jsonrpc\":\"2.0\",\"method\":\"textDocument/publishDiagnostics\",\"params\":{\"diagnostics\":[],\"uri\":\"u\",\"version\":5}}\n",
+                Ended::No,
+            ),
+            (EXIT, "", Ended::Early),
+        ],
+    )?;
+    Ok(())
+}
