@@ -3,3 +3,5 @@ pub mod Grammars
 pub mod Ends
 pub mod Working
 pub mod Noting
+pub mod Talks
+pub mod Turns

@@ -1,0 +1,291 @@
+-- What each turn of a session makes of what was taken and written.
+use Rattle.std.proofs.Common.{◌≡◌, ◌≢◌, ◌⊎◌, inl, inr, ℕ, suc, ◌+◌, ◌<◌, ◌≤◌, List, [], ◌∷◌, ◌++◌, length, take, drop, Bool, true, false, Option, Some, None, Result, Ok, Err, slice_get, refl, sym, ap, subst, ◌∙◌, append-nil, arith, length-append, take_all}
+use Rattle.std.proofs.lemmas.List.{take-append-le}
+use Rattle.std.specs.Io.KnownBytes.{Appends, Consumes, IsAtEnd, Keeps}
+use Rattle.std.proofs.KnownBytes.{Appends-nil, Appends-trans, Appends-kept, Consumes-nil, Consumes-trans, Consumes-kept}
+use Rattle.lw_grammar.specs.declared.grammar.Grammar.{Grammar}
+use Rattle.lw_frame.specs.Frames.{bodies_of, fault_of, rest_of}
+use Rattle.lw_frame.specs.Stream.{Stream, start, with_piece, at_end, answer, next_body, next_answer, handed, after_next}
+use Rattle.lw_frame.specs.declared.fault.FrameFault.{FrameFault}
+use Rattle.lw_machine.specs.Answers.{Standing, beginning}
+use Rattle.lw_machine.specs.Sessions as session
+use Rattle.lw_machine.specs.Sessions.{Handles, Serves, framed}
+use Rattle.lw_machine.specs.declared.ended.Ended.{Ended}
+use Rattle.lw_machine.specs.declared.ended.Ended.TheVariants.{No, Clean, Early}
+use Rattle.lw_rpc.specs.declared.reply.Reply.{Reply}
+use Rattle.lw_frame.specs.Wanted.{IsWithin}
+use Rattle.langbench.specs.declared.stop.Stop.{Stop}
+use Rattle.langbench.specs.declared.stop.Stop.TheVariants as stop
+use Rattle.langbench.specs.Serving.{WritesPart, Talked, TalkedSome, Exited, RanOut, WasCutOff, WentWrong, WasTooLong, most_taken}
+use Rattle.langbench.specs.Talking as talking
+use Rattle.langbench.specs.Talking.{IsUnderway, TakesPiece, LosesPiece, Responds, RespondsPartly, AnswersNext}
+use Rattle.langbench.proofs.Talks.{framed-append, Serves-push}
+
+-- ---- a part of what is written
+
+-- all of it
+pub WritesPart-all : (old new : Option (List ℕ)) (bytes : List ℕ) → Appends old new bytes → WritesPart old new bytes
+WritesPart-all old new bytes written = (length bytes, omega arith, subst (Appends old new) (sym (take_all (length bytes) bytes (omega arith))) written)
+
+take_behind : (xs ys : List ℕ) (n : ℕ) → take (length xs + n) (xs ++ ys) ≡ xs ++ take n ys
+take_behind [] ys n = let same : 0 + n ≡ n = omega arith in ap (λ k. take k ys) same
+take_behind (x ∷ xs) ys n =
+    let same : length (x ∷ xs) + n ≡ suc (length xs + n) = omega arith in
+    ap (λ k. take k (x ∷ xs ++ ys)) same ∙ ap (λ l. x ∷ l) (take_behind xs ys n)
+
+-- all of one and a part of the next
+pub WritesPart-behind : (old mid new : Option (List ℕ)) (xs ys : List ℕ) → Appends old mid xs → WritesPart mid new ys → WritesPart old new (xs ++ ys)
+WritesPart-behind old mid new xs ys written part =
+    (length xs + part.0, omega (arith, part.1, length-append xs ys), subst (Appends old new) (sym (take_behind xs ys part.0)) (Appends-trans old mid new xs (take part.0 ys) written part.2))
+
+-- ---- what a reader hands out
+
+none_behind : (bodies : List (List ℕ)) (n : ℕ) → n ≡ length bodies → slice_get bodies n ≡ None
+none_behind [] n is = refl
+none_behind (b ∷ bodies) n is =
+    let same : n ≡ suc (length bodies) = omega (arith, is) in
+    ap (slice_get (b ∷ bodies)) same ∙ none_behind bodies (length bodies) refl
+
+last_of : (bodies : List (List ℕ)) (body : List ℕ) (n : ℕ) → n ≡ length bodies → slice_get (bodies ++ body ∷ []) n ≡ Some body
+last_of [] body n is = ap (slice_get (body ∷ [])) is
+last_of (b ∷ bodies) body n is =
+    let same : n ≡ suc (length bodies) = omega (arith, is) in
+    ap (slice_get (b ∷ bodies ++ body ∷ [])) same ∙ last_of bodies body (length bodies) refl
+
+module _ (g : Grammar) (before now old mid : Option (List ℕ)) (s : Stream) (standing : Standing) (way : IsUnderway g before now old mid s standing) where
+  talked : {taken : List ℕ} → taken ≡ s.fed → Talked g before now old mid taken No
+  talked {taken} is = record {
+    standing = standing;
+    replies = way.replies;
+    consumed = subst (Consumes before now) (sym is) way.consumed;
+    serves = subst (λ bytes. Serves g beginning (bodies_of bytes) standing way.replies No) (sym is) way.serves;
+    written = way.written;
+  }
+
+  -- all that was written so far is a part
+  pub some_so_far : TalkedSome g before now old mid
+  some_so_far = record {
+    taken = s.fed;
+    answered = bodies_of s.fed;
+    others = [];
+    standing = standing;
+    replies = way.replies;
+    ended = No;
+    consumed = way.consumed;
+    parts = sym (append-nil (bodies_of s.fed));
+    serves = way.serves;
+    written = WritesPart-all old mid (framed way.replies) way.written;
+  }
+
+  -- a read failed
+  pub cut_off : (after : Option (List ℕ)) → Keeps now after → length s.fed < most_taken → WasCutOff g before after old mid
+  cut_off after keeps short = (s.fed, record {
+    standing = standing;
+    replies = way.replies;
+    consumed = Consumes-kept before now after s.fed way.consumed keeps;
+    serves = way.serves;
+    written = way.written;
+  }, short, way.sound)
+
+  -- too many bytes
+  pub too_long : length s.fed ≡ most_taken → WasTooLong g before now old mid
+  too_long is = (s.fed, talked refl, is, way.sound)
+
+  -- memory was refused behind a read
+  pub lost_piece : (after : Option (List ℕ)) (bytes : List ℕ) → Consumes now after bytes → IsWithin s.fed bytes → TalkedSome g before after old mid
+  lost_piece after bytes consumed within = record {
+    taken = s.fed ++ bytes;
+    answered = bodies_of s.fed;
+    others = (behind within).0;
+    standing = standing;
+    replies = way.replies;
+    ended = No;
+    consumed = Consumes-trans before now after s.fed bytes way.consumed consumed;
+    parts = (behind within).1;
+    serves = way.serves;
+    written = WritesPart-all old mid (framed way.replies) way.written;
+  }
+    where
+      behind : IsWithin s.fed bytes → (others : List (List ℕ)) × (bodies_of (s.fed ++ bytes) ≡ bodies_of s.fed ++ others)
+      behind (inl same) = ([], same ∙ sym (append-nil (bodies_of s.fed)))
+      behind (inr one) = (one.0 ∷ [], one.1)
+
+  -- the source is at its end
+  module _ (after : Option (List ℕ)) (ended : IsAtEnd after) (keeps : Keeps now after) where
+    over : Talked g before after old mid s.fed No
+    over = record {
+      standing = standing;
+      replies = way.replies;
+      consumed = Consumes-kept before now after s.fed way.consumed keeps;
+      serves = way.serves;
+      written = way.written;
+    }
+
+    pub ran_out : fault_of s.fed true ≡ None → RanOut g before after old mid
+    ran_out none = (s.fed, over, ended, none)
+
+    pub broke_off : (found : FrameFault) → fault_of s.fed true ≡ Some found → WentWrong g before after old mid found
+    broke_off found is = (s.fed, over, inr (ended, is))
+
+  -- ---- a piece was taken
+  module _ (after : Option (List ℕ)) (bytes : List ℕ) (consumed_ : Consumes now after bytes) (within : IsWithin s.fed bytes) where
+    later : Stream
+    later = with_piece s bytes
+
+    consumed_all : Consumes before after (s.fed ++ bytes)
+    consumed_all = Consumes-trans before now after s.fed bytes way.consumed consumed_
+
+    -- with no further body
+    module _ (same : bodies_of (s.fed ++ bytes) ≡ bodies_of s.fed) where
+      pub none_next : next_body (with_piece s bytes) ≡ None
+      none_next = ap (λ bodies. slice_get bodies s.given) same ∙ none_behind (bodies_of s.fed) s.given way.all_given
+
+      serves_all : Serves g beginning (bodies_of (s.fed ++ bytes)) standing way.replies No
+      serves_all = subst (λ bodies. Serves g beginning bodies standing way.replies No) (sym same) way.serves
+
+      -- and no fault: the session goes on
+      goes_on : (new : Option (List ℕ)) → Keeps mid new → fault_of (s.fed ++ bytes) false ≡ None → IsUnderway g before after old new (with_piece s bytes) standing
+      goes_on new keeps none = record {
+        replies = way.replies;
+        going_on = way.going_on;
+        all_given = way.all_given ∙ ap length (sym same);
+        sound = none;
+        consumed = consumed_all;
+        serves = serves_all;
+        written = Appends-kept old mid new (framed way.replies) way.written keeps;
+      }
+
+      -- and a fault
+      went_wrong : (new : Option (List ℕ)) → Keeps mid new → (found : FrameFault) → fault_of (s.fed ++ bytes) false ≡ Some found → WentWrong g before after old new found
+      went_wrong new keeps found is = (s.fed ++ bytes, record {
+        standing = standing;
+        replies = way.replies;
+        consumed = consumed_all;
+        serves = serves_all;
+        written = Appends-kept old mid new (framed way.replies) way.written keeps;
+      }, inl is)
+
+    -- with one body
+    module _ (body : List ℕ) (one : bodies_of (s.fed ++ bytes) ≡ bodies_of s.fed ++ body ∷ []) where
+      pub one_next : next_body (with_piece s bytes) ≡ Some body
+      one_next = ap (λ bodies. slice_get bodies s.given) one ∙ last_of (bodies_of s.fed) body s.given way.all_given
+
+      module _ (new : Option (List ℕ)) (t : Standing) (ended : Ended) (responds : Responds g standing mid new body t ended) where
+        served : Serves g beginning (bodies_of (s.fed ++ bytes)) t (way.replies ++ responds.replies) ended
+        served = subst (λ bodies. Serves g beginning bodies t (way.replies ++ responds.replies) ended) (sym one)
+            (Serves-push g beginning standing t (bodies_of s.fed) body way.replies responds.replies No ended refl way.serves responds.handles)
+
+        written_all : Appends old new (framed (way.replies ++ responds.replies))
+        written_all = subst (Appends old new) (sym (framed-append way.replies responds.replies)) (Appends-trans old mid new _ _ way.written responds.written)
+
+        talked_all : Talked g before after old new (s.fed ++ bytes) ended
+        talked_all = record { standing = t; replies = way.replies ++ responds.replies; consumed = consumed_all; serves = served; written = written_all }
+
+        pub exited : rest_of (s.fed ++ bytes) ≡ [] → Exited g before after old new ended
+        exited nothing = (s.fed ++ bytes, talked_all, nothing)
+
+        pub goes_on_behind : ended ≡ No → fault_of (s.fed ++ bytes) false ≡ None → IsUnderway g before after old new (record (with_piece s bytes) { given = s.given + 1 }) t
+        goes_on_behind no_end none = record {
+          replies = way.replies ++ responds.replies;
+          going_on = way.going_on;
+          all_given = omega (arith, way.all_given, ap length one, length-append (bodies_of s.fed) (body ∷ []));
+          sound = none;
+          consumed = consumed_all;
+          serves = subst (λ e. Serves g beginning (bodies_of (s.fed ++ bytes)) t (way.replies ++ responds.replies) e) no_end served;
+          written = written_all;
+        }
+
+      -- a part of the replies was written
+      pub wrote_part : (new : Option (List ℕ)) → RespondsPartly g standing mid new body → TalkedSome g before after old new
+      wrote_part new (talking.nothing keeps) = record {
+        taken = s.fed ++ bytes;
+        answered = bodies_of s.fed;
+        others = body ∷ [];
+        standing = standing;
+        replies = way.replies;
+        ended = No;
+        consumed = consumed_all;
+        parts = one;
+        serves = way.serves;
+        written = WritesPart-all old new (framed way.replies) (Appends-kept old mid new (framed way.replies) way.written keeps);
+      }
+      wrote_part new (talking.part {t} {replies} {ended} handles part) = record {
+        taken = s.fed ++ bytes;
+        answered = bodies_of s.fed ++ body ∷ [];
+        others = [];
+        standing = t;
+        replies = way.replies ++ replies;
+        ended = ended;
+        consumed = consumed_all;
+        parts = one ∙ sym (append-nil (bodies_of s.fed ++ body ∷ []));
+        serves = Serves-push g beginning standing t (bodies_of s.fed) body way.replies replies No ended refl way.serves handles;
+        written = subst (WritesPart old new) (sym (framed-append way.replies replies)) (WritesPart-behind old mid new (framed way.replies) (framed replies) way.written part);
+      }
+
+-- ---- the turns, by what the next call answered
+
+abbrev pub AfterTurn : Grammar → Option (List ℕ) → Option (List ℕ) → Option (List ℕ) → Option (List ℕ) → Stream → Standing → Result Ended Stop → Type 0
+AfterTurn g before after old new s t (Ok No) = IsUnderway g before after old new s t
+AfterTurn g before after old new s t (Ok Clean) = Exited g before after old new Clean
+AfterTurn g before after old new s t (Ok Early) = Exited g before after old new Early
+AfterTurn g before after old new s t (Err stop.Write) = TalkedSome g before after old new
+AfterTurn g before after old new s t (Err stop.Memory) = TalkedSome g before after old new
+AfterTurn g before after old new s t (Err (stop.Frames found)) = WentWrong g before after old new found
+AfterTurn g before after old new s t (Err _) = ⊥
+
+module _ (g : Grammar) (before now after old mid new : Option (List ℕ)) (s : Stream) (standing : Standing) (way : IsUnderway g before now old mid s standing)
+    (bytes : List ℕ) (consumed : Consumes now after bytes) where
+  open_fault : (closed : Bool) → s.closed ≡ closed → closed ≡ false → fault_of (s.fed ++ bytes) s.closed ≡ fault_of (s.fed ++ bytes) false
+  open_fault closed is false_ = ap (fault_of (s.fed ++ bytes)) (is ∙ false_)
+
+  -- no body
+  without : (t : Standing) → bodies_of (s.fed ++ bytes) ≡ bodies_of s.fed → (within : IsWithin s.fed bytes) (fault : Option FrameFault) → fault_of (s.fed ++ bytes) false ≡ fault →
+      (outcome : Result Ended Stop) → AnswersNext g standing mid new (answer None fault) t outcome → AfterTurn g before after old new (with_piece s bytes) t outcome
+  without t same within None none outcome answers =
+      subst (AfterTurn g before after old new (with_piece s bytes) t) (sym answers.0)
+      (subst (IsUnderway g before after old new (with_piece s bytes)) (sym answers.1) (goes_on g before now old mid s standing way after bytes consumed within same new answers.2 none))
+  without t same within (Some found) is outcome answers =
+      subst (AfterTurn g before after old new (with_piece s bytes) t) (sym answers.0) (went_wrong g before now old mid s standing way after bytes consumed within same new answers.2 found is)
+
+  -- one body
+  with_one : (t : Standing) (within : IsWithin s.fed bytes) (body : List ℕ) → bodies_of (s.fed ++ bytes) ≡ bodies_of s.fed ++ body ∷ [] → rest_of (s.fed ++ bytes) ≡ [] → fault_of (s.fed ++ bytes) false ≡ None →
+      (outcome : Result Ended Stop) → AnswersNext g standing mid new (Ok (Some body)) t outcome → AfterTurn g before after old new (record (with_piece s bytes) { given = s.given + 1 }) t outcome
+  with_one t within body one nothing none (Ok No) responds = goes_on_behind g before now old mid s standing way after bytes consumed within body one new t No responds refl none
+  with_one t within body one nothing none (Ok Clean) responds = exited g before now old mid s standing way after bytes consumed within body one new t Clean responds nothing
+  with_one t within body one nothing none (Ok Early) responds = exited g before now old mid s standing way after bytes consumed within body one new t Early responds nothing
+  with_one t within body one nothing none (Err stop.Write) part = wrote_part g before now old mid s standing way after bytes consumed within body one new part
+  with_one t within body one nothing none (Err stop.Memory) part = wrote_part g before now old mid s standing way after bytes consumed within body one new part
+  with_one t within body one nothing none (Err stop.Words) part = part
+  with_one t within body one nothing none (Err (stop.Grammar found)) part = part
+  with_one t within body one nothing none (Err stop.Read) part = part
+  with_one t within body one nothing none (Err (stop.Frames found)) part = absurd part
+  with_one t within body one nothing none (Err stop.Limit) part = part
+
+  -- What a turn leaves: the reader hands out what the piece brought, and it is answered.
+  pub turn : (t : Standing) (within : IsWithin s.fed bytes) (outcome : Result Ended Stop) → AnswersNext g standing mid new (next_answer (with_piece s bytes)) t outcome →
+      AfterTurn g before after old new (after_next (with_piece s bytes)) t outcome
+  turn t (inl same) outcome answers =
+      let none = none_next g before now old mid s standing way after bytes consumed (inl same) same in
+      let fault = open_fault s.closed refl way.going_on in
+      let at : AnswersNext g standing mid new (answer None (fault_of (s.fed ++ bytes) false)) t outcome =
+      subst (λ f. AnswersNext g standing mid new (answer None f) t outcome) fault (subst (λ o. AnswersNext g standing mid new (answer o (fault_of (s.fed ++ bytes) s.closed)) t outcome) none answers) in
+      subst (λ o. AfterTurn g before after old new (handed o (with_piece s bytes)) t outcome) (sym none) (without t same (inl same) (fault_of (s.fed ++ bytes) false) refl outcome at)
+  turn t (inr one) outcome answers =
+      let some = one_next g before now old mid s standing way after bytes consumed (inr one) one.0 one.1 in
+      let at : AnswersNext g standing mid new (Ok (Some one.0)) t outcome =
+      subst (λ o. AnswersNext g standing mid new (answer o (fault_of (s.fed ++ bytes) s.closed)) t outcome) some answers in
+      subst (λ o. AfterTurn g before after old new (handed o (with_piece s bytes)) t outcome) (sym some) (with_one t (inr one) one.0 one.1 one.2 (one.3 false) outcome at)
+
+-- nothing was taken yet
+pub underway_start : (g : Grammar) (left written : Option (List ℕ)) (s : Stream) (standing : Standing) → s ≡ start → standing ≡ beginning → IsUnderway g left left written written s standing
+underway_start g left written s standing is begins =
+    subst (λ st. IsUnderway g left left written written s st) (sym begins)
+    (subst (λ st. IsUnderway g left left written written st beginning) (sym is) (record {
+      replies = [];
+      going_on = refl;
+      all_given = refl;
+      sound = refl;
+      consumed = Consumes-nil left;
+      serves = session.waits;
+      written = Appends-nil written;
+    }))
