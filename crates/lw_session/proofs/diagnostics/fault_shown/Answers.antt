@@ -1,4 +1,4 @@
-use Rattle.std.proofs.Common.{◌≡◌, ℕ, List, subst}
+use Rattle.std.proofs.Common.{◌≡◌, ℕ, List, subst, ◌∙◌}
 use Rattle.lw_text.specs.declared.shown.Shown.{Shown}
 use Rattle.lw_scopes.specs.Faults as fault
 use Rattle.lw_scopes.specs.Faults.{IsShownAt}
@@ -15,7 +15,12 @@ returns-in_ok-message-in-Lexical c =
     rw c.in-Lexical.is (fault.lexical (shown_as _ _ _ _ _ _ _ _ c.text-text.ensures.text c.in_ok-message-in-Lexical.ensures c.shown_at.ensures))
 
 pub returns-in_ok-message-in-Syntax-2 : goal.returns-in_ok-message-in-Syntax-2
-returns-in_ok-message-in-Syntax-2 c = ?
+returns-in_ok-message-in-Syntax-2 c =
+    let says : c.in_ok-message-in-Syntax-2.message ≡ fault.unexpected c.kind_text-kind.result.now =
+        c.in_ok-message-in-Syntax-2.ensures ∙ c.as_str.ensures.value ∙ c.in_ok-message-in-Syntax.ensures.ok in
+    rw c.in-Syntax.is
+    (fault.syntax_ c.kind_text-kind.result.now (c.args.language.now.texts, c.kind_text-kind.ensures.all, c.kind_text-kind.ensures.text)
+    (shown_as _ _ _ _ _ _ _ _ c.text-text.ensures.text says c.shown_at-in-Syntax.ensures))
 
 pub returns-in_ok-message-in-End : goal.returns-in_ok-message-in-End
 returns-in_ok-message-in-End c =
