@@ -1,4 +1,4 @@
-use Rattle.std.proofs.Common.{◌≡◌, ℕ, List, [], ◌∷◌, Some, refl, sym, true≢false, ap, ap₂, ◌∙◌}
+use Rattle.std.proofs.Common.{◌≡◌, ℕ, List, [], ◌∷◌, Some, IfOk, rules, refl, sym, true≢false, ap, ap₂, ◌∙◌}
 use Rattle.std.proofs.lemmas.Result.{IfOk-weaker}
 use Rattle.lw_text.specs.declared.shown.Shown.{Shown}
 use Rattle.lw_rpc.specs.declared.reply.Reply.TheVariants.{Publish}
@@ -11,11 +11,13 @@ returns-then-has_published c = ([], building.same (c.if-has_published.ensures.0 
 
 pub returns : goal.returns
 returns c =
+    let version = c.args.held.now.opened.version in
+    let tells : IfOk c.tells.result (λ told. told ≡ telling c.args.phase (Publish c.in_ok-address.address (Some version) c.in_ok-list.list ∷ [])) = search rules in
     IfOk-weaker c.tells.result _ _
     (λ told is.
-      ( Publish c.args.held.now.opened.address (Some c.args.held.now.opened.version) c.args.held.now.list ∷ []
+      ( Publish c.args.held.now.opened.address (Some version) c.args.held.now.list ∷ []
       , building.other (λ same. true≢false (sym (c.if-has_published.ensures.1 (same ∙ ap Some (sym c.as_slice.ensures)))))
       , is
-        ∙ ap₂ (λ (address : List ℕ) (list : List Shown). telling c.args.phase (Publish address (Some c.args.held.now.opened.version) list ∷ []))
-          c.in_ok-address.ensures (c.in_ok-list.ensures ∙ c.as_slice-2.ensures) ))
-    c.tells.ensures
+        ∙ ap₂ (λ (address : List ℕ) (list : List Shown). telling c.args.phase (Publish address (Some version) list ∷ [])) c.in_ok-address.ensures
+          (c.in_ok-list.ensures ∙ c.as_slice-2.ensures) ))
+    tells
