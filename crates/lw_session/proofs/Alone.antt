@@ -6,7 +6,7 @@ use Rattle.std.specs.FinMap.{empty, get, get-empty, insert}
 use Rattle.lw_grammar.specs.declared.grammar.Grammar.{Grammar}
 use Rattle.lw_text.specs.declared.shown.Shown.{Shown}
 use Rattle.lw_rpc.specs.declared.reply.Reply.{Reply}
-use Rattle.lw_scopes.specs.Diagnostics.{AreDiagnostics, IsList}
+use Rattle.lw_scopes.specs.Diagnostics.{Texts, AreDiagnostics, IsList}
 use Rattle.lw_machine.specs.declared.state.State.{State}
 use Rattle.lw_machine.specs.declared.state.State.TheVariants.{Changed, Parsed, IndexedContent, ComputedScopes, Linked, IndexedReferences, Validated}
 use Rattle.lw_machine.specs.Building as building
@@ -38,11 +38,14 @@ module _ (address : List ℕ) where
       by (inl same) = (same, sym alone.here ∙ ap (get m) (sym same) ∙ held)
       by (inr apart) = absurd (let no = sym (alone.elsewhere other apart) ∙ held in cc)
 
-  pub alone_is : (m : Documents) (d : Document) → Alone m d → m ≡ insert empty address d
-  alone_is m d alone = same_documents m (insert empty address d) (λ other. by other (one_or_two other address))
+  abbrev only : Document → Documents
+  only d = insert empty address d
+
+  pub alone_is : (m : Documents) (d : Document) → Alone m d → m ≡ only d
+  alone_is m d alone = same_documents m (only d) (λ other. by other (one_or_two other address))
     where
-      by : (other : List ℕ) → (other ≡ address) ⊎ (other ≢ address) → get m other ≡ get (insert empty address d) other
-      by other (inl same) = ap (get m) same ∙ alone.here ∙ sym (put_here empty address d) ∙ ap (get (insert empty address d)) (sym same)
+      by : (other : List ℕ) → (other ≡ address) ⊎ (other ≢ address) → get m other ≡ get (only d) other
+      by other (inl same) = ap (get m) same ∙ alone.here ∙ sym (put_here empty address d) ∙ ap (get (only d)) (sym same)
       by other (inr apart) = alone.elsewhere other apart ∙ sym ((alone_first d).elsewhere other apart)
 
   first : (d e : Document) (other : List ℕ) → other ≡ address → d ≡ e → ComesFirst address d other e
@@ -57,7 +60,7 @@ module _ (address : List ℕ) where
     first = λ other e held. let at = found m d alone other e held in first d e other at.0 (cc at.1);
   }
 
-  is_built : (m : Documents) (d : Document) → Alone m d → d.state ≡ Validated → IsBuilt m
+  pub is_built : (m : Documents) (d : Document) → Alone m d → d.state ≡ Validated → IsBuilt m
   is_built m d alone is other e held = let at = found m d alone other e held in let same : d ≡ e = cc at.1 in ap (λ (x : Document). x.state) (sym same) ∙ is
 
   module _ (g : Grammar) (text : List ℕ) (version : Option ℤ) (is_open : Bool) (last : Option (List Shown)) where
@@ -65,11 +68,11 @@ module _ (address : List ℕ) where
     abbrev at : State → Option (List ℕ) → Document
     at state shown = record { text = text; version = version; is_open = is_open; state = state; shown = shown; published = last }
 
-    settled : (m : Documents) (d : Document) → Alone m d → IsSettled g (shown_texts m) address m m
-    settled m d alone = record {
+    settled : (before : Texts) (m : Documents) (d : Document) → Alone m d → IsSettled g before address m m
+    settled before m d alone = record {
       here = refl;
       others = λ other apart.
-        subst (λ (o : Option Document). SettlesAt g (shown_texts m) (shown_texts m) other o o) (sym (alone.elsewhere other apart)) settling.none;
+        subst (λ (o : Option Document). SettlesAt g before (shown_texts m) other o o) (sym (alone.elsewhere other apart)) settling.none;
     }
 
     pub builds : (m : Documents) (shown : Option (List ℕ)) (list : List Shown) (published : List Reply) → Alone m (at Changed shown) → IsList g text list →
@@ -98,7 +101,7 @@ module _ (address : List ℕ) where
             record { text = text; is_shown = ap (option_and_then (λ (x : Document). x.shown)) a5.here; is_list = is_list } in
         let by_end : BuildsToEnd g m m6 (published ++ []) =
             building.step (next m (at Changed shown) alone (lit< tt)) (building.rises (next m (at Changed shown) alone (lit< tt)) (λ same. cc) (λ same. cc))
-            (building.step (next m1 d1 a1 (lit< tt)) (building.shows (next m1 d1 a1 (lit< tt)) refl (settled m2 d2 a2))
+            (building.step (next m1 d1 a1 (lit< tt)) (building.shows (next m1 d1 a1 (lit< tt)) refl (settled (shown_texts m1) m2 d2 a2))
             (building.step (next m2 d2 a2 (lit< tt)) (building.rises (next m2 d2 a2 (lit< tt)) (λ same. cc) (λ same. cc))
             (building.step (next m3 d3 a3 (lit< tt)) (building.rises (next m3 d3 a3 (lit< tt)) (λ same. cc) (λ same. cc))
             (building.step (next m4 d4 a4 (lit< tt)) (building.rises (next m4 d4 a4 (lit< tt)) (λ same. cc) (λ same. cc))

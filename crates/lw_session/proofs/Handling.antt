@@ -28,8 +28,8 @@ module _ (g : Grammar) (documents : Documents) (all : IsBuilt documents) (phase 
   abbrev Becomes : Told → Type 0
   Becomes told = Handles g (standing_of documents phase) message (standing_of documents told.phase) told.replies told.ended
 
-  pub told : (told : Told) → answer (standing_of documents phase) message ≡ answer_of documents told → Becomes told
-  told told is = by told.phase.initialized refl
+  pub stays : (told : Told) → answer (standing_of documents phase) message ≡ answer_of documents told → Becomes told
+  stays told is = by told.phase.initialized refl
     where
       by : (on : Bool) → told.phase.initialized ≡ on → Becomes told
       by false off = unbuilt g (standing_of documents phase) message (answer_of documents told) is off

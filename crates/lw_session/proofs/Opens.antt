@@ -51,7 +51,7 @@ module _ (h : Held) where
   one_held : len (documents_of (Some h)) ≡ 1
   one_held =
       len-insert nat_list_cmp_total empty h.opened.address (built h)
-      ∙ (let none : contains_key empty h.opened.address ≡ false = ap is_some (get-empty order h.opened.address) in rw (none, len-empty order Document) refl)
+      ∙ (let none : contains_key (documents_of None) h.opened.address ≡ false = ap is_some (get-empty order h.opened.address) in rw (none, len-empty order Document) refl)
 
   held_here : get (documents_of (Some h)) h.opened.address ≡ Some (built h)
   held_here = put_here empty h.opened.address (built h)

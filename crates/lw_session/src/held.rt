@@ -36,9 +36,15 @@ pub(crate) fn has_published(document: &Option<Held>, list: &[Shown]) -> bool
     ensures { IsTrue result ↔ (last_list document.now ≡ Some list.now) }
 {
     match document {
-        Some(held) => held.list.as_slice() == list,
+        Some(held) => are_same(held.list.as_slice(), list),
         None => false,
     }
+}
+
+fn are_same(list: &[Shown], other: &[Shown]) -> bool
+    ensures { IsTrue result ↔ (list.now ≡ other.now) }
+{
+    list == other
 }
 
 /// The same list, in memory of its own.

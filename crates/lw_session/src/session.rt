@@ -47,6 +47,15 @@ impl Model for Session {
 
     ghost Value = { SessionView };
 
+    ghost use Rattle.std.specs.Coded.{codes};
+    ghost use Rattle.std.specs.FinMap as map;
+    ghost use Rattle.lw_grammar.specs.contracts.rule.Element as element;
+    ghost use Rattle.lw_grammar.specs.contracts.rule.Value0 as value;
+    ghost use Rattle.lw_grammar.specs.contracts.terminal.TermElement as term;
+    ghost use Rattle.lw_machine.specs.contracts.state.State as state;
+
+    ghost coded = { Prim.hlevel (codes, map.code, element.the_row.coded, value.the_row.coded, term.the_row.coded, state.the_row.coded) };
+
     ghost use Rattle.lw_session.specs.Seen.{seen};
 
     ghost view = { seen };
