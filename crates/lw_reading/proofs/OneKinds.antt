@@ -1,7 +1,8 @@
--- A grammar has one list of kinds, and its keywords can be told apart where none is empty.
-use Rattle.std.proofs.Common.{◌≡◌, ◌≢◌, ℕ, zero, suc, ◌<◌, Bool, true, false, ◌||◌, cond, List, [], ◌∷◌, length, get_or, slice_get, Some, AllPairs, bytes_eq, refl, sym, ap, ap₂, ◌∙◌, subst, arith, true≢false}
+-- A grammar has one list of kinds, and its keywords can be told apart where none is empty, as where no rule writes an empty one.
+use Rattle.std.proofs.Common.{◌≡◌, ◌≢◌, ℕ, zero, suc, ◌<◌, Bool, true, false, ◌||◌, cond, List, [], ◌∷◌, length, get_or, slice_get, Some, AllPairs, bytes_eq, refl, sym, ap, ap₂, ◌∙◌, subst, arith, true≢false, Contains, ◌⊎◌, inl, inr}
 use Rattle.std.specs.List.{list_any, flat_map}
-use Rattle.std.proofs.lemmas.Option.{slice_get-get_or, same_Some}
+use Rattle.std.proofs.lemmas.Option.{slice_get-get_or, slice_get_within, get_or_from_slice_get, same_Some}
+use Rattle.std.proofs.lemmas.List.Elements.{Contains-append_cases}
 use Rattle.std.proofs.lemmas.Slice.Eq.{bytes_eq-Decides}
 use Rattle.lw_grammar.specs.declared.grammar.Grammar.{Grammar}
 use Rattle.lw_grammar.specs.declared.rule.Rule.{Rule}
@@ -12,7 +13,7 @@ use Rattle.lw_grammar.specs.Reached.{IsReached}
 use Rattle.lw_grammar.specs.Kinds.{Kinds, AreKinds, IsKindTerminal, first_uses}
 use Rattle.lw_tokens.specs.Keywords.{AreKeywords}
 use Rattle.lw_reading.specs.KindTexts.{AreKindTexts, IsKindText, texts_of}
-use Rattle.lw_reading.specs.Laws.{HasNoEmptyKeyword}
+use Rattle.lw_reading.specs.Laws.{HasNoEmptyKeyword, WritesNoEmptyKeyword}
 
 -- which items are kept is settled
 kept_once : {X : Type 0} (passes : ℕ → Type 0) {i : ℕ} {xs ys zs : List X} → KeepsFrom passes i xs ys → KeepsFrom passes i xs zs → ys ≡ zs
@@ -64,7 +65,46 @@ apart seen (text ∷ texts) = by (stands_in text seen) (apart seen texts) (apart
     by false same new (suc i) zero d below inside = absurd (omega arith)
     by false same new (suc i) (suc j) d below inside = new i j d (omega arith) (omega arith)
 
+-- ---- where a keyword kind comes from
+there : {X : Type 0} (y : X) (xs : List X) (x : X) → Contains xs x → Contains (y ∷ xs) x
+there y xs x (k, inside, is) = (suc k, omega arith, is)
+
+-- the first uses are some of the texts
+in_texts : (x : List ℕ) (seen texts : List (List ℕ)) → Contains (first_uses seen texts) x → Contains texts x
+in_texts x seen [] = λ has. has
+in_texts x seen (text ∷ texts) = by (stands_in text seen) (in_texts x seen texts) (in_texts x (text ∷ seen) texts)
+  where
+    by : (b : Bool) → (Contains (first_uses seen texts) x → Contains texts x) → (Contains (first_uses (text ∷ seen) texts) x → Contains texts x) →
+        Contains (cond b (first_uses seen texts) (text ∷ first_uses (text ∷ seen) texts)) x → Contains (text ∷ texts) x
+    by true same new has = there text texts x (same has)
+    by false same new (zero, inside, is) = (0, omega arith, is)
+    by false same new (suc k, inside, is) = there text texts x (new (k, omega arith, is))
+
+-- what is kept was there
+in_all : {X : Type 0} (passes : ℕ → Type 0) (y : X) {i : ℕ} {xs ys : List X} → KeepsFrom passes i xs ys → Contains ys y → Contains xs y
+in_all passes y keep.nothing has = has
+in_all passes y (keep.kept {x = x} {xs = xs} p rest) (zero, inside, is) = (0, omega arith, is)
+in_all passes y (keep.kept {x = x} {xs = xs} p rest) (suc k, inside, is) = there x xs y (in_all passes y rest (k, omega arith, is))
+in_all passes y (keep.left_out {x = x} {xs = xs} p rest) has = there x xs y (in_all passes y rest has)
+
+in_one : {X Y : Type 0} (f : X → List Y) (xs : List X) (y : Y) → Contains (flat_map f xs) y → (x : X) × Contains xs x × Contains (f x) y
+in_one f [] y (k, inside, is) = absurd (omega arith)
+in_one f (x ∷ xs) y has = by (Contains-append_cases (f x) (flat_map f xs) y has) (in_one f xs y)
+  where
+    by : Contains (f x) y ⊎ Contains (flat_map f xs) y → (Contains (flat_map f xs) y → (z : _) × Contains xs z × Contains (f z) y) →
+        (z : _) × Contains (x ∷ xs) z × Contains (f z) y
+    by (inl here) rest = (x, (0, omega arith, refl), here)
+    by (inr later) rest = let found = rest later in (found.0, there x xs found.0 found.1, found.2)
+
 module _ (g : Grammar) where
+  -- a keyword kind is a keyword that a rule writes
+  pub filled_rules : WritesNoEmptyKeyword g → HasNoEmptyKeyword g
+  filled_rules filled of k are is =
+      let has : Contains of.keywords [] = (k, slice_get_within of.keywords k [] is, get_or_from_slice_get of.keywords k [] [] is) in
+      let uses = in_texts [] [] (flat_map (λ (rule : Rule). keywords_in rule.body) are.rules) (subst (λ texts. Contains texts []) are.keywords has) in
+      let found = in_one (λ (rule : Rule). keywords_in rule.body) are.rules [] uses in
+      filled found.0 (in_all (IsReached g) found.0 are.reached found.1) found.2
+
   -- a grammar has one list of kinds
   pub one_kinds : (a b : Kinds) → AreKinds g a → AreKinds g b → a ≡ b
   one_kinds a b is was =

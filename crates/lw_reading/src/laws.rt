@@ -2,7 +2,7 @@
 ghost use Rattle.std.specs.Prelude.{◌≡◌, ℕ, List};
 ghost use Rattle.lw_grammar.specs.declared.grammar.Grammar.{Grammar};
 ghost use Rattle.lw_reading.specs.KindTexts.{IsKindText};
-ghost use Rattle.lw_reading.specs.Laws.{HasNoEmptyKeyword};
+ghost use Rattle.lw_reading.specs.Laws.{HasNoEmptyKeyword, WritesNoEmptyKeyword};
 ghost use Rattle.lw_reading.specs.Reading.{Reads};
 ghost use Rattle.lw_reading.specs.declared.issue.Parsed.{Parsed};
 
@@ -14,4 +14,9 @@ pub fn one_reading()
 /// A kind of a grammar is told by one text.
 pub fn one_kind_text()
     ensures { (g : Grammar) (k : ℕ) (text other : List ℕ) → IsKindText g k text → IsKindText g k other → text ≡ other }
+{}
+
+/// A grammar of which no rule writes an empty keyword has no empty keyword.
+pub fn filled_rules()
+    ensures { (g : Grammar) → WritesNoEmptyKeyword g → HasNoEmptyKeyword g }
 {}
