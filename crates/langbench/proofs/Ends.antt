@@ -218,7 +218,7 @@ module _ (files : Files) (path held : List ℕ) (refused old new : Option (List 
 
   module _ (g : Grammar) (holds : HoldsGrammar files path g) (clear : IsClear g) (none : NoneRose faults) where
     -- what the path holds has no fault
-    no_cause : (found : CompileFault) → Causes files path refused found → Failed faults.store.0 faults.store.1 faults.patterns.0 faults.patterns.1 found →
+    pub no_cause : (found : CompileFault) → Causes files path refused found → Failed faults.store.0 faults.store.1 faults.patterns.0 faults.patterns.1 found →
         fault_code found ≢ 7 → ⊥
     no_cause (fault.Absent p) cause failed other = let none_some = sym cause.1 ∙ holds.holds.held in cc
     no_cause (fault.NotUtf8 p) cause failed other =
@@ -238,7 +238,7 @@ module _ (files : Files) (path held : List ℕ) (refused old new : Option (List 
     no_cause (fault.PatternRefused rule name at) cause failed other = none.patterns failed
     no_cause fault.NoMemory cause failed other = other refl
 
-    not_seven : (code : ℕ) → (code ≡ 3) ⊎ (code ≡ 6) → (found : CompileFault) → fault_code found ≡ code → fault_code found ≢ 7
+    pub not_seven : (code : ℕ) → (code ≡ 3) ⊎ (code ≡ 6) → (found : CompileFault) → fault_code found ≡ code → fault_code found ≢ 7
     not_seven code (inl three) found is seven = omega (arith, three, is, seven)
     not_seven code (inr six) found is seven = omega (arith, six, is, seven)
 

@@ -5,3 +5,4 @@ pub mod Working
 pub mod Noting
 pub mod Talks
 pub mod Turns
+pub mod Served

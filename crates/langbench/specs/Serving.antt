@@ -108,7 +108,17 @@ module _ (files : Files) (path : List ℕ) (refused before after old new : Optio
     faulty : (found : FrameFault) → OfGrammar files path (λ g. WentWrong g before after old new found) → ServeEnds faults 8
     limit : OfGrammar files path (λ g. WasTooLong g before after old new) → ServeEnds faults 10
 
--- A session of well-formed frames in which `exit` comes after `shutdown`: all its replies are written, where nothing fails and there is memory.
+-- What the source holds begins with a session: frames up to an `exit` that comes after `shutdown`, fewer bytes of them than may be taken, and these are the
+-- replies to them.
+pub record IsSession (g : plain.Grammar) (held : List ℕ) (replies : List Reply) : Type 0 where
+  pub taken : List ℕ
+  pub rest : List ℕ
+  pub standing : Standing
+  pub parts : held ≡ taken ++ rest
+  pub short : length taken < most_taken
+  pub serves : Serves g beginning (bodies_of taken) standing replies Clean
+
+-- such a session is answered whole, where nothing fails and there is memory
 pub data ServeDone (replies : List Reply) (old new : Option (List ℕ)) : ℕ → Type 0 where
   clean : Appends old new (framed replies) → ServeDone replies old new 0
   no_memory : ServeDone replies old new 7

@@ -8,7 +8,8 @@ ghost use Rattle.lw_io.specs.Whole.{WritesFront};
 ghost use Rattle.lw_lang.specs.Compiled.{HoldsGrammar, IsClear};
 ghost use Rattle.lw_frame.specs.declared.fault.FrameFault.{FrameFault};
 ghost use Rattle.langbench.specs.Words.{IsCheck, IsServe, IsNoCommand};
-ghost use Rattle.langbench.specs.Serving.{OfGrammar, WentWrong, ServeEnds, ServeWorks};
+ghost use Rattle.langbench.specs.Serving.{IsSession, OfGrammar, WentWrong, ServeDone, ServeEnds, ServeWorks};
+ghost use Rattle.lw_rpc.specs.declared.reply.Reply.{Reply};
 ghost use Rattle.langbench.specs.Reports.{IsReport};
 ghost use Rattle.langbench.specs.Run.{CheckEnds, CheckDone, NoneRose, most_read};
 ghost use Rattle.langbench.specs.Notes.{NotesStatus, NotesFault, NotesOutcome, frame_line};
@@ -82,6 +83,15 @@ pub fn run<S: Source, K: Sink, N: Sink, F: Store, P: Patterns, L: Ledger>(
           store = (F.count store.old, F.count store.new);
           patterns = (P.count patterns.old, P.count patterns.new);
         }) result.code) }
+
+    // Where what the source holds begins with a session that ends with `exit` behind `shutdown`, and nothing fails, it is answered whole, or memory was refused.
+    ensures serve_done { (path : List ℕ) → IsServe words.now path → IfSome (F.files store.old) (λ files. IfSome (S.left source.old) (λ held.
+        (g : plain.Grammar) (replies : List Reply) → HoldsGrammar files path g → IsClear g → IsSession g held replies → NoneRose (record {
+          source = (S.count source.old, S.count source.new);
+          out = (K.count out.old, K.count out.new);
+          store = (F.count store.old, F.count store.new);
+          patterns = (P.count patterns.old, P.count patterns.new);
+        }) → ServeDone replies (K.written out.old) (K.written out.new) result.code)) }
 
     // Which words are refused, and that nothing is written then.
     ensures words { result.code ≡ 2 → IsNoCommand words.now }

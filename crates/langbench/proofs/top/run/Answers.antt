@@ -1,5 +1,6 @@
 use Rattle.langbench.proofs.Ends as ends
 use Rattle.langbench.proofs.Noting as noting
+use Rattle.langbench.proofs.Served as served
 use Rattle.langbench.proofs.top.run.Goals as goal
 
 pub returns-clause-ended : goal.returns-clause-ended
@@ -47,3 +48,8 @@ pub returns-clause-fault_noted : goal.returns-clause-fault_noted
 returns-clause-fault_noted g c = λ which none path is.
     noting.fault_noted _ path _ _ c.finish.result.code c.act-outcome.result _ _ _ c.finish.ensures.ends which (noting.named _ _ path c.checked_grammar.ensures is)
     (c.finish.ensures.noted (noting.not_seven _ which) none) (c.act-outcome.ensures.cause path is) c.act-outcome.ensures.store c.act-outcome.ensures.patterns
+
+pub returns-clause-served : goal.returns-clause-served
+returns-clause-served g c = λ path is.
+    served.ended_told _ path _ _ _ _ _ _ c.finish.result.code c.act-outcome.result c.finish.ensures.ends (c.act-outcome.ensures.serves path is) c.act-outcome.ensures.source
+    c.act-outcome.ensures.out c.act-outcome.ensures.store c.act-outcome.ensures.patterns
