@@ -7,14 +7,14 @@ use Rattle.std.proofs.lemmas.Bool.{cases_lt, le-leb}
 use Rattle.std.proofs.lemmas.Bool.Decides.{nat_tests}
 use Rattle.std.specs.List.{starts_with, list_all, list_any, before_first}
 use Rattle.lw_frame.specs.Lines.{line_end, lines, joined, is_empty}
-use Rattle.lw_frame.specs.Header.{Header, unfinished, faulty, whole, header_of, header_limit, near_lines, fields, has_end, before_bad, judged, ended, length_of}
-use Rattle.lw_frame.specs.Frames.{first_bytes, content, message, Split, with_body, split, rest_fault, bodies_of, fault_of}
+use Rattle.lw_frame.specs.Header.{Header, unfinished, faulty, whole, header_of, header_limit, near_lines, fields, has_end, before_bad, judged}
+use Rattle.lw_frame.specs.Frames.{first_bytes, content, message, Split, with_body, split, rest_fault}
 use Rattle.lw_frame.specs.Stage.{is_open}
 use Rattle.lw_frame.specs.Reading.{Continues, with_bodies}
 use Rattle.lw_frame.specs.Growing.{KeepsBodies, KeepsFault}
 use Rattle.lw_frame.proofs.Cuts.{both, open_one, lines-joined, lines-open}
 use Rattle.lw_frame.proofs.Headers.{keeps_first, before_empty, near, header_by_lines, before_bad-stop}
-use Rattle.lw_frame.proofs.Ends.{begins, any_behind, IsEnded, is_ended}
+use Rattle.lw_frame.proofs.Ends.{begins, any_behind, is_ended}
 use Rattle.lw_frame.proofs.Splits.{message_shorter, split_none, split_message}
 use Rattle.lw_frame.specs.declared.fault.FrameFault.{FrameFault}
 use Rattle.lw_frame.specs.declared.fault.FrameFault.TheVariants.{BadHeader}
@@ -38,12 +38,15 @@ cut_line : (b : ℕ) (bytes rest : List ℕ) (ls : List (List ℕ)) (tail : List
 cut_line b bytes rest [] [] first second c = let is = c.is in absurd cc
 cut_line b bytes rest [] (d ∷ tail) first second c =
     let at : d ∷ tail ≡ 10 ∷ rest = sym c.is ∙ second in
-    let same : tail ≡ rest = cc in
-    ([] ∷ [], tail, record {
-      is = ap (λ n. n ∷ bytes) first ∙ ap (λ bs. 13 ∷ bs) second ∙ ap (λ bs. 13 ∷ 10 ∷ bs) (sym same);
-      cut = refl;
-      uncut = (both (not (starts_with nat_eq (d ∷ tail) line_end)) (is_open tail) c.uncut).1;
-    })
+    let same : tail ≡ rest = cc in (
+      [] ∷ [],
+      tail,
+      record {
+        is = ap (λ n. n ∷ bytes) first ∙ ap (λ bs. 13 ∷ bs) second ∙ ap (λ bs. 13 ∷ 10 ∷ bs) (sym same);
+        cut = refl;
+        uncut = (both (not (starts_with nat_eq (d ∷ tail) line_end)) (is_open tail) c.uncut).1;
+      },
+    )
 cut_line b bytes rest ([] ∷ ls) tail first second c =
     let at : 10 ∷ rest ≡ 13 ∷ 10 ∷ (joined ls ++ tail) = sym second ∙ c.is in
     absurd cc
@@ -51,12 +54,15 @@ cut_line b bytes rest ((d ∷ l) ∷ ls) tail first second c =
     let left : List ℕ = ((l ++ line_end) ++ joined ls) ++ tail in
     let at : 10 ∷ rest ≡ d ∷ left = sym second ∙ c.is in
     let same : rest ≡ left = cc in
-    let tests = both (is_open (d ∷ l)) (list_all is_open ls) c.cut in
-    ([] ∷ l ∷ ls, tail, record {
-      is = ap (λ n. n ∷ bytes) first ∙ ap (λ bs. 13 ∷ bs) second ∙ ap (λ bs. 13 ∷ 10 ∷ bs) same;
-      cut = and_true _ _ (both (not (starts_with nat_eq (d ∷ l) line_end)) (is_open l) tests.0).1 tests.1;
-      uncut = c.uncut;
-    })
+    let tests = both (is_open (d ∷ l)) (list_all is_open ls) c.cut in (
+      [] ∷ l ∷ ls,
+      tail,
+      record {
+        is = ap (λ n. n ∷ bytes) first ∙ ap (λ bs. 13 ∷ bs) second ∙ ap (λ bs. 13 ∷ 10 ∷ bs) same;
+        cut = and_true _ _ (both (not (starts_with nat_eq (d ∷ l) line_end)) (is_open l) tests.0).1 tests.1;
+        uncut = c.uncut;
+      },
+    )
 
 -- a byte more, with no line end
 cut_byte : (b : ℕ) (bytes : List ℕ) (ls : List (List ℕ)) (tail : List ℕ) → starts_with nat_eq (b ∷ bytes) line_end ≡ false → IsCut bytes ls tail → (ms : List (List ℕ)) × (end : List ℕ) × IsCut (b ∷ bytes) ms end

@@ -1,6 +1,6 @@
 -- What stays of a stream as it goes on. Language Server Protocol 3.17, Base Protocol: a message begins where the one before it ends, so
 -- nothing behind a message changes it.
-use Rattle.std.specs.Prelude.{◌≡◌, List, ℕ, ◌++◌, Bool, false, Option, Some}
+use Rattle.std.specs.Prelude.{◌≡◌, List, ℕ, ◌++◌, Bool, false, Some}
 use Rattle.lw_frame.specs.Frames.{bodies_of, fault_of}
 use Rattle.lw_frame.specs.declared.fault.FrameFault.{FrameFault}
 
