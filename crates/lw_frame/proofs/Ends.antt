@@ -29,7 +29,7 @@ Holds : List ℕ → List ℕ → Type 0
 Holds current first = ((rest : List ℕ) × (current ++ rest ≡ first)) ⊎ (current ≡ first ++ 13 ∷ [])
 
 -- the bytes that begin with a line end
-begins : (b : ℕ) (bytes : List ℕ) → starts_with nat_eq (b ∷ bytes) line_end ≡ true → (b ≡ 13) × ((rest : List ℕ) × (bytes ≡ 10 ∷ rest))
+pub begins : (b : ℕ) (bytes : List ℕ) → starts_with nat_eq (b ∷ bytes) line_end ≡ true → (b ≡ 13) × ((rest : List ℕ) × (bytes ≡ 10 ∷ rest))
 begins b [] h = let e : line_end ≡ b ∷ [] = (bytes_eq-Decides line_end (b ∷ [])).0 h in cc
 begins b (d ∷ bytes) h = let e : line_end ≡ b ∷ d ∷ [] = (bytes_eq-Decides line_end (b ∷ d ∷ [])).0 h in let first : b ≡ 13 = cc in let second : d ≡ 10 = cc in (first, (bytes, ap (λ n. n ∷ bytes) second))
 
@@ -124,10 +124,10 @@ lines_end current more h some =
 -- A HEADER PART THAT HAS ENDED
 
 -- what it is
-record IsEnded (bytes : List ℕ) (size body : ℕ) : Type 0 where
-  end : has_end bytes ≡ true
-  size_is : size ≡ length (joined (fields bytes)) + 2
-  gives : length_of (fields bytes) ≡ Some body
+pub record IsEnded (bytes : List ℕ) (size body : ℕ) : Type 0 where
+  pub end : has_end bytes ≡ true
+  pub size_is : size ≡ length (joined (fields bytes)) + 2
+  pub gives : length_of (fields bytes) ≡ Some body
 
 ended_is : (start size : ℕ) (given : Option ℕ) (n m : ℕ) → ended start size given ≡ whole n m → (n ≡ size) × (given ≡ Some m)
 ended_is start size None n m h = cc
@@ -137,7 +137,7 @@ ended_is start size (Some body) n m h = long_is (nat_lt body_limit body) h
     long_is true h = cc
     long_is false h = let e : size ≡ n = cc in let f : body ≡ m = cc in (sym e, ap Some f)
 
-is_ended : (start : ℕ) (bytes : List ℕ) (n m : ℕ) → header_of start bytes ≡ whole n m → IsEnded bytes n m
+pub is_ended : (start : ℕ) (bytes : List ℕ) (n m : ℕ) → header_of start bytes ≡ whole n m → IsEnded bytes n m
 is_ended start bytes n m h = judged_is (before_bad [] (fields bytes)) h
   where
     good_is : (b c : Bool) → has_end bytes ≡ b → (if b then ended start (length (joined (fields bytes)) + 2) (length_of (fields bytes)) else if c then faulty (BadHeader start) else unfinished) ≡ whole n m → IsEnded bytes n m
@@ -149,7 +149,7 @@ is_ended start bytes n m h = judged_is (before_bad [] (fields bytes)) h
     judged_is None h = good_is (has_end bytes) (nat_le header_limit (length bytes)) refl h
     judged_is (Some before) h = cc
 
-any_behind : (a b : Bool) → a ≡ false → (a || b) ≡ true → b ≡ true
+pub any_behind : (a b : Bool) → a ≡ false → (a || b) ≡ true → b ≡ true
 any_behind true b h k = cc
 any_behind false b h k = k
 

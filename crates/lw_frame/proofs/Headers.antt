@@ -28,7 +28,7 @@ before_empty (line ∷ ls) others h =
     keeps_first line (ls ++ others) others test.0 ∙ ap (λ qs. line ∷ qs) (before_empty ls others test.1)
 
 -- the header part, by its lines before the empty one
-header_by_lines : (start : ℕ) (bytes : List ℕ) (ls : List (List ℕ)) (end : Bool) → fields bytes ≡ ls → has_end bytes ≡ end
+pub header_by_lines : (start : ℕ) (bytes : List ℕ) (ls : List (List ℕ)) (end : Bool) → fields bytes ≡ ls → has_end bytes ≡ end
     → header_of start bytes ≡ judged start (before_bad [] ls) (if end then ended start (length (joined ls) + 2) (length_of ls) else if nat_le header_limit (length bytes) then faulty (BadHeader start) else unfinished)
 header_by_lines start bytes ls end e f = rw (e, f) refl
 
@@ -62,7 +62,7 @@ before_bad-push before [] line h = rw append-nil refl
 before_bad-push before (l ∷ ls) line h = push_step (is_good before l) before l ls line (before_bad-push (before ++ l ∷ []) ls line) h
 
 -- a line that is not good stays the first one
-before_bad-stop : (before ls others : List (List ℕ)) (bad : List (List ℕ)) → before_bad before ls ≡ Some bad → before_bad before (ls ++ others) ≡ Some bad
+pub before_bad-stop : (before ls others : List (List ℕ)) (bad : List (List ℕ)) → before_bad before ls ≡ Some bad → before_bad before (ls ++ others) ≡ Some bad
 before_bad-stop before [] others bad h = cc
 before_bad-stop before (l ∷ ls) others bad h = stop_step (is_good before l) before bad _ _ (before_bad-stop (before ++ l ∷ []) ls others bad) h
   where

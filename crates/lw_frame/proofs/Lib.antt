@@ -13,3 +13,4 @@ pub mod Written
 pub mod Handing
 pub mod Ends
 pub mod Wanted
+pub mod Growing

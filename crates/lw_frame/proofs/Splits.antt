@@ -39,7 +39,7 @@ content_shorter (whole n m) bytes found e size some =
     omega (arith, ap length is, length-drop m (drop n bytes), length-drop n bytes)
 
 -- what stands behind a message is shorter
-message_shorter : (start : ℕ) (bytes : List ℕ) (found : List ℕ × List ℕ) → message start bytes ≡ Some found → length found.1 < length bytes
+pub message_shorter : (start : ℕ) (bytes : List ℕ) (found : List ℕ × List ℕ) → message start bytes ≡ Some found → length found.1 < length bytes
 message_shorter start [] found e = cc
 message_shorter start (b ∷ bytes) found e = content_shorter (header_of start (b ∷ bytes)) (b ∷ bytes) found e (header_size start (b ∷ bytes)) (omega arith)
 

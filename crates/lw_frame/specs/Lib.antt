@@ -9,3 +9,4 @@ pub mod Reading
 pub mod Events
 pub mod Kept
 pub mod Pieces
+pub mod Growing

@@ -11,8 +11,12 @@
 //! It promises that the bodies handed out and the fault are those of all pieces joined, that a fault is
 //! there for good, that want of memory leaves the reader as it was, that handing out takes no memory,
 //! and that the reader holds the bodies that were not handed out, the bytes of the message that is being
-//! read, and no more. Each byte of a body is copied once, and once more where its buffer grows; no piece
+//! read, and no more. It says how many bytes can be fed without going past the end of the message that is
+//! being read ([`FrameReader::wanted`], defined in `specs/Wanted.antt`), so that a server which takes no
+//! more from its source leaves there what is behind the message that it answers last. Each byte of a body is copied once, and once more where its buffer grows; no piece
 //! makes it look at earlier bytes of a body again.
+//!
+//! Of the definitions themselves [`streams_grow`] says what stays as a stream goes on.
 #![tactic(auto)]
 
 mod body;
@@ -20,6 +24,7 @@ mod fault;
 mod field;
 mod history;
 mod incoming;
+mod laws;
 mod reader;
 mod reading;
 mod stage;
@@ -28,6 +33,7 @@ mod write;
 
 pub use body::Body;
 pub use fault::FrameFault;
+pub use laws::streams_grow;
 pub use reader::FrameReader;
 pub use whole::{Frames, read_pieces};
 pub use write::frame;

@@ -84,13 +84,14 @@ impl FrameReader {
     }
 
     /// How many further bytes can be fed at once, at least one, without going past the end of the
-    /// message that is being read. Inside a body they are those that are missing. Inside a header part
-    /// they are the fewest that can end it: 20 where none of it is there, for no header part with a
-    /// length is shorter, then 4, or 3 behind a `\r`, or 2 at the start of a line, or 1 behind a `\r`
-    /// there. Behind a fault it is 1. The cost is constant.
+    /// message that is being read. Inside a body they are all that are missing. Inside a header part they
+    /// are the fewest that can end it: 2 at the start of a line, 1 behind a `\r` there, 3 behind a `\r`
+    /// inside a line, else 4, and as many as are missing of 20 where those are more, since no header part
+    /// with a length is shorter than `Content-Length:0` and two line ends. Behind a fault it is 1. The
+    /// cost is constant.
     ///
-    /// A server that reads no more than this from its source leaves there all that is behind the
-    /// message that it answers last, and so never takes a byte behind `exit`, which is not its own.
+    /// A server that takes no more than this from its source leaves there all that is behind the message
+    /// that it answers last: no byte behind `exit` is its own.
     pub fn wanted(&self) -> usize
         ensures exact { result ≡ wanted_of self.now.stream.fed }
         ensures some { 0 < result }

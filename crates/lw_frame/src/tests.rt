@@ -12,15 +12,15 @@ use std::test::Fail;
 /// More bytes than any stream of these tests has.
 const LONGEST: usize = 1 << 30;
 
-/// What a stream gives that comes in pieces of `size` bytes, each read out before the next comes.
-fn read(alloc: Global, stream: &[u8], size: usize, closed: bool) -> Result<Frames, NoMemory>
-    requires { 0 < size }
-{
+/// What a stream gives that comes in pieces of `size` bytes, each read out before the next comes. Pieces
+/// of 0 bytes stand for pieces of as many as the reader wants.
+fn read(alloc: Global, stream: &[u8], size: usize, closed: bool) -> Result<Frames, NoMemory> {
     let mut reader = FrameReader::new(alloc);
     let mut bodies = Items::new(alloc);
     let mut fed: usize = 0;
     'pieces: while fed < stream.len() && fed < LONGEST {
-        let end = fed + size.min(stream.len() - fed).min(LONGEST);
+        let most = if size == 0 { reader.wanted() } else { size };
+        let end = fed + most.min(stream.len() - fed).min(LONGEST);
         reader.feed(&stream[fed..end])?;
         drain(&mut reader, &mut bodies)?;
         fed = end;
@@ -51,7 +51,7 @@ fn gives(
     stream: &[u8],
     expected: &[&[u8]],
 ) -> Result<(), NoMemory> {
-    for size in [1usize, 2, 7, 100] {
+    for size in [0usize, 1, 2, 7, 100] {
         let found = read(alloc, stream, size, true)?;
         assert!(rt;
             are(found.bodies.as_slice(), expected),
@@ -114,7 +114,7 @@ fn faults_have_their_places(rt: HostRuntime) -> Result<(), Fail> {
         (b"Content-Length: 1\r\n\n\r\n", 0, FrameFault::BadHeader(19)),
     ];
     for (stream, bodies, fault) in streams {
-        for size in [1usize, 2, 7, 100] {
+        for size in [0usize, 1, 2, 7, 100] {
             let found = read(alloc, stream, size, true)?;
             assert_eq!(rt; found.bodies.len(), bodies, "{stream:?} by {size}");
             assert_eq!(rt; found.fault, Some(fault), "{stream:?} by {size}");
@@ -190,7 +190,7 @@ fn limits(rt: HostRuntime) -> Result<(), Fail> {
     ];
     for (before, count, after, bodies, fault) in streams {
         let stream = filled(alloc, before, count, after)?;
-        for size in [1usize, 5, 4_096, 100_000] {
+        for size in [0usize, 1, 5, 4_096, 100_000] {
             let found = read(alloc, stream.as_slice(), size, true)?;
             assert_eq!(rt; found.bodies.len(), bodies, "{count} by {size}");
             assert_eq!(rt; found.fault, fault, "{count} by {size}");
@@ -215,6 +215,49 @@ fn the_longest_body(rt: HostRuntime) -> Result<(), Fail> {
             assert_eq!(rt; body.bytes().len(), 16_777_216, "by {size}");
         }
         assert_eq!(rt; found.bodies.len(), 1, "by {size}");
+    }
+    Ok(())
+}
+
+/// How many bytes of a stream are taken until its first body is handed out, where the reader takes as
+/// many as it wants; all where it has none.
+fn taken(alloc: Global, stream: &[u8]) -> Result<usize, NoMemory> {
+    let mut reader = FrameReader::new(alloc);
+    let mut bodies = Items::new(alloc);
+    let mut fed: usize = 0;
+    'pieces: while bodies.as_slice().is_empty() && fed < stream.len() && fed < LONGEST {
+        let end = fed + reader.wanted().min(stream.len() - fed).min(LONGEST);
+        reader.feed(&stream[fed..end])?;
+        drain(&mut reader, &mut bodies)?;
+        fed = end;
+    }
+    Ok(fed)
+}
+
+#[test]
+fn no_byte_behind_a_message_is_taken(rt: HostRuntime) -> Result<(), Fail> {
+    let alloc = rt.alloc();
+    // A stream, how many bytes its first message has, and how many are wanted behind all of the stream.
+    let streams: [(&[u8], usize, usize); 13] = [
+        (b"", 0, 20),
+        (b"C", 1, 19),
+        (b"Content-Length: 5", 17, 4),
+        (b"Content-Length: 54321\r", 22, 3),
+        (b"Content-Length: 54321\r\n", 23, 2),
+        (b"Content-Length: 54321\r\n\r", 24, 1),
+        (b"Content-Length: 5\r\n\r\n", 21, 5),
+        (b"Content-Length: 5\r\n\r\nabc", 24, 2),
+        (b"Content-Length:0\r\n\r\nContent-Length:0\r\n\r\n", 20, 20),
+        (b"Content-Length: 2\r\n\r\n{}Content-Length: 2\r\n\r\n{}", 23, 20),
+        (b"A:\r\nContent-Length: 3\r\nB:\r\n\r\n\r\n\nA: \r\n", 32, 15),
+        (b"Content-Length: 1\r\n\r\n\r\r\n\r\n", 22, 1),
+        (b"X\r\n", 3, 1),
+    ];
+    for (stream, first, behind) in streams {
+        assert_eq!(rt; taken(alloc, stream)?, first, "{stream:?}");
+        let mut reader = FrameReader::new(alloc);
+        reader.feed(stream)?;
+        assert_eq!(rt; reader.wanted(), behind, "{stream:?}");
     }
     Ok(())
 }
