@@ -10,7 +10,6 @@ use Rattle.std.proofs.lemmas.List.{length-map}
 use Rattle.std.proofs.lemmas.Bool.{cases_lt}
 use Rattle.std.specs.Str.{all_ascii_digits, str_eq_ignore_ascii_case, str_to_ascii_lowercase}
 use Rattle.std.specs.Str.Parse.{digits_value}
-use Rattle.std.specs.Char.{to_ascii_lowercase}
 use Rattle.std.specs.List.{starts_with, ends_with, onto_first, before_first, list_any, position_or_len, prefix_len, suffix_len}
 use Rattle.lw_frame.specs.Lines.{line_end, cut_first, parts, front, lines, joined, is_empty, last_part, current_line}
 use Rattle.lw_frame.specs.Header.{unfinished, faulty, whole, header_of, header_limit, body_limit, fields, has_end, near_lines, ended, judged, before_bad, good_so_far, length_of, names_length, length_in, is_colon, is_blank, name, value, without_blanks_before, without_blanks_after}

@@ -1,22 +1,20 @@
 -- How far a message can be read on.
-use Rattle.std.proofs.Common.{◌≡◌, ◌∙◌, ◌<◌, ◌≤◌, ◌+◌, ◌-◌, max, ◌⊎◌, inl, inr, ⊎_elim, ℕ, List, [], ◌∷◌, ◌++◌, length, take, drop, Bool, true, false, if◌then◌else◌, Option, Some, None, refl, sym, ap, arith, subst, append_assoc, append-nil, length-append, length-drop, nat_le, IsTrue, slice_get}
+use Rattle.std.proofs.Common.{◌≡◌, ◌∙◌, ◌<◌, ◌≤◌, ◌+◌, ◌-◌, max, ◌⊎◌, inl, inr, ⊎_elim, ℕ, List, [], ◌∷◌, ◌++◌, length, take, drop, Bool, true, false, if◌then◌else◌, Option, Some, None, refl, sym, ap, arith, append-nil, length-append, length-drop, nat_le}
 use Rattle.std.proofs.Math.ListN.{drop_of_length-le}
 use Rattle.std.proofs.Math.Seq.{drop-append_seam}
 use Rattle.std.specs.List.{concat}
-use Rattle.lw_frame.specs.Lines.{is_empty}
 use Rattle.lw_frame.specs.Header.{Header, unfinished, faulty, whole, header_of}
-use Rattle.lw_frame.specs.Frames.{content, message, Split, split, rest_fault, bodies_of, fault_of, rest_of}
+use Rattle.lw_frame.specs.Frames.{content, Split, split, rest_fault, bodies_of, fault_of, rest_of}
 use Rattle.lw_frame.specs.Stage.{IsAt}
-use Rattle.lw_frame.specs.Stream.{Stream, with_piece, next_body, after_next, handed, needed, unfinished as rest_needed}
-use Rattle.lw_frame.specs.Reading.{bytes_of, with_bodies, WaitsFor, EndsIn, ReadsTo, EndsBehind, left_at, is_waiting}
+use Rattle.lw_frame.specs.Stream.{Stream, with_piece, handed, needed, unfinished as rest_needed}
+use Rattle.lw_frame.specs.Reading.{bytes_of, with_bodies, WaitsFor, EndsIn, EndsBehind, left_at, is_waiting}
 use Rattle.lw_frame.specs.Wanted.{IsWithin, StaysWithin, LeavesNothing, bytes_left, wanted_of, shortest_header, fewest_left}
 use Rattle.lw_frame.proofs.Messages.{header_open, header_closed}
 use Rattle.lw_frame.proofs.Ends.{current_is}
 use Rattle.lw_frame.proofs.Splits.{split_none, split_message}
-use Rattle.lw_frame.proofs.Streams.{split_waits, fault_to}
+use Rattle.lw_frame.proofs.Streams.{split_waits}
 use Rattle.lw_frame.proofs.Handing.{got_none, got_within}
 use Rattle.lw_frame.specs.declared.fault.FrameFault.{FrameFault}
-use Rattle.lw_frame.specs.declared.fault.FrameFault.TheVariants.{Truncated}
 use Rattle.lw_frame.specs.declared.incoming.Incoming.{Incoming}
 use Rattle.lw_frame.specs.declared.stage.Stage.{Stage}
 use Rattle.lw_frame.specs.declared.stage.Stage.TheVariants as stage

@@ -6,7 +6,6 @@ use Rattle.lw_frame.specs.Lines.{is_empty, current_line}
 use Rattle.lw_frame.specs.Header.{Header, unfinished, faulty, whole, header_of}
 use Rattle.lw_frame.specs.Frames.{split, bodies_of, fault_of, rest_of}
 use Rattle.lw_frame.specs.Stream.{Stream, with_piece, next_body, after_next, needed}
-use Rattle.lw_frame.specs.declared.fault.FrameFault.{FrameFault}
 
 -- HOW MANY
 

@@ -248,8 +248,16 @@ fn no_byte_behind_a_message_is_taken(rt: HostRuntime) -> Result<(), Fail> {
         (b"Content-Length: 5\r\n\r\n", 21, 5),
         (b"Content-Length: 5\r\n\r\nabc", 24, 2),
         (b"Content-Length:0\r\n\r\nContent-Length:0\r\n\r\n", 20, 20),
-        (b"Content-Length: 2\r\n\r\n{}Content-Length: 2\r\n\r\n{}", 23, 20),
-        (b"A:\r\nContent-Length: 3\r\nB:\r\n\r\n\r\n\nA: \r\n", 32, 15),
+        (
+            b"Content-Length: 2\r\n\r\n{}Content-Length: 2\r\n\r\n{}",
+            23,
+            20,
+        ),
+        (
+            b"A:\r\nContent-Length: 3\r\nB:\r\n\r\n\r\n\nA: \r\n",
+            32,
+            15,
+        ),
         (b"Content-Length: 1\r\n\r\n\r\r\n\r\n", 22, 1),
         (b"X\r\n", 3, 1),
     ];
