@@ -28,8 +28,10 @@ fn language(rt: &impl Abort, alloc: Global) -> Result<Language, NoMemory> {
     files.push((root.copy(alloc)?, GRAMMAR.as_bytes().to_vec(alloc)?))?;
     let mut store = MemStore::new(files, Vec::new(alloc));
     let mut patterns = MemPatterns::new(Vec::new(alloc));
-    let made = compile(alloc, &root, 2, &mut store, &mut patterns);
-    Ok(made.expect(rt, "the grammar is built"))
+    match compile(alloc, &root, 2, &mut store, &mut patterns) {
+        Ok(language) => Ok(language),
+        Err(_) => panic!(rt; "the grammar is not built"),
+    }
 }
 
 // The bodies, each on a line of its own.
