@@ -24,7 +24,7 @@ use Rattle.langbench.proofs.Grammars.{says_same, same_grammar, same_text}
 -- ---- statuses
 
 -- the statuses that a fault of a grammar has
-fault_codes : (found : CompileFault) → (fault_code found ≡ 3) ⊎ ((fault_code found ≡ 6) ⊎ (fault_code found ≡ 7))
+pub fault_codes : (found : CompileFault) → (fault_code found ≡ 3) ⊎ ((fault_code found ≡ 6) ⊎ (fault_code found ≡ 7))
 fault_codes (fault.Absent path) = inr (inl refl)
 fault_codes (fault.NotUtf8 path) = inr (inl refl)
 fault_codes (fault.TooLong path) = inr (inl refl)

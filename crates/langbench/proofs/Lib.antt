@@ -6,3 +6,4 @@ pub mod Noting
 pub mod Talks
 pub mod Turns
 pub mod Served
+pub mod Done

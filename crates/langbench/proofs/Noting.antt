@@ -1,5 +1,5 @@
 -- What a run notes, from what the work answered.
-use Rattle.std.proofs.Common.{◌≡◌, ◌≢◌, ◌⊎◌, inl, inr, ℕ, List, [], ◌∷◌, Option, Some, None, Result, Ok, Err, IfSome, MatchOption, codes, sym, subst, ◌∙◌, arith}
+use Rattle.std.proofs.Common.{◌≡◌, ◌≢◌, ◌⊎◌, inl, inr, ℕ, List, [], ◌∷◌, Option, Some, None, Result, Ok, Err, IfSome, MatchOption, sym, ap, subst, ◌∙◌, arith}
 use Rattle.std.specs.Option.{option_copied}
 use denote.Ref.{Bor}
 use Rattle.std.specs.Io.KnownBytes.{Appends}
@@ -7,10 +7,12 @@ use Rattle.langbench.specs.declared.report.Verdict.{Verdict}
 use Rattle.langbench.specs.declared.report.Verdict.TheVariants.{Whole, Broken}
 use Rattle.langbench.specs.declared.stop.Stop.{Stop}
 use Rattle.langbench.specs.declared.stop.Stop.TheVariants as stop
-use Rattle.langbench.specs.Words.{IsCheck}
+use Rattle.langbench.specs.Words.{IsCheck, IsServe, IsNoCommand, NamesGrammar}
 use Rattle.langbench.specs.Run.{Files, Faults}
 use Rattle.langbench.specs.Stops.{EndsWith, HasCause, StoreCounts, PatternCounts}
-use Rattle.langbench.specs.Notes.{NotesOutcome, NotesStatus, NotesFault}
+use Rattle.lw_frame.specs.declared.fault.FrameFault.{FrameFault}
+use Rattle.langbench.specs.Notes.{NotesOutcome, NotesStatus, NotesFault, frame_line}
+use Rattle.langbench.specs.Serving.{OfGrammar, WentWrong, ServeWorks}
 use Rattle.langbench.proofs.Ends.{fault_bound, failed_of}
 
 pub not_seven : (code : ℕ) → (code ≡ 3) ⊎ (code ≡ 6) → code ≢ 7
@@ -23,10 +25,17 @@ not_this code n (inl three) is not_3 not_6 = not_3 (sym is ∙ three)
 not_this code n (inr six) is not_3 not_6 = not_6 (sym is ∙ six)
 
 -- the words name one grammar
-pub named : (words : List (List ℕ)) (found : Option (Bor (List ℕ))) (path : List ℕ) → MatchOption found ((p : List ℕ) → ¬ IsCheck words p) (λ p. IsCheck words p.now) →
-    IsCheck words path → option_copied found ≡ Some path
-named words None path none is = absurd (none path is)
-named words (Some p) path is' is = let same : codes "check" ∷ p.now ∷ [] ≡ codes "check" ∷ path ∷ [] = sym is'.0 ∙ is.0 in cc
+same_path : (command other : List ℕ) (words : List (List ℕ)) (p path : List ℕ) → NamesGrammar command words p → NamesGrammar other words path → p ≡ path
+same_path command other words p path is also = let same : command ∷ p ∷ [] ≡ other ∷ path ∷ [] = sym is.0 ∙ also.0 in cc
+
+pub named : (words : List (List ℕ)) (found : Option (Bor (List ℕ))) (path : List ℕ) → MatchOption found (IsNoCommand words) (λ p. IsCheck words p.now ⊎ IsServe words p.now) →
+    IsCheck words path ⊎ IsServe words path → option_copied found ≡ Some path
+named words None path none (inl is) = absurd ((none path).0 is)
+named words None path none (inr is) = absurd ((none path).1 is)
+named words (Some p) path (inl is') (inl is) = let same = same_path _ _ words p.now path is' is in ap (λ q. Some q) same
+named words (Some p) path (inl is') (inr is) = let same = same_path _ _ words p.now path is' is in ap (λ q. Some q) same
+named words (Some p) path (inr is') (inl is) = let same = same_path _ _ words p.now path is' is in ap (λ q. Some q) same
+named words (Some p) path (inr is') (inr is) = let same = same_path _ _ words p.now path is' is in ap (λ q. Some q) same
 
 pub status_noted : (path : Option (List ℕ)) (r : Result Verdict Stop) (code : ℕ) (old new : Option (List ℕ)) → EndsWith r code → code ≢ 7 → NotesOutcome path r old new →
     NotesStatus code old new
@@ -116,3 +125,30 @@ fault_noted told path refused faults code r named_path old new ends which is not
     by : (told : Option Files) → IfSome told (λ files. HasCause files path refused r) → IfSome told (λ files. NotesFault files path refused faults code old new)
     by None c = tt
     by (Some files) c = fault files path refused faults code old new which r ends (subst (λ p. NotesOutcome p r old new) is noted) c tc pc
+
+-- ---- a fault of the frames
+
+-- which fault ended the session, and that it was noted
+abbrev pub FramesNoted : Files → List ℕ → Option (List ℕ) → Option (List ℕ) → Option (List ℕ) → Option (List ℕ) → Option (List ℕ) → Option (List ℕ) → Type 0
+FramesNoted files path before after old new notes noted =
+    (found : FrameFault) × OfGrammar files path (λ g. WentWrong g before after old new found) × Appends notes noted (frame_line found)
+
+module _ (files : Files) (path : List ℕ) (refused before after old new notes noted_ : Option (List ℕ)) (code : ℕ) (eight : code ≡ 8) where
+  frames : (grammar : Option (List ℕ)) (r : Result Verdict Stop) → EndsWith r code → NotesOutcome grammar r notes noted_ → ServeWorks files path refused before after old new r →
+      FramesNoted files path before after old new notes noted_
+  frames grammar (Ok Whole) ends noted works = absurd (omega (arith, ends, eight))
+  frames grammar (Ok Broken) ends noted works = absurd (omega (arith, ends, eight))
+  frames grammar (Err e) (inr seven) noted works = absurd (omega (arith, seven, eight))
+  frames grammar (Err stop.Words) (inl e) noted works = absurd (omega (arith, e, eight))
+  frames grammar (Err (stop.Grammar found)) (inl e) noted works = absurd (omega (arith, e, eight, (fault_bound found).1))
+  frames grammar (Err stop.Read) (inl e) noted works = absurd (omega (arith, e, eight))
+  frames grammar (Err stop.Write) (inl e) noted works = absurd (omega (arith, e, eight))
+  frames grammar (Err stop.Memory) (inl e) noted works = absurd (omega (arith, e, eight))
+  frames grammar (Err (stop.Frames found)) (inl e) noted works = (found, works, subst (Appends notes noted_) noted.1 noted.2)
+  frames grammar (Err stop.Limit) (inl e) noted works = absurd (omega (arith, e, eight))
+
+pub frames_noted : (told : Option Files) (path : List ℕ) (refused before after old new notes noted_ : Option (List ℕ)) (code : ℕ) (grammar : Option (List ℕ)) (r : Result Verdict Stop) →
+    EndsWith r code → code ≡ 8 → NotesOutcome grammar r notes noted_ → IfSome told (λ files. ServeWorks files path refused before after old new r) →
+    IfSome told (λ files. FramesNoted files path before after old new notes noted_)
+frames_noted None path refused before after old new notes noted_ code grammar r ends eight noted works = tt
+frames_noted (Some files) path refused before after old new notes noted_ code grammar r ends eight noted works = frames files path refused before after old new notes noted_ code eight grammar r ends noted works

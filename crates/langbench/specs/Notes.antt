@@ -35,8 +35,8 @@ limit_line = line (codes "input limit reached")
 abbrev pub frame_line : FrameFault → List ℕ
 frame_line (frame.BadHeader at) = line (codes "frame header fault at byte " ++ decimal at)
 frame_line (frame.NoLength at) = line (codes "frame without length at byte " ++ decimal at)
-frame_line (frame.TooLong size) = line (codes "frame of " ++ decimal size ++ codes " bytes is too long")
-frame_line (frame.Truncated missing) = line (codes "frame truncated: " ++ decimal missing ++ codes " bytes missing")
+frame_line (frame.TooLong size) = codes "frame of " ++ decimal size ++ line (codes " bytes is too long")
+frame_line (frame.Truncated missing) = codes "frame truncated: " ++ decimal missing ++ line (codes " bytes missing")
 
 -- what is wrong with a file
 abbrev pub file_line : List ℕ → List ℕ → List ℕ

@@ -7,13 +7,17 @@ use Rattle.langbench.specs.declared.words.Command.TheVariants.{Check, Serve}
 abbrev pub IsOperand : List ℕ → Type 0
 IsOperand word = (rest : List ℕ) → word ≢ 45 ∷ rest
 
+-- a command's name and the path of a grammar
+abbrev pub NamesGrammar : List ℕ → List (List ℕ) → List ℕ → Type 0
+NamesGrammar command words path = (words ≡ command ∷ path ∷ []) × IsOperand path
+
 -- `check GRAMMAR`
 abbrev pub IsCheck : List (List ℕ) → List ℕ → Type 0
-IsCheck words path = (words ≡ codes "check" ∷ path ∷ []) × IsOperand path
+IsCheck words path = NamesGrammar (codes "check") words path
 
 -- `serve GRAMMAR`
 abbrev pub IsServe : List (List ℕ) → List ℕ → Type 0
-IsServe words path = (words ≡ codes "serve" ∷ path ∷ []) × IsOperand path
+IsServe words path = NamesGrammar (codes "serve") words path
 
 -- no command
 abbrev pub IsNoCommand : List (List ℕ) → Type 0

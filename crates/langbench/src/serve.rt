@@ -3,6 +3,7 @@ ghost use Rattle.std.specs.Prelude.{◌≡◌, ◌+◌, ◌<◌, ◌≤◌, ◌^
 ghost use Rattle.std.specs.Io.KnownBytes.{Appends};
 ghost use Rattle.lw_frame.specs.Frames.{bodies_of, fault_of};
 ghost use Rattle.lw_frame.specs.Stream.{after_next, next_answer};
+ghost use Rattle.lw_frame.specs.Wanted.{StaysWithin};
 ghost use Rattle.lw_machine.specs.Answers.{beginning};
 ghost use Rattle.langbench.specs.Serving.{Conversed, ServeWorks, WritesPart};
 ghost use Rattle.langbench.specs.Stops.{HasCause, SourceCounts, OutCounts, StoreCounts, PatternCounts};
@@ -11,7 +12,7 @@ ghost use Rattle.langbench.specs.Talking.{AnswersNext, LosesPiece, Responds, Res
 use crate::desk::Desk;
 use crate::report::Verdict;
 use crate::stop::Stop;
-use lw_base::{Name, Steps};
+use lw_base::{Name, NoMemory, Steps};
 use lw_frame::{FrameReader, frame};
 use lw_io::{Patterns, Read, Sink, Source, Store, write_all};
 use lw_lang::compile;
@@ -86,8 +87,6 @@ fn converse<S: Source, K: Sink, F: Store, L: Ledger>(
 // read, and answers how many: 0 where the source is at its end.
 fn take_piece<S: Source>(source: &mut S, reader: &mut FrameReader, room: u64) -> Result<usize, Stop>
     requires open { reader.old.stream.closed ≡ false }
-    requires sound { fault_of reader.old.stream.fed false ≡ None }
-    requires all_given { reader.old.stream.given ≡ length (bodies_of reader.old.stream.fed) }
     requires room { 0 < room }
     requires session { length reader.old.stream.fed + room ≤ 2 ^ 40 }
     ensures taken { IfOk result (TakesPiece (S.left source.old) (S.left source.new) reader.old.stream reader.new.stream) }
@@ -97,13 +96,29 @@ fn take_piece<S: Source>(source: &mut S, reader: &mut FrameReader, room: u64) ->
 {
     let mut buffer = [0u8; 8192];
     let most = reader.wanted().min(buffer.len()).min(room as usize);
-    match source.read(&mut buffer[..most]) {
-        Read::Got(count) => {
-            if reader.feed(&buffer[..count]).is_err() {
-                return Err(Stop::Memory);
-            }
-            Ok(count)
-        }
+    take_into(source, reader, &mut buffer[..most])
+}
+
+// The same, of at most as many bytes as the buffer has.
+fn take_into<S: Source>(
+    source: &mut S,
+    reader: &mut FrameReader,
+    buffer: &mut [u8],
+) -> Result<usize, Stop>
+    requires some { 0 < length buffer.old }
+    requires open { reader.old.stream.closed ≡ false }
+    requires session { length reader.old.stream.fed + length buffer.old ≤ 2 ^ 40 }
+    requires within { StaysWithin reader.old.stream.fed (length buffer.old) }
+    ensures taken { IfOk result (TakesPiece (S.left source.old) (S.left source.new) reader.old.stream reader.new.stream) }
+    ensures within { IfOk result (λ count. count ≤ length buffer.old) }
+    ensures fault { IfErr result (LosesPiece (S.left source.old) (S.left source.new) reader.old.stream) }
+    ensures source { SourceCounts (S.count source.old) (S.count source.new) result }
+{
+    match source.read(buffer) {
+        Read::Got(count) => match reader.feed(&buffer[..count]) {
+            Ok(()) => Ok(count),
+            Err(NoMemory) => Err(Stop::Memory),
+        },
         Read::End => Ok(0),
         Read::Failed => Err(Stop::Read),
     }

@@ -1,6 +1,6 @@
 // The words of the command line.
-ghost use Rattle.std.specs.Prelude.{◌↔◌, ◌⊎◌, IsTrue, MatchOption};
-ghost use Rattle.langbench.specs.Words.{IsCheck, IsCommand, IsNoCommand, IsOperand, IsServe};
+ghost use Rattle.std.specs.Prelude.{◌↔◌, ◌⊎◌, IsTrue, List, MatchOption, ℕ};
+ghost use Rattle.langbench.specs.Words.{IsCheck, IsCommand, IsNoCommand, IsOperand, IsServe, NamesGrammar};
 
 use lw_base::Name;
 
@@ -17,17 +17,21 @@ pub(crate) enum Command<'a> {
 pub(crate) fn command_of(words: &[Name]) -> Option<Command<'_>>
     ensures { MatchOption result (IsNoCommand words.now) (IsCommand words.now) }
 {
+    if let Some(path) = grammar_behind(words, "check") {
+        return Some(Command::Check(path));
+    }
+    match grammar_behind(words, "serve") {
+        Some(path) => Some(Command::Serve(path)),
+        None => None,
+    }
+}
+
+// The path of the grammar, where the words are this command.
+fn grammar_behind<'a>(words: &'a [Name], name: &str) -> Option<&'a Name>
+    ensures { MatchOption result ((path : List ℕ) → ¬ NamesGrammar name.now words.now path) (λ path. NamesGrammar name.now words.now path.now) }
+{
     match words {
-        [command, path] if is_operand(path.text()) => {
-            let name = command.text();
-            if name == "check" {
-                Some(Command::Check(path))
-            } else if name == "serve" {
-                Some(Command::Serve(path))
-            } else {
-                None
-            }
-        }
+        [command, path] if command.text() == name && is_operand(path.text()) => Some(path),
         _ => None,
     }
 }

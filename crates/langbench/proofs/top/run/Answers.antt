@@ -1,6 +1,8 @@
+use Rattle.std.proofs.Common.{⊎_elim, arith}
 use Rattle.langbench.proofs.Ends as ends
 use Rattle.langbench.proofs.Noting as noting
 use Rattle.langbench.proofs.Served as served
+use Rattle.langbench.proofs.Done as whole
 use Rattle.langbench.proofs.top.run.Goals as goal
 
 pub returns-clause-ended : goal.returns-clause-ended
@@ -46,10 +48,22 @@ returns-clause-noted g c = λ other none. noting.status_noted _ _ _ _ _ c.finish
 
 pub returns-clause-fault_noted : goal.returns-clause-fault_noted
 returns-clause-fault_noted g c = λ which none path is.
-    noting.fault_noted _ path _ _ c.finish.result.code c.act-outcome.result _ _ _ c.finish.ensures.ends which (noting.named _ _ path c.checked_grammar.ensures is)
-    (c.finish.ensures.noted (noting.not_seven _ which) none) (c.act-outcome.ensures.cause path is) c.act-outcome.ensures.store c.act-outcome.ensures.patterns
+    noting.fault_noted _ path _ _ c.finish.result.code c.act-outcome.result _ _ _ c.finish.ensures.ends which (noting.named _ _ path c.grammar_named.ensures is)
+    (c.finish.ensures.noted (noting.not_seven _ which) none) (⊎_elim (λ checks. c.act-outcome.ensures.cause path checks) (λ serves. c.act-outcome.ensures.serve_cause path serves) is)
+    c.act-outcome.ensures.store c.act-outcome.ensures.patterns
+
+pub returns-clause-frames_noted : goal.returns-clause-frames_noted
+returns-clause-frames_noted g c = λ eight none path is.
+    noting.frames_noted _ path _ _ _ _ _ _ _ c.finish.result.code _ c.act-outcome.result c.finish.ensures.ends eight
+    (c.finish.ensures.noted (λ seven. omega (arith, eight, seven)) none) (c.act-outcome.ensures.serves path is)
 
 pub returns-clause-served : goal.returns-clause-served
 returns-clause-served g c = λ path is.
     served.ended_told _ path _ _ _ _ _ _ c.finish.result.code c.act-outcome.result c.finish.ensures.ends (c.act-outcome.ensures.serves path is) c.act-outcome.ensures.source
     c.act-outcome.ensures.out c.act-outcome.ensures.store c.act-outcome.ensures.patterns
+
+pub returns-clause-serve_done : goal.returns-clause-serve_done
+returns-clause-serve_done g c = λ path is.
+    whole.done_told _ path _ _ _ _ _ _ c.finish.result.code
+    (served.ended_told _ path _ _ _ _ _ _ c.finish.result.code c.act-outcome.result c.finish.ensures.ends (c.act-outcome.ensures.serves path is) c.act-outcome.ensures.source
+    c.act-outcome.ensures.out c.act-outcome.ensures.store c.act-outcome.ensures.patterns)

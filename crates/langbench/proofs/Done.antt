@@ -1,0 +1,184 @@
+-- A session that ends with `exit` after `shutdown` is answered whole.
+use Rattle.std.proofs.Common.{◌≡◌, ◌≢◌, ◌⊎◌, inl, inr, ℕ, suc, ◌+◌, ◌<◌, List, [], ◌∷◌, ◌++◌, length, false, true, Option, Some, None, IfSome, refl, sym, ap, subst, ◌∙◌, append_assoc, append-nil, arith, length-append}
+use Rattle.std.specs.Io.KnownBytes.{Appends, Consumes, IsAtEnd}
+use Rattle.lw_frame.specs.Frames.{bodies_of, fault_of}
+use Rattle.lw_frame.specs.declared.fault.FrameFault.{FrameFault}
+use Rattle.lw_frame.proofs.Growing.{bodies_stay, fault_stays}
+use Rattle.lw_grammar.specs.declared.grammar.Grammar.{Grammar}
+use Rattle.lw_lang.specs.Compiled.{HoldsGrammar, IsClear}
+use Rattle.lw_lang.specs.Obstacles as obstacle
+use Rattle.lw_reading.specs.Laws.{HasNoEmptyKeyword}
+use Rattle.lw_reading.proofs.OneKinds.{filled_rules}
+use Rattle.lw_machine.specs.Answers.{Standing, beginning}
+use Rattle.lw_machine.specs.Sessions as session
+use Rattle.lw_machine.specs.Sessions.{Serves, framed}
+use Rattle.lw_machine.specs.declared.ended.Ended.{Ended}
+use Rattle.lw_machine.specs.declared.ended.Ended.TheVariants.{No, Clean, Early}
+use Rattle.lw_machine.proofs.OneOutcome.{one_outcome}
+use Rattle.lw_rpc.specs.declared.reply.Reply.{Reply}
+use Rattle.langbench.specs.Run.{Files, Faults, NoneRose}
+use Rattle.langbench.specs.Serving as serving
+use Rattle.langbench.specs.Serving.{Talked, OfGrammar, ServeEnds, ServeDone, IsSession, WentWrong, most_taken}
+use Rattle.langbench.proofs.Ends.{no_cause, not_seven}
+use Rattle.langbench.proofs.Grammars.{same_grammar}
+
+-- a grammar that is built has no empty keyword
+pub filled : (g : Grammar) → IsClear g → HasNoEmptyKeyword g
+filled g clear = filled_rules g (λ rule within writes. clear.0 (obstacle.blank_keyword rule [] within writes (inl refl)))
+
+-- of two fronts of a list one is a front of the other
+fronts : (xs ys r s : List ℕ) → xs ++ r ≡ ys ++ s → ((m : List ℕ) × (ys ≡ xs ++ m)) ⊎ ((m : List ℕ) × (xs ≡ ys ++ m) × (s ≡ m ++ r))
+fronts [] ys r s e = inl (ys, refl)
+fronts (x ∷ xs) [] r s e = inr (x ∷ xs, refl, sym e)
+fronts (x ∷ xs) (y ∷ ys) r s e =
+    let head : x ≡ y = cc in
+    let tails : xs ++ r ≡ ys ++ s = cc in
+    by (fronts xs ys r s tails) head
+  where
+    by : ((m : List ℕ) × (ys ≡ xs ++ m)) ⊎ ((m : List ℕ) × (xs ≡ ys ++ m) × (s ≡ m ++ r)) → x ≡ y → ((m : List ℕ) × (y ∷ ys ≡ x ∷ xs ++ m)) ⊎ ((m : List ℕ) × (x ∷ xs ≡ y ∷ ys ++ m) × (s ≡ m ++ r))
+    by (inl longer) head = let tail = longer.1 in let whole : y ∷ ys ≡ x ∷ xs ++ longer.0 = cc in inl (longer.0, whole)
+    by (inr longer) head = let tail = longer.1 in let whole : x ∷ xs ≡ y ∷ ys ++ longer.0 = cc in inr (longer.0, whole, longer.2)
+
+-- what stands behind `exit` changes nothing
+Serves-more : (g : Grammar) (s t : Standing) (bodies others : List (List ℕ)) (replies : List Reply) (ended : Ended) → ended ≢ No → Serves g s bodies t replies ended →
+    Serves g s (bodies ++ others) t replies ended
+Serves-more g s t bodies others replies ended over session.waits = absurd (over refl)
+Serves-more g s t bodies others replies ended over (session.ends handles is) = session.ends handles is
+Serves-more g s t bodies others replies ended over (session.goes_on handles later) = session.goes_on handles (Serves-more g _ t _ others _ ended over later)
+
+module _ (g : Grammar) (clear : IsClear g) (held : List ℕ) (replies : List Reply) (is : IsSession g held replies) where
+  -- what bodies of more bytes than the session come to
+  longer : (taken : List ℕ) (more : List ℕ) → taken ≡ is.taken ++ more → (t : Standing) (others : List Reply) (ended : Ended) → Serves g beginning (bodies_of taken) t others ended →
+      (replies ≡ others) × (Clean ≡ ended)
+  longer taken more same t others ended serves =
+      let stay = bodies_stay is.taken more in
+      let all : bodies_of taken ≡ bodies_of is.taken ++ stay.0 = ap bodies_of same ∙ stay.1 in
+      let one = one_outcome g (filled g clear) beginning is.standing t (bodies_of taken) replies others Clean ended
+        (subst (λ bodies. Serves g beginning bodies is.standing replies Clean) (sym all) (Serves-more g beginning is.standing (bodies_of is.taken) stay.0 replies Clean (λ e. cc) is.serves)) serves in
+      (one.1, one.2)
+
+  -- and of fewer, where they come to an end
+  shorter : (taken : List ℕ) (more : List ℕ) → is.taken ≡ taken ++ more → (t : Standing) (others : List Reply) (ended : Ended) → ended ≢ No → Serves g beginning (bodies_of taken) t others ended →
+      (replies ≡ others) × (Clean ≡ ended)
+  shorter taken more same t others ended over serves =
+      let stay = bodies_stay taken more in
+      let all : bodies_of is.taken ≡ bodies_of taken ++ stay.0 = ap bodies_of same ∙ stay.1 in
+      let one = one_outcome g (filled g clear) beginning is.standing t (bodies_of is.taken) replies others Clean ended is.serves
+        (subst (λ bodies. Serves g beginning bodies t others ended) (sym all) (Serves-more g beginning t (bodies_of taken) stay.0 others ended over serves)) in
+      (one.1, one.2)
+
+  -- bytes that were taken, and what is left
+  module _ (taken left : List ℕ) (parts : held ≡ taken ++ left) (t : Standing) (others : List Reply) where
+    both : is.taken ++ is.rest ≡ taken ++ left
+    both = sym is.parts ∙ parts
+
+    pub same_end : (ended : Ended) → ended ≢ No → Serves g beginning (bodies_of taken) t others ended → (replies ≡ others) × (Clean ≡ ended)
+    same_end ended over serves = by (fronts is.taken taken is.rest left both)
+      where
+        by : ((m : List ℕ) × (taken ≡ is.taken ++ m)) ⊎ ((m : List ℕ) × (is.taken ≡ taken ++ m) × (left ≡ m ++ is.rest)) → (replies ≡ others) × (Clean ≡ ended)
+        by (inl more) = longer taken more.0 more.1 t others ended serves
+        by (inr more) = shorter taken more.0 more.1 t others ended over serves
+
+    -- a session that goes on is shorter
+    pub goes_on : Serves g beginning (bodies_of taken) t others No → (m : List ℕ) × (is.taken ≡ taken ++ m) × (left ≡ m ++ is.rest)
+    goes_on serves = by (fronts is.taken taken is.rest left both)
+      where
+        by : ((m : List ℕ) × (taken ≡ is.taken ++ m)) ⊎ ((m : List ℕ) × (is.taken ≡ taken ++ m) × (left ≡ m ++ is.rest)) → (m : List ℕ) × (is.taken ≡ taken ++ m) × (left ≡ m ++ is.rest)
+        by (inl more) = absurd (let end = (longer taken more.0 more.1 t others No serves).1 in cc)
+        by (inr more) = more
+
+    -- so something is left, and there is no fault for good
+    pub not_over : Serves g beginning (bodies_of taken) t others No → left ≡ [] → ⊥
+    not_over serves none = by (goes_on serves)
+      where
+        nothing : (m : List ℕ) → left ≡ m ++ is.rest → m ≡ []
+        nothing [] e = refl
+        nothing (x ∷ m) e = let empty : [] ≡ x ∷ m ++ is.rest = sym none ∙ e in cc
+
+        by : (m : List ℕ) × (is.taken ≡ taken ++ m) × (left ≡ m ++ is.rest) → ⊥
+        by more =
+            let all : taken ≡ is.taken ++ [] = sym (append-nil is.taken ∙ more.1 ∙ ap (λ m. taken ++ m) (nothing more.0 more.2) ∙ append-nil taken) in
+            let end = (longer taken [] all t others No serves).1 in cc
+
+    pub not_faulty : Serves g beginning (bodies_of taken) t others No → (found : FrameFault) → fault_of taken false ≡ Some found → ⊥
+    not_faulty serves found fault = by (goes_on serves)
+      where
+        by : (m : List ℕ) × (is.taken ≡ taken ++ m) × (left ≡ m ++ is.rest) → ⊥
+        by more =
+            let stays = fault_stays taken more.0 found fault in
+            let all : bodies_of taken ≡ bodies_of is.taken = sym (ap bodies_of more.1 ∙ stays.0) in
+            let end = (one_outcome g (filled g clear) beginning is.standing t (bodies_of is.taken) replies others Clean No is.serves
+              (subst (λ bodies. Serves g beginning bodies t others No) all serves)).2 in
+            cc
+
+    pub not_too_long : Serves g beginning (bodies_of taken) t others No → length taken ≡ most_taken → ⊥
+    not_too_long serves long = by (goes_on serves)
+      where
+        by : (m : List ℕ) × (is.taken ≡ taken ++ m) × (left ≡ m ++ is.rest) → ⊥
+        by more = absurd (omega (arith, is.short, long, ap length more.1, length-append taken more.0))
+
+-- what is left of the bytes that were held
+left_of : (held : List ℕ) (after : Option (List ℕ)) (taken : List ℕ) → Consumes (Some held) after taken → (left : List ℕ) × (held ≡ taken ++ left) × (after ≡ Some left)
+left_of held None taken consumed = absurd consumed
+left_of held (Some left) taken consumed = (left, consumed, refl)
+
+at_end_of : (after : Option (List ℕ)) (left : List ℕ) → after ≡ Some left → IsAtEnd after → left ≡ []
+at_end_of after left is ended = subst IsAtEnd is ended
+
+module _ (files : Files) (path : List ℕ) (refused after old new : Option (List ℕ)) (held : List ℕ) (faults : Faults) (g : Grammar) (holds : HoldsGrammar files path g) (clear : IsClear g)
+    (none : NoneRose faults) (replies : List Reply) (is : IsSession g held replies) where
+  fact_of : (P : Grammar → Type 0) → OfGrammar files path P → P g
+  fact_of P o = subst P (same_grammar files path g holds o.grammar o.holds) o.fact
+
+  module _ (taken : List ℕ) (ended : Ended) (talked : Talked g (Some held) after old new taken ended) where
+    left : (left : List ℕ) × (held ≡ taken ++ left) × (after ≡ Some left)
+    left = left_of held after taken talked.consumed
+
+    end_is : ended ≢ No → (replies ≡ talked.replies) × (Clean ≡ ended)
+    end_is over = same_end g clear held replies is taken left.0 left.1 talked.standing talked.replies ended over talked.serves
+
+    module _ (still : ended ≡ No) where
+      serves_on : Serves g beginning (bodies_of taken) talked.standing talked.replies No
+      serves_on = subst (λ e. Serves g beginning (bodies_of taken) talked.standing talked.replies e) still talked.serves
+
+      not_at_end : IsAtEnd after → ⊥
+      not_at_end over = not_over g clear held replies is taken left.0 left.1 talked.standing talked.replies serves_on (at_end_of after left.0 left.2 over)
+
+      no_fault : (found : FrameFault) → fault_of taken false ≡ Some found → ⊥
+      no_fault = not_faulty g clear held replies is taken left.0 left.1 talked.standing talked.replies serves_on
+
+      not_long : length taken ≡ most_taken → ⊥
+      not_long = not_too_long g clear held replies is taken left.0 left.1 talked.standing talked.replies serves_on
+
+  wrong : (found : FrameFault) → WentWrong g (Some held) after old new found → ⊥
+  wrong found (taken, talked, inl fault) = no_fault taken No talked refl found fault
+  wrong found (taken, talked, inr over) = not_at_end taken No talked refl over.0
+
+  pub done : {n : ℕ} → ServeEnds files path refused (Some held) after old new faults n → ServeDone replies old new n
+  done (serving.clean o) =
+      let fact = fact_of (λ g. serving.Exited g (Some held) after old new Clean) o in
+      let same = end_is fact.0 Clean fact.1 (λ e. cc) in
+      serving.clean (subst (λ rs. Appends old new (framed rs)) (sym same.0) fact.1.written)
+  done (serving.early o) =
+      let fact = fact_of (λ g. serving.Exited g (Some held) after old new Early) o in
+      absurd (let same = (end_is fact.0 Early fact.1 (λ e. cc)).1 in cc)
+  done (serving.over o) =
+      let fact = fact_of (λ g. serving.RanOut g (Some held) after old new) o in
+      absurd (not_at_end fact.0 No fact.1 refl fact.2)
+  done (serving.grammar code codes fails unread keeps) =
+      absurd (no_cause files path held refused old new faults g holds clear none fails.found fails.cause fails.failed (not_seven files path held refused old new faults g holds clear none code codes fails.found fails.status))
+  done (serving.unread rose o) = absurd (none.source rose)
+  done (serving.unwritten rose o) = absurd (none.out rose)
+  done (serving.no_memory some) = serving.no_memory
+  done (serving.faulty found o) = absurd (wrong found (fact_of (λ g. WentWrong g (Some held) after old new found) o))
+  done (serving.limit o) =
+      let fact = fact_of (λ g. serving.WasTooLong g (Some held) after old new) o in
+      absurd (not_long fact.0 No fact.1 refl fact.2)
+
+-- the same, where the store and the source tell
+pub done_told : (told : Option Files) (path : List ℕ) (refused before after old new : Option (List ℕ)) (faults : Faults) (code : ℕ) →
+    IfSome told (λ files. ServeEnds files path refused before after old new faults code) →
+    IfSome told (λ files. IfSome before (λ held. (g : Grammar) (replies : List Reply) → HoldsGrammar files path g → IsClear g → IsSession g held replies → NoneRose faults → ServeDone replies old new code))
+done_told None path refused before after old new faults code ends = tt
+done_told (Some files) path refused None after old new faults code ends = tt
+done_told (Some files) path refused (Some held) after old new faults code ends = λ g replies holds clear is none. done files path refused after old new held faults g holds clear none replies is ends
