@@ -68,12 +68,20 @@ fn played<L: Ledger>(
     Ok(())
 }
 
+// The same, over a ledger of its own.
+fn play(
+    rt: &impl Abort,
+    alloc: Global,
+    rows: &[(&str, &str, Ended)],
+) -> Result<(), NoMemory> {
+    played::<Brand>(rt, alloc, Blank::new(1), rows)
+}
+
 #[test]
 fn one_document_is_served(rt: HostRuntime) -> Result<(), Fail> {
-    played::<Brand>(
+    play(
         &rt,
         rt.alloc(),
-        Blank::new(1),
         &[
             (INITIALIZE, HELLO, Ended::No),
             (
@@ -94,10 +102,9 @@ fn one_document_is_served(rt: HostRuntime) -> Result<(), Fail> {
 
 #[test]
 fn the_lifecycle_decides_first(rt: HostRuntime) -> Result<(), Fail> {
-    played::<Brand>(
+    play(
         &rt,
         rt.alloc(),
-        Blank::new(1),
         &[
             (
                 "{",
@@ -179,10 +186,9 @@ fn the_lifecycle_decides_first(rt: HostRuntime) -> Result<(), Fail> {
 
 #[test]
 fn lists_are_told_where_they_differ(rt: HostRuntime) -> Result<(), Fail> {
-    played::<Brand>(
+    play(
         &rt,
         rt.alloc(),
-        Blank::new(1),
         &[
             (INITIALIZE, HELLO, Ended::No),
             (
