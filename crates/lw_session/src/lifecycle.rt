@@ -13,9 +13,13 @@ use std::alloc::Global;
 
 // The codes of errors (JSON-RPC 2.0, "Error object"; Language Server Protocol 3.17, "ErrorCodes").
 const PARSE_ERROR: i32 = -32700;
+
 const INVALID_REQUEST: i32 = -32600;
+
 const METHOD_NOT_FOUND: i32 = -32601;
+
 const INVALID_PARAMS: i32 = -32602;
+
 const SERVER_NOT_INITIALIZED: i32 = -32002;
 
 /// The two facts of a session.
@@ -147,7 +151,12 @@ fn refuse(alloc: Global, phase: Phase, id: Id, code: i32, message: &str) -> Resu
     ensures { IfOk result (IsTold (λ s. at_request s id (refuses s (Some id) code message.now)) phase) }
 {
     let reply = if !phase.initialized {
-        error(alloc, Some(id), SERVER_NOT_INITIALIZED, "server not initialized")?
+        error(
+            alloc,
+            Some(id),
+            SERVER_NOT_INITIALIZED,
+            "server not initialized",
+        )?
     } else if phase.shut_down {
         error(alloc, Some(id), INVALID_REQUEST, "invalid request")?
     } else {
