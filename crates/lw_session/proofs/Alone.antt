@@ -1,5 +1,5 @@
 -- The build of one document, from a text that was put until it is validated.
-use Rattle.std.proofs.Common.{◌≡◌, ◌≢◌, ℕ, ◌<◌, ℤ, Bool, List, [], ◌∷◌, ◌++◌, Option, Some, None, option_and_then, inl, inr, ◌⊎◌, sym, refl, ap, ◌∙◌, subst, append-nil, lit<}
+use Rattle.std.proofs.Common.{◌≡◌, ◌≢◌, ℕ, ◌<◌, ℤ, Bool, List, [], ◌++◌, Option, Some, None, option_and_then, inl, inr, ◌⊎◌, sym, refl, ap, ◌∙◌, subst, append-nil, lit<}
 use Rattle.std.specs.Cmp.{tied_itself}
 use Rattle.std.specs.Cmp.Lexicographic.{nat_list_cmp_total}
 use Rattle.std.specs.FinMap.{empty, get, get-empty, insert}
@@ -72,7 +72,7 @@ module _ (address : List ℕ) where
     settled before m d alone = record {
       here = refl;
       others = λ other apart.
-        subst (λ (o : Option Document). SettlesAt g before (shown_texts m) other o o) (sym (alone.elsewhere other apart)) settling.none;
+          subst (λ (o : Option Document). SettlesAt g before (shown_texts m) other o o) (sym (alone.elsewhere other apart)) settling.none;
     }
 
     pub builds : (m : Documents) (shown : Option (List ℕ)) (list : List Shown) (published : List Reply) → Alone m (at Changed shown) → IsList g text list →
@@ -98,14 +98,14 @@ module _ (address : List ℕ) where
         let a5 = alone_again m4 d4 d5 a4 in
         let a6 = alone_again m5 d5 d6 a5 in
         let are : AreDiagnostics g (shown_texts m5) address list =
-            record { text = text; is_shown = ap (option_and_then (λ (x : Document). x.shown)) a5.here; is_list = is_list } in
+        record { text = text; is_shown = ap (option_and_then (λ (x : Document). x.shown)) a5.here; is_list = is_list } in
         let by_end : BuildsToEnd g m m6 (published ++ []) =
-            building.step (next m (at Changed shown) alone (lit< tt)) (building.rises (next m (at Changed shown) alone (lit< tt)) (λ same. cc) (λ same. cc))
-            (building.step (next m1 d1 a1 (lit< tt)) (building.shows (next m1 d1 a1 (lit< tt)) refl (settled (shown_texts m1) m2 d2 a2))
-            (building.step (next m2 d2 a2 (lit< tt)) (building.rises (next m2 d2 a2 (lit< tt)) (λ same. cc) (λ same. cc))
-            (building.step (next m3 d3 a3 (lit< tt)) (building.rises (next m3 d3 a3 (lit< tt)) (λ same. cc) (λ same. cc))
-            (building.step (next m4 d4 a4 (lit< tt)) (building.rises (next m4 d4 a4 (lit< tt)) (λ same. cc) (λ same. cc))
-            (building.step (next m5 d5 a5 (lit< tt)) (building.validates (next m5 d5 a5 (lit< tt)) refl are publishes)
-            (building.done (is_built m6 d6 a6 refl))))))) in
+        building.step (next m (at Changed shown) alone (lit< tt)) (building.rises (next m (at Changed shown) alone (lit< tt)) (λ same. cc) (λ same. cc))
+        (building.step (next m1 d1 a1 (lit< tt)) (building.shows (next m1 d1 a1 (lit< tt)) refl (settled (shown_texts m1) m2 d2 a2))
+        (building.step (next m2 d2 a2 (lit< tt)) (building.rises (next m2 d2 a2 (lit< tt)) (λ same. cc) (λ same. cc))
+        (building.step (next m3 d3 a3 (lit< tt)) (building.rises (next m3 d3 a3 (lit< tt)) (λ same. cc) (λ same. cc))
+        (building.step (next m4 d4 a4 (lit< tt)) (building.rises (next m4 d4 a4 (lit< tt)) (λ same. cc) (λ same. cc))
+        (building.step (next m5 d5 a5 (lit< tt)) (building.validates (next m5 d5 a5 (lit< tt)) refl are publishes)
+        (building.done (is_built m6 d6 a6 refl))))))) in
         subst (λ p. BuildsToEnd g m (insert empty address d6) p) (append-nil published)
         (subst (λ n. BuildsToEnd g m n (published ++ [])) (alone_is m6 d6 a6) by_end)

@@ -1,5 +1,5 @@
 -- What a session does with a message, by what the message is answered and the build behind it.
-use Rattle.std.proofs.Common.{◌≡◌, ℕ, Bool, true, false, List, [], ◌∷◌, ◌++◌, Option, Some, None, sym, refl, ap, ◌∙◌, subst, append-nil}
+use Rattle.std.proofs.Common.{◌≡◌, Bool, true, false, List, [], ◌++◌, refl, subst, append-nil}
 use Rattle.lw_grammar.specs.declared.grammar.Grammar.{Grammar}
 use Rattle.lw_rpc.specs.declared.message.Message.{Message}
 use Rattle.lw_rpc.specs.declared.reply.Reply.{Reply}
@@ -21,7 +21,7 @@ module _ (g : Grammar) (s : Standing) (message : Message) where
       BuildsToEnd g a.standing.documents n published → Handles g s message (with_documents a.standing n) (a.replies ++ published) a.ended
   built a n published is on builds =
       subst (λ (a : Answer). a.standing.initialized ≡ true → BuildsToEnd g a.standing.documents n published →
-        Handles g s message (with_documents a.standing n) (a.replies ++ published) a.ended) is session.built on builds
+      Handles g s message (with_documents a.standing n) (a.replies ++ published) a.ended) is session.built on builds
 
 -- where all documents are validated and stay, there is nothing to build
 module _ (g : Grammar) (documents : Documents) (all : IsBuilt documents) (phase : Phase) (message : Message) where

@@ -1,21 +1,19 @@
 -- What opening a document comes to: it is refused by a line for the log, or its text is put and built.
-use Rattle.std.proofs.Common.{◌≡◌, ◌≢◌, ℕ, ◌<◌, ◌≤◌, Bool, true, false, not, ◌&&◌, nat_lt, nat_le, List, [], ◌∷◌, ◌++◌, length, codes, Option, Some, None, is_some, option_map, inl, inr, ◌⊎◌, sym, refl, ap, ◌∙◌, subst}
+use Rattle.std.proofs.Common.{◌≡◌, ◌≢◌, ℕ, ◌<◌, ◌≤◌, true, false, not, ◌&&◌, nat_lt, nat_le, List, ◌++◌, length, codes, Option, Some, None, is_some, option_map, inl, inr, ◌⊎◌, sym, refl, ap, ◌∙◌, subst}
 use Rattle.std.proofs.lemmas.Bool.{lt-ltb, le-ltb}
 use Rattle.std.specs.Cmp.Lexicographic.{nat_list_cmp_total}
 use Rattle.std.specs.FinMap.{empty, get, get-empty, insert, len, len-empty, len-insert, contains_key}
 use Rattle.lw_grammar.specs.declared.grammar.Grammar.{Grammar}
-use Rattle.lw_rpc.specs.declared.reply.Reply.{Reply}
 use Rattle.lw_scopes.specs.Diagnostics.{IsList}
 use Rattle.lw_machine.specs.Answers.{Standing, Answer, answer, longest_text, logs, ignores}
 use Rattle.lw_machine.specs.Answers as machine
 use Rattle.lw_machine.specs.declared.state.State.TheVariants.{Changed}
-use Rattle.lw_machine.specs.Building.{Publishes}
 use Rattle.lw_machine.specs.Documents.{Document, Documents, IsBuilt}
 use Rattle.lw_machine.specs.Events.{put, with_text}
 use Rattle.lw_machine.specs.Sessions.{Handles}
-use Rattle.lw_machine.proofs.Places.{order, one_or_two, put_here, put_elsewhere}
+use Rattle.lw_machine.proofs.Places.{order, one_or_two, put_here}
 use Rattle.lw_session.specs.Keeping.{built, documents_of, HoldsAnother, last_list, unlisted, IsListTold}
-use Rattle.lw_session.specs.Lifecycle.{standing_of, IsLive, opens, telling}
+use Rattle.lw_session.specs.Lifecycle.{standing_of, IsLive, opens}
 use Rattle.lw_session.specs.declared.held.Held.{Held}
 use Rattle.lw_session.specs.declared.held.Opened.{Opened}
 use Rattle.lw_session.specs.declared.lifecycle.Phase.{Phase}
@@ -102,7 +100,7 @@ module _ (h : Held) where
       by (inr apart) = absurd (free apart)
 
   module _ (g : Grammar) (before : Option Held) (phase : Phase) (live : IsLive phase) (short : length h.opened.text ≤ longest_text)
-    (free : ¬ (HoldsAnother before h.opened.address)) (is_list : IsList g h.opened.text h.list) where
+      (free : ¬ (HoldsAnother before h.opened.address)) (is_list : IsList g h.opened.text h.list) where
     abbrev Becomes : Told → Type 0
     Becomes told = Handles g (standing_of (documents_of before) phase) (opens h.opened) (standing_of (documents_of (Some h)) told.phase) told.replies told.ended
 

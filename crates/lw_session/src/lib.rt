@@ -1,12 +1,20 @@
 //! A session of the language server: message bodies in, reply bodies out.
 //!
-//! A [`Session`] is seen as the grammar of its language and its standing: the documents with their states,
-//! and whether `initialize` and `shutdown` were answered with a result. `specs/Sessions.antt` of
-//! `lw_machine` says what a body makes of it and what is replied, by a machine that keeps texts, states
-//! and published lists alone.
+//! Its model: a [`Session`] is the grammar of its language and its standing, which is the documents by
+//! address, each with its state, and whether `initialize` and `shutdown` were answered with a result
+//! (`specs/View.antt`). What a body makes of the standing, what is replied and whether the session is over
+//! is said by the machine of `lw_machine` (`specs/Answers.antt` and `specs/Sessions.antt` there), which
+//! keeps texts, states and published lists alone and computes everything else anew by the grammar.
 //!
-//! It promises that [`Session::handle`] does with each body exactly what the machine does, and a full build
-//! behind it; in this version it holds one document and computes its diagnostics anew where its text is put.
+//! It promises that [`Session::handle`] does with each body exactly what the machine does, a build to its
+//! end behind it, or is refused memory and leaves the session as it was; and that it touches neither the
+//! grammar nor the store nor the count of steps.
+//!
+//! How it is made: `lifecycle` decides a message by the two facts of a session alone; `opening` puts a
+//! text, computes its `diagnostics` and tells them; nothing of the session changes before all replies are
+//! there as bytes (`texts`). The session holds one document, which is always built (`held`,
+//! `specs/Keeping.antt`), so the six steps that the machine takes from its new text to its last state are
+//! one computation here (`proofs/Alone.antt`).
 #![tactic(auto)]
 
 mod diagnostics;

@@ -11,6 +11,17 @@ use lw_machine::Ended;
 use lw_rpc::{Id, Message, Outcome, Reply};
 use std::alloc::Global;
 
+// The codes of errors (JSON-RPC 2.0, "Error object"; Language Server Protocol 3.17, "ErrorCodes").
+const PARSE_ERROR: i32 = -32700;
+
+const INVALID_REQUEST: i32 = -32600;
+
+const METHOD_NOT_FOUND: i32 = -32601;
+
+const INVALID_PARAMS: i32 = -32602;
+
+const SERVER_NOT_INITIALIZED: i32 = -32002;
+
 /// The two facts of a session.
 #[derive(Clone, Copy, Debug, PartialEq, Eq)]
 pub(crate) struct Phase {
@@ -43,11 +54,11 @@ pub(crate) fn decide(alloc: Global, phase: Phase, message: Message) -> Result<St
 {
     match message {
         Message::BadJson => {
-            let reply = error(alloc, None, -32700, "parse error")?;
+            let reply = error(alloc, None, PARSE_ERROR, "parse error")?;
             Ok(Step::Tells(phase.tells(alloc, reply)?))
         }
         Message::BadRequest => {
-            let reply = error(alloc, None, -32600, "invalid request")?;
+            let reply = error(alloc, None, INVALID_REQUEST, "invalid request")?;
             Ok(Step::Tells(phase.tells(alloc, reply)?))
         }
         Message::Response => Ok(Step::Tells(phase.keeps_silent(alloc))),
@@ -73,14 +84,14 @@ pub(crate) fn decide(alloc: Global, phase: Phase, message: Message) -> Result<St
 }
 
 impl Phase {
-    // The session is between `initialize` and `shutdown`.
-    pub(crate) fn is_live(self) -> bool
+    // `initialize` was answered with a result, and `shutdown` was not.
+    fn is_live(self) -> bool
         ensures { result ≡ (self.initialized && not self.shut_down) }
     {
         self.initialized && !self.shut_down
     }
 
-    // Nothing is told.
+    /// Nothing is told.
     pub(crate) fn keeps_silent(self, alloc: Global) -> Told
         ensures { result ≡ telling self [] }
     {
@@ -91,7 +102,7 @@ impl Phase {
         }
     }
 
-    // One reply is told.
+    /// One reply is told.
     pub(crate) fn tells(self, alloc: Global, reply: Reply) -> Result<Told, NoMemory>
         ensures { IfOk result (λ told. told ≡ telling self (reply ∷ [])) }
     {
@@ -135,14 +146,19 @@ pub(crate) fn log(alloc: Global, phase: Phase, head: &str, name: &Name) -> Resul
     phase.tells(alloc, Reply::Log(Name::from_text(alloc, line.as_str())?))
 }
 
-// A request is refused: before `initialize` and behind `shutdown` for that, else for its own cause.
+// A request is refused: before `initialize` and after `shutdown` for that, else for its own cause.
 fn refuse(alloc: Global, phase: Phase, id: Id, code: i32, message: &str) -> Result<Told, NoMemory>
     ensures { IfOk result (IsTold (λ s. at_request s id (refuses s (Some id) code message.now)) phase) }
 {
     let reply = if !phase.initialized {
-        error(alloc, Some(id), -32002, "server not initialized")?
+        error(
+            alloc,
+            Some(id),
+            SERVER_NOT_INITIALIZED,
+            "server not initialized",
+        )?
     } else if phase.shut_down {
-        error(alloc, Some(id), -32600, "invalid request")?
+        error(alloc, Some(id), INVALID_REQUEST, "invalid request")?
     } else {
         error(alloc, Some(id), code, message)?
     };
@@ -153,7 +169,7 @@ fn initialize(alloc: Global, phase: Phase, id: Id) -> Result<Told, NoMemory>
     ensures { IfOk result (IsTold (λ s. answer s (message_.Initialize id)) phase) }
 {
     if phase.initialized {
-        let reply = error(alloc, Some(id), -32600, "invalid request")?;
+        let reply = error(alloc, Some(id), INVALID_REQUEST, "invalid request")?;
         return phase.tells(alloc, reply);
     }
     let mut told = phase.tells(alloc, Reply::Done(id, Outcome::Hello))?;
@@ -165,7 +181,7 @@ fn shutdown(alloc: Global, phase: Phase, id: Id) -> Result<Told, NoMemory>
     ensures { IfOk result (IsTold (λ s. answer s (message_.Shutdown id)) phase) }
 {
     if !phase.is_live() {
-        return refuse(alloc, phase, id, -32600, "invalid request");
+        return refuse(alloc, phase, id, INVALID_REQUEST, "invalid request");
     }
     let mut told = phase.tells(alloc, Reply::Done(id, Outcome::Nothing))?;
     told.phase.shut_down = true;
@@ -176,7 +192,7 @@ fn unknown(alloc: Global, phase: Phase, id: Option<Id>, method: &Name) -> Result
     ensures { IfOk result (IsTold (λ s. answer s (message_.Unknown id method.now)) phase) }
 {
     match id {
-        Some(id) => refuse(alloc, phase, id, -32601, "method not found"),
+        Some(id) => refuse(alloc, phase, id, METHOD_NOT_FOUND, "method not found"),
         None => Ok(phase.keeps_silent(alloc)),
     }
 }
@@ -185,7 +201,7 @@ fn bad_params(alloc: Global, phase: Phase, id: Option<Id>, method: &Name) -> Res
     ensures { IfOk result (IsTold (λ s. answer s (message_.BadParams id method.now)) phase) }
 {
     match id {
-        Some(id) => refuse(alloc, phase, id, -32602, "invalid params"),
+        Some(id) => refuse(alloc, phase, id, INVALID_PARAMS, "invalid params"),
         None => {
             if !phase.is_live() {
                 return Ok(phase.keeps_silent(alloc));

@@ -17,23 +17,24 @@ use std::alloc::Global;
 use std::marker::Model;
 use std::sync::ledger::Ledger;
 
-/// When a session builds.
+/// When a session builds the documents that it holds.
 #[derive(Clone, Copy, Debug, PartialEq, Eq)]
 pub enum Mode {
-    /// Behind each message, all that is left to build.
+    /// After each message, to the end, once `initialize` was answered with a result.
     Full,
 }
 
 /// What a body was answered.
 #[derive(Drop)]
 pub struct Handled {
-    /// The bodies of the replies, in their order.
+    /// The bodies of the replies, and of the publications behind them, in their order.
     pub replies: Items<Name>,
     /// Whether the session is over.
     pub ended: Ended,
 }
 
-/// A session of the language server.
+/// A session of the language server, seen as the grammar of its language and its standing: the documents
+/// by address, and whether `initialize` and `shutdown` were answered with a result.
 #[derive(Drop)]
 pub struct Session {
     language: Language,
@@ -62,7 +63,7 @@ impl Model for Session {
 }
 
 impl Session {
-    /// A session of which nothing has come. It takes no memory.
+    /// A session to which nothing has come. It takes no memory.
     pub fn new(alloc: Global, language: Language, mode: Mode) -> Result<Session, NoMemory>
         ensures grammar { IfOk result (λ session. session.grammar ≡ language.grammar) }
         ensures standing { IfOk result (λ session. session.standing ≡ beginning) }
@@ -78,7 +79,16 @@ impl Session {
         })
     }
 
-    /// Answers one body.
+    /// Answers one message body, by the lifecycle of the Language Server Protocol 3.17 and the errors of
+    /// JSON-RPC 2.0, and builds what it leaves to build.
+    ///
+    /// A document that is opened has its diagnostics published, unless they are those that were published
+    /// last of it; positions in them are zero-based, in UTF-16 units. At most one document is held, and a
+    /// text has at most 67,108,864 bytes: what goes beyond is refused by a line for the editor's log. Where
+    /// memory is refused ([`NoMemory`]), the session stays as it was and nothing was replied.
+    ///
+    /// It takes time linear in the length of the body and in that of each diagnostic's place in the text.
+    /// The store is not read, and no step is counted: no message that is known asks for either.
     pub fn handle<F: Store, L: Ledger>(
         &mut self,
         body: &[u8],
@@ -100,7 +110,7 @@ impl Session {
         Ok(Handled { replies, ended })
     }
 
-    // What the message asks for, built.
+    // What the session becomes with the message, and what is told.
     fn next(&self, message: Message) -> Result<Next, NoMemory>
         ensures { IfOk result (IsNext self.now.grammar self.now.standing message) }
     {

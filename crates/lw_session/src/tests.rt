@@ -12,9 +12,11 @@ use std::process::Abort;
 use std::sync::ledger::{Blank, Ledger};
 use std::test::Fail;
 
-const GRAMMAR: &str = "grammar F entry Model: 'model' name=ID; hidden terminal WS: /\\s+/; terminal ID: /[_a-zA-Z][\\w_]*/;";
+const GRAMMAR: &str =
+    "grammar F entry Model: 'model' name=ID; hidden terminal WS: /\\s+/; terminal ID: /[_a-zA-Z][\\w_]*/;";
 
-const HELLO: &str = "{\"id\":1,\"jsonrpc\":\"2.0\",\"result\":{\"capabilities\":{\"completionProvider\":{},\"definitionProvider\":true,\"positionEncoding\":\"utf-16\",\"referencesProvider\":true,\"renameProvider\":true,\"textDocumentSync\":{\"change\":2,\"openClose\":true}},\"serverInfo\":{\"name\":\"langbench\"}}}\n";
+const HELLO: &str =
+    "{\"id\":1,\"jsonrpc\":\"2.0\",\"result\":{\"capabilities\":{\"completionProvider\":{},\"definitionProvider\":true,\"positionEncoding\":\"utf-16\",\"referencesProvider\":true,\"renameProvider\":true,\"textDocumentSync\":{\"change\":2,\"openClose\":true}},\"serverInfo\":{\"name\":\"langbench\"}}}\n";
 
 const INITIALIZE: &str = "{\"jsonrpc\":\"2.0\",\"id\":1,\"method\":\"initialize\",\"params\":{}}";
 
@@ -68,12 +70,16 @@ fn played<L: Ledger>(
     Ok(())
 }
 
+// The same, over a ledger of its own.
+fn play(rt: &impl Abort, alloc: Global, rows: &[(&str, &str, Ended)]) -> Result<(), NoMemory> {
+    played::<Brand>(rt, alloc, Blank::new(1), rows)
+}
+
 #[test]
 fn one_document_is_served(rt: HostRuntime) -> Result<(), Fail> {
-    played::<Brand>(
+    play(
         &rt,
         rt.alloc(),
-        Blank::new(1),
         &[
             (INITIALIZE, HELLO, Ended::No),
             (
@@ -94,10 +100,9 @@ fn one_document_is_served(rt: HostRuntime) -> Result<(), Fail> {
 
 #[test]
 fn the_lifecycle_decides_first(rt: HostRuntime) -> Result<(), Fail> {
-    played::<Brand>(
+    play(
         &rt,
         rt.alloc(),
-        Blank::new(1),
         &[
             (
                 "{",
@@ -145,7 +150,11 @@ fn the_lifecycle_decides_first(rt: HostRuntime) -> Result<(), Fail> {
                 "",
                 Ended::No,
             ),
-            ("{\"jsonrpc\":\"2.0\",\"id\":7,\"result\":null}", "", Ended::No),
+            (
+                "{\"jsonrpc\":\"2.0\",\"id\":7,\"result\":null}",
+                "",
+                Ended::No,
+            ),
             (
                 "{\"jsonrpc\":\"2.0\",\"method\":\"textDocument/didOpen\",\"params\":{\"textDocument\":{\"uri\":\"u\",\"version\":\"1\",\"text\":\"\"}}}",
                 "{\"jsonrpc\":\"2.0\",\"method\":\"window/logMessage\",\"params\":{\"message\":\"bad params: textDocument/didOpen\",\"type\":1}}\n",
@@ -179,10 +188,9 @@ fn the_lifecycle_decides_first(rt: HostRuntime) -> Result<(), Fail> {
 
 #[test]
 fn lists_are_told_where_they_differ(rt: HostRuntime) -> Result<(), Fail> {
-    played::<Brand>(
+    play(
         &rt,
         rt.alloc(),
-        Blank::new(1),
         &[
             (INITIALIZE, HELLO, Ended::No),
             (

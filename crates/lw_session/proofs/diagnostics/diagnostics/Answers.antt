@@ -1,4 +1,4 @@
-use Rattle.std.proofs.Common.{◌≡◌, subst}
+use Rattle.std.proofs.Common.{subst}
 use Rattle.lw_reading.specs.Reading.{Reads}
 use Rattle.lw_scopes.specs.Diagnostics as list
 use Rattle.lw_session.proofs.diagnostics.diagnostics.Goals as goal

@@ -17,7 +17,7 @@ returns-in_ok-message-in-Lexical c =
 pub returns-in_ok-message-in-Syntax-2 : goal.returns-in_ok-message-in-Syntax-2
 returns-in_ok-message-in-Syntax-2 c =
     let says : c.in_ok-message-in-Syntax-2.message ≡ fault.unexpected c.kind_text-kind.result.now =
-        c.in_ok-message-in-Syntax-2.ensures ∙ c.as_str.ensures.value ∙ c.in_ok-message-in-Syntax.ensures.ok in
+    c.in_ok-message-in-Syntax-2.ensures ∙ c.as_str.ensures.value ∙ c.in_ok-message-in-Syntax.ensures.ok in
     rw c.in-Syntax.is
     (fault.syntax_ c.kind_text-kind.result.now (c.args.language.now.texts, c.kind_text-kind.ensures.all, c.kind_text-kind.ensures.text)
     (shown_as _ _ _ _ _ _ _ _ c.text-text.ensures.text says c.shown_at-in-Syntax.ensures))

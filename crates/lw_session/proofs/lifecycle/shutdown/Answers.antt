@@ -17,5 +17,5 @@ pub returns-then-not-is_live : goal.returns-then-not-is_live
 returns-then-not-is_live c =
     IfOk-weaker c.refuse.result _ _
     (λ told is documents.
-      not_live documents c.args.phase.initialized c.args.phase.shut_down c.args.id _ _ (sym c.is_live.ensures ∙ c.if-not-is_live.true) ∙ is documents)
+    not_live documents c.args.phase.initialized c.args.phase.shut_down c.args.id _ _ (sym c.is_live.ensures ∙ c.if-not-is_live.true) ∙ is documents)
     c.refuse.ensures

@@ -1,4 +1,4 @@
-use Rattle.std.proofs.Common.{◌≡◌, ◌<◌, ◌≤◌, length, arith, refl, sym, true≢false, ap, ◌∙◌}
+use Rattle.std.proofs.Common.{◌<◌, ◌≤◌, length, arith, refl, sym, true≢false, ap, ◌∙◌}
 use Rattle.lw_machine.specs.Answers.{longest_text}
 use Rattle.lw_session.specs.Keeping.{documents_of}
 use Rattle.lw_session.specs.Lifecycle.{answer_of, opens}

@@ -14,10 +14,11 @@ returns c =
     let version = c.args.held.now.opened.version in
     let tells : IfOk c.tells.result (λ told. told ≡ telling c.args.phase (Publish c.in_ok-address.address (Some version) c.in_ok-list.list ∷ [])) = search rules in
     IfOk-weaker c.tells.result _ _
-    (λ told is.
-      ( Publish c.args.held.now.opened.address (Some version) c.args.held.now.list ∷ []
-      , building.other (λ same. true≢false (sym (c.if-has_published.ensures.1 (same ∙ ap Some (sym c.as_slice.ensures)))))
-      , is
-        ∙ ap₂ (λ (address : List ℕ) (list : List Shown). telling c.args.phase (Publish address (Some version) list ∷ [])) c.in_ok-address.ensures
-          (c.in_ok-list.ensures ∙ c.as_slice-2.ensures) ))
+    (λ told is. (
+      Publish c.args.held.now.opened.address (Some version) c.args.held.now.list ∷ [],
+      building.other (λ same. true≢false (sym (c.if-has_published.ensures.1 (same ∙ ap Some (sym c.as_slice.ensures))))),
+      is
+          ∙ ap₂ (λ (address : List ℕ) (list : List Shown). telling c.args.phase (Publish address (Some version) list ∷ [])) c.in_ok-address.ensures
+          (c.in_ok-list.ensures ∙ c.as_slice-2.ensures),
+    ))
     tells

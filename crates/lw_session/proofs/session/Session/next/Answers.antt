@@ -1,4 +1,4 @@
-use Rattle.std.proofs.Common.{◌≡◌, subst}
+use Rattle.std.proofs.Common.{subst}
 use Rattle.lw_session.specs.Keeping.{documents_of}
 use Rattle.lw_session.specs.Lifecycle.{IsStep}
 use Rattle.lw_session.proofs.Handling as handling
