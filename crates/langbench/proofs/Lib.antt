@@ -7,3 +7,4 @@ pub mod Talks
 pub mod Turns
 pub mod Served
 pub mod Done
+pub mod Conversing

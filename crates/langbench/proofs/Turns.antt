@@ -4,6 +4,7 @@ use Rattle.std.proofs.lemmas.List.{take-append-le}
 use Rattle.std.specs.Io.KnownBytes.{Appends, Consumes, IsAtEnd, Keeps}
 use Rattle.std.proofs.KnownBytes.{Appends-nil, Appends-trans, Appends-kept, Consumes-nil, Consumes-trans, Consumes-kept}
 use Rattle.lw_grammar.specs.declared.grammar.Grammar.{Grammar}
+use Rattle.lw_io.specs.Whole.{WritesFront}
 use Rattle.lw_frame.specs.Frames.{bodies_of, fault_of, rest_of}
 use Rattle.lw_frame.specs.Stream.{Stream, start, with_piece, at_end, answer, next_body, next_answer, handed, after_next}
 use Rattle.lw_frame.specs.declared.fault.FrameFault.{FrameFault}
@@ -38,9 +39,18 @@ pub WritesPart-behind : (old mid new : Option (List ℕ)) (xs ys : List ℕ) →
 WritesPart-behind old mid new xs ys written part =
     (length xs + part.0, omega (arith, part.1, length-append xs ys), subst (Appends old new) (sym (take_behind xs ys part.0)) (Appends-trans old mid new xs (take part.0 ys) written part.2))
 
+-- all of one and nothing of the next
+pub WritesPart-front : (old new : Option (List ℕ)) (xs ys : List ℕ) → Appends old new xs → WritesPart old new (xs ++ ys)
+WritesPart-front old new xs ys written = WritesPart-behind old new new xs ys written (0, omega arith, Appends-nil new)
+
+-- a part of the first of two
+pub part_in_front : (old new : Option (List ℕ)) (xs ys : List ℕ) → WritesFront old new xs → WritesPart old new (xs ++ ys)
+part_in_front old new xs ys front =
+    (front.0, omega (arith, front.1, length-append xs ys), subst (Appends old new) (sym (take-append-le front.0 xs ys (omega (arith, front.1)))) front.2)
+
 -- ---- what a reader hands out
 
-none_behind : (bodies : List (List ℕ)) (n : ℕ) → n ≡ length bodies → slice_get bodies n ≡ None
+pub none_behind : (bodies : List (List ℕ)) (n : ℕ) → n ≡ length bodies → slice_get bodies n ≡ None
 none_behind [] n is = refl
 none_behind (b ∷ bodies) n is =
     let same : n ≡ suc (length bodies) = omega (arith, is) in

@@ -13,6 +13,8 @@ use Rattle.lw_machine.specs.declared.ended.Ended.{Ended}
 use Rattle.lw_machine.specs.declared.ended.Ended.TheVariants.{No}
 use Rattle.lw_rpc.specs.Messages.{message_of}
 use Rattle.lw_rpc.specs.declared.reply.Reply.{Reply}
+use Rattle.langbench.specs.declared.report.Verdict.{Verdict}
+use Rattle.langbench.specs.declared.report.Verdict.TheVariants.{Whole, Broken}
 use Rattle.langbench.specs.declared.stop.Stop.{Stop}
 use Rattle.langbench.specs.declared.stop.Stop.TheVariants as stop
 use Rattle.langbench.specs.Serving.{WritesPart}
@@ -61,3 +63,10 @@ module _ (g : plain.Grammar) (s : Standing) (old new : Option (List ℕ)) where
   AnswersNext (Ok (Some body)) t (Err _) = ⊥
   AnswersNext (Ok None) t outcome = (outcome ≡ Ok No) × (t ≡ s) × Keeps old new
   AnswersNext (Err found) t outcome = (outcome ≡ Err (stop.Frames found)) × (t ≡ s) × Keeps old new
+
+-- how bytes that are over end: between two messages, or inside one
+abbrev pub RunsOut : List ℕ → Result Verdict Stop → Type 0
+RunsOut fed (Ok Broken) = fault_of fed true ≡ None
+RunsOut fed (Ok Whole) = ⊥
+RunsOut fed (Err (stop.Frames found)) = fault_of fed true ≡ Some found
+RunsOut fed (Err _) = ⊥

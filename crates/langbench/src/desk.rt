@@ -1,4 +1,6 @@
 // What a run leaves behind.
+ghost use Rattle.std.specs.Prelude.{◌≡◌};
+
 use lw_session::Session;
 
 /// What a run leaves: nothing, or its session.
@@ -8,4 +10,13 @@ pub enum Desk {
     Empty,
     /// The session of `serve`, as its last message left it.
     Serving(Session),
+}
+
+impl Desk {
+    /// Leaves a session.
+    pub(crate) fn leave(&mut self, session: Session)
+        ensures { self.new ≡ Desk.Serving session }
+    {
+        *self = Desk::Serving(session);
+    }
 }

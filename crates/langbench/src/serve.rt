@@ -2,12 +2,12 @@
 ghost use Rattle.std.specs.Prelude.{◌≡◌, ◌+◌, ◌<◌, ◌≤◌, ◌^◌, ◌⊎◌, IfOk, IfErr, IfSome, OnOk, OnErr, Err, None, false, length};
 ghost use Rattle.std.specs.Io.KnownBytes.{Appends};
 ghost use Rattle.lw_frame.specs.Frames.{bodies_of, fault_of};
-ghost use Rattle.lw_frame.specs.Stream.{after_next, next_answer};
+ghost use Rattle.lw_frame.specs.Stream.{after_next, next_answer, next_body};
 ghost use Rattle.lw_frame.specs.Wanted.{StaysWithin};
 ghost use Rattle.lw_machine.specs.Answers.{beginning};
 ghost use Rattle.langbench.specs.Serving.{Conversed, ServeWorks, WritesPart};
 ghost use Rattle.langbench.specs.Stops.{HasCause, SourceCounts, OutCounts, StoreCounts, PatternCounts};
-ghost use Rattle.langbench.specs.Talking.{AnswersNext, LosesPiece, Responds, RespondsPartly, TakesPiece, in_frames};
+ghost use Rattle.langbench.specs.Talking.{AnswersNext, LosesPiece, Responds, RespondsPartly, RunsOut, TakesPiece, in_frames};
 
 use crate::desk::Desk;
 use crate::report::Verdict;
@@ -46,7 +46,7 @@ pub(crate) fn serve<S: Source, K: Sink, F: Store, P: Patterns, L: Ledger>(
     let language = compile(alloc, path, 2, store, patterns)?;
     let mut session = Session::new(alloc, language, Mode::Full)?;
     let outcome = converse(alloc, &mut session, source, out, store, steps);
-    *desk = Desk::Serving(session);
+    desk.leave(session);
     outcome
 }
 
@@ -69,15 +69,16 @@ fn converse<S: Source, K: Sink, F: Store, L: Ledger>(
     let mut reader = FrameReader::new(alloc);
     let mut taken = 0;
     'taking: while taken < MOST_TAKEN {
-        let count = take_piece(source, &mut reader, MOST_TAKEN - taken)?;
-        if count == 0 {
-            return run_out(&mut reader);
+        match take_piece(source, &mut reader, MOST_TAKEN - taken) {
+            Ok(0) => return run_out(&mut reader),
+            Ok(count) => taken += count as u64,
+            Err(stop) => return Err(stop),
         }
-        taken += count as u64;
-        match answer_next(alloc, session, &mut reader, out, store, steps)? {
-            Ended::No => {}
-            Ended::Clean => return Ok(Verdict::Whole),
-            Ended::Early => return Ok(Verdict::Broken),
+        match answer_next(alloc, session, &mut reader, out, store, steps) {
+            Ok(Ended::No) => {}
+            Ok(Ended::Clean) => return Ok(Verdict::Whole),
+            Ok(Ended::Early) => return Ok(Verdict::Broken),
+            Err(stop) => return Err(stop),
         }
     }
     Err(Stop::Limit)
@@ -126,6 +127,8 @@ fn take_into<S: Source>(
 
 // How a session ends whose bytes are over: between two messages, or inside one.
 fn run_out(reader: &mut FrameReader) -> Result<Verdict, Stop>
+    requires { next_body reader.old.stream ≡ None }
+    ensures { RunsOut reader.old.stream.fed result }
 {
     reader.close();
     match reader.next() {

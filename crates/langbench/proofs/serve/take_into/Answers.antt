@@ -26,12 +26,12 @@ module _ (n : ℕ) (buffer : List ℕ) (within : n ≤ length buffer) (before no
 pub returns-in-Err-clause-fault : goal.returns-in-Err-clause-fault
 returns-in-Err-clause-fault g c =
     let got = c.in-Got.ensures.bytes in
-    lost c.in-Got.count c.read.new.buf got.1 _ _ c.args.reader.now.stream (length c.args.buffer.now) ? got.2 c.requires.within
+    lost c.in-Got.count c.read.new.buf got.1 _ _ c.args.reader.now.stream (length c.args.buffer.now) c.read.auto.buf got.2 c.requires.within
 
 pub returns-in-Ok-clause-taken : goal.returns-in-Ok-clause-taken
 returns-in-Ok-clause-taken g c =
     let got = c.in-Got.ensures.bytes in
-    took c.in-Got.count c.read.new.buf got.1 _ _ c.args.reader.now.stream (length c.args.buffer.now) ? got.2 c.requires.within _ got.0 c.in-Ok.ensures.ok
+    took c.in-Got.count c.read.new.buf got.1 _ _ c.args.reader.now.stream (length c.args.buffer.now) c.read.auto.buf got.2 c.requires.within _ got.0 c.in-Ok.ensures.ok
 
 pub returns-in-End-clause-taken : goal.returns-in-End-clause-taken
 returns-in-End-clause-taken g c = talking.at_end c.in-End.ensures.bytes.1 c.in-End.ensures.bytes.2

@@ -1,0 +1,149 @@
+-- What the parts of a session come to.
+use Rattle.std.proofs.Common.{◌≡◌, ◌≢◌, ◌⊎◌, inl, inr, ℕ, ◌+◌, ◌<◌, List, [], ◌∷◌, ◌++◌, length, take, drop, map, true, false, Option, Some, None, Result, Ok, Err, get_or, suc, refl, sym, ap, subst, ◌∙◌, append_assoc, append-nil, arith, length-append}
+use Rattle.std.specs.Io.KnownBytes.{Appends, Consumes, IsAtEnd, Keeps}
+use Rattle.std.proofs.KnownBytes.{Appends-trans}
+use Rattle.std.proofs.Math.Seq.{take-append-drop, take-suc, drop-cons}
+use Rattle.lw_grammar.specs.declared.grammar.Grammar.{Grammar}
+use Rattle.lw_frame.specs.Frames.{bodies_of, fault_of, frame_of}
+use Rattle.lw_frame.specs.Stream.{Stream, with_piece, next_body, next_answer, handed, after_next}
+use Rattle.lw_frame.specs.Wanted.{IsWithin}
+use Rattle.lw_frame.specs.declared.fault.FrameFault.{FrameFault}
+use Rattle.lw_io.specs.Whole.{WritesFront}
+use Rattle.lw_machine.specs.Answers.{Standing}
+use Rattle.lw_machine.specs.Sessions.{Handles, HandlesBody, framed}
+use Rattle.lw_machine.specs.declared.ended.Ended.{Ended}
+use Rattle.lw_machine.specs.declared.ended.Ended.TheVariants.{No, Clean, Early}
+use Rattle.lw_rpc.specs.Replies.{reply_bytes}
+use Rattle.langbench.specs.declared.report.Verdict.{Verdict}
+use Rattle.langbench.specs.declared.report.Verdict.TheVariants.{Whole, Broken}
+use Rattle.langbench.specs.declared.stop.Stop.{Stop}
+use Rattle.langbench.specs.declared.stop.Stop.TheVariants as stop
+use Rattle.langbench.specs.Serving.{WritesPart, Conversed, TalkedSome, most_taken}
+use Rattle.langbench.specs.Talking as talking
+use Rattle.langbench.specs.Talking.{IsUnderway, TakesPiece, LosesPiece, Responds, RespondsPartly, AnswersNext, RunsOut, in_frames}
+use Rattle.langbench.proofs.Talks.{in_frames-map}
+use Rattle.langbench.proofs.Turns.{WritesPart-behind, WritesPart-front, part_in_front, AfterTurn, none_behind, cut_off, lost_piece, ran_out, broke_off, turn}
+
+-- ---- what was taken
+
+-- nothing, since the source is at its end
+pub at_end_of : (n : ℕ) (now after : Option (List ℕ)) (s t : Stream) → n ≡ 0 → TakesPiece now after s t n → (t ≡ s) × IsAtEnd after × Keeps now after
+at_end_of n now after s t none (talking.at_end ended keeps) = (refl, ended, keeps)
+at_end_of n now after s t none (talking.piece bytes some consumed within) = absurd (omega (arith, none, some))
+
+-- a piece
+pub piece_of : (n : ℕ) (now after : Option (List ℕ)) (s t : Stream) → n ≢ 0 → TakesPiece now after s t n →
+    (bytes : List ℕ) × (t ≡ with_piece s bytes) × (n ≡ length bytes) × Consumes now after bytes × IsWithin s.fed bytes
+piece_of n now after s t some (talking.at_end ended keeps) = absurd (some refl)
+piece_of n now after s t some (talking.piece bytes more consumed within) = (bytes, refl, refl, consumed, within)
+
+same_fed : (o : Option (List ℕ)) (s : Stream) → (handed o s).fed ≡ s.fed
+same_fed None s = refl
+same_fed (Some body) s = refl
+
+module _ (g : Grammar) (before now after old mid : Option (List ℕ)) (s : Stream) (standing : Standing) (way : IsUnderway g before now old mid s standing) where
+  -- a read failed, or memory was refused behind it
+  pub lost : (found : Stop) → length s.fed < most_taken → LosesPiece now after s found → Conversed g before after old mid (Err found)
+  lost _ short (talking.unread keeps) = cut_off g before now old mid s standing way after keeps short
+  lost _ short (talking.lost bytes consumed within) = lost_piece g before now old mid s standing way after bytes consumed within
+
+  -- the bytes are over
+  pub over : (t : Stream) (n : ℕ) (r : Result Verdict Stop) → n ≡ 0 → TakesPiece now after s t n → RunsOut t.fed r → Conversed g before after old mid r
+  over t n r none took ends = by r (subst (λ st. RunsOut st.fed r) is.0 ends)
+    where
+      is : (t ≡ s) × IsAtEnd after × Keeps now after
+      is = at_end_of n now after s t none took
+
+      by : (r : Result Verdict Stop) → RunsOut s.fed r → Conversed g before after old mid r
+      by (Ok Whole) ends = absurd ends
+      by (Ok Broken) ends = inr (ran_out g before now old mid s standing way after is.1 is.2 ends)
+      by (Err (stop.Frames found)) ends = broke_off g before now old mid s standing way after is.1 is.2 found ends
+      by (Err stop.Words) ends = absurd ends
+      by (Err (stop.Grammar found)) ends = absurd ends
+      by (Err stop.Read) ends = absurd ends
+      by (Err stop.Write) ends = absurd ends
+      by (Err stop.Memory) ends = absurd ends
+      by (Err stop.Limit) ends = absurd ends
+
+  -- nothing is left to hand out there
+  pub no_next : (t : Stream) (n : ℕ) → n ≡ 0 → TakesPiece now after s t n → next_body t ≡ None
+  no_next t n none took =
+      let is = at_end_of n now after s t none took in
+      ap next_body is.0 ∙ none_behind (bodies_of s.fed) s.given way.all_given
+
+  -- a turn, and how many bytes it took
+  module _ (new : Option (List ℕ)) (u : Stream) (n : ℕ) (some : n ≢ 0) (took : TakesPiece now after s u n) (next : Stream) (next_is : next ≡ after_next u) (t : Standing) (outcome : Result Ended Stop)
+      (answers : AnswersNext g standing mid new (next_answer u) t outcome) where
+    pub turned : AfterTurn g before after old new next t outcome
+    turned =
+        let is = piece_of n now after s u some took in
+        let at = subst (λ st. AnswersNext g standing mid new (next_answer st) t outcome) is.1 answers in
+        subst (λ st. AfterTurn g before after old new st t outcome) (ap after_next (sym is.1) ∙ sym next_is)
+        (turn g before now after old mid new s standing way is.0 is.3 t is.4 outcome at)
+
+    pub taken_more : length next.fed ≡ length s.fed + n
+    taken_more =
+        let is = piece_of n now after s u some took in
+        let fed : next.fed ≡ s.fed ++ is.0 = ap (λ st. st.fed) next_is ∙ same_fed (next_body u) u ∙ ap (λ st. st.fed) is.1 in
+        omega (arith, ap length fed, length-append s.fed is.0, is.2)
+
+-- a turn that stops the session
+pub after_stop : (g : Grammar) (before after old new : Option (List ℕ)) (s : Stream) (t : Standing) (found : Stop) → AfterTurn g before after old new s t (Err found) → Conversed g before after old new (Err found)
+after_stop g before after old new s t stop.Write some = some
+after_stop g before after old new s t stop.Memory some = some
+after_stop g before after old new s t (stop.Frames found) wrong = wrong
+after_stop g before after old new s t stop.Words none = absurd none
+after_stop g before after old new s t (stop.Grammar found) none = absurd none
+after_stop g before after old new s t stop.Read none = absurd none
+after_stop g before after old new s t stop.Limit none = absurd none
+
+-- ---- what was written of the replies
+
+-- the list at a place
+next_place : (i : ℕ) → i + 1 ≡ suc i
+next_place i = omega arith
+
+take_here : (xs : List (List ℕ)) (i : ℕ) (x : List ℕ) → i < length xs → x ≡ get_or xs i x → take (i + 1) xs ≡ take i xs ++ x ∷ []
+take_here xs i x inside at = ap (λ k. take k xs) (next_place i) ∙ take-suc xs i x inside ∙ ap (λ y. take i xs ++ y ∷ []) (sym at)
+
+drop_here : (xs : List (List ℕ)) (i : ℕ) (x : List ℕ) → i < length xs → x ≡ get_or xs i x → drop i xs ≡ x ∷ drop (i + 1) xs
+drop_here xs i x inside at = drop-cons xs i x inside ∙ ap (λ y. y ∷ drop (suc i) xs) (sym at) ∙ ap (λ k. x ∷ drop k xs) (sym (next_place i))
+
+in_frames-append : (xs ys : List (List ℕ)) → in_frames (xs ++ ys) ≡ in_frames xs ++ in_frames ys
+in_frames-append [] ys = refl
+in_frames-append (x ∷ xs) ys = ap (λ bytes. frame_of x ++ bytes) (in_frames-append xs ys) ∙ sym (append_assoc (frame_of x) (in_frames xs) (in_frames ys))
+
+module _ (old mid : Option (List ℕ)) (replies : List (List ℕ)) (i : ℕ) (written : Appends old mid (in_frames (take i replies))) where
+  whole : in_frames replies ≡ in_frames (take i replies) ++ in_frames (drop i replies)
+  whole = ap in_frames (sym (take-append-drop i replies)) ∙ in_frames-append (take i replies) (drop i replies)
+
+  -- so far
+  pub part_so_far : WritesPart old mid (in_frames replies)
+  part_so_far = subst (WritesPart old mid) (sym whole) (WritesPart-front old mid (in_frames (take i replies)) (in_frames (drop i replies)) written)
+
+  -- and a front of the next one
+  pub part_of_next : (new : Option (List ℕ)) (reply bytes : List ℕ) → i < length replies → reply ≡ get_or replies i reply → bytes ≡ frame_of reply → WritesFront mid new bytes → WritesPart old new (in_frames replies)
+  part_of_next new reply bytes inside at is front =
+      subst (WritesPart old new) (sym whole)
+      (WritesPart-behind old mid new (in_frames (take i replies)) (in_frames (drop i replies)) written
+      (subst (WritesPart mid new) (sym (ap in_frames (drop_here replies i reply inside at)))
+      (part_in_front mid new (frame_of reply) (in_frames (drop (i + 1) replies)) (subst (WritesFront mid new) is front))))
+
+  -- and the next one
+  pub one_more : (new : Option (List ℕ)) (reply bytes : List ℕ) → i < length replies → reply ≡ get_or replies i reply → bytes ≡ frame_of reply → Appends mid new bytes → Appends old new (in_frames (take (i + 1) replies))
+  one_more new reply bytes inside at is front =
+      let more : in_frames (take (i + 1) replies) ≡ in_frames (take i replies) ++ bytes =
+      ap in_frames (take_here replies i reply inside at) ∙ in_frames-append (take i replies) (reply ∷ []) ∙ ap (λ b. in_frames (take i replies) ++ b) (append-nil (frame_of reply) ∙ sym is) in
+      subst (Appends old new) (sym more) (Appends-trans old mid new (in_frames (take i replies)) bytes written front)
+
+-- ---- a body
+
+module _ (g : Grammar) (s t : Standing) (body : List ℕ) (texts : List (List ℕ)) (ended : Ended) (handles : HandlesBody g s body t texts ended) (old new : Option (List ℕ)) where
+  same_bytes : in_frames texts ≡ framed handles.replies
+  same_bytes = ap in_frames handles.told ∙ in_frames-map handles.replies
+
+  pub responds : Appends old new (in_frames texts) → Responds g s old new body t ended
+  responds written = record { replies = handles.replies; handles = handles.handles; written = subst (Appends old new) same_bytes written }
+
+  pub responds_partly : WritesPart old new (in_frames texts) → RespondsPartly g s old new body
+  responds_partly part = talking.part handles.handles (subst (WritesPart old new) same_bytes part)
