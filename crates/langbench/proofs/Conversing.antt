@@ -1,8 +1,9 @@
 -- What the parts of a session come to.
-use Rattle.std.proofs.Common.{◌≡◌, ◌≢◌, ◌⊎◌, inl, inr, ℕ, ◌+◌, ◌<◌, List, [], ◌∷◌, ◌++◌, length, take, drop, map, true, false, Option, Some, None, Result, Ok, Err, get_or, suc, refl, sym, ap, subst, ◌∙◌, append_assoc, append-nil, arith, length-append}
+use Rattle.std.proofs.Common.{◌≡◌, ◌≢◌, ◌⊎◌, inl, inr, ℕ, ◌+◌, ◌<◌, List, [], ◌∷◌, ◌++◌, length, take, drop, map, true, false, Option, Some, None, Result, Ok, Err, OnErr, IfSome, get_or, suc, refl, sym, ap, subst, ◌∙◌, append_assoc, append-nil, arith, length-append}
 use Rattle.std.specs.Io.KnownBytes.{Appends, Consumes, IsAtEnd, Keeps}
 use Rattle.std.proofs.KnownBytes.{Appends-trans}
-use Rattle.std.proofs.Math.Seq.{take-append-drop, take-suc, drop-cons}
+use Rattle.std.proofs.lemmas.List.{take-append-drop}
+use Rattle.std.proofs.Math.Seq.{take-suc, drop-cons}
 use Rattle.lw_grammar.specs.declared.grammar.Grammar.{Grammar}
 use Rattle.lw_frame.specs.Frames.{bodies_of, fault_of, frame_of}
 use Rattle.lw_frame.specs.Stream.{Stream, with_piece, next_body, next_answer, handed, after_next}
@@ -18,7 +19,10 @@ use Rattle.langbench.specs.declared.report.Verdict.{Verdict}
 use Rattle.langbench.specs.declared.report.Verdict.TheVariants.{Whole, Broken}
 use Rattle.langbench.specs.declared.stop.Stop.{Stop}
 use Rattle.langbench.specs.declared.stop.Stop.TheVariants as stop
-use Rattle.langbench.specs.Serving.{WritesPart, Conversed, TalkedSome, most_taken}
+use Rattle.lw_lang.specs.Compiled.{HoldsGrammar, IsClear}
+use Rattle.langbench.specs.Run.{Files}
+use Rattle.langbench.specs.Stops.{HasCause, OutCounts, PatternCounts, SourceCounts, StoreCounts}
+use Rattle.langbench.specs.Serving.{WritesPart, Conversed, ServeWorks, most_taken}
 use Rattle.langbench.specs.Talking as talking
 use Rattle.langbench.specs.Talking.{IsUnderway, TakesPiece, LosesPiece, Responds, RespondsPartly, AnswersNext, RunsOut, in_frames}
 use Rattle.langbench.proofs.Talks.{in_frames-map}
@@ -73,11 +77,11 @@ module _ (g : Grammar) (before now after old mid : Option (List ℕ)) (s : Strea
 
   -- a turn, and how many bytes it took
   module _ (new : Option (List ℕ)) (u : Stream) (n : ℕ) (some : n ≢ 0) (took : TakesPiece now after s u n) (next : Stream) (next_is : next ≡ after_next u) (t : Standing) (outcome : Result Ended Stop)
-      (answers : AnswersNext g standing mid new (next_answer u) t outcome) where
+      (h : Grammar) (same : h ≡ g) (answers : AnswersNext h standing mid new (next_answer u) t outcome) where
     pub turned : AfterTurn g before after old new next t outcome
     turned =
         let is = piece_of n now after s u some took in
-        let at = subst (λ st. AnswersNext g standing mid new (next_answer st) t outcome) is.1 answers in
+        let at = subst (λ st. AnswersNext g standing mid new (next_answer st) t outcome) is.1 (subst (λ k. AnswersNext k standing mid new (next_answer u) t outcome) same answers) in
         subst (λ st. AfterTurn g before after old new st t outcome) (ap after_next (sym is.1) ∙ sym next_is)
         (turn g before now after old mid new s standing way is.0 is.3 t is.4 outcome at)
 
@@ -96,6 +100,21 @@ after_stop g before after old new s t stop.Words none = absurd none
 after_stop g before after old new s t (stop.Grammar found) none = absurd none
 after_stop g before after old new s t stop.Read none = absurd none
 after_stop g before after old new s t stop.Limit none = absurd none
+
+-- the sink has not failed where nothing was answered
+pub out_of_loss : (now after : Option (List ℕ)) (s : Stream) (found : Stop) → LosesPiece now after s found → (before count : ℕ) → count ≡ before → OutCounts {T = Verdict} before count (Err found)
+out_of_loss now after s _ (talking.unread keeps) before count is = is
+out_of_loss now after s _ (talking.lost bytes consumed within) before count is = is
+
+-- the source has not failed behind a read
+pub source_of_stop : (g : Grammar) (before after old new : Option (List ℕ)) (s : Stream) (t : Standing) (found : Stop) → AfterTurn g before after old new s t (Err found) → (a b : ℕ) → b ≡ a → SourceCounts {T = Verdict} a b (Err found)
+source_of_stop g before after old new s t stop.Write some a b is = is
+source_of_stop g before after old new s t stop.Memory some a b is = is
+source_of_stop g before after old new s t (stop.Frames found) wrong a b is = is
+source_of_stop g before after old new s t stop.Words none a b is = absurd none
+source_of_stop g before after old new s t (stop.Grammar found) none a b is = absurd none
+source_of_stop g before after old new s t stop.Read none a b is = absurd none
+source_of_stop g before after old new s t stop.Limit none a b is = absurd none
 
 -- ---- what was written of the replies
 
@@ -136,6 +155,11 @@ module _ (old mid : Option (List ℕ)) (replies : List (List ℕ)) (i : ℕ) (wr
       ap in_frames (take_here replies i reply inside at) ∙ in_frames-append (take i replies) (reply ∷ []) ∙ ap (λ b. in_frames (take i replies) ++ b) (append-nil (frame_of reply) ∙ sym is) in
       subst (Appends old new) (sym more) (Appends-trans old mid new (in_frames (take i replies)) bytes written front)
 
+-- what holds anyway holds of an error
+pub on_err_of : {S E : Type 0} (r : Result S E) (P : Type 0) → P → OnErr r P
+on_err_of (Ok x) P p = tt
+on_err_of (Err e) P p = p
+
 -- ---- a body
 
 module _ (g : Grammar) (s t : Standing) (body : List ℕ) (texts : List (List ℕ)) (ended : Ended) (handles : HandlesBody g s body t texts ended) (old new : Option (List ℕ)) where
@@ -147,3 +171,68 @@ module _ (g : Grammar) (s t : Standing) (body : List ℕ) (texts : List (List �
 
   pub responds_partly : WritesPart old new (in_frames texts) → RespondsPartly g s old new body
   responds_partly part = talking.part handles.handles (subst (WritesPart old new) same_bytes part)
+
+-- ---- a session by the grammar of a file
+
+-- what a session of this grammar came to is what the work answered
+pub works_by : (files : Files) (path : List ℕ) (refused before after old new : Option (List ℕ)) (g : Grammar) → HoldsGrammar files path g → IsClear g → (r : Result Verdict Stop) →
+    Conversed g before after old new r → ServeWorks files path refused before after old new r
+works_by files path refused before after old new g holds clear (Ok Whole) fact = record { grammar = g; holds = holds; clear = clear; fact = fact }
+works_by files path refused before after old new g holds clear (Ok Broken) fact = record { grammar = g; holds = holds; clear = clear; fact = fact }
+works_by files path refused before after old new g holds clear (Err stop.Words) fact = absurd fact
+works_by files path refused before after old new g holds clear (Err (stop.Grammar found)) fact = absurd fact
+works_by files path refused before after old new g holds clear (Err stop.Read) fact = record { grammar = g; holds = holds; clear = clear; fact = fact }
+works_by files path refused before after old new g holds clear (Err stop.Write) fact = record { grammar = g; holds = holds; clear = clear; fact = fact }
+works_by files path refused before after old new g holds clear (Err stop.Memory) fact = inr (record { grammar = g; holds = holds; clear = clear; fact = fact })
+works_by files path refused before after old new g holds clear (Err (stop.Frames found)) fact = record { grammar = g; holds = holds; clear = clear; fact = fact }
+works_by files path refused before after old new g holds clear (Err stop.Limit) fact = record { grammar = g; holds = holds; clear = clear; fact = fact }
+
+-- the same, where the store tells
+pub works_told : (told : Option Files) (path : List ℕ) (refused before after old new : Option (List ℕ)) (g h : Grammar) → IfSome told (λ files. HoldsGrammar files path g) → IsClear g → (r : Result Verdict Stop) →
+    h ≡ g → Conversed h before after old new r → IfSome told (λ files. ServeWorks files path refused before after old new r)
+works_told None path refused before after old new g h holds clear r same fact = tt
+works_told (Some files) path refused before after old new g h holds clear r same fact =
+    works_by files path refused before after old new g holds clear r (subst (λ k. Conversed k before after old new r) same fact)
+
+-- a session has no fault of the grammar, and is begun by words
+pub no_cause_of : (g : Grammar) (before after old new : Option (List ℕ)) (files : Files) (path : List ℕ) (refused : Option (List ℕ)) (r : Result Verdict Stop) → Conversed g before after old new r → HasCause files path refused r
+no_cause_of g before after old new files path refused (Ok Whole) fact = tt
+no_cause_of g before after old new files path refused (Ok Broken) fact = tt
+no_cause_of g before after old new files path refused (Err stop.Words) fact = absurd fact
+no_cause_of g before after old new files path refused (Err (stop.Grammar found)) fact = absurd fact
+no_cause_of g before after old new files path refused (Err stop.Read) fact = tt
+no_cause_of g before after old new files path refused (Err stop.Write) fact = tt
+no_cause_of g before after old new files path refused (Err stop.Memory) fact = tt
+no_cause_of g before after old new files path refused (Err (stop.Frames found)) fact = tt
+no_cause_of g before after old new files path refused (Err stop.Limit) fact = tt
+
+pub cause_told : (told : Option Files) (g : Grammar) (before after old new : Option (List ℕ)) (path : List ℕ) (refused : Option (List ℕ)) (r : Result Verdict Stop) → Conversed g before after old new r →
+    IfSome told (λ files. HasCause files path refused r)
+cause_told None g before after old new path refused r fact = tt
+cause_told (Some files) g before after old new path refused r fact = no_cause_of g before after old new files path refused r fact
+
+pub not_words : (g : Grammar) (before after old new : Option (List ℕ)) (r : Result Verdict Stop) → Conversed g before after old new r → ¬ (r ≡ Err stop.Words)
+not_words g before after old new r fact is = subst (Conversed g before after old new) is fact
+
+-- the store and the patterns have not failed in a session
+pub store_of_session : (g : Grammar) (before after old new : Option (List ℕ)) (r : Result Verdict Stop) → Conversed g before after old new r → (a b : ℕ) → b ≡ a → StoreCounts a b r
+store_of_session g before after old new (Ok Whole) fact a b is = is
+store_of_session g before after old new (Ok Broken) fact a b is = is
+store_of_session g before after old new (Err stop.Words) fact a b is = absurd fact
+store_of_session g before after old new (Err (stop.Grammar found)) fact a b is = absurd fact
+store_of_session g before after old new (Err stop.Read) fact a b is = is
+store_of_session g before after old new (Err stop.Write) fact a b is = is
+store_of_session g before after old new (Err stop.Memory) fact a b is = is
+store_of_session g before after old new (Err (stop.Frames found)) fact a b is = is
+store_of_session g before after old new (Err stop.Limit) fact a b is = is
+
+pub patterns_of_session : (g : Grammar) (before after old new : Option (List ℕ)) (r : Result Verdict Stop) → Conversed g before after old new r → (a b : ℕ) → b ≡ a → PatternCounts a b r
+patterns_of_session g before after old new (Ok Whole) fact a b is = is
+patterns_of_session g before after old new (Ok Broken) fact a b is = is
+patterns_of_session g before after old new (Err stop.Words) fact a b is = absurd fact
+patterns_of_session g before after old new (Err (stop.Grammar found)) fact a b is = absurd fact
+patterns_of_session g before after old new (Err stop.Read) fact a b is = is
+patterns_of_session g before after old new (Err stop.Write) fact a b is = is
+patterns_of_session g before after old new (Err stop.Memory) fact a b is = is
+patterns_of_session g before after old new (Err (stop.Frames found)) fact a b is = is
+patterns_of_session g before after old new (Err stop.Limit) fact a b is = is
