@@ -1,13 +1,18 @@
 // The top call over memory: the lines of documents, and how runs end in which something fails.
+ghost use Rattle.std.specs.Prelude.{◌≡◌, ◌<◌};
+
+use crate::desk::Desk;
 use crate::top::run;
-use lw_base::{Name, NoMemory};
+use lw_base::{Name, NoMemory, Steps};
 use lw_io::{MemPatterns, MemSink, MemSource, MemStore};
 use std::alloc::Global;
+use std::marker::Brand;
+use std::sync::ledger::{Blank, Ledger};
 use std::test::Fail;
 
 const PATH: &str = "f.langium";
 
-const FLAT: &str =
+pub(crate) const FLAT: &str =
     "grammar F entry Model: 'model' name=ID; hidden terminal WS: /\\s+/; terminal ID: /[_a-zA-Z][\\w_]*/;";
 
 const FACES: &str = "grammar G entry A: 'x' v=E; hidden terminal WS: /\\s+/; terminal E: /😀+/;";
@@ -16,24 +21,27 @@ const CHOICE: &str = "grammar F entry A: 'a' | 'b';";
 
 // What a run had, beside the grammar at its path and the document.
 #[derive(Drop)]
-struct Setting {
-    words: Vec<Name>,
-    pieces: Vec<u32>,
-    failing_reads: Vec<u64>,
-    failing_writes: Vec<u64>,
-    refused: Vec<Name>,
+pub(crate) struct Setting {
+    pub words: Vec<Name>,
+    pub pieces: Vec<u32>,
+    pub failing_reads: Vec<u64>,
+    pub failing_writes: Vec<u64>,
+    pub refused: Vec<Name>,
 }
 
+// What a run left: the bytes of the source that it did not take, too, and whether a session lies on the desk.
 #[derive(Drop)]
-struct Ran {
-    code: u8,
-    out: Vec<u8>,
-    notes: Vec<u8>,
+pub(crate) struct Ran {
+    pub code: u8,
+    pub out: Vec<u8>,
+    pub notes: Vec<u8>,
+    pub left: Vec<u8>,
+    pub is_serving: bool,
 }
 
-fn plain_setting(alloc: Global) -> Result<Setting, NoMemory> {
+pub(crate) fn setting_of(alloc: Global, command: &str) -> Result<Setting, NoMemory> {
     let mut words = Vec::new(alloc);
-    words.push(Name::from_text(alloc, "check")?)?;
+    words.push(Name::from_text(alloc, command)?)?;
     words.push(Name::from_text(alloc, PATH)?)?;
     Ok(Setting {
         words,
@@ -44,12 +52,26 @@ fn plain_setting(alloc: Global) -> Result<Setting, NoMemory> {
     })
 }
 
-fn run_over(
+pub(crate) fn run_over(
     alloc: Global,
     setting: Setting,
     grammar: Option<&str>,
     text: Vec<u8>,
 ) -> Result<Ran, NoMemory> {
+    run_counted::<Brand>(alloc, Blank::new(1), setting, grammar, text)
+}
+
+fn run_counted<L: Ledger>(
+    alloc: Global,
+    blank: Blank,
+    setting: Setting,
+    grammar: Option<&str>,
+    text: Vec<u8>,
+) -> Result<Ran, NoMemory>
+    requires name { blank.name ≡ L.name }
+    requires parts { blank.parts ≡ L.parts }
+    requires some { 0 < blank.parts }
+{
     let mut files = Vec::new(alloc);
     if let Some(grammar) = grammar {
         files.push((
@@ -64,11 +86,14 @@ fn run_over(
         failing_writes,
         refused,
     } = setting;
+    let (book, share) = blank.open::<L>();
+    let mut steps = Steps::new(book, share);
     let mut source = MemSource::new(text, pieces, failing_reads);
     let mut out = MemSink::new(alloc, failing_writes);
     let mut notes = MemSink::new(alloc, Vec::new(alloc));
     let mut store = MemStore::new(files, Vec::new(alloc));
     let mut patterns = MemPatterns::new(refused);
+    let mut desk = Desk::Empty;
     let status = run(
         alloc,
         &words,
@@ -77,18 +102,22 @@ fn run_over(
         &mut notes,
         &mut store,
         &mut patterns,
+        &mut desk,
+        &mut steps,
     );
     Ok(Ran {
         code: status.code,
         out: out.taken().to_vec(alloc)?,
         notes: notes.taken().to_vec(alloc)?,
+        left: source.left().to_vec(alloc)?,
+        is_serving: matches!(desk, Desk::Serving(_)),
     })
 }
 
 fn checked(alloc: Global, grammar: &str, text: &[u8]) -> Result<Ran, NoMemory> {
     run_over(
         alloc,
-        plain_setting(alloc)?,
+        setting_of(alloc, "check")?,
         Some(grammar),
         text.to_vec(alloc)?,
     )
@@ -187,7 +216,7 @@ fn the_longest_document_is_read(rt: HostRuntime) -> Result<(), Fail> {
     ] {
         let mut text = b"model m".to_vec(alloc)?;
         text.resize(length, b' ')?;
-        let ran = run_over(alloc, plain_setting(alloc)?, Some(FLAT), text)?;
+        let ran = run_over(alloc, setting_of(alloc, "check")?, Some(FLAT), text)?;
         assert_eq!(rt; ran.code, code);
         assert_eq!(rt; ran.out.as_slice(), line.as_bytes());
     }
@@ -199,22 +228,22 @@ fn runs_stop_with_a_note(rt: HostRuntime) -> Result<(), Fail> {
     let alloc = rt.alloc();
     let text = b"model m".as_slice();
     let unbuilt = checked(alloc, CHOICE, text)?;
-    let absent = run_over(alloc, plain_setting(alloc)?, None, text.to_vec(alloc)?)?;
+    let absent = run_over(alloc, setting_of(alloc, "check")?, None, text.to_vec(alloc)?)?;
 
-    let mut unread = plain_setting(alloc)?;
+    let mut unread = setting_of(alloc, "check")?;
     unread.pieces = vec![in alloc; 3, 3]?;
     unread.failing_reads = vec![in alloc; 3]?;
     let unread = run_over(alloc, unread, Some(FLAT), text.to_vec(alloc)?)?;
 
-    let mut unwritten = plain_setting(alloc)?;
+    let mut unwritten = setting_of(alloc, "check")?;
     unwritten.failing_writes = vec![in alloc; 1]?;
     let unwritten = run_over(alloc, unwritten, Some(FLAT), text.to_vec(alloc)?)?;
 
-    let mut wordless = plain_setting(alloc)?;
+    let mut wordless = setting_of(alloc, "check")?;
     wordless.words = Vec::new(alloc);
     let wordless = run_over(alloc, wordless, Some(FLAT), text.to_vec(alloc)?)?;
 
-    let mut refusing = plain_setting(alloc)?;
+    let mut refusing = setting_of(alloc, "check")?;
     refusing
         .refused
         .push(Name::from_text(alloc, "[_a-zA-Z][\\w_]*")?)?;
