@@ -54,7 +54,7 @@ module _ (g : Grammar) (clear : IsClear g) (held : List ℕ) (replies : List Rep
       let stay = bodies_stay is.taken more in
       let all : bodies_of taken ≡ bodies_of is.taken ++ stay.0 = ap bodies_of same ∙ stay.1 in
       let one = one_outcome g (filled g clear) beginning is.standing t (bodies_of taken) replies others Clean ended
-        (subst (λ bodies. Serves g beginning bodies is.standing replies Clean) (sym all) (Serves-more g beginning is.standing (bodies_of is.taken) stay.0 replies Clean (λ e. cc) is.serves)) serves in
+      (subst (λ bodies. Serves g beginning bodies is.standing replies Clean) (sym all) (Serves-more g beginning is.standing (bodies_of is.taken) stay.0 replies Clean (λ e. cc) is.serves)) serves in
       (one.1, one.2)
 
   -- and of fewer, where they come to an end
@@ -64,7 +64,7 @@ module _ (g : Grammar) (clear : IsClear g) (held : List ℕ) (replies : List Rep
       let stay = bodies_stay taken more in
       let all : bodies_of is.taken ≡ bodies_of taken ++ stay.0 = ap bodies_of same ∙ stay.1 in
       let one = one_outcome g (filled g clear) beginning is.standing t (bodies_of is.taken) replies others Clean ended is.serves
-        (subst (λ bodies. Serves g beginning bodies t others ended) (sym all) (Serves-more g beginning t (bodies_of taken) stay.0 others ended over serves)) in
+      (subst (λ bodies. Serves g beginning bodies t others ended) (sym all) (Serves-more g beginning t (bodies_of taken) stay.0 others ended over serves)) in
       (one.1, one.2)
 
   -- bytes that were taken, and what is left
@@ -108,7 +108,7 @@ module _ (g : Grammar) (clear : IsClear g) (held : List ℕ) (replies : List Rep
             let stays = fault_stays taken more.0 found fault in
             let all : bodies_of taken ≡ bodies_of is.taken = sym (ap bodies_of more.1 ∙ stays.0) in
             let end = (one_outcome g (filled g clear) beginning is.standing t (bodies_of is.taken) replies others Clean No is.serves
-              (subst (λ bodies. Serves g beginning bodies t others No) all serves)).2 in
+            (subst (λ bodies. Serves g beginning bodies t others No) all serves)).2 in
             cc
 
     pub not_too_long : Serves g beginning (bodies_of taken) t others No → length taken ≡ most_taken → ⊥

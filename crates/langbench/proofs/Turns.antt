@@ -89,13 +89,18 @@ module _ (g : Grammar) (before now old mid : Option (List ℕ)) (s : Stream) (st
 
   -- a read failed
   pub cut_off : (after : Option (List ℕ)) → Keeps now after → length s.fed < most_taken → WasCutOff g before after old mid
-  cut_off after keeps short = (s.fed, record {
-    standing = standing;
-    replies = way.replies;
-    consumed = Consumes-kept before now after s.fed way.consumed keeps;
-    serves = way.serves;
-    written = way.written;
-  }, short, way.sound)
+  cut_off after keeps short = (
+    s.fed,
+    record {
+      standing = standing;
+      replies = way.replies;
+      consumed = Consumes-kept before now after s.fed way.consumed keeps;
+      serves = way.serves;
+      written = way.written;
+    },
+    short,
+    way.sound,
+  )
 
   -- too many bytes
   pub too_long : length s.fed ≡ most_taken → WasTooLong g before now old mid
@@ -167,13 +172,17 @@ module _ (g : Grammar) (before now old mid : Option (List ℕ)) (s : Stream) (st
 
       -- and a fault
       went_wrong : (new : Option (List ℕ)) → Keeps mid new → (found : FrameFault) → fault_of (s.fed ++ bytes) false ≡ Some found → WentWrong g before after old new found
-      went_wrong new keeps found is = (s.fed ++ bytes, record {
-        standing = standing;
-        replies = way.replies;
-        consumed = consumed_all;
-        serves = serves_all;
-        written = Appends-kept old mid new (framed way.replies) way.written keeps;
-      }, inl is)
+      went_wrong new keeps found is = (
+        s.fed ++ bytes,
+        record {
+          standing = standing;
+          replies = way.replies;
+          consumed = consumed_all;
+          serves = serves_all;
+          written = Appends-kept old mid new (framed way.replies) way.written keeps;
+        },
+        inl is,
+      )
 
     -- with one body
     module _ (body : List ℕ) (one : bodies_of (s.fed ++ bytes) ≡ bodies_of s.fed ++ body ∷ []) where

@@ -50,9 +50,7 @@ fn frame_line(alloc: Global, fault: FrameFault) -> Result<String, NoMemory>
     ensures { IfOk result (λ line. string_bytes line ≡ frame_line fault) }
 {
     match fault {
-        FrameFault::BadHeader(at) => {
-            Ok(format!(in alloc; "frame header fault at byte {at}\n")?)
-        }
+        FrameFault::BadHeader(at) => { Ok(format!(in alloc; "frame header fault at byte {at}\n")?) }
         FrameFault::NoLength(at) => {
             Ok(format!(in alloc; "frame without length at byte {at}\n")?)
         }

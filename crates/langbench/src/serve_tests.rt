@@ -73,12 +73,27 @@ fn sessions_end_with_their_status(rt: HostRuntime) -> Result<(), Fail> {
     let cut = framed(alloc, &[INITIALIZE])?;
     assert!(rt; cut.len() == 80);
     let rows = [
-        (cut[..77].to_vec(alloc)?, 8u8, "", "frame truncated: 3 bytes missing\n"),
+        (
+            cut[..77].to_vec(alloc)?,
+            8u8,
+            "",
+            "frame truncated: 3 bytes missing\n",
+        ),
         (Vec::new(alloc), 1, "", ""),
         (cut, 1, HELLO, ""),
         (framed(alloc, &[EXIT])?, 1, "", ""),
-        (b"Content-Length: 9x\r\n\r\n".to_vec(alloc)?, 8, "", "frame header fault at byte 0\n"),
-        (b"A: b\r\n\r\n".to_vec(alloc)?, 8, "", "frame without length at byte 0\n"),
+        (
+            b"Content-Length: 9x\r\n\r\n".to_vec(alloc)?,
+            8,
+            "",
+            "frame header fault at byte 0\n",
+        ),
+        (
+            b"A: b\r\n\r\n".to_vec(alloc)?,
+            8,
+            "",
+            "frame without length at byte 0\n",
+        ),
         (
             b"Content-Length: 16777217\r\n\r\n".to_vec(alloc)?,
             8,

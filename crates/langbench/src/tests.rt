@@ -228,7 +228,12 @@ fn runs_stop_with_a_note(rt: HostRuntime) -> Result<(), Fail> {
     let alloc = rt.alloc();
     let text = b"model m".as_slice();
     let unbuilt = checked(alloc, CHOICE, text)?;
-    let absent = run_over(alloc, setting_of(alloc, "check")?, None, text.to_vec(alloc)?)?;
+    let absent = run_over(
+        alloc,
+        setting_of(alloc, "check")?,
+        None,
+        text.to_vec(alloc)?,
+    )?;
 
     let mut unread = setting_of(alloc, "check")?;
     unread.pieces = vec![in alloc; 3, 3]?;

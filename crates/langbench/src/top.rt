@@ -15,11 +15,11 @@ ghost use Rattle.langbench.specs.Run.{CheckEnds, CheckDone, NoneRose, most_read}
 ghost use Rattle.langbench.specs.Notes.{NotesStatus, NotesFault, NotesOutcome, frame_line};
 ghost use Rattle.langbench.specs.Stops.{EndsWith, Works, HasCause, SourceCounts, OutCounts, StoreCounts, PatternCounts};
 
+use crate::desk::Desk;
 use crate::notes::note;
 use crate::report::{Report, Verdict, report_on};
-use crate::stop::Stop;
-use crate::desk::Desk;
 use crate::serve::serve;
+use crate::stop::Stop;
 use crate::words::{Command, command_of, grammar_named};
 use lw_base::{Name, Steps};
 use lw_io::{Patterns, Sink, Source, Store, read_all, write_all};
