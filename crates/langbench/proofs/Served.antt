@@ -1,15 +1,12 @@
 -- How `serve` ends, from what the work answered.
-use Rattle.std.proofs.Common.{◌≡◌, ◌≢◌, ◌⊎◌, inl, inr, ℕ, ◌<◌, ◌≤◌, List, [], ◌∷◌, ◌++◌, length, Option, Some, None, Result, Ok, Err, IfSome, refl, sym, subst, ◌∙◌, append-nil, arith}
-use Rattle.std.specs.Io.KnownBytes.{Appends, Consumes, Keeps}
+use Rattle.std.proofs.Common.{◌≡◌, ◌⊎◌, inl, inr, ℕ, List, [], Option, Some, None, Result, Ok, Err, IfSome, sym, subst, ◌∙◌, append-nil}
+use Rattle.std.specs.Io.KnownBytes.{Keeps}
 use Rattle.lw_frame.specs.Frames.{bodies_of}
-use Rattle.lw_frame.specs.declared.fault.FrameFault.{FrameFault}
 use Rattle.lw_grammar.specs.declared.grammar.Grammar.{Grammar}
-use Rattle.lw_io.specs.Causes.{Rose, Faulted}
 use Rattle.lw_lang.specs.declared.fault.CompileFault.{CompileFault}
-use Rattle.lw_lang.specs.declared.fault.CompileFault.TheVariants as fault
 use Rattle.lw_machine.specs.Sessions.{framed}
 use Rattle.lw_machine.specs.declared.ended.Ended.{Ended}
-use Rattle.lw_machine.specs.declared.ended.Ended.TheVariants.{No, Clean, Early}
+use Rattle.lw_machine.specs.declared.ended.Ended.TheVariants.{No, Early}
 use Rattle.langbench.specs.declared.report.Verdict.{Verdict}
 use Rattle.langbench.specs.declared.report.Verdict.TheVariants.{Whole, Broken}
 use Rattle.langbench.specs.declared.stop.Stop.{Stop}

@@ -1,19 +1,18 @@
 -- What each turn of a session makes of what was taken and written.
-use Rattle.std.proofs.Common.{◌≡◌, ◌≢◌, ◌⊎◌, inl, inr, ℕ, suc, ◌+◌, ◌<◌, ◌≤◌, List, [], ◌∷◌, ◌++◌, length, take, drop, Bool, true, false, Option, Some, None, Result, Ok, Err, slice_get, refl, sym, ap, subst, ◌∙◌, append-nil, arith, length-append, take_all}
+use Rattle.std.proofs.Common.{◌≡◌, inl, inr, ℕ, suc, ◌+◌, ◌<◌, List, [], ◌∷◌, ◌++◌, length, take, Bool, true, false, Option, Some, None, Result, Ok, Err, slice_get, refl, sym, ap, subst, ◌∙◌, append-nil, arith, length-append, take_all}
 use Rattle.std.proofs.lemmas.List.{take-append-le}
 use Rattle.std.specs.Io.KnownBytes.{Appends, Consumes, IsAtEnd, Keeps}
 use Rattle.std.proofs.KnownBytes.{Appends-nil, Appends-trans, Appends-kept, Consumes-nil, Consumes-trans, Consumes-kept}
 use Rattle.lw_grammar.specs.declared.grammar.Grammar.{Grammar}
 use Rattle.lw_io.specs.Whole.{WritesFront}
 use Rattle.lw_frame.specs.Frames.{bodies_of, fault_of, rest_of}
-use Rattle.lw_frame.specs.Stream.{Stream, start, with_piece, at_end, answer, next_body, next_answer, handed, after_next}
+use Rattle.lw_frame.specs.Stream.{Stream, start, with_piece, answer, next_body, next_answer, handed, after_next}
 use Rattle.lw_frame.specs.declared.fault.FrameFault.{FrameFault}
 use Rattle.lw_machine.specs.Answers.{Standing, beginning}
 use Rattle.lw_machine.specs.Sessions as session
 use Rattle.lw_machine.specs.Sessions.{Handles, Serves, framed}
 use Rattle.lw_machine.specs.declared.ended.Ended.{Ended}
 use Rattle.lw_machine.specs.declared.ended.Ended.TheVariants.{No, Clean, Early}
-use Rattle.lw_rpc.specs.declared.reply.Reply.{Reply}
 use Rattle.lw_frame.specs.Wanted.{IsWithin}
 use Rattle.langbench.specs.declared.stop.Stop.{Stop}
 use Rattle.langbench.specs.declared.stop.Stop.TheVariants as stop

@@ -1,13 +1,12 @@
 -- How `serve` ends: the session over the bytes that were taken from the source, and what was written of its replies.
 -- Language Server Protocol 3.17, "Base Protocol" and "Server lifecycle".
-use Rattle.std.specs.Prelude.{ℕ, ◌≡◌, ◌+◌, ◌<◌, ◌≤◌, ◌^◌, ◌⊎◌, List, [], ◌∷◌, ◌++◌, length, take, true, false, Option, Some, None, Result, Ok, Err}
+use Rattle.std.specs.Prelude.{ℕ, ◌≡◌, ◌<◌, ◌≤◌, ◌^◌, ◌⊎◌, List, [], ◌++◌, length, take, true, false, Option, Some, None, Result, Ok, Err}
 use Rattle.std.specs.Io.KnownBytes.{Appends, Consumes, IsAtEnd, Keeps}
 use Rattle.lw_grammar.specs.declared.grammar.Grammar as plain
 use Rattle.lw_frame.specs.Frames.{bodies_of, fault_of, rest_of}
 use Rattle.lw_frame.specs.declared.fault.FrameFault.{FrameFault}
 use Rattle.lw_io.specs.Causes.{Rose}
 use Rattle.lw_lang.specs.Compiled.{HoldsGrammar, IsClear, Causes}
-use Rattle.lw_lang.specs.declared.fault.CompileFault.TheVariants as fault
 use Rattle.lw_machine.specs.Answers.{Standing, beginning}
 use Rattle.lw_machine.specs.Sessions.{Serves, framed}
 use Rattle.lw_machine.specs.declared.ended.Ended.{Ended}

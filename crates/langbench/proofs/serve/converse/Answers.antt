@@ -1,7 +1,6 @@
-use Rattle.std.proofs.Common.{◌≡◌, ◌∙◌, ◌<◌, ◌^◌, inl, Ok, Err, length, refl, sym, ap, subst, arith}
-use Rattle.lw_machine.specs.declared.ended.Ended.TheVariants.{No, Clean, Early}
+use Rattle.std.proofs.Common.{◌∙◌, inl, Ok, Err, length, refl, sym, ap, subst, arith}
 use Rattle.langbench.proofs.Turns.{AfterTurn, too_long, underway_start}
-use Rattle.langbench.proofs.Conversing.{lost, over, no_next, turned, taken_more, after_stop, out_of_loss, source_of_stop}
+use Rattle.langbench.proofs.Conversing.{lost, over, no_next, turned, taken_more, after_stop, out_of_loss}
 use Rattle.langbench.proofs.serve.converse.Goals as goal
 
 pub taking-init : goal.taking-init

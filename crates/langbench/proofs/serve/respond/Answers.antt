@@ -1,4 +1,4 @@
-use Rattle.std.proofs.Common.{◌≡◌, subst}
+use Rattle.std.proofs.Common.{subst}
 use Rattle.std.specs.Io.KnownBytes.{Appends}
 use Rattle.langbench.specs.Serving.{WritesPart}
 use Rattle.langbench.specs.Talking.{RespondsPartly, in_frames}

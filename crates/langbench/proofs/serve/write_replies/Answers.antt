@@ -1,4 +1,4 @@
-use Rattle.std.proofs.Common.{◌≡◌, ◌∙◌, rules}
+use Rattle.std.proofs.Common.{◌∙◌, rules}
 use Rattle.langbench.proofs.Conversing.{part_so_far, part_of_next, one_more}
 use Rattle.langbench.proofs.serve.write_replies.Goals as goal
 
