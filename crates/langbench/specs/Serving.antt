@@ -1,6 +1,6 @@
 -- How `serve` ends: the session over the bytes that were taken from the source, and what was written of its replies.
 -- Language Server Protocol 3.17, "Base Protocol" and "Server lifecycle".
-use Rattle.std.specs.Prelude.{ℕ, ◌≡◌, ◌<◌, ◌≤◌, ◌^◌, ◌⊎◌, List, [], ◌++◌, length, take, true, false, Option, Some, None, Result, Ok, Err}
+use Rattle.std.specs.Prelude.{ℕ, ◌≡◌, ◌<◌, ◌≤◌, ◌^◌, ◌⊎◌, List, [], ◌∷◌, ◌++◌, length, take, true, false, Option, Some, None, Result, Ok, Err}
 use Rattle.std.specs.Io.KnownBytes.{Appends, Consumes, IsAtEnd, Keeps}
 use Rattle.lw_grammar.specs.declared.grammar.Grammar as plain
 use Rattle.lw_frame.specs.Frames.{bodies_of, fault_of, rest_of}
@@ -48,9 +48,18 @@ module _ (g : plain.Grammar) (before after old new : Option (List ℕ)) where
     pub serves : Serves g beginning answered standing replies ended
     pub written : WritesPart old new (framed replies)
 
+  -- the last of the bodies ended the session: those before it did not
+  pub record EndsAtLast (taken : List ℕ) : Type 0 where
+    pub earlier : List (List ℕ)
+    pub last : List ℕ
+    pub standing : Standing
+    pub replies : List Reply
+    pub parts : bodies_of taken ≡ earlier ++ last ∷ []
+    pub serves : Serves g beginning earlier standing replies No
+
   -- the session is over, and nothing behind `exit` was taken
   abbrev pub Exited : Ended → Type 0
-  Exited ended = (taken : List ℕ) × Talked taken ended × (rest_of taken ≡ [])
+  Exited ended = (taken : List ℕ) × Talked taken ended × EndsAtLast taken × (rest_of taken ≡ [])
 
   -- the bytes are over between two messages
   abbrev pub RanOut : Type 0
