@@ -200,14 +200,19 @@ module _ (g : Grammar) (before now old mid : Option (List ℕ)) (s : Stream) (st
         talked_all = record { standing = t; replies = way.replies ++ responds.replies; consumed = consumed_all; serves = served; written = written_all }
 
         pub exited : rest_of (s.fed ++ bytes) ≡ [] → Exited g before after old new ended
-        exited nothing = (s.fed ++ bytes, talked_all, record {
-          earlier = bodies_of s.fed;
-          last = body;
-          standing = standing;
-          replies = way.replies;
-          parts = one;
-          serves = way.serves;
-        }, nothing)
+        exited nothing = (
+          s.fed ++ bytes,
+          talked_all,
+          record {
+            earlier = bodies_of s.fed;
+            last = body;
+            standing = standing;
+            replies = way.replies;
+            parts = one;
+            serves = way.serves;
+          },
+          nothing,
+        )
 
         pub goes_on_behind : ended ≡ No → fault_of (s.fed ++ bytes) false ≡ None → IsUnderway g before after old new (record (with_piece s bytes) { given = s.given + 1 }) t
         goes_on_behind no_end none = record {
