@@ -1,9 +1,14 @@
-//! Langbench: a language server workbench from one grammar file.
+//! Langbench: a language server from one grammar file.
 //!
 //! `langbench check GRAMMAR` reads a document from standard input and prints `ok` where the grammar
-//! reads it whole, and else its one fault with its line and column. [`top::run`] has the whole meaning,
-//! over any source, sinks, store and patterns; `main` hands in the real ones and the words of the
-//! command line, and ends with the status.
+//! reads it whole, and else its one fault with its line and column. `langbench serve GRAMMAR` answers an
+//! editor over standard input and output, by the Language Server Protocol 3.17.
+//!
+//! [`top::run`] has the whole meaning, over any source, sinks, store and patterns; `main` hands in the
+//! real ones and the words of the command line, and ends with the status. `words` reads the words, `serve`
+//! keeps the conversation frame by frame and `desk` the session behind it, `report` makes the line of
+//! `check`, `stop` has the causes that end a run early and `notes` their lines. How a run ends is defined in
+//! `specs/Run.antt` (`check`), `specs/Serving.antt` (`serve`) and `specs/Notes.antt` (the notes).
 #![tactic(auto)]
 
 ghost use Rattle.std.specs.Prelude.{◌≡◌, ◌<◌};
