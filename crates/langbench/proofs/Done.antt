@@ -19,7 +19,7 @@ use Rattle.lw_rpc.specs.declared.reply.Reply.{Reply}
 use Rattle.langbench.specs.Run.{Files, Faults, NoneRose}
 use Rattle.langbench.specs.Serving as serving
 use Rattle.langbench.specs.Serving.{Talked, OfGrammar, ServeEnds, ServeDone, IsSession, WentWrong, most_taken}
-use Rattle.langbench.proofs.Ends.{no_cause, not_seven}
+use Rattle.langbench.proofs.Ends.{no_failure}
 use Rattle.langbench.proofs.Grammars.{same_grammar}
 
 -- a grammar that is built has no empty keyword
@@ -166,7 +166,7 @@ module _ (files : Files) (path : List ℕ) (refused after old new : Option (List
       let fact = fact_of (λ g. serving.RanOut g (Some held) after old new) o in
       absurd (not_at_end fact.0 No fact.1 refl fact.2)
   done (serving.grammar code codes fails unread keeps) =
-      absurd (no_cause files path held refused old new faults g holds clear none fails.found fails.cause fails.failed (not_seven files path held refused old new faults g holds clear none code codes fails.found fails.status))
+      absurd (no_failure files path refused faults g holds clear none code codes fails)
   done (serving.unread rose o) = absurd (none.source rose)
   done (serving.unwritten rose o) = absurd (none.out rose)
   done (serving.no_memory some) = serving.no_memory

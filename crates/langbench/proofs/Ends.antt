@@ -1,9 +1,11 @@
 -- How a run ends, from what the work answered.
-use Rattle.std.proofs.Common.{◌≡◌, ◌⊎◌, inl, inr, ℕ, ◌<◌, ◌≤◌, List, Option, Some, None, Result, Ok, Err, IfSome, ◌≢◌, refl, sym, ap, subst, ◌∙◌, arith, take, length, Contains, ⊎_elim, IsUtf8}
+use Rattle.std.proofs.Common.{◌≡◌, ◌⊎◌, inl, inr, ℕ, ◌<◌, ◌≤◌, List, [], Option, Some, None, Result, Ok, Err, IfSome, ◌≢◌, refl, sym, ap, subst, ◌∙◌, arith, take, length, Contains, ⊎_elim, IsUtf8}
 use Rattle.std.specs.Io.KnownBytes.{Keeps}
+use Rattle.std.proofs.KnownBytes.{Consumes-kept, Consumes-nil}
 use Rattle.lw_grammar.specs.declared.grammar.Grammar.{Grammar}
 use Rattle.std.proofs.lemmas.Option.{same_Some, slice_get_within, get_or_from_slice_get}
 use Rattle.lw_io.specs.Causes.{Rose}
+use Rattle.lw_io.specs.Whole.{TakesFewer}
 use Rattle.lw_lang.specs.Small.{SaysSmall}
 use Rattle.lw_lang.specs.Obstacles.{HasObstacle, MatchesEmpty}
 use Rattle.lw_lang.specs.Refused.{FirstMatchesEmpty}
@@ -17,7 +19,7 @@ use Rattle.langbench.specs.declared.stop.Stop.{Stop}
 use Rattle.langbench.specs.declared.stop.Stop.TheVariants as stop
 use Rattle.langbench.specs.Checked.{Checked, ok_line}
 use Rattle.langbench.specs.Run as run
-use Rattle.langbench.specs.Run.{Files, Faults, NoneRose, Failed, GrammarFails, CheckEnds, CheckDone, WritesSome, fault_code, most_read}
+use Rattle.langbench.specs.Run.{Files, Faults, NoneRose, Failed, GrammarFails, CheckEnds, CheckDone, ReadsPart, StopsShort, fault_code, most_read}
 use Rattle.langbench.specs.Stops.{EndsWith, Works, SourceCounts, OutCounts, StoreCounts, PatternCounts}
 use Rattle.langbench.proofs.Grammars.{says_same, same_grammar, same_text}
 
@@ -178,106 +180,123 @@ matches_empty g (terminal, pattern, tried, matches) =
     (tried.number, slice_get_within tried.kinds.terminals tried.number terminal tried.there, get_or_from_slice_get tried.kinds.terminals tried.number terminal terminal tried.there) in
     (pattern, (tried.kinds, tried.are, terminal, in', tried.written), matches)
 
-module _ (files : Files) (path held : List ℕ) (refused old new : Option (List ℕ)) (faults : Faults) where
+not_seven : (code : ℕ) → (code ≡ 3) ⊎ (code ≡ 6) → (found : CompileFault) → fault_code found ≡ code → fault_code found ≢ 7
+not_seven code (inl three) found is seven = omega (arith, three, is, seven)
+not_seven code (inr six) found is seven = omega (arith, six, is, seven)
+
+-- ---- where nothing fails
+
+module _ (files : Files) (path : List ℕ) (refused : Option (List ℕ)) (faults : Faults) (g : Grammar) (holds : HoldsGrammar files path g) (clear : IsClear g) (none : NoneRose faults) where
+  -- what the path holds has no fault
+  pub no_cause : (found : CompileFault) → Causes files path refused found → Failed faults.store.0 faults.store.1 faults.patterns.0 faults.patterns.1 found →
+      fault_code found ≢ 7 → ⊥
+  no_cause (fault.Absent p) cause failed other = let none_some = sym cause.1 ∙ holds.holds.held in cc
+  no_cause (fault.NotUtf8 p) cause failed other =
+      let same : cause.1.0 ≡ holds.text = same_Some _ _ (sym cause.1.1 ∙ holds.holds.held) in
+      cause.1.3 (subst IsUtf8 (sym same) holds.holds.utf8)
+  no_cause (fault.TooLong p) cause failed other =
+      let same : cause.1.0 ≡ holds.text = same_Some _ _ (sym cause.1.1 ∙ holds.holds.held) in
+      omega (arith, cause.1.2, holds.holds.short, ap length same)
+  no_cause (fault.StoreFault p) cause failed other = none.store failed
+  no_cause (fault.Unbuilt s at) cause failed other = unbuilt cause.2
+    where
+      unbuilt : compiled.IsNotBuilt path cause.0 s → ⊥
+      unbuilt (compiled.says_nothing nothing tokens cut unexpected) = nothing g (subst (λ t. SaysSmall path t g) (sym (same_text files path g holds cause.0 cause.1)) holds.says.says)
+      unbuilt (compiled.has_condition h says condition at_start) =
+          let same : h ≡ g = says_same files path g holds cause.0 h cause.1 says.says in
+          ⊎_elim (λ o. clear.0 (subst HasObstacle same o)) (λ m. clear.1 (matches_empty g (subst FirstMatchesEmpty same m))) condition
+  no_cause (fault.PatternRefused rule name at) cause failed other = none.patterns failed
+  no_cause fault.NoMemory cause failed other = other refl
+
+  -- nor one that ends a run
+  pub no_failure : (code : ℕ) → (code ≡ 3) ⊎ (code ≡ 6) → GrammarFails files path refused faults code → ⊥
+  no_failure code codes fails = no_cause fails.found fails.cause fails.failed (not_seven code codes fails.found fails.status)
+
+-- where nothing was taken a part was read
+pub reads_nothing : (before after : Option (List ℕ)) → Keeps before after → ReadsPart before after
+reads_nothing before after kept = ([], omega arith, Consumes-kept before before after [] (Consumes-nil before) kept)
+
+module _ (files : Files) (path held : List ℕ) (refused after old new : Option (List ℕ)) (faults : Faults) where
   abbrev Ends : ℕ → Type 0
-  Ends = CheckEnds files path held refused old new faults
+  Ends = CheckEnds files path held refused after old new faults
+
+  -- nothing was taken, or too little
+  unread_short : Keeps (Some held) after → Keeps old new → StopsShort files path held after old new
+  unread_short unread keeps = inl (reads_nothing (Some held) after unread, keeps)
+
+  fewer_is_part : TakesFewer (Some held) after most_read → ReadsPart (Some held) after
+  fewer_is_part fewer = (fewer.0, (let few = fewer.1 in omega (arith, few)), fewer.2)
 
   module _ (code : ℕ) where
     at_code : (n : ℕ) → code ≡ n → Ends n → Ends code
     at_code n is e = subst Ends (sym is) e
 
     grammar_ends : (found : CompileFault) → (code ≡ fault_code found) ⊎ (code ≡ 7) → Causes files path refused found →
-        Failed faults.store.0 faults.store.1 faults.patterns.0 faults.patterns.1 found → Keeps old new → Ends code
-    grammar_ends found (inr seven) cause failed keeps = at_code 7 seven (run.no_memory (inl keeps))
-    grammar_ends found (inl e) cause failed keeps = by_codes (fault_codes found)
+        Failed faults.store.0 faults.store.1 faults.patterns.0 faults.patterns.1 found → Keeps (Some held) after → Keeps old new → Ends code
+    grammar_ends found (inr seven) cause failed unread keeps = at_code 7 seven (run.no_memory (unread_short unread keeps))
+    grammar_ends found (inl e) cause failed unread keeps = by_codes (fault_codes found)
       where
         fails : GrammarFails files path refused faults code
         fails = record { found = found; status = sym e; cause = cause; failed = failed }
 
         by_codes : (fault_code found ≡ 3) ⊎ ((fault_code found ≡ 6) ⊎ (fault_code found ≡ 7)) → Ends code
-        by_codes (inl three) = run.grammar code (inl (e ∙ three)) fails keeps
-        by_codes (inr (inl six)) = run.grammar code (inr (e ∙ six)) fails keeps
-        by_codes (inr (inr seven)) = at_code 7 (e ∙ seven) (run.no_memory (inl keeps))
+        by_codes (inl three) = run.grammar code (inl (e ∙ three)) fails unread keeps
+        by_codes (inr (inl six)) = run.grammar code (inr (e ∙ six)) fails unread keeps
+        by_codes (inr (inr seven)) = at_code 7 (e ∙ seven) (run.no_memory (unread_short unread keeps))
 
-    pub ended : (r : Result Verdict Stop) → EndsWith r code → Works files path held refused old new r → SourceCounts faults.source.0 faults.source.1 r →
+    pub ended : (r : Result Verdict Stop) → EndsWith r code → Works files path held refused after old new r → SourceCounts faults.source.0 faults.source.1 r →
         OutCounts faults.out.0 faults.out.1 r → StoreCounts faults.store.0 faults.store.1 r → PatternCounts faults.patterns.0 faults.patterns.1 r → Ends code
-    ended (Ok Whole) ends works sc oc tc pc = at_code 0 ends (run.whole works.0 works.1)
-    ended (Ok Broken) ends works sc oc tc pc = at_code 1 ends (run.broken works.0 works.1 works.2 works.3)
+    ended (Ok Whole) ends works sc oc tc pc = at_code 0 ends (run.whole works.0 works.1 works.2)
+    ended (Ok Broken) ends works sc oc tc pc = at_code 1 ends (run.broken works.0 works.1 works.2 works.3 works.4)
     ended (Err stop.Words) ends works sc oc tc pc = absurd works
-    ended (Err (stop.Grammar found)) ends works sc oc tc pc = grammar_ends found ends works.0 (failed_of _ _ _ _ found tc pc) works.1
-    ended (Err stop.Read) (inl e) works sc oc tc pc = at_code 4 e (run.unread sc.rose works)
-    ended (Err stop.Read) (inr e) works sc oc tc pc = at_code 7 e (run.no_memory (inl works))
-    ended (Err stop.Write) (inl e) works sc oc tc pc = at_code 5 e (run.unwritten oc.rose works)
+    ended (Err (stop.Grammar found)) ends works sc oc tc pc = grammar_ends found ends works.0 (failed_of _ _ _ _ found tc pc) works.1 works.2
+    ended (Err stop.Read) (inl e) works sc oc tc pc = at_code 4 e (run.unread sc.rose works.0 works.1)
+    ended (Err stop.Read) (inr e) works sc oc tc pc = at_code 7 e (run.no_memory (inl (fewer_is_part works.0, works.1)))
+    ended (Err stop.Write) (inl e) works sc oc tc pc = at_code 5 e (run.unwritten oc.rose works.0 works.1)
     ended (Err stop.Write) (inr e) works sc oc tc pc = at_code 7 e (run.no_memory (inr works))
     ended (Err stop.Memory) (inl e) works sc oc tc pc = at_code 7 e (run.no_memory works)
     ended (Err stop.Memory) (inr e) works sc oc tc pc = at_code 7 e (run.no_memory works)
     ended (Err (stop.Frames wrong)) e works sc oc tc pc = absurd works
     ended (Err stop.Limit) e works sc oc tc pc = absurd works
 
-  -- ---- where nothing fails
-
+  -- a document of a grammar that is built is read to its end
   module _ (g : Grammar) (holds : HoldsGrammar files path g) (clear : IsClear g) (none : NoneRose faults) where
-    -- what the path holds has no fault
-    pub no_cause : (found : CompileFault) → Causes files path refused found → Failed faults.store.0 faults.store.1 faults.patterns.0 faults.patterns.1 found →
-        fault_code found ≢ 7 → ⊥
-    no_cause (fault.Absent p) cause failed other = let none_some = sym cause.1 ∙ holds.holds.held in cc
-    no_cause (fault.NotUtf8 p) cause failed other =
-        let same : cause.1.0 ≡ holds.text = same_Some _ _ (sym cause.1.1 ∙ holds.holds.held) in
-        cause.1.3 (subst IsUtf8 (sym same) holds.holds.utf8)
-    no_cause (fault.TooLong p) cause failed other =
-        let same : cause.1.0 ≡ holds.text = same_Some _ _ (sym cause.1.1 ∙ holds.holds.held) in
-        omega (arith, cause.1.2, holds.holds.short, ap length same)
-    no_cause (fault.StoreFault p) cause failed other = none.store failed
-    no_cause (fault.Unbuilt s at) cause failed other = unbuilt cause.2
-      where
-        unbuilt : compiled.IsNotBuilt path cause.0 s → ⊥
-        unbuilt (compiled.says_nothing nothing tokens cut unexpected) = nothing g (subst (λ t. SaysSmall path t g) (sym (same_text files path g holds cause.0 cause.1)) holds.says.says)
-        unbuilt (compiled.has_condition h says condition at_start) =
-            let same : h ≡ g = says_same files path g holds cause.0 h cause.1 says.says in
-            ⊎_elim (λ o. clear.0 (subst HasObstacle same o)) (λ m. clear.1 (matches_empty g (subst FirstMatchesEmpty same m))) condition
-    no_cause (fault.PatternRefused rule name at) cause failed other = none.patterns failed
-    no_cause fault.NoMemory cause failed other = other refl
-
-    pub not_seven : (code : ℕ) → (code ≡ 3) ⊎ (code ≡ 6) → (found : CompileFault) → fault_code found ≡ code → fault_code found ≢ 7
-    not_seven code (inl three) found is seven = omega (arith, three, is, seven)
-    not_seven code (inr six) found is seven = omega (arith, six, is, seven)
-
     pub done : {n : ℕ} → Ends n → CheckDone g held old new n
-    done (run.whole prints wrote) =
+    done (run.whole prints read wrote) =
         run.whole (subst (λ h. Checked h (take most_read held) ok_line) (same_grammar files path g holds prints.grammar prints.holds) prints.printed) wrote
-    done (run.broken output prints other wrote) =
+    done (run.broken output prints other read wrote) =
         run.broken output (subst (λ h. Checked h (take most_read held) output) (same_grammar files path g holds prints.grammar prints.holds) prints.printed) other wrote
-    done (run.grammar code codes fails keeps) = absurd (no_cause fails.found fails.cause fails.failed (not_seven code codes fails.found fails.status))
-    done (run.unread rose keeps) = absurd (none.source rose)
-    done (run.unwritten rose some) = absurd (none.out rose)
+    done (run.grammar code codes fails unread keeps) = absurd (no_failure files path refused faults g holds clear none code codes fails)
+    done (run.unread rose fewer keeps) = absurd (none.source rose)
+    done (run.unwritten rose read some) = absurd (none.out rose)
     done (run.no_memory some) = run.no_memory
 
 -- ---- the same, where the store and the source tell
 
-module _ (told : Option Files) (left : Option (List ℕ)) (path : List ℕ) (refused old new : Option (List ℕ)) (faults : Faults) (code : ℕ) (r : Result Verdict Stop)
-    (ends : EndsWith r code) (works : IfSome told (λ files. IfSome left (λ held. Works files path held refused old new r))) (sc : SourceCounts faults.source.0 faults.source.1 r)
+module _ (told : Option Files) (left : Option (List ℕ)) (path : List ℕ) (refused after old new : Option (List ℕ)) (faults : Faults) (code : ℕ) (r : Result Verdict Stop)
+    (ends : EndsWith r code) (works : IfSome told (λ files. IfSome left (λ held. Works files path held refused after old new r))) (sc : SourceCounts faults.source.0 faults.source.1 r)
     (oc : OutCounts faults.out.0 faults.out.1 r) (tc : StoreCounts faults.store.0 faults.store.1 r) (pc : PatternCounts faults.patterns.0 faults.patterns.1 r) where
-  pub ended_told : IfSome told (λ files. IfSome left (λ held. CheckEnds files path held refused old new faults code))
+  pub ended_told : IfSome told (λ files. IfSome left (λ held. CheckEnds files path held refused after old new faults code))
   ended_told = by_told told works
     where
-      by_left : (files : Files) (left : Option (List ℕ)) → IfSome left (λ held. Works files path held refused old new r) → IfSome left (λ held. CheckEnds files path held refused old new faults code)
+      by_left : (files : Files) (left : Option (List ℕ)) → IfSome left (λ held. Works files path held refused after old new r) → IfSome left (λ held. CheckEnds files path held refused after old new faults code)
       by_left files None w = tt
-      by_left files (Some held) w = ended files path held refused old new faults code r ends w sc oc tc pc
+      by_left files (Some held) w = ended files path held refused after old new faults code r ends w sc oc tc pc
 
-      by_told : (told : Option Files) → IfSome told (λ files. IfSome left (λ held. Works files path held refused old new r)) →
-          IfSome told (λ files. IfSome left (λ held. CheckEnds files path held refused old new faults code))
+      by_told : (told : Option Files) → IfSome told (λ files. IfSome left (λ held. Works files path held refused after old new r)) →
+          IfSome told (λ files. IfSome left (λ held. CheckEnds files path held refused after old new faults code))
       by_told None w = tt
       by_told (Some files) w = by_left files left w
 
   pub done_told : IfSome told (λ files. IfSome left (λ held. (g : Grammar) → HoldsGrammar files path g → IsClear g → NoneRose faults → CheckDone g held old new code))
   done_told = by_told told ended_told
     where
-      by_left : (files : Files) (left : Option (List ℕ)) → IfSome left (λ held. CheckEnds files path held refused old new faults code) →
+      by_left : (files : Files) (left : Option (List ℕ)) → IfSome left (λ held. CheckEnds files path held refused after old new faults code) →
           IfSome left (λ held. (g : Grammar) → HoldsGrammar files path g → IsClear g → NoneRose faults → CheckDone g held old new code)
       by_left files None w = tt
-      by_left files (Some held) w = λ g holds clear none. done files path held refused old new faults g holds clear none w
+      by_left files (Some held) w = λ g holds clear none. done files path held refused after old new faults g holds clear none w
 
-      by_told : (told : Option Files) → IfSome told (λ files. IfSome left (λ held. CheckEnds files path held refused old new faults code)) →
+      by_told : (told : Option Files) → IfSome told (λ files. IfSome left (λ held. CheckEnds files path held refused after old new faults code)) →
           IfSome told (λ files. IfSome left (λ held. (g : Grammar) → HoldsGrammar files path g → IsClear g → NoneRose faults → CheckDone g held old new code))
       by_told None w = tt
       by_told (Some files) w = by_left files left w

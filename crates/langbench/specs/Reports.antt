@@ -6,11 +6,11 @@ use Rattle.langbench.specs.declared.report.Verdict.{Verdict}
 use Rattle.langbench.specs.declared.report.Verdict.TheVariants.{Whole, Broken}
 use Rattle.langbench.specs.Checked.{Checked, ok_line}
 
--- the verdict for a line
+-- the verdict for what is printed
 abbrev pub IsVerdict : List ℕ → Verdict → Type 0
 IsVerdict output Whole = output ≡ ok_line
 IsVerdict output Broken = output ≢ ok_line
 
 pub record IsReport (g : Grammar) (bytes : List ℕ) (report : Report) : Type 0 where
-  pub printed : Checked g bytes (string_bytes report.line)
-  pub verdict : IsVerdict (string_bytes report.line) report.verdict
+  pub printed : Checked g bytes (string_bytes report.text)
+  pub verdict : IsVerdict (string_bytes report.text) report.verdict

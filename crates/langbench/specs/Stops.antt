@@ -1,7 +1,8 @@
 -- Why a run stops: the status of each stop, which counts rise, and what the work answers before it is turned into a status.
-use Rattle.std.specs.Prelude.{ℕ, ◌≡◌, ◌≢◌, ◌⊎◌, List, Option, Result, Ok, Err}
+use Rattle.std.specs.Prelude.{ℕ, ◌≡◌, ◌≢◌, ◌⊎◌, List, Option, Some, Result, Ok, Err}
 use Rattle.std.specs.Io.KnownBytes.{Appends, Keeps}
 use Rattle.lw_io.specs.Causes.{Faulted}
+use Rattle.lw_io.specs.Whole.{TakesFewer}
 use Rattle.lw_io.specs.declared.whole.ReadFault.{ReadFault}
 use Rattle.lw_io.specs.declared.whole.ReadFault.TheVariants as reading
 use Rattle.lw_io.specs.declared.whole.WriteFault.{WriteFault}
@@ -14,7 +15,7 @@ use Rattle.langbench.specs.declared.report.Verdict.TheVariants.{Whole, Broken}
 use Rattle.langbench.specs.declared.stop.Stop.{Stop}
 use Rattle.langbench.specs.declared.stop.Stop.TheVariants.{Words, Grammar, Read, Write, Memory, Frames, Limit}
 use Rattle.langbench.specs.Checked.{ok_line}
-use Rattle.langbench.specs.Run.{Files, Prints, WritesSome, fault_code}
+use Rattle.langbench.specs.Run.{Files, Prints, ReadsDocument, ReadsPart, StopsShort, WritesSome, fault_code, most_read}
 
 -- the status of each stop
 abbrev pub code_of : Stop → ℕ
@@ -59,17 +60,24 @@ abbrev pub PatternCounts : {T : Type 0} → ℕ → ℕ → Result T Stop → Ty
 PatternCounts before now (Err (Grammar (fault.PatternRefused rule name at))) = Faulted before now
 PatternCounts before now _ = now ≡ before
 
--- what was printed, and why it stopped
-abbrev pub Works : Files → List ℕ → List ℕ → Option (List ℕ) → Option (List ℕ) → Option (List ℕ) → Result Verdict Stop → Type 0
-Works files path held refused old new (Ok Whole) = Prints files path held ok_line × Appends old new ok_line
-Works files path held refused old new (Ok Broken) = (output : List ℕ) × Prints files path held output × (output ≢ ok_line) × Appends old new output
-Works files path held refused old new (Err Words) = ⊥
-Works files path held refused old new (Err (Grammar found)) = Causes files path refused found × Keeps old new
-Works files path held refused old new (Err Read) = Keeps old new
-Works files path held refused old new (Err Write) = WritesSome files path held old new
-Works files path held refused old new (Err Memory) = Keeps old new ⊎ WritesSome files path held old new
-Works files path held refused old new (Err (Frames found)) = ⊥
-Works files path held refused old new (Err Limit) = ⊥
+-- what was read where the document was not, and why
+abbrev pub StopsReading : Option (List ℕ) → Option (List ℕ) → Stop → Type 0
+StopsReading before after Read = TakesFewer before after most_read
+StopsReading before after Memory = ReadsPart before after
+StopsReading before after _ = ⊥
+
+module _ (files : Files) (path held : List ℕ) (refused after old new : Option (List ℕ)) where
+  -- what was read and printed, and why it stopped
+  abbrev pub Works : Result Verdict Stop → Type 0
+  Works (Ok Whole) = Prints files path held ok_line × ReadsDocument held after × Appends old new ok_line
+  Works (Ok Broken) = (output : List ℕ) × Prints files path held output × (output ≢ ok_line) × ReadsDocument held after × Appends old new output
+  Works (Err Words) = ⊥
+  Works (Err (Grammar found)) = Causes files path refused found × Keeps (Some held) after × Keeps old new
+  Works (Err Read) = TakesFewer (Some held) after most_read × Keeps old new
+  Works (Err Write) = ReadsDocument held after × WritesSome files path held old new
+  Works (Err Memory) = StopsShort files path held after old new
+  Works (Err (Frames found)) = ⊥
+  Works (Err Limit) = ⊥
 
 -- a fault of the grammar at this path has its cause
 abbrev pub HasCause : {T : Type 0} → Files → List ℕ → Option (List ℕ) → Result T Stop → Type 0

@@ -15,6 +15,7 @@ ghost use Rattle.std.specs.Prelude.{◌≡◌, ◌<◌};
 
 mod desk;
 mod notes;
+mod place;
 mod report;
 mod serve;
 mod stop;

@@ -4,6 +4,7 @@ ghost use Rattle.std.specs.Option.{option_copied};
 ghost use Rattle.lw_io.specs.Causes.{Rose};
 ghost use Rattle.langbench.specs.Notes.{file_line, placed_line, refused_text, fault_line, frame_line, IsStopLine, NotesStop};
 
+use crate::place::printed;
 use crate::stop::Stop;
 use lw_base::{Name, NoMemory};
 use lw_frame::FrameFault;
@@ -100,9 +101,8 @@ fn file_line(alloc: Global, path: &Name, what: &str) -> Result<String, NoMemory>
 fn placed_line(alloc: Global, path: &Name, at: Pos, what: &str) -> Result<String, NoMemory>
     ensures { IfOk result (λ line. string_bytes line ≡ placed_line path.now at what.now) }
 {
-    let line = u64::from(at.line) + 1;
-    let column = u64::from(at.character) + 1;
-    Ok(format!(in alloc; "{path}:{line}:{column}: {what}\n")?)
+    let place = printed(alloc, at)?;
+    Ok(format!(in alloc; "{path}:{place}: {what}\n")?)
 }
 
 // `PATH:LINE:COL: terminal NAME: pattern refused`

@@ -1,15 +1,15 @@
 // What `check` prints for a document.
-ghost use Rattle.std.specs.Prelude.{◌≡◌, ◌≤◌, ◌+◌, ◌<◌, length, codes, IfOk, string_bytes};
-ghost use Rattle.std.specs.Fmt.{decimal};
-ghost use Rattle.lw_lang.specs.Language.{IsNamed, IsWithin};
-ghost use Rattle.lw_reading.specs.KindTexts.{AreKindTexts};
+ghost use Rattle.std.specs.Prelude.{◌≡◌, ◌≤◌, ◌+◌, length, IfOk, string_bytes};
+ghost use Rattle.std.specs.List.{flat_map};
 ghost use Rattle.lw_reading.specs.Reading.{longest_document};
-ghost use Rattle.langbench.specs.Checked.{IsErrorLine, IsIssueLine, unexpected};
+ghost use Rattle.langbench.specs.Checked.{diagnostic_line};
 ghost use Rattle.langbench.specs.Reports.{IsReport};
 
+use crate::place::printed;
 use lw_base::{Name, NoMemory};
-use lw_lang::{Issue, LONGEST_DOCUMENT, Language, Parsed};
-use lw_text::position;
+use lw_check::diagnostics;
+use lw_lang::{LONGEST_DOCUMENT, Language};
+use lw_text::Shown;
 use std::alloc::Global;
 
 /// Whether a document is read whole.
@@ -19,20 +19,20 @@ pub(crate) enum Verdict {
     Broken,
 }
 
-/// The line that is printed for a document, and what it says.
+/// What is printed for a document, and what it says.
 #[derive(Drop)]
 pub(crate) struct Report {
-    pub line: String,
+    pub text: String,
     pub verdict: Verdict,
 }
 
 impl Report {
-    fn broken(line: String) -> Report
-        ensures line { string_bytes result.line ≡ string_bytes line }
+    fn broken(text: String) -> Report
+        ensures text { string_bytes result.text ≡ string_bytes text }
         ensures verdict { result.verdict ≡ Verdict.Broken }
     {
         Report {
-            line,
+            text,
             verdict: Verdict::Broken,
         }
     }
@@ -61,55 +61,33 @@ fn report_text(alloc: Global, language: &Language, text: &Name) -> Result<Report
     requires { length text.now ≤ longest_document }
     ensures { IfOk result (IsReport language.now.grammar text.now) }
 {
-    let shown = text.text();
-    match language.read(alloc, text)? {
-        Parsed::Whole => Ok(Report {
-            line: String::from_str(alloc, "ok\n")?,
+    let list = diagnostics(alloc, language, text)?;
+    if list.is_empty() {
+        return Ok(Report {
+            text: String::from_str(alloc, "ok\n")?,
             verdict: Verdict::Whole,
-        }),
-        Parsed::Broken(issue) => Ok(Report::broken(issue_line(alloc, language, shown, issue)?)),
+        });
     }
+    Ok(Report::broken(lines(alloc, list.as_slice())?))
 }
 
-fn issue_line(
-    alloc: Global,
-    language: &Language,
-    text: &str,
-    issue: Issue,
-) -> Result<String, NoMemory>
-    requires short { length text.now ≤ longest_document }
-    requires within { IsWithin text.now issue }
-    requires named { IsNamed language.now.texts issue }
-    ensures { IfOk result (λ output. IsIssueLine language.now.grammar text.now issue (string_bytes output)) }
+fn lines(alloc: Global, list: &[Shown]) -> Result<String, NoMemory>
+    ensures { IfOk result (λ lines. string_bytes lines ≡ flat_map diagnostic_line list.now) }
 {
-    match issue {
-        Issue::Lexical(span) => error_line(alloc, text, span.start, 1, "Unexpected character."),
-        Issue::Syntax(span, kind) => {
-            let kind = language.kind_text(kind);
-            let message = format!(in alloc; "Unexpected {kind}.")?;
-            error_line(alloc, text, span.start, 2, message.as_str())
-        }
-        Issue::End(at) => error_line(alloc, text, at, 2, "Unexpected end of text."),
-        Issue::TooLarge => {
-            error_line(alloc, text, 0, 7, "Document is longer than 2097152 bytes.")
-        }
+    let mut lines = String::new(alloc);
+    'listing: for shown in list {
+        let line = diagnostic_line(alloc, shown)?;
+        lines.push_str(line.as_str())?;
     }
+    Ok(lines)
 }
 
-// `LINE:COL: error CODE: MESSAGE`, for the position of a byte offset.
-fn error_line(
-    alloc: Global,
-    text: &str,
-    offset: u32,
-    code: u8,
-    message: &str,
-) -> Result<String, NoMemory>
-    requires short { length text.now ≤ longest_document }
-    requires within { offset ≤ length text.now }
-    ensures { IfOk result (λ output. IsErrorLine text.now offset code message.now (string_bytes output)) }
+// `LINE:COL: error CODE: MESSAGE`
+fn diagnostic_line(alloc: Global, shown: &Shown) -> Result<String, NoMemory>
+    ensures { IfOk result (λ line. string_bytes line ≡ diagnostic_line shown.now) }
 {
-    let at = position(text, offset as usize);
-    let line = u64::from(at.line) + 1;
-    let column = u64::from(at.character) + 1;
-    Ok(format!(in alloc; "{line}:{column}: error {code}: {message}\n")?)
+    let place = printed(alloc, shown.start)?;
+    let code = shown.code;
+    let message = shown.message.text();
+    Ok(format!(in alloc; "{place}: error {code}: {message}\n")?)
 }

@@ -26,6 +26,7 @@ pub(crate) struct Setting {
     pub pieces: Vec<u32>,
     pub failing_reads: Vec<u64>,
     pub failing_writes: Vec<u64>,
+    pub failing_notes: Vec<u64>,
     pub refused: Vec<Name>,
 }
 
@@ -48,6 +49,7 @@ pub(crate) fn setting_of(alloc: Global, command: &str) -> Result<Setting, NoMemo
         pieces: Vec::new(alloc),
         failing_reads: Vec::new(alloc),
         failing_writes: Vec::new(alloc),
+        failing_notes: Vec::new(alloc),
         refused: Vec::new(alloc),
     })
 }
@@ -84,13 +86,14 @@ fn run_counted<L: Ledger>(
         pieces,
         failing_reads,
         failing_writes,
+        failing_notes,
         refused,
     } = setting;
     let (book, share) = blank.open::<L>();
     let mut steps = Steps::new(book, share);
     let mut source = MemSource::new(text, pieces, failing_reads);
     let mut out = MemSink::new(alloc, failing_writes);
-    let mut notes = MemSink::new(alloc, Vec::new(alloc));
+    let mut notes = MemSink::new(alloc, failing_notes);
     let mut store = MemStore::new(files, Vec::new(alloc));
     let mut patterns = MemPatterns::new(refused);
     let mut desk = Desk::Empty;
@@ -270,6 +273,27 @@ fn runs_stop_with_a_note(rt: HostRuntime) -> Result<(), Fail> {
         assert_eq!(rt; ran.code, code, "{note}");
         assert_eq!(rt; ran.notes.as_slice(), note.as_bytes());
         assert!(rt; ran.out.is_empty());
+    }
+    Ok(())
+}
+
+// That a note fails changes neither the status nor what was written.
+#[test]
+fn a_note_that_fails_changes_nothing(rt: HostRuntime) -> Result<(), Fail> {
+    let alloc = rt.alloc();
+    for (grammar, failing_write, code, out) in [
+        (Some(CHOICE), 0u64, 3, ""),
+        (None, 0, 6, ""),
+        (Some(FLAT), 1, 5, ""),
+        (Some(FLAT), 0, 0, "ok\n"),
+    ] {
+        let mut setting = setting_of(alloc, "check")?;
+        setting.failing_writes.push(failing_write)?;
+        setting.failing_notes.push(1)?;
+        let ran = run_over(alloc, setting, grammar, b"model m".to_vec(alloc)?)?;
+        assert_eq!(rt; ran.code, code);
+        assert_eq!(rt; ran.out.as_slice(), out.as_bytes());
+        assert!(rt; ran.notes.is_empty());
     }
     Ok(())
 }

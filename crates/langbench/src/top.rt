@@ -1,5 +1,5 @@
 // The top call: what the words name is done, and how it ended is told.
-ghost use Rattle.std.specs.Prelude.{◌≡◌, ◌≢◌, ◌⊎◌, ◌<◌, ◌≤◌, List, ℕ, IfOk, IfSome, Err, OnOk, OnErr, take, string_bytes};
+ghost use Rattle.std.specs.Prelude.{◌≡◌, ◌≢◌, ◌⊎◌, ◌<◌, ◌≤◌, List, ℕ, IfOk, IfErr, IfSome, Err, OnOk, OnErr, take, string_bytes};
 ghost use Rattle.std.specs.Option.{option_copied};
 ghost use Rattle.std.specs.Io.KnownBytes.{Appends, Keeps};
 ghost use Rattle.lw_grammar.specs.declared.grammar.Grammar as plain;
@@ -11,9 +11,9 @@ ghost use Rattle.langbench.specs.Words.{IsCheck, IsServe, IsNoCommand};
 ghost use Rattle.langbench.specs.Serving.{IsSession, OfGrammar, WentWrong, ServeDone, ServeEnds, ServeWorks};
 ghost use Rattle.lw_rpc.specs.declared.reply.Reply.{Reply};
 ghost use Rattle.langbench.specs.Reports.{IsReport};
-ghost use Rattle.langbench.specs.Run.{CheckEnds, CheckDone, NoneRose, most_read};
+ghost use Rattle.langbench.specs.Run.{CheckEnds, CheckDone, NoneRose, ReadsDocument, most_read};
 ghost use Rattle.langbench.specs.Notes.{NotesStatus, NotesFault, NotesOutcome, frame_line};
-ghost use Rattle.langbench.specs.Stops.{EndsWith, Works, HasCause, SourceCounts, OutCounts, StoreCounts, PatternCounts};
+ghost use Rattle.langbench.specs.Stops.{EndsWith, StopsReading, Works, HasCause, SourceCounts, OutCounts, StoreCounts, PatternCounts};
 
 use crate::desk::Desk;
 use crate::notes::note;
@@ -59,7 +59,7 @@ pub fn run<S: Source, K: Sink, N: Sink, F: Store, P: Patterns, L: Ledger>(
 
     // What `check` does and how it ends, by what the store and the source held.
     ensures ended { (path : List ℕ) → IsCheck words.now path → IfSome (F.files store.old) (λ files. IfSome (S.left source.old) (λ held.
-        CheckEnds files path held (P.last_refused patterns.new) (K.written out.old) (K.written out.new) (record {
+        CheckEnds files path held (P.last_refused patterns.new) (S.left source.new) (K.written out.old) (K.written out.new) (record {
           source = (S.count source.old, S.count source.new);
           out = (K.count out.old, K.count out.new);
           store = (F.count store.old, F.count store.new);
@@ -93,9 +93,9 @@ pub fn run<S: Source, K: Sink, N: Sink, F: Store, P: Patterns, L: Ledger>(
           patterns = (P.count patterns.old, P.count patterns.new);
         }) → ServeDone replies (K.written out.old) (K.written out.new) result.code)) }
 
-    // Which words are refused, and that nothing is written then.
+    // Which words are refused, and that nothing is read or written then.
     ensures words { result.code ≡ 2 → IsNoCommand words.now }
-    ensures other_words { IsNoCommand words.now → ((result.code ≡ 2) ⊎ (result.code ≡ 7)) × Keeps (K.written out.old) (K.written out.new) }
+    ensures other_words { IsNoCommand words.now → ((result.code ≡ 2) ⊎ (result.code ≡ 7)) × Keeps (S.left source.old) (S.left source.new) × Keeps (K.written out.old) (K.written out.new) }
 
     // A fault is told only where its count rose, and where that grew, no other status but 7.
     ensures read { result.code ≡ 4 → Rose (S.count source.old) (S.count source.new) }
@@ -162,13 +162,13 @@ fn act<S: Source, K: Sink, F: Store, P: Patterns, L: Ledger>(
     steps: &mut Steps<L>,
 ) -> Result<Verdict, Stop>
     ensures works { (path : List ℕ) → IsCheck words.now path → IfSome (F.files store.old) (λ files. IfSome (S.left source.old) (λ held.
-        Works files path held (P.last_refused patterns.new) (K.written out.old) (K.written out.new) result)) }
+        Works files path held (P.last_refused patterns.new) (S.left source.new) (K.written out.old) (K.written out.new) result)) }
     ensures cause { (path : List ℕ) → IsCheck words.now path → IfSome (F.files store.old) (λ files. HasCause files path (P.last_refused patterns.new) result) }
     ensures serves { (path : List ℕ) → IsServe words.now path → IfSome (F.files store.old) (λ files.
         ServeWorks files path (P.last_refused patterns.new) (S.left source.old) (S.left source.new) (K.written out.old) (K.written out.new) result) }
     ensures serve_cause { (path : List ℕ) → IsServe words.now path → IfSome (F.files store.old) (λ files. HasCause files path (P.last_refused patterns.new) result) }
     ensures words { result ≡ Err Stop.Words → IsNoCommand words.now }
-    ensures other_words { IsNoCommand words.now → (result ≡ Err Stop.Words) × Keeps (K.written out.old) (K.written out.new) }
+    ensures other_words { IsNoCommand words.now → (result ≡ Err Stop.Words) × Keeps (S.left source.old) (S.left source.new) × Keeps (K.written out.old) (K.written out.new) }
     ensures source { SourceCounts (S.count source.old) (S.count source.new) result }
     ensures out { OutCounts (K.count out.old) (K.count out.new) result }
     ensures store { StoreCounts (F.count store.old) (F.count store.new) result }
@@ -193,7 +193,7 @@ fn check<S: Source, K: Sink, F: Store, P: Patterns>(
     patterns: &mut P,
 ) -> Result<Verdict, Stop>
     ensures works { IfSome (F.files store.old) (λ files. IfSome (S.left source.old) (λ held.
-        Works files path.now held (P.last_refused patterns.new) (K.written out.old) (K.written out.new) result)) }
+        Works files path.now held (P.last_refused patterns.new) (S.left source.new) (K.written out.old) (K.written out.new) result)) }
     ensures cause { IfSome (F.files store.old) (λ files. HasCause files path.now (P.last_refused patterns.new) result) }
     ensures not_words { ¬ (result ≡ Err Stop.Words) }
     ensures source { SourceCounts (S.count source.old) (S.count source.new) result }
@@ -209,21 +209,22 @@ fn check<S: Source, K: Sink, F: Store, P: Patterns>(
 // The report on what the source holds.
 fn reported<S: Source>(alloc: Global, language: &Language, source: &mut S) -> Result<Report, Stop>
     ensures report { IfOk result (λ report. IfSome (S.left source.old) (λ held. IsReport language.now.grammar (take most_read held) report)) }
-    ensures fault { OnErr result ((result ≡ Err Stop.Read) ⊎ (result ≡ Err Stop.Memory)) }
+    ensures read { OnOk result (IfSome (S.left source.old) (λ held. ReadsDocument held (S.left source.new))) }
+    ensures stopped { IfErr result (StopsReading (S.left source.old) (S.left source.new)) }
     ensures source { SourceCounts (S.count source.old) (S.count source.new) result }
 {
     let bytes = read_all(alloc, source, LONGEST_DOCUMENT + 1)?;
     Ok(report_on(alloc, language, &bytes)?)
 }
 
-// Prints the line of a report.
+// Prints a report.
 fn print<K: Sink>(out: &mut K, report: &Report) -> Result<Verdict, Stop>
     ensures verdict { IfOk result (λ verdict. verdict ≡ report.now.verdict) }
-    ensures whole { OnOk result (Appends (K.written out.old) (K.written out.new) (string_bytes report.now.line)) }
+    ensures whole { OnOk result (Appends (K.written out.old) (K.written out.new) (string_bytes report.now.text)) }
     ensures fault { OnErr result ((result ≡ Err Stop.Write) ⊎ (result ≡ Err Stop.Memory)) }
-    ensures front { OnErr result (WritesFront (K.written out.old) (K.written out.new) (string_bytes report.now.line)) }
+    ensures front { OnErr result (WritesFront (K.written out.old) (K.written out.new) (string_bytes report.now.text)) }
     ensures out { OutCounts (K.count out.old) (K.count out.new) result }
 {
-    write_all(out, report.line.as_bytes())?;
+    write_all(out, report.text.as_bytes())?;
     Ok(report.verdict)
 }

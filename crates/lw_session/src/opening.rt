@@ -3,16 +3,14 @@ ghost use Rattle.std.specs.Prelude.{IfOk};
 ghost use Rattle.lw_session.specs.Keeping.{documents_of, IsListTold, IsNext};
 ghost use Rattle.lw_session.specs.Lifecycle.{standing_of, IsLive, opens};
 
-use crate::diagnostics::diagnostics;
 use crate::held::{Held, Opened, copied, has_published, holds_another};
 use crate::lifecycle::{Phase, Told, log};
 use lw_base::NoMemory;
+use lw_check::diagnostics;
 use lw_lang::Language;
 use lw_rpc::Reply;
+use lw_text::MAX_BYTES;
 use std::alloc::Global;
-
-/// The longest text that a document may have, in bytes.
-const LONGEST_TEXT: usize = 67_108_864;
 
 /// What is told at a message, and the document that takes the place of the one that is held, where there
 /// is one.
@@ -33,7 +31,7 @@ pub(crate) fn open(
     requires { IsLive phase }
     ensures { IfOk result (IsNext language.now.grammar (standing_of (documents_of document.now) phase) (opens opened)) }
 {
-    if opened.text.bytes().len() > LONGEST_TEXT {
+    if opened.text.bytes().len() > MAX_BYTES {
         let told = log(alloc, phase, "text too long: ", &opened.address)?;
         return Ok(Next { told, put: None });
     }

@@ -6,9 +6,9 @@ use Rattle.langbench.proofs.report.report_on.Goals as goal
 
 pub returns-then-bytes-gt-LONGEST_DOCUMENT : goal.returns-then-bytes-gt-LONGEST_DOCUMENT
 returns-then-bytes-gt-LONGEST_DOCUMENT c =
-    broken_report _ _ _ _ (checked.too_large (omega (arith, c.if-bytes-gt-LONGEST_DOCUMENT.true))) too_large_is_not_ok (c.broken.ensures.line ∙ c.in_ok-from_str.ensures.ok) c.broken.ensures.verdict
+    broken_report _ _ _ _ (checked.too_large (omega (arith, c.if-bytes-gt-LONGEST_DOCUMENT.true))) too_large_is_not_ok (c.broken.ensures.text ∙ c.in_ok-from_str.ensures.ok) c.broken.ensures.verdict
 
 pub returns-in_ok-from_str-in-None : goal.returns-in_ok-from_str-in-None
 returns-in_ok-from_str-in-None c =
     broken_report _ _ _ _ (checked.not_text (omega (arith, c.if-bytes-gt-LONGEST_DOCUMENT.false)) (rw c.in-None.is at c.in_ok-text.ensures)) not_text_is_not_ok
-    (c.broken-in-None.ensures.line ∙ c.in_ok-from_str-in-None.ensures.ok) c.broken-in-None.ensures.verdict
+    (c.broken-in-None.ensures.text ∙ c.in_ok-from_str-in-None.ensures.ok) c.broken-in-None.ensures.verdict

@@ -1,20 +1,22 @@
-use Rattle.std.proofs.Common.{sym, subst, string_bytes}
+use Rattle.std.proofs.Common.{◌≡◌, ◌≢◌, List, [], sym, ap, subst, ◌∙◌, true≢false}
+use Rattle.std.specs.List.{flat_map}
+use Rattle.lw_scopes.specs.Diagnostics.{IsList}
 use Rattle.langbench.specs.Checked as checked
-use Rattle.langbench.specs.Checked.{Checked, IsIssueLine}
-use Rattle.langbench.proofs.ReportLemmas.{issue_line_is_not_ok, broken_report}
+use Rattle.langbench.specs.Checked.{Checked}
+use Rattle.langbench.proofs.ReportLemmas.{listed_report}
 use Rattle.langbench.proofs.report.report_text.Goals as goal
 
-pub returns-in_ok-from_str-in-Whole : goal.returns-in_ok-from_str-in-Whole
-returns-in_ok-from_str-in-Whole c = record {
-  printed = subst (Checked c.args.language.now.grammar c.args.text.now) (sym c.in_ok-from_str-in-Whole.ensures.ok)
-      (checked.ok c.requires c.text-shown.ensures.utf8 (rw c.in-Whole.is at c.in_ok-read.ensures.reads));
-  verdict = c.in_ok-from_str-in-Whole.ensures.ok;
-}
+pub returns-then-is_empty : goal.returns-then-is_empty
+returns-then-is_empty c =
+    let none : c.in_ok-list.list ≡ [] = c.is_empty.ensures.0 c.if-is_empty.true in
+    record {
+      printed = subst (Checked c.args.language.now.grammar c.args.text.now) (sym c.in_ok-from_str.ensures.ok)
+          (checked.listed c.requires c.in_ok-list.ensures.utf8 (subst (IsList c.args.language.now.grammar c.args.text.now) none c.in_ok-list.ensures.list));
+      verdict = c.in_ok-from_str.ensures.ok;
+    }
 
-pub returns-in_ok-issue_line-in-Broken : goal.returns-in_ok-issue_line-in-Broken
-returns-in_ok-issue_line-in-Broken c =
-    let made : IsIssueLine c.args.language.now.grammar c.args.text.now c.in-Broken.issue (string_bytes c.in_ok-issue_line-in-Broken.field-0) =
-    rw c.text-shown.ensures.text at c.in_ok-issue_line-in-Broken.ensures in
-    broken_report _ _ (string_bytes c.in_ok-issue_line-in-Broken.field-0) _
-    (checked.broken c.requires c.text-shown.ensures.utf8 (rw c.in-Broken.is at c.in_ok-read.ensures.reads) made)
-    (issue_line_is_not_ok _ _ _ _ made) c.broken.ensures.line c.broken.ensures.verdict
+pub returns : goal.returns
+returns c =
+    let some : c.in_ok-list.list ≢ [] = λ none. true≢false (sym (c.is_empty.ensures.1 none) ∙ c.if-is_empty.false) in
+    listed_report _ _ c.in_ok-list.list _ (checked.listed c.requires c.in_ok-list.ensures.utf8 c.in_ok-list.ensures.list) some
+    (c.broken.ensures.text ∙ c.in_ok-lines.ensures ∙ ap (flat_map checked.diagnostic_line) c.as_slice.ensures) c.broken.ensures.verdict

@@ -7,12 +7,12 @@ use Rattle.langbench.proofs.top.run.Goals as goal
 
 pub returns-clause-ended : goal.returns-clause-ended
 returns-clause-ended g c = λ path is.
-    ends.ended_told _ _ path _ _ _ _ c.finish.result.code c.act-outcome.result c.finish.ensures.ends (c.act-outcome.ensures.works path is) c.act-outcome.ensures.source
+    ends.ended_told _ _ path _ _ _ _ _ c.finish.result.code c.act-outcome.result c.finish.ensures.ends (c.act-outcome.ensures.works path is) c.act-outcome.ensures.source
     c.act-outcome.ensures.out c.act-outcome.ensures.store c.act-outcome.ensures.patterns
 
 pub returns-clause-done : goal.returns-clause-done
 returns-clause-done g c = λ path is.
-    ends.done_told _ _ path _ _ _ _ c.finish.result.code c.act-outcome.result c.finish.ensures.ends (c.act-outcome.ensures.works path is) c.act-outcome.ensures.source
+    ends.done_told _ _ path _ _ _ _ _ c.finish.result.code c.act-outcome.result c.finish.ensures.ends (c.act-outcome.ensures.works path is) c.act-outcome.ensures.source
     c.act-outcome.ensures.out c.act-outcome.ensures.store c.act-outcome.ensures.patterns
 
 pub returns-clause-words : goal.returns-clause-words
@@ -20,7 +20,7 @@ returns-clause-words g c = λ is. c.act-outcome.ensures.words (ends.words_told _
 
 pub returns-clause-other_words : goal.returns-clause-other_words
 returns-clause-other_words g c = λ not.
-    (ends.words_end _ _ c.finish.ensures.ends (c.act-outcome.ensures.other_words not).0, (c.act-outcome.ensures.other_words not).1)
+    let words = c.act-outcome.ensures.other_words not in (ends.words_end _ _ c.finish.ensures.ends words.0, words.1, words.2)
 
 pub returns-clause-read : goal.returns-clause-read
 returns-clause-read g c = ends.source_rose _ _ _ _ c.finish.ensures.ends c.act-outcome.ensures.source

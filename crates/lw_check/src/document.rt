@@ -1,29 +1,35 @@
-// The diagnostics of a text.
-ghost use Rattle.std.specs.Prelude.{◌≡◌, ◌≤◌, length, IfOk};
+// The diagnostics of one document.
+ghost use Rattle.std.specs.Prelude.{◌≤◌, length, IfOk};
+ghost use Rattle.std.specs.Str.{IsUtf8};
+ghost use Rattle.lw_text.specs.declared.change.TheConstants.{MAX_BYTES};
 ghost use Rattle.lw_lang.specs.Language.{IsNamed, IsSpanWithin, IsWithin};
 ghost use Rattle.lw_scopes.specs.Diagnostics.{IsList};
 ghost use Rattle.lw_scopes.specs.Faults.{IsFaultShown, IsShownAt};
-ghost use Rattle.lw_machine.specs.Answers.{longest_text};
 
 use lw_base::{Items, Name, NoMemory, Span};
 use lw_lang::{Issue, Language, Parsed};
 use lw_text::{Shown, position};
 use std::alloc::Global;
 
-/// The list of the text: empty where it is read whole, else its one fault.
-pub(crate) fn diagnostics(
+/// The list of a text: empty where the grammar reads it whole, else its one fault.
+///
+/// Positions are zero-based lines and UTF-16 units (Language Server Protocol 3.17, "Position"). It takes
+/// time linear in the length of the text, and memory for its tokens.
+pub fn diagnostics(
     alloc: Global,
     language: &Language,
     text: &Name,
 ) -> Result<Items<Shown>, NoMemory>
-    requires { length text.now ≤ longest_text }
-    ensures { IfOk result (IsList language.now.grammar text.now) }
+    requires { length text.now ≤ MAX_BYTES }
+    ensures list { IfOk result (IsList language.now.grammar text.now) }
+    ensures utf8 { IsUtf8 text.now }
 {
+    let source = text.text();
     let mut list = Items::new(alloc);
     match language.read(alloc, text)? {
         Parsed::Whole => Ok(list),
         Parsed::Broken(issue) => {
-            list.push(fault_shown(alloc, language, text, issue)?)?;
+            list.push(fault_shown(alloc, language, source, issue)?)?;
             Ok(list)
         }
     }
@@ -32,15 +38,14 @@ pub(crate) fn diagnostics(
 fn fault_shown(
     alloc: Global,
     language: &Language,
-    text: &Name,
+    text: &str,
     issue: Issue,
 ) -> Result<Shown, NoMemory>
-    requires short { length text.now ≤ longest_text }
+    requires short { length text.now ≤ MAX_BYTES }
     requires within { IsWithin text.now issue }
     requires named { IsNamed language.now.texts issue }
     ensures { IfOk result (IsFaultShown language.now.grammar text.now issue) }
 {
-    let text = text.text();
     match issue {
         Issue::Lexical(span) => {
             let message = Name::from_text(alloc, "Unexpected character.")?;
@@ -63,8 +68,9 @@ fn fault_shown(
     }
 }
 
+// It is shown from the start of the span to its end.
 fn shown_at(text: &str, span: Span, code: u8, message: Name) -> Shown
-    requires short { length text.now ≤ longest_text }
+    requires short { length text.now ≤ MAX_BYTES }
     requires within { IsSpanWithin text.now span }
     ensures { IsShownAt text.now span.start span.end code message result }
 {

@@ -1,0 +1,16 @@
+//! The diagnostics of a document.
+//!
+//! Its model: a document is its text, and what it is told is a list of [`Shown`](lw_text::Shown), each
+//! with where it begins and ends, its code and its message. Which list a text has is defined in
+//! `specs/Diagnostics.antt` of `lw_scopes`, and how a fault is shown in `specs/Faults.antt` there.
+//!
+//! It promises that [`diagnostics`] answers exactly that list, or that memory was refused. What a
+//! command line prints of a document and what an editor is told of it both come from here.
+#![tactic(auto)]
+
+mod document;
+
+pub use document::diagnostics;
+
+#[cfg(test)]
+mod tests;
