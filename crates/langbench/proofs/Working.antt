@@ -1,5 +1,5 @@
 -- What reading a document and printing its report leave.
-use Rattle.std.proofs.Common.{◌≡◌, ◌⊎◌, inl, inr, ℕ, ◌≤◌, List, Option, Some, None, Result, Ok, Err, IfOk, OnOk, OnErr, IfSome, IsErrAnd, length, take, string_bytes, refl, sym, subst}
+use Rattle.std.proofs.Common.{◌≡◌, ◌⊎◌, inl, inr, ℕ, List, Option, Some, None, Result, Ok, Err, IfOk, OnOk, OnErr, IfSome, IsErrAnd, take, string_bytes, refl, sym, subst}
 use Rattle.std.specs.Io.KnownBytes.{Appends, Consumes, Keeps}
 use Rattle.std.proofs.KnownBytes.{Keeps-refl}
 use Rattle.lw_grammar.specs.declared.grammar.Grammar.{Grammar}

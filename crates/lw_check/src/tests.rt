@@ -1,7 +1,7 @@
 // What the clauses do not say: that a list is answered where there is memory. The places and messages are
 // worked by hand.
 use crate::diagnostics;
-use lw_base::{Name, NoMemory};
+use lw_base::{Items, Name, NoMemory};
 use lw_io::{MemPatterns, MemStore};
 use lw_lang::{Language, compile};
 use lw_text::{Pos, Shown};
@@ -24,36 +24,52 @@ fn language(rt: &impl Abort, alloc: Global) -> Result<Language, NoMemory> {
     }
 }
 
+// The list of a short text.
+fn listed(
+    rt: &impl Abort,
+    alloc: Global,
+    language: &Language,
+    text: &str,
+) -> Result<Items<Shown>, NoMemory> {
+    let text = Name::from_text(alloc, text)?;
+    assert!(rt; text.bytes().len() < 100);
+    diagnostics(alloc, language, &text)
+}
+
+// Whether the list has one entry, on this line from one character to another.
+fn is_one(list: &[Shown], line: u32, from: u32, to: u32, code: u8, message: &str) -> bool {
+    match list {
+        [shown] => {
+            let Pos {
+                line: first,
+                character: start,
+            } = shown.start;
+            let Pos {
+                line: last,
+                character: end,
+            } = shown.end;
+            let place = (first, start, last, end);
+            place == (line, from, line, to) && shown.code == code && shown.message.text() == message
+        }
+        _ => false,
+    }
+}
+
 #[test]
 fn a_broken_text_has_one_entry(rt: HostRuntime) -> Result<(), Fail> {
-    let alloc = rt.alloc();
-    let language = language(&rt, alloc)?;
-    let whole = Name::from_text(alloc, "model m")?;
-    assert!(rt; whole.bytes().len() < 100);
-    assert!(rt; diagnostics(alloc, &language, &whole)?.is_empty());
-    for (text, line, start, end, code, message) in [
-        ("model", 0, 5, 5, 2u8, "Unexpected end of text."),
+    let language = language(&rt, rt.alloc())?;
+    assert!(rt; listed(&rt, rt.alloc(), &language, "model m")?.is_empty());
+    for (text, line, from, to, code, message) in [
+        ("model", 0u32, 5, 5, 2u8, "Unexpected end of text."),
         ("\r\nmodel model", 1, 6, 11, 2, "Unexpected 'model'."),
         ("model m x", 0, 8, 9, 2, "Unexpected ID."),
         ("model 😀", 0, 6, 8, 1, "Unexpected character."),
     ] {
-        let text = Name::from_text(alloc, text)?;
-        assert!(rt; text.bytes().len() < 100);
-        let list = diagnostics(alloc, &language, &text)?;
-        let shown = Shown {
-            start: Pos {
-                line,
-                character: start,
-            },
-            end: Pos {
-                line,
-                character: end,
-            },
-            code,
-            message: Name::from_text(alloc, message)?,
-        };
-        assert!(rt; list.len() == 1, "{text}");
-        assert!(rt; list.get(0) == Some(&shown), "{text}");
+        let list = listed(&rt, rt.alloc(), &language, text)?;
+        assert!(rt;
+            is_one(list.as_slice(), line, from, to, code, message),
+            "{text}"
+        );
     }
     Ok(())
 }

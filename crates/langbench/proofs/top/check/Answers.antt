@@ -10,5 +10,5 @@ pub returns-in_err-language-clause-works : goal.returns-in_err-language-clause-w
 returns-in_err-language-clause-works g c = works_unbuilt _ _ _ _ _ c.in_err-language.field-0.0 c.from_residual.result c.in_err-language.ensures.fault c.from_residual.ensures.1
 
 pub returns-in_err-report-clause-works : goal.returns-in_err-report-clause-works
-returns-in_err-report-clause-works g c = 
+returns-in_err-report-clause-works g c =
     works_unread _ _ _ _ _ _ c.in_err-report.field-0.0 c.from_residual-in_err-report.result c.in_err-report.ensures.stopped c.from_residual-in_err-report.ensures.1

@@ -1,4 +1,4 @@
-use Rattle.std.proofs.Common.{◌≡◌, subst, sym}
+use Rattle.std.proofs.Common.{subst}
 use Rattle.lw_reading.specs.Reading.{Reads}
 use Rattle.lw_scopes.specs.Faults.{IsFaultShown}
 use Rattle.lw_scopes.specs.Diagnostics as list
