@@ -6,9 +6,6 @@ use Rattle.lw_frame.specs.declared.fault.FrameFault.{FrameFault}
 use Rattle.lw_frame.proofs.Growing.{bodies_stay, fault_stays}
 use Rattle.lw_grammar.specs.declared.grammar.Grammar.{Grammar}
 use Rattle.lw_lang.specs.Compiled.{HoldsGrammar, IsClear}
-use Rattle.lw_lang.specs.Obstacles as obstacle
-use Rattle.lw_reading.specs.Laws.{HasNoEmptyKeyword}
-use Rattle.lw_reading.proofs.OneKinds.{filled_rules}
 use Rattle.lw_machine.specs.Answers.{Standing, beginning}
 use Rattle.lw_machine.specs.Sessions as session
 use Rattle.lw_machine.specs.Sessions.{Serves, framed}
@@ -20,11 +17,7 @@ use Rattle.langbench.specs.Run.{Files, Faults, NoneRose}
 use Rattle.langbench.specs.Serving as serving
 use Rattle.langbench.specs.Serving.{Talked, OfGrammar, ServeEnds, ServeDone, IsSession, WentWrong, most_taken}
 use Rattle.langbench.proofs.Ends.{no_failure}
-use Rattle.langbench.proofs.Grammars.{same_grammar}
-
--- a grammar that is built has no empty keyword
-pub filled : (g : Grammar) → IsClear g → HasNoEmptyKeyword g
-filled g clear = filled_rules g (λ rule within writes. clear.0 (obstacle.blank_keyword rule [] within writes (inl refl)))
+use Rattle.langbench.proofs.Grammars.{filled, same_grammar}
 
 -- of two fronts of a list one is a front of the other
 fronts : (xs ys r s : List ℕ) → xs ++ r ≡ ys ++ s → ((m : List ℕ) × (ys ≡ xs ++ m)) ⊎ ((m : List ℕ) × (xs ≡ ys ++ m) × (s ≡ m ++ r))

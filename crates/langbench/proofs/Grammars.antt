@@ -1,9 +1,12 @@
--- A path holds one grammar at most.
-use Rattle.std.proofs.Common.{◌≡◌, ℕ, List, sym, subst, ◌∙◌}
+-- A path holds one grammar at most, and one that is built has no empty keyword.
+use Rattle.std.proofs.Common.{◌≡◌, inl, ℕ, List, [], refl, sym, subst, ◌∙◌}
 use Rattle.std.proofs.lemmas.Option.{same_Some}
 use Rattle.lw_grammar.specs.declared.grammar.Grammar.{Grammar}
 use Rattle.lw_lang.specs.Small.{SaysSmall}
-use Rattle.lw_lang.specs.Compiled.{HoldsGrammar, HoldsText}
+use Rattle.lw_lang.specs.Compiled.{HoldsGrammar, HoldsText, IsClear}
+use Rattle.lw_lang.specs.Obstacles as obstacle
+use Rattle.lw_reading.specs.Laws.{HasNoEmptyKeyword}
+use Rattle.lw_reading.proofs.OneKinds.{filled_rules}
 use Rattle.langbench.specs.Run.{Files}
 
 module _ (files : Files) (path : List ℕ) (g : Grammar) (holds : HoldsGrammar files path g) where
@@ -16,3 +19,6 @@ module _ (files : Files) (path : List ℕ) (g : Grammar) (holds : HoldsGrammar f
 
   pub same_grammar : (h : Grammar) → HoldsGrammar files path h → h ≡ g
   same_grammar h other = says_same other.text h other.holds other.says.says
+
+pub filled : (g : Grammar) → IsClear g → HasNoEmptyKeyword g
+filled g clear = filled_rules g (λ rule within writes. clear.0 (obstacle.blank_keyword rule [] within writes (inl refl)))

@@ -1,5 +1,6 @@
 pub mod ReportLemmas
 pub mod Grammars
+pub mod OneOutput
 pub mod Ends
 pub mod Working
 pub mod Noting

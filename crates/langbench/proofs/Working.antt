@@ -17,6 +17,8 @@ use Rattle.langbench.specs.Reports.{IsReport, IsVerdict}
 use Rattle.langbench.specs.Run.{Files, Prints, ReadsDocument, WritesSome, most_read}
 use Rattle.langbench.specs.Stops.{StopsReading, Works, stop_of_fault}
 use Rattle.langbench.proofs.Ends.{reads_nothing}
+use Rattle.langbench.proofs.Grammars.{filled}
+use Rattle.langbench.proofs.OneOutput.{one_output}
 
 abbrev stopped : Stop → Result Verdict Stop
 stopped e = Err e
@@ -72,7 +74,13 @@ works_unread (Some files) (Some held) after path refused old e (Err s) stops is 
 module _ (files : Files) (path held : List ℕ) (refused after old new : Option (List ℕ)) (g : Grammar) (report : Report) (holds : HoldsGrammar files path g) (clear : IsClear g)
     (is : IsReport g (take most_read held) report) (read : ReadsDocument held after) where
   prints : Prints files path held (string_bytes report.text)
-  prints = record { grammar = g; holds = holds; clear = clear; printed = is.printed }
+  prints = record {
+    grammar = g;
+    holds = holds;
+    clear = clear;
+    printed = is.printed;
+    only = λ other also. one_output g (filled g clear) (take most_read held) other (string_bytes report.text) also is.printed;
+  }
 
   told : (r : Result Verdict Stop) → IfOk r (λ v. v ≡ report.verdict) → OnOk r (Appends old new (string_bytes report.text)) → OnErr r ((r ≡ Err stop.Write) ⊎ (r ≡ Err stop.Memory)) →
       OnErr r (WritesFront old new (string_bytes report.text)) → Works files path held refused after old new r

@@ -26,12 +26,13 @@ ReadsPart before after = (bytes : List ℕ) × (length bytes ≤ most_read) × C
 abbrev pub Files : Type 0
 Files = List (List ℕ × List ℕ)
 
--- the path holds a grammar that is built, and this is what `check` prints for what the source held
+-- the path holds a grammar that is built, and this and nothing else is what `check` prints for what the source held
 pub record Prints (files : Files) (path held output : List ℕ) : Type 0 where
   pub grammar : plain.Grammar
   pub holds : HoldsGrammar files path grammar
   pub clear : IsClear grammar
   pub printed : Checked grammar (take most_read held) output
+  pub only : (other : List ℕ) → Checked grammar (take most_read held) other → other ≡ output
 
 -- what was written from before to after is a front of what is printed
 pub record WritesSome (files : Files) (path held : List ℕ) (old new : Option (List ℕ)) : Type 0 where
