@@ -38,6 +38,10 @@ enum WordsFault {
 }
 
 impl From<NoMemory> for WordsFault {
+    ghost use Rattle.langbench.specs.declared.WordsFault.{WordsFault};
+
+    ghost from_gives = { λ _ fault. fault ≡ WordsFault.NoMemory };
+
     fn from(_: NoMemory) -> Self {
         WordsFault::NoMemory
     }
