@@ -1,5 +1,5 @@
 -- What a run notes, from what the work answered.
-use Rattle.std.proofs.Common.{◌≡◌, ◌≢◌, ◌⊎◌, inl, inr, ℕ, List, [], ◌∷◌, Option, Some, None, Result, Ok, Err, IfSome, MatchOption, sym, ap, subst, ◌∙◌, arith}
+use Rattle.std.proofs.Common.{◌≡◌, ◌≢◌, ◌⊎◌, inl, inr, ℕ, List, [], ◌∷◌, Option, Some, None, Result, Ok, Err, IfSome, OnOk, OnErr, MatchOption, sym, ap, subst, ◌∙◌, arith}
 use Rattle.std.specs.Option.{option_copied}
 use denote.Ref.{Bor}
 use Rattle.std.specs.Io.KnownBytes.{Appends}
@@ -11,9 +11,12 @@ use Rattle.langbench.specs.Words.{IsCheck, IsServe, IsNoCommand, NamesGrammar}
 use Rattle.langbench.specs.Run.{Files, Faults}
 use Rattle.langbench.specs.Stops.{EndsWith, HasCause, StoreCounts, PatternCounts}
 use Rattle.lw_frame.specs.declared.fault.FrameFault.{FrameFault}
-use Rattle.langbench.specs.Notes.{NotesOutcome, NotesStatus, NotesFault, frame_line}
-use Rattle.langbench.specs.Serving.{OfGrammar, WentWrong, ServeWorks}
+use Rattle.langbench.specs.Notes.{IsStopLine, NotesOne, NotesOutcome, NotesOutcomePart, NotesPart, NotesStatus, NotesFault, frame_line, usage_line}
+use Rattle.langbench.specs.Serving.{OfGrammar, WentWrong, ServeWorks, WritesPart}
+use Rattle.lw_io.specs.Whole.{WritesFront}
+use Rattle.lw_io.specs.declared.whole.WriteFault.{WriteFault}
 use Rattle.langbench.proofs.Ends.{fault_bound, failed_of}
+use Rattle.langbench.proofs.Turns.{WritesPart-all, WritesPart-none, WritesPart-some}
 
 pub not_seven : (code : ℕ) → (code ≡ 3) ⊎ (code ≡ 6) → code ≢ 7
 not_seven code (inl three) seven = omega (arith, three, seven)
@@ -152,3 +155,24 @@ pub frames_noted : (told : Option Files) (path : List ℕ) (refused before after
     IfSome told (λ files. FramesNoted files path before after old new notes noted_)
 frames_noted None path refused before after old new notes noted_ code grammar r ends eight noted works = tt
 frames_noted (Some files) path refused before after old new notes noted_ code grammar r ends eight noted works = frames files path refused before after old new notes noted_ code eight grammar r ends noted works
+
+-- ---- whatever fails
+
+pub one_note : (path : List ℕ) (named_path : Option (List ℕ)) (r : Result Verdict Stop) (code : ℕ) (old new : Option (List ℕ)) → EndsWith r code → named_path ≡ Some path →
+    NotesOutcomePart named_path r old new → NotesOne (Some path) code old new
+one_note path named_path (Ok Whole) code old new ends is part = inl part
+one_note path named_path (Ok Broken) code old new ends is part = inl part
+one_note path named_path (Err found) code old new ends is part = inr (found, ends, subst (λ p. NotesPart p found old new) is part)
+
+pub one_usage : (path old new : Option (List ℕ)) (r : Result Verdict Stop) → r ≡ Err stop.Words → NotesOutcomePart path r old new → WritesPart old new usage_line
+one_usage path old new r is part = by (subst (λ s. NotesOutcomePart path s old new) is part)
+  where
+    by : NotesPart path stop.Words old new → WritesPart old new usage_line
+    by (inl keeps) = WritesPart-none old new usage_line keeps
+    by (inr (output, line, some)) = subst (WritesPart old new) line some
+
+-- a line that was written, or not
+pub noted_part : (path : Option (List ℕ)) (found : Stop) (output : List ℕ) (old new : Option (List ℕ)) (r : Result (Unit {0}) WriteFault) → IsStopLine path found output →
+    OnOk r (Appends old new output) → OnErr r (WritesFront old new output) → NotesPart path found old new
+noted_part path found output old new (Ok done) line whole front = inr (output, line, WritesPart-all old new output whole)
+noted_part path found output old new (Err e) line whole front = inr (output, line, WritesPart-some old new output front)

@@ -38,6 +38,13 @@ pub WritesPart-behind : (old mid new : Option (List ℕ)) (xs ys : List ℕ) →
 WritesPart-behind old mid new xs ys written part =
     (length xs + part.0, omega (arith, part.1, length-append xs ys), subst (Appends old new) (sym (take_behind xs ys part.0)) (Appends-trans old mid new xs (take part.0 ys) written part.2))
 
+-- a front of it, and nothing of it
+pub WritesPart-some : (old new : Option (List ℕ)) (bytes : List ℕ) → WritesFront old new bytes → WritesPart old new bytes
+WritesPart-some old new bytes front = (front.0, (let few = front.1 in omega (arith, few)), front.2)
+
+pub WritesPart-none : (old new : Option (List ℕ)) (bytes : List ℕ) → Keeps old new → WritesPart old new bytes
+WritesPart-none old new bytes keeps = (0, omega arith, Appends-kept old old new [] (Appends-nil old) keeps)
+
 -- all of one and nothing of the next
 pub WritesPart-front : (old new : Option (List ℕ)) (xs ys : List ℕ) → Appends old new xs → WritesPart old new (xs ++ ys)
 WritesPart-front old new xs ys written = WritesPart-behind old new new xs ys written (0, omega arith, Appends-nil new)

@@ -1,6 +1,6 @@
 -- The one line of why a run stopped, which is written beside what it prints. A place is told as compilers tell one, `PATH:LINE:COL: WHAT`,
 -- with line and column counted from 1 and columns in UTF-16 units (Language Server Protocol 3.17, "Position").
-use Rattle.std.specs.Prelude.{ℕ, ◌≡◌, ◌≤◌, List, ◌++◌, codes, Option, Result, Ok, Err, IfSome}
+use Rattle.std.specs.Prelude.{ℕ, ◌≡◌, ◌≤◌, ◌⊎◌, List, ◌++◌, codes, Option, Result, Ok, Err, IfSome}
 use Rattle.std.specs.Io.KnownBytes.{Appends, Keeps}
 use Rattle.std.specs.Fmt.{decimal}
 use Rattle.lw_frame.specs.declared.fault.FrameFault.{FrameFault}
@@ -13,6 +13,8 @@ use Rattle.langbench.specs.declared.stop.Stop.{Stop}
 use Rattle.langbench.specs.declared.stop.Stop.TheVariants as stop
 use Rattle.langbench.specs.Checked.{line, printed}
 use Rattle.langbench.specs.Run.{Files, Faults, GrammarFails}
+use Rattle.langbench.specs.Serving.{WritesPart}
+use Rattle.langbench.specs.Stops.{code_of}
 
 -- LINES
 
@@ -93,3 +95,17 @@ pub record NotesStatus (code : ℕ) (old new : Option (List ℕ)) : Type 0 where
 pub record NotesFault (files : Files) (path : List ℕ) (refused : Option (List ℕ)) (faults : Faults) (code : ℕ) (old new : Option (List ℕ)) : Type 0 where
   pub fails : GrammarFails files path refused faults code
   pub noted : Appends old new (fault_line path fails.found)
+
+-- WHATEVER FAILS
+
+-- a front of the line of a stop, which may be all of it, or nothing
+abbrev pub NotesPart : Option (List ℕ) → Stop → Option (List ℕ) → Option (List ℕ) → Type 0
+NotesPart path found old new = Keeps old new ⊎ ((output : List ℕ) × IsStopLine path found output × WritesPart old new output)
+
+abbrev pub NotesOutcomePart : Option (List ℕ) → Result Verdict Stop → Option (List ℕ) → Option (List ℕ) → Type 0
+NotesOutcomePart path (Ok verdict) old new = Keeps old new
+NotesOutcomePart path (Err found) old new = NotesPart path found old new
+
+-- by the status: a front of one line, which is that of a stop with this status, or there was no memory
+abbrev pub NotesOne : Option (List ℕ) → ℕ → Option (List ℕ) → Option (List ℕ) → Type 0
+NotesOne path code old new = Keeps old new ⊎ ((found : Stop) × ((code ≡ code_of found) ⊎ (code ≡ 7)) × NotesPart path found old new)

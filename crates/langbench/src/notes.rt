@@ -2,7 +2,7 @@
 ghost use Rattle.std.specs.Prelude.{◌≡◌, IfOk, IfSome, IsTrue, string_bytes};
 ghost use Rattle.std.specs.Option.{option_copied};
 ghost use Rattle.lw_io.specs.Causes.{Rose};
-ghost use Rattle.langbench.specs.Notes.{file_line, placed_line, refused_text, fault_line, frame_line, IsStopLine, NotesStop};
+ghost use Rattle.langbench.specs.Notes.{file_line, placed_line, refused_text, fault_line, frame_line, IsStopLine, NotesPart, NotesStop};
 
 use crate::place::printed;
 use crate::stop::Stop;
@@ -14,15 +14,17 @@ use lw_text::Pos;
 use std::alloc::Global;
 
 /// Writes the line for a stop; `grammar` is the path of the grammar that the words name. False where
-/// memory was refused for it; that a sink fails changes nothing.
+/// memory was refused for it; that a sink fails changes nothing. In any case no more is written than the
+/// line.
 pub(crate) fn note<N: Sink>(
     alloc: Global,
     notes: &mut N,
     grammar: Option<&Name>,
     stop: &Stop,
 ) -> bool
-    ensures { IsTrue result → ¬ Rose (N.count notes.old) (N.count notes.new)
+    ensures noted { IsTrue result → ¬ Rose (N.count notes.old) (N.count notes.new)
         → NotesStop (option_copied grammar.entry) stop.now (N.written notes.old) (N.written notes.new) }
+    ensures part { NotesPart (option_copied grammar.entry) stop.now (N.written notes.old) (N.written notes.new) }
 {
     match stop_line(alloc, grammar, stop) {
         Ok(line) => !matches!(write_all(notes, line.as_bytes()), Err(WriteFault::NoMemory)),

@@ -1,5 +1,5 @@
 // The top call: what the words name is done, and how it ended is told.
-ghost use Rattle.std.specs.Prelude.{◌≡◌, ◌≢◌, ◌⊎◌, ◌<◌, ◌≤◌, List, ℕ, IfOk, IfErr, IfSome, Err, OnOk, OnErr, take, string_bytes};
+ghost use Rattle.std.specs.Prelude.{◌≡◌, ◌≢◌, ◌⊎◌, ◌<◌, ◌≤◌, List, ℕ, IfOk, IfErr, IfSome, Err, OnOk, OnErr, Some, take, string_bytes};
 ghost use Rattle.std.specs.Option.{option_copied};
 ghost use Rattle.std.specs.Io.KnownBytes.{Appends, Keeps};
 ghost use Rattle.lw_grammar.specs.declared.grammar.Grammar as plain;
@@ -8,11 +8,11 @@ ghost use Rattle.lw_io.specs.Whole.{WritesFront};
 ghost use Rattle.lw_lang.specs.Compiled.{HoldsGrammar, IsClear};
 ghost use Rattle.lw_frame.specs.declared.fault.FrameFault.{FrameFault};
 ghost use Rattle.langbench.specs.Words.{IsCheck, IsServe, IsNoCommand};
-ghost use Rattle.langbench.specs.Serving.{IsSession, OfGrammar, WentWrong, ServeDone, ServeEnds, ServeWorks};
+ghost use Rattle.langbench.specs.Serving.{IsSession, OfGrammar, WentWrong, ServeDone, ServeEnds, ServeWorks, WritesPart};
 ghost use Rattle.lw_rpc.specs.declared.reply.Reply.{Reply};
 ghost use Rattle.langbench.specs.Reports.{IsReport};
 ghost use Rattle.langbench.specs.Run.{CheckEnds, CheckDone, NoneRose, ReadsDocument, most_read};
-ghost use Rattle.langbench.specs.Notes.{NotesStatus, NotesFault, NotesOutcome, frame_line};
+ghost use Rattle.langbench.specs.Notes.{NotesStatus, NotesFault, NotesOne, NotesOutcome, NotesOutcomePart, frame_line, usage_line};
 ghost use Rattle.langbench.specs.Stops.{EndsWith, StopsReading, Works, HasCause, SourceCounts, OutCounts, StoreCounts, PatternCounts};
 
 use crate::desk::Desk;
@@ -121,6 +121,11 @@ pub fn run<S: Source, K: Sink, N: Sink, F: Store, P: Patterns, L: Ledger>(
         → (path : List ℕ) → IsServe words.now path → IfSome (F.files store.old) (λ files.
         (found : FrameFault) × OfGrammar files path (λ g. WentWrong g (S.left source.old) (S.left source.new) (K.written out.old) (K.written out.new) found)
         × Appends (N.written notes.old) (N.written notes.new) (frame_line found)) }
+
+    // Whatever fails, what is noted is a front of one line, which may be all of it: the line of the status, but where there was no memory.
+    ensures one_note { (path : List ℕ) → IsCheck words.now path ⊎ IsServe words.now path
+        → NotesOne (Some path) result.code (N.written notes.old) (N.written notes.new) }
+    ensures one_usage { IsNoCommand words.now → WritesPart (N.written notes.old) (N.written notes.new) usage_line }
 {
     let outcome = act(alloc, words, source, out, store, patterns, desk, steps);
     finish(alloc, notes, grammar_named(words), outcome)
@@ -137,6 +142,7 @@ fn finish<N: Sink>(
     ensures ends { EndsWith outcome result.code }
     ensures noted { result.code ≢ 7 → ¬ Rose (N.count notes.old) (N.count notes.new)
         → NotesOutcome (option_copied grammar.entry) outcome (N.written notes.old) (N.written notes.new) }
+    ensures part { NotesOutcomePart (option_copied grammar.entry) outcome (N.written notes.old) (N.written notes.new) }
 {
     let stop = match outcome {
         Ok(Verdict::Whole) => return Status { code: 0 },

@@ -67,3 +67,9 @@ returns-clause-serve_done g c = λ path is.
     whole.done_told _ path _ _ _ _ _ _ c.finish.result.code
     (served.ended_told _ path _ _ _ _ _ _ c.finish.result.code c.act-outcome.result c.finish.ensures.ends (c.act-outcome.ensures.serves path is) c.act-outcome.ensures.source
     c.act-outcome.ensures.out c.act-outcome.ensures.store c.act-outcome.ensures.patterns)
+
+pub returns-clause-one_note : goal.returns-clause-one_note
+returns-clause-one_note g c = λ path is. noting.one_note path _ _ _ _ _ c.finish.ensures.ends (noting.named _ _ path c.grammar_named.ensures is) c.finish.ensures.part
+
+pub returns-clause-one_usage : goal.returns-clause-one_usage
+returns-clause-one_usage g c = λ not. noting.one_usage _ _ _ _ (c.act-outcome.ensures.other_words not).0 c.finish.ensures.part
