@@ -7,7 +7,7 @@ use Rattle.std.proofs.Math.Seq.{take-suc, drop-cons}
 use Rattle.lw_grammar.specs.declared.grammar.Grammar.{Grammar}
 use Rattle.lw_frame.specs.Frames.{bodies_of, frame_of}
 use Rattle.lw_frame.specs.Stream.{Stream, with_piece, next_body, next_answer, handed, after_next}
-use Rattle.lw_frame.specs.Wanted.{IsWithin}
+use Rattle.lw_frame.specs.Wanted.{EndsWithin}
 use Rattle.lw_io.specs.Whole.{WritesFront}
 use Rattle.lw_machine.specs.Answers.{Standing}
 use Rattle.lw_machine.specs.Sessions.{HandlesBody, framed}
@@ -34,7 +34,7 @@ at_end_of n now after s t none (talking.piece bytes some consumed within) = absu
 
 -- a piece
 pub piece_of : (n : ℕ) (now after : Option (List ℕ)) (s t : Stream) → n ≢ 0 → TakesPiece now after s t n →
-    (bytes : List ℕ) × (t ≡ with_piece s bytes) × (n ≡ length bytes) × Consumes now after bytes × IsWithin s.fed bytes
+    (bytes : List ℕ) × (t ≡ with_piece s bytes) × (n ≡ length bytes) × Consumes now after bytes × EndsWithin s.fed bytes
 piece_of n now after s t some (talking.at_end ended keeps) = absurd (some refl)
 piece_of n now after s t some (talking.piece bytes more consumed within) = (bytes, refl, refl, consumed, within)
 

@@ -3,13 +3,13 @@ use Rattle.std.proofs.Common.{◌≡◌, ℕ, ◌+◌, ◌≤◌, List, [], Some
 use Rattle.lw_grammar.specs.declared.grammar.Grammar.{Grammar}
 use Rattle.lw_text.specs.declared.shown.Shown.{Shown}
 use Rattle.lw_reading.specs.Laws.{HasNoEmptyKeyword}
-use Rattle.lw_reading.specs.Reading.{longest_document}
+use Rattle.lw_base.specs.declared.limits.TheConstants.{LONGEST_DOCUMENT}
 use Rattle.lw_scopes.specs.Diagnostics.{IsList}
 use Rattle.lw_scopes.proofs.OneList.{one_list}
 use Rattle.langbench.specs.Checked.{Checked, too_large, not_text, listed, list_lines}
 
 -- so many bytes are not one more than may be read
-few : (bytes : List ℕ) → length bytes ≡ longest_document + 1 → length bytes ≤ longest_document → ⊥
+few : (bytes : List ℕ) → length bytes ≡ LONGEST_DOCUMENT + 1 → length bytes ≤ LONGEST_DOCUMENT → ⊥
 few bytes more short = omega (arith, more, short)
 
 module _ (g : Grammar) (filled : HasNoEmptyKeyword g) (bytes : List ℕ) where

@@ -6,14 +6,14 @@ use Rattle.std.proofs.KnownBytes.{Appends-nil, Appends-trans, Appends-kept, Cons
 use Rattle.lw_grammar.specs.declared.grammar.Grammar.{Grammar}
 use Rattle.lw_io.specs.Whole.{WritesFront}
 use Rattle.lw_frame.specs.Frames.{bodies_of, fault_of, rest_of}
-use Rattle.lw_frame.specs.Stream.{Stream, start, with_piece, answer, next_body, next_answer, handed, after_next}
+use Rattle.lw_frame.specs.Stream.{Stream, start, with_piece, answer_next, next_body, next_answer, handed, after_next}
 use Rattle.lw_frame.specs.declared.fault.FrameFault.{FrameFault}
 use Rattle.lw_machine.specs.Answers.{Standing, beginning}
 use Rattle.lw_machine.specs.Sessions as session
 use Rattle.lw_machine.specs.Sessions.{Handles, Serves, framed}
 use Rattle.lw_machine.specs.declared.ended.Ended.{Ended}
 use Rattle.lw_machine.specs.declared.ended.Ended.TheVariants.{No, Clean, Early}
-use Rattle.lw_frame.specs.Wanted.{IsWithin}
+use Rattle.lw_frame.specs.Wanted.{EndsWithin}
 use Rattle.langbench.specs.declared.stop.Stop.{Stop}
 use Rattle.langbench.specs.declared.stop.Stop.TheVariants as stop
 use Rattle.langbench.specs.Serving.{WritesPart, Talked, TalkedSome, Exited, RanOut, WasCutOff, WentWrong, WasTooLong, most_taken}
@@ -113,7 +113,7 @@ module _ (g : Grammar) (before now old mid : Option (List ℕ)) (s : Stream) (st
   too_long is = (s.fed, talked refl, is, way.sound)
 
   -- memory was refused behind a read
-  pub lost_piece : (after : Option (List ℕ)) (bytes : List ℕ) → Consumes now after bytes → IsWithin s.fed bytes → TalkedSome g before after old mid
+  pub lost_piece : (after : Option (List ℕ)) (bytes : List ℕ) → Consumes now after bytes → EndsWithin s.fed bytes → TalkedSome g before after old mid
   lost_piece after bytes consumed within = record {
     taken = s.fed ++ bytes;
     answered = bodies_of s.fed;
@@ -127,7 +127,7 @@ module _ (g : Grammar) (before now old mid : Option (List ℕ)) (s : Stream) (st
     written = WritesPart-all old mid (framed way.replies) way.written;
   }
     where
-      behind : IsWithin s.fed bytes → (others : List (List ℕ)) × (bodies_of (s.fed ++ bytes) ≡ bodies_of s.fed ++ others)
+      behind : EndsWithin s.fed bytes → (others : List (List ℕ)) × (bodies_of (s.fed ++ bytes) ≡ bodies_of s.fed ++ others)
       behind (inl same) = ([], same ∙ sym (append-nil (bodies_of s.fed)))
       behind (inr one) = (one.0 ∷ [], one.1)
 
@@ -149,7 +149,7 @@ module _ (g : Grammar) (before now old mid : Option (List ℕ)) (s : Stream) (st
     broke_off found is = (s.fed, over, inr (ended, is))
 
   -- ---- a piece was taken
-  module _ (after : Option (List ℕ)) (bytes : List ℕ) (consumed_ : Consumes now after bytes) (within : IsWithin s.fed bytes) where
+  module _ (after : Option (List ℕ)) (bytes : List ℕ) (consumed_ : Consumes now after bytes) (within : EndsWithin s.fed bytes) where
     later : Stream
     later = with_piece s bytes
 
@@ -276,8 +276,8 @@ module _ (g : Grammar) (before now after old mid new : Option (List ℕ)) (s : S
   open_fault closed is false_ = ap (fault_of (s.fed ++ bytes)) (is ∙ false_)
 
   -- no body
-  without : (t : Standing) → bodies_of (s.fed ++ bytes) ≡ bodies_of s.fed → (within : IsWithin s.fed bytes) (fault : Option FrameFault) → fault_of (s.fed ++ bytes) false ≡ fault →
-      (outcome : Result Ended Stop) → AnswersNext g standing mid new (answer None fault) t outcome → AfterTurn g before after old new (with_piece s bytes) t outcome
+  without : (t : Standing) → bodies_of (s.fed ++ bytes) ≡ bodies_of s.fed → (within : EndsWithin s.fed bytes) (fault : Option FrameFault) → fault_of (s.fed ++ bytes) false ≡ fault →
+      (outcome : Result Ended Stop) → AnswersNext g standing mid new (answer_next None fault) t outcome → AfterTurn g before after old new (with_piece s bytes) t outcome
   without t same within None none outcome answers =
       subst (AfterTurn g before after old new (with_piece s bytes) t) (sym answers.0)
       (subst (IsUnderway g before after old new (with_piece s bytes)) (sym answers.1) (goes_on g before now old mid s standing way after bytes consumed within same new answers.2 none))
@@ -285,7 +285,7 @@ module _ (g : Grammar) (before now after old mid new : Option (List ℕ)) (s : S
       subst (AfterTurn g before after old new (with_piece s bytes) t) (sym answers.0) (went_wrong g before now old mid s standing way after bytes consumed within same new answers.2 found is)
 
   -- one body
-  with_one : (t : Standing) (within : IsWithin s.fed bytes) (body : List ℕ) → bodies_of (s.fed ++ bytes) ≡ bodies_of s.fed ++ body ∷ [] → rest_of (s.fed ++ bytes) ≡ [] → fault_of (s.fed ++ bytes) false ≡ None →
+  with_one : (t : Standing) (within : EndsWithin s.fed bytes) (body : List ℕ) → bodies_of (s.fed ++ bytes) ≡ bodies_of s.fed ++ body ∷ [] → rest_of (s.fed ++ bytes) ≡ [] → fault_of (s.fed ++ bytes) false ≡ None →
       (outcome : Result Ended Stop) → AnswersNext g standing mid new (Ok (Some body)) t outcome → AfterTurn g before after old new (record (with_piece s bytes) { given = s.given + 1 }) t outcome
   with_one t within body one nothing none (Ok No) responds = goes_on_behind g before now old mid s standing way after bytes consumed within body one new t No responds refl none
   with_one t within body one nothing none (Ok Clean) responds = exited g before now old mid s standing way after bytes consumed within body one new t Clean responds nothing
@@ -299,18 +299,18 @@ module _ (g : Grammar) (before now after old mid new : Option (List ℕ)) (s : S
   with_one t within body one nothing none (Err stop.Limit) part = part
 
   -- What a turn leaves: the reader hands out what the piece brought, and it is answered.
-  pub turn : (t : Standing) (within : IsWithin s.fed bytes) (outcome : Result Ended Stop) → AnswersNext g standing mid new (next_answer (with_piece s bytes)) t outcome →
+  pub turn : (t : Standing) (within : EndsWithin s.fed bytes) (outcome : Result Ended Stop) → AnswersNext g standing mid new (next_answer (with_piece s bytes)) t outcome →
       AfterTurn g before after old new (after_next (with_piece s bytes)) t outcome
   turn t (inl same) outcome answers =
       let none = none_next g before now old mid s standing way after bytes consumed (inl same) same in
       let fault = open_fault s.closed refl way.going_on in
-      let at : AnswersNext g standing mid new (answer None (fault_of (s.fed ++ bytes) false)) t outcome =
-      subst (λ f. AnswersNext g standing mid new (answer None f) t outcome) fault (subst (λ o. AnswersNext g standing mid new (answer o (fault_of (s.fed ++ bytes) s.closed)) t outcome) none answers) in
+      let at : AnswersNext g standing mid new (answer_next None (fault_of (s.fed ++ bytes) false)) t outcome =
+      subst (λ f. AnswersNext g standing mid new (answer_next None f) t outcome) fault (subst (λ o. AnswersNext g standing mid new (answer_next o (fault_of (s.fed ++ bytes) s.closed)) t outcome) none answers) in
       subst (λ o. AfterTurn g before after old new (handed o (with_piece s bytes)) t outcome) (sym none) (without t same (inl same) (fault_of (s.fed ++ bytes) false) refl outcome at)
   turn t (inr one) outcome answers =
       let some = one_next g before now old mid s standing way after bytes consumed (inr one) one.0 one.1 in
       let at : AnswersNext g standing mid new (Ok (Some one.0)) t outcome =
-      subst (λ o. AnswersNext g standing mid new (answer o (fault_of (s.fed ++ bytes) s.closed)) t outcome) some answers in
+      subst (λ o. AnswersNext g standing mid new (answer_next o (fault_of (s.fed ++ bytes) s.closed)) t outcome) some answers in
       subst (λ o. AfterTurn g before after old new (handed o (with_piece s bytes)) t outcome) (sym some) (with_one t (inr one) one.0 one.1 one.2 (one.3 false) outcome at)
 
 -- nothing was taken yet

@@ -4,7 +4,7 @@ use Rattle.std.specs.Io.KnownBytes.{Appends, Consumes, Keeps}
 use Rattle.lw_grammar.specs.declared.grammar.Grammar as plain
 use Rattle.lw_io.specs.Causes.{Rose}
 use Rattle.lw_io.specs.Whole.{TakesFewer, WritesFront}
-use Rattle.lw_reading.specs.Reading.{longest_document}
+use Rattle.lw_base.specs.declared.limits.TheConstants.{LONGEST_DOCUMENT}
 use Rattle.lw_lang.specs.Compiled.{HoldsGrammar, IsClear, Causes}
 use Rattle.lw_lang.specs.declared.fault.CompileFault.{CompileFault}
 use Rattle.lw_lang.specs.declared.fault.CompileFault.TheVariants as fault
@@ -12,7 +12,7 @@ use Rattle.langbench.specs.Checked.{Checked, ok_line}
 
 -- how many bytes of a document are read at most: one more than it may have
 abbrev pub most_read : ℕ
-most_read = longest_document + 1
+most_read = LONGEST_DOCUMENT + 1
 
 -- the document was read: all of what the source held, but no more than may be read
 abbrev pub ReadsDocument : List ℕ → Option (List ℕ) → Type 0

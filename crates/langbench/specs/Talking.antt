@@ -5,7 +5,7 @@ use Rattle.std.specs.Io.KnownBytes.{Appends, Consumes, IsAtEnd, Keeps}
 use Rattle.lw_grammar.specs.declared.grammar.Grammar as plain
 use Rattle.lw_frame.specs.Frames.{bodies_of, fault_of, frame_of}
 use Rattle.lw_frame.specs.Stream.{Stream, with_piece}
-use Rattle.lw_frame.specs.Wanted.{IsWithin}
+use Rattle.lw_frame.specs.Wanted.{EndsWithin}
 use Rattle.lw_frame.specs.declared.fault.FrameFault.{FrameFault}
 use Rattle.lw_machine.specs.Answers.{Standing, beginning}
 use Rattle.lw_machine.specs.Sessions.{Handles, Serves, framed}
@@ -36,12 +36,12 @@ pub record IsUnderway (g : plain.Grammar) (before now old new : Option (List ℕ
 -- what was taken from the source and fed to the reader
 pub data TakesPiece (before now : Option (List ℕ)) (s : Stream) : Stream → ℕ → Type 0 where
   at_end : IsAtEnd now → Keeps before now → TakesPiece before now s s 0
-  piece : (bytes : List ℕ) → 0 < length bytes → Consumes before now bytes → IsWithin s.fed bytes → TakesPiece before now s (with_piece s bytes) (length bytes)
+  piece : (bytes : List ℕ) → 0 < length bytes → Consumes before now bytes → EndsWithin s.fed bytes → TakesPiece before now s (with_piece s bytes) (length bytes)
 
 -- what was taken where memory was refused
 pub data LosesPiece (before now : Option (List ℕ)) (s : Stream) : Stop → Type 0 where
   unread : Keeps before now → LosesPiece before now s stop.Read
-  lost : (bytes : List ℕ) → Consumes before now bytes → IsWithin s.fed bytes → LosesPiece before now s stop.Memory
+  lost : (bytes : List ℕ) → Consumes before now bytes → EndsWithin s.fed bytes → LosesPiece before now s stop.Memory
 
 module _ (g : plain.Grammar) (s : Standing) (old new : Option (List ℕ)) where
   -- a body was answered, and all replies to it were written

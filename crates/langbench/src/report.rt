@@ -1,14 +1,13 @@
 // What `check` prints for a document.
 ghost use Rattle.std.specs.Prelude.{◌≡◌, ◌≤◌, ◌+◌, length, IfOk, string_bytes};
 ghost use Rattle.std.specs.List.{flat_map};
-ghost use Rattle.lw_reading.specs.Reading.{longest_document};
 ghost use Rattle.langbench.specs.Checked.{diagnostic_line};
 ghost use Rattle.langbench.specs.Reports.{IsReport};
 
 use crate::place::printed;
-use lw_base::{Name, NoMemory};
+use lw_base::{LONGEST_DOCUMENT, Name, NoMemory};
 use lw_check::diagnostics;
-use lw_lang::{LONGEST_DOCUMENT, Language};
+use lw_lang::Language;
 use lw_text::Shown;
 use std::alloc::Global;
 
@@ -44,7 +43,7 @@ pub(crate) fn report_on(
     language: &Language,
     bytes: &[u8],
 ) -> Result<Report, NoMemory>
-    requires { length bytes.now ≤ longest_document + 1 }
+    requires { length bytes.now ≤ LONGEST_DOCUMENT + 1 }
     ensures { IfOk result (IsReport language.now.grammar bytes.now) }
 {
     if bytes.len() > LONGEST_DOCUMENT {
@@ -58,7 +57,7 @@ pub(crate) fn report_on(
 }
 
 fn report_text(alloc: Global, language: &Language, text: &Name) -> Result<Report, NoMemory>
-    requires { length text.now ≤ longest_document }
+    requires { length text.now ≤ LONGEST_DOCUMENT }
     ensures { IfOk result (IsReport language.now.grammar text.now) }
 {
     let list = diagnostics(alloc, language, text)?;

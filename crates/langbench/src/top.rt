@@ -21,9 +21,9 @@ use crate::report::{Report, Verdict, report_on};
 use crate::serve::serve;
 use crate::stop::Stop;
 use crate::words::{Command, command_of, grammar_named};
-use lw_base::{Name, Steps};
+use lw_base::{LONGEST_DOCUMENT, Name, Steps};
 use lw_io::{Patterns, Sink, Source, Store, read_all, write_all};
-use lw_lang::{LONGEST_DOCUMENT, Language, compile};
+use lw_lang::{Language, compile};
 use std::alloc::Global;
 use std::sync::ledger::Ledger;
 

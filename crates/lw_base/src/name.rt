@@ -1,5 +1,5 @@
 // A text, seen as its bytes.
-ghost use Rattle.std.specs.Prelude.{◌≡◌, List, ℕ, IfOk, MatchOption, Some};
+ghost use Rattle.std.specs.Prelude.{◌≡◌, List, ℕ, IfOk, MatchOption, Some, string_bytes};
 ghost use Rattle.std.proofs.Common.{rules};
 ghost use Rattle.std.specs.Cmp.{partial_order_from_own_ties};
 ghost use Rattle.std.specs.Cmp.Rules.{comparing, hashing};
@@ -39,6 +39,23 @@ impl Name {
         })
     }
 
+    /// The text of a string, which is taken over as it is.
+    pub fn from_string(text: String) -> Name
+        ensures { result ≡ string_bytes text }
+    {
+        Name { text }
+    }
+
+    /// A text of these bytes, which are taken over as they are, or None where they are not UTF-8.
+    pub fn from_vec(bytes: Vec<u8>) -> Option<Name>
+        ensures { MatchOption result (¬ (IsUtf8 bytes.items)) (λ name. name ≡ bytes.items) }
+    {
+        match String::from_utf8(bytes) {
+            Ok(text) => Some(Name { text }),
+            Err(_) => None,
+        }
+    }
+
     /// A text of these bytes, or None where they are not UTF-8.
     pub fn from_bytes(alloc: Global, bytes: &[u8]) -> Result<Option<Name>, NoMemory>
         ensures { IfOk result (λ found. MatchOption found (¬ (IsUtf8 bytes.now)) (λ name. name ≡ bytes.now)) }
@@ -63,6 +80,13 @@ impl Name {
         ensures utf8 { IsUtf8 self.now }
     {
         self.text.as_str()
+    }
+
+    /// The text as a string, which is given away as it is.
+    pub fn into_string(self) -> String
+        ensures { string_bytes result ≡ self }
+    {
+        self.text
     }
 
     /// The same text, in memory of its own.

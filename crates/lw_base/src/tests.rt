@@ -1,10 +1,5 @@
 // That the calls succeed where there is memory, which no clause says.
-ghost use Rattle.std.specs.Prelude.{◌≡◌, ◌<◌};
-
-use crate::{Name, NoMemory, Steps, TypeId, TypeSet};
-use std::alloc::Global;
-use std::marker::Brand;
-use std::sync::ledger::{Blank, Ledger};
+use crate::{Name, TypeId, TypeSet};
 use std::test::Fail;
 
 #[test]
@@ -17,7 +12,13 @@ fn texts_are_made_copied_and_compared(rt: HostRuntime) -> Result<(), Fail> {
     assert!(rt; from_bytes == Some(copy));
     assert!(rt; Name::from_bytes(alloc, b"a\xFFb".as_slice())?.is_none());
     assert!(rt; Name::from_text(alloc, "Z")? < Name::from_text(alloc, "a")?);
-    assert_eq!(rt; format!(in alloc; "<{name}>")?.as_str(), "<a😀b>");
+    let taken_over = Name::from_string(name.into_string());
+    assert_eq!(rt; format!(in alloc; "<{taken_over}>")?.as_str(), "<a😀b>");
+    assert_eq!(rt;
+        Name::from_vec(vec![in alloc; 226, 130, 172]?),
+        Some(Name::from_text(alloc, "€")?)
+    );
+    assert!(rt; Name::from_vec(vec![in alloc; 226, 130]?).is_none());
     Ok(())
 }
 
@@ -36,23 +37,5 @@ fn types_are_put_into_a_set(rt: HostRuntime) -> Result<(), Fail> {
     ] {
         assert_eq!(rt; set.holds(TypeId(number)), held, "at {number}");
     }
-    Ok(())
-}
-
-fn ticked<L: Ledger>(alloc: Global, blank: Blank) -> Result<Name, NoMemory>
-    requires name { blank.name ≡ L.name }
-    requires parts { blank.parts ≡ L.parts }
-    requires some { 0 < blank.parts }
-{
-    let (book, share) = blank.open::<L>();
-    let mut steps = Steps::new(book, share);
-    steps.tick();
-    Name::from_text(alloc, "ticked")
-}
-
-#[test]
-fn a_counter_is_made_and_ticks(rt: HostRuntime) -> Result<(), Fail> {
-    let word = ticked::<Brand>(rt.alloc(), Blank::new(1))?;
-    assert_eq!(rt; word.text(), "ticked");
     Ok(())
 }

@@ -1,8 +1,8 @@
 // The diagnostics of one document.
 ghost use Rattle.std.specs.Prelude.{◌≤◌, length, IfOk};
 ghost use Rattle.std.specs.Str.{IsUtf8};
-ghost use Rattle.lw_text.specs.declared.change.TheConstants.{MAX_BYTES};
-ghost use Rattle.lw_lang.specs.Language.{IsNamed, IsSpanWithin, IsWithin};
+ghost use Rattle.lw_base.specs.declared.limits.TheConstants.{LONGEST_TEXT};
+ghost use Rattle.lw_lang.specs.Language.{IsNamed, IsSpanWithin, IsIssueWithin};
 ghost use Rattle.lw_scopes.specs.Diagnostics.{IsList};
 ghost use Rattle.lw_scopes.specs.Faults.{IsFaultShown, IsShownAt};
 
@@ -20,7 +20,7 @@ pub fn diagnostics(
     language: &Language,
     text: &Name,
 ) -> Result<Items<Shown>, NoMemory>
-    requires { length text.now ≤ MAX_BYTES }
+    requires { length text.now ≤ LONGEST_TEXT }
     ensures list { IfOk result (IsList language.now.grammar text.now) }
     ensures utf8 { IsUtf8 text.now }
 {
@@ -41,8 +41,8 @@ fn fault_shown(
     text: &str,
     issue: Issue,
 ) -> Result<Shown, NoMemory>
-    requires short { length text.now ≤ MAX_BYTES }
-    requires within { IsWithin text.now issue }
+    requires short { length text.now ≤ LONGEST_TEXT }
+    requires within { IsIssueWithin text.now issue }
     requires named { IsNamed language.now.texts issue }
     ensures { IfOk result (IsFaultShown language.now.grammar text.now issue) }
 {
@@ -70,7 +70,7 @@ fn fault_shown(
 
 // It is shown from the start of the span to its end.
 fn shown_at(text: &str, span: Span, code: u8, message: Name) -> Shown
-    requires short { length text.now ≤ MAX_BYTES }
+    requires short { length text.now ≤ LONGEST_TEXT }
     requires within { IsSpanWithin text.now span }
     ensures { IsShownAt text.now span.start span.end code message result }
 {

@@ -8,7 +8,7 @@ use Rattle.std.proofs.lemmas.Bool.Decides.{nat_tests}
 use Rattle.std.specs.List.{starts_with, list_all, list_any, before_first}
 use Rattle.lw_frame.specs.Lines.{line_end, lines, joined, is_empty}
 use Rattle.lw_frame.specs.Header.{Header, unfinished, faulty, whole, header_of, header_limit, near_lines, fields, has_end, before_bad, judged}
-use Rattle.lw_frame.specs.Frames.{first_bytes, content, message, Split, with_body, split, rest_fault}
+use Rattle.lw_frame.specs.Frames.{first_bytes, message_parts, message, Split, with_body, split, rest_fault}
 use Rattle.lw_frame.specs.Stage.{is_open}
 use Rattle.lw_frame.specs.Reading.{Continues, with_bodies}
 use Rattle.lw_frame.specs.Growing.{KeepsBodies, KeepsFault}
@@ -215,7 +215,7 @@ first_stays true n bytes more body others t h =
     rw (test, first, rest) refl
 first_stays false n bytes more body others t h = cc
 
-content_stays : (h : Header) (bytes more body others : List ℕ) → ((n m : ℕ) → h ≡ whole n m → n ≤ length bytes) → content h bytes ≡ Some (body, others) → content h (bytes ++ more) ≡ Some (body, others ++ more)
+content_stays : (h : Header) (bytes more body others : List ℕ) → ((n m : ℕ) → h ≡ whole n m → n ≤ length bytes) → message_parts h bytes ≡ Some (body, others) → message_parts h (bytes ++ more) ≡ Some (body, others ++ more)
 content_stays unfinished bytes more body others within e = cc
 content_stays (faulty fault) bytes more body others within e = cc
 content_stays (whole n m) bytes more body others within e =
@@ -224,8 +224,8 @@ content_stays (whole n m) bytes more body others within e =
 -- a message that is all there stays
 message_stays : (start : ℕ) (bytes more body others : List ℕ) → message start bytes ≡ Some (body, others) → message start (bytes ++ more) ≡ Some (body, others ++ more)
 message_stays start bytes more body others e =
-    ⊎_elim (λ none. let no : message start bytes ≡ None = ap (λ h. content h bytes) none in absurd cc)
-    (λ same. ap (λ h. content h (bytes ++ more)) same ∙ content_stays (header_of start bytes) bytes more body others (whole_within start bytes) e)
+    ⊎_elim (λ none. let no : message start bytes ≡ None = ap (λ h. message_parts h bytes) none in absurd cc)
+    (λ same. ap (λ h. message_parts h (bytes ++ more)) same ∙ content_stays (header_of start bytes) bytes more body others (whole_within start bytes) e)
     (header_stays start bytes more)
 
 -- STREAMS
@@ -270,6 +270,6 @@ fault_stays bytes more found h =
     let s = split 0 bytes in
     let said : header_of s.start s.rest ≡ faulty found = fault_said (header_of s.start s.rest) s.rest found h in
     let still : header_of s.start (s.rest ++ more) ≡ faulty found = ⊎_elim (λ none. absurd cc) (λ same. same ∙ said) (header_stays s.start s.rest more) in
-    let none : message s.start (s.rest ++ more) ≡ None = ap (λ t. content t (s.rest ++ more)) still in
+    let none : message s.start (s.rest ++ more) ≡ None = ap (λ t. message_parts t (s.rest ++ more)) still in
     let is : split 0 (bytes ++ more) ≡ record { bodies = s.bodies ++ []; start = s.start; rest = s.rest ++ more } = stream_goes_on 0 bytes more ∙ ap (with_bodies s.bodies) (split_none s.start (s.rest ++ more) none) in
     (ap (λ (t : Split). t.bodies) is ∙ append-nil s.bodies, λ closed. ap (λ (t : Split). rest_fault (header_of t.start t.rest) t.rest closed) is ∙ ap (λ t. rest_fault t (s.rest ++ more) closed) still)

@@ -8,7 +8,7 @@ use Rattle.std.proofs.lemmas.Bool.{le-leb}
 use Rattle.std.specs.List.{before_first, position_or_len, list_any}
 use Rattle.lw_frame.specs.Lines.{line_end, joined, lines, is_empty}
 use Rattle.lw_frame.specs.Header.{unfinished, faulty, header_of, header_limit, fields, has_end, near_lines, ended, judged, before_bad, length_of, is_good}
-use Rattle.lw_frame.specs.Stage.{AreGood, Says, is_open}
+use Rattle.lw_frame.specs.Stage.{AreGood, HeaderSays, is_open}
 use Rattle.lw_frame.proofs.Cuts.{lines-joined, lines-open, lines-line}
 use Rattle.lw_frame.specs.declared.fault.FrameFault.TheVariants.{BadHeader}
 
@@ -39,7 +39,7 @@ near bytes more h =
     ap (λ n. take n (bytes ++ more)) whole ∙ take-append-add bytes more (header_limit - length bytes)
 
 -- behind the empty line
-pub says_ended : (start : ℕ) (header : List ℕ) (ls : List (List ℕ)) (given : Option ℕ) → AreGood ls given → header ≡ joined ls ++ line_end → length header ≤ header_limit → Says start header (ended start (length header) given)
+pub says_ended : (start : ℕ) (header : List ℕ) (ls : List (List ℕ)) (given : Option ℕ) → AreGood ls given → header ≡ joined ls ++ line_end → length header ≤ header_limit → HeaderSays start header (ended start (length header) given)
 says_ended start header ls given good is h more =
     let rest = take (header_limit - length header) more in
     let window : take header_limit (header ++ more) ≡ joined ls ++ (13 ∷ 10 ∷ rest) = near header more h ∙ ap (λ bs. bs ++ rest) is ∙ append_assoc (joined ls) line_end rest in
@@ -72,7 +72,7 @@ before_bad-stop before (l ∷ ls) others bad h = stop_step (is_good before l) be
 
 -- behind a line that is not good
 pub says_bad : (start : ℕ) (header : List ℕ) (ls : List (List ℕ)) (given : Option ℕ) (line : List ℕ) → AreGood ls given → header ≡ joined ls ++ line ++ line_end → length header ≤ header_limit
-    → is_open line ≡ true → is_empty line ≡ false → is_good ls line ≡ false → Says start header (faulty (BadHeader (start + length (joined ls))))
+    → is_open line ≡ true → is_empty line ≡ false → is_good ls line ≡ false → HeaderSays start header (faulty (BadHeader (start + length (joined ls))))
 says_bad start header ls given line good is h uncut filled bad more =
     let rest = take (header_limit - length header) more in
     let window : take header_limit (header ++ more) ≡ joined ls ++ (line ++ (13 ∷ 10 ∷ rest)) =
@@ -89,7 +89,7 @@ lt-leb a b h = grind (arith, nat_tests)
 
 -- at the limit
 pub says_too_long : (start : ℕ) (header : List ℕ) (ls : List (List ℕ)) (given : Option ℕ) (line : List ℕ) → AreGood ls given → header ≡ joined ls ++ line → is_open line ≡ true → length header ≡ header_limit
-    → Says start header (faulty (BadHeader start))
+    → HeaderSays start header (faulty (BadHeader start))
 says_too_long start header ls given line good is uncut h more =
     let window : take header_limit (header ++ more) ≡ joined ls ++ line = ap (λ n. take n (header ++ more)) (sym h) ∙ take-append_seam header more ∙ is in
     let near_are : near_lines (header ++ more) ≡ ls = ap lines window ∙ lines-joined ls line good.cut ∙ ap (λ qs. ls ++ qs) (lines-open line uncut) ∙ append-nil ls in

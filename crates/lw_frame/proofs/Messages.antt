@@ -5,8 +5,8 @@ use Rattle.std.proofs.lemmas.Bool.{le-leb}
 use Rattle.std.proofs.lemmas.Bool.Decides.{nat_tests}
 use Rattle.lw_frame.specs.Lines.{is_empty}
 use Rattle.lw_frame.specs.Header.{unfinished, faulty, whole, header_of}
-use Rattle.lw_frame.specs.Frames.{first_bytes, content, message, rest_fault}
-use Rattle.lw_frame.specs.Stage.{IsAt, Says}
+use Rattle.lw_frame.specs.Frames.{first_bytes, message_parts, message, rest_fault}
+use Rattle.lw_frame.specs.Stage.{IsAt, HeaderSays}
 use Rattle.lw_frame.specs.Reading.{is_waiting}
 use Rattle.lw_frame.proofs.Headers.{header_unfinished}
 use Rattle.lw_frame.specs.declared.fault.FrameFault.{FrameFault}
@@ -18,17 +18,17 @@ not_so_many : (n : ℕ) (bytes : List ℕ) → length bytes < n → first_bytes 
 not_so_many n bytes h = let test : nat_le n (length bytes) ≡ false = grind (arith, nat_tests) in rw test refl
 
 -- a message that is all there
-pub message_whole : (start : ℕ) (header body more : List ℕ) → Says start header (whole (length header) (length body)) → message start ((header ++ body) ++ more) ≡ Some (body, more)
+pub message_whole : (start : ℕ) (header body more : List ℕ) → HeaderSays start header (whole (length header) (length body)) → message start ((header ++ body) ++ more) ≡ Some (body, more)
 message_whole start header body more says =
     let bytes : List ℕ = header ++ (body ++ more) in
     let said : header_of start bytes ≡ whole (length header) (length body) = says (body ++ more) in
     let test : nat_le (length body) (length (body ++ more)) ≡ true = le-leb _ _ (omega (arith, length-append body more)) in
     let found : first_bytes (length body) (body ++ more) ≡ Some (body, more) = rw (test, take-append_seam body more, drop-append_seam body more) refl in
-    ap (message start) (append_assoc header body more) ∙ ap (λ h. content h bytes) said ∙ ap (first_bytes (length body)) (drop-append_seam header (body ++ more)) ∙ found
+    ap (message start) (append_assoc header body more) ∙ ap (λ h. message_parts h bytes) said ∙ ap (first_bytes (length body)) (drop-append_seam header (body ++ more)) ∙ found
 
 -- a message that is faulty
-pub message_faulty : (start : ℕ) (header more : List ℕ) (fault : FrameFault) → Says start header (faulty fault) → message start (header ++ more) ≡ None
-message_faulty start header more fault says = ap (λ h. content h (header ++ more)) (says more)
+pub message_faulty : (start : ℕ) (header more : List ℕ) (fault : FrameFault) → HeaderSays start header (faulty fault) → message start (header ++ more) ≡ None
+message_faulty start header more fault says = ap (λ h. message_parts h (header ++ more)) (says more)
 
 pub header_open : (start : ℕ) (header body : List ℕ) (line : ℕ) (given : Option ℕ) → IsAt (stage.Header line given) start header body → header_of start (header ++ body) ≡ unfinished
 header_open start header body line given (none, is, uncut, short) =
@@ -39,9 +39,9 @@ header_closed start header body missing (says, some) = says body
 
 -- a message that waits is not all there
 pub message_waiting : (s : Stage) (start : ℕ) (header body : List ℕ) → IsAt s start header body → IsTrue (is_waiting s) → message start (header ++ body) ≡ None
-message_waiting (stage.Header line given) start header body at waits = ap (λ h. content h (header ++ body)) (header_open start header body line given at)
+message_waiting (stage.Header line given) start header body at waits = ap (λ h. message_parts h (header ++ body)) (header_open start header body line given at)
 message_waiting (stage.Content missing) start header body at waits =
-    ap (λ h. content h (header ++ body)) (header_closed start header body missing at) ∙ ap (first_bytes (length body + missing)) (drop-append_seam header body) ∙ not_so_many (length body + missing) body (let some = at.1 in omega arith)
+    ap (λ h. message_parts h (header ++ body)) (header_closed start header body missing at) ∙ ap (first_bytes (length body + missing)) (drop-append_seam header body) ∙ not_so_many (length body + missing) body (let some = at.1 in omega arith)
 message_waiting stage.Whole start header body at waits = cc
 message_waiting (stage.Failed fault) start header body at waits = cc
 

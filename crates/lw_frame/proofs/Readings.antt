@@ -5,8 +5,8 @@ use Rattle.std.proofs.lemmas.Bool.{cases_lt}
 use Rattle.std.proofs.lemmas.List.{take-append-drop}
 use Rattle.lw_frame.specs.Header.{unfinished, whole}
 use Rattle.lw_frame.specs.Frames.{with_body, split, message}
-use Rattle.lw_frame.specs.Stage.{IsAt, Says}
-use Rattle.lw_frame.specs.Reading.{bytes_of, IsRead, Grows, Reads, Continues, with_bodies, is_whole, is_waiting, failure}
+use Rattle.lw_frame.specs.Stage.{IsAt, HeaderSays}
+use Rattle.lw_frame.specs.Reading.{bytes_of, IsRead, Grows, ReadsMessages, Continues, with_bodies, is_whole, is_waiting, failure}
 use Rattle.lw_frame.proofs.Messages.{message_whole}
 use Rattle.lw_frame.proofs.Splits.{split_message}
 use Rattle.lw_frame.specs.declared.incoming.Incoming.{Incoming}
@@ -18,7 +18,7 @@ pub continues_on : (start at end : ℕ) (bytes rest last : List ℕ) (bodies mor
 continues_on start at end bytes rest last bodies more_bodies first next more =
     first more ∙ ap (with_bodies bodies) (next more) ∙ ap (λ bs. record (split end (last ++ more)) { bodies = bs }) (sym (append_assoc bodies more_bodies (split end (last ++ more)).bodies))
 
-at_whole : (s : Stage) (start : ℕ) (header body : List ℕ) → IsAt s start header body → is_whole s ≡ true → Says start header (whole (length header) (length body))
+at_whole : (s : Stage) (start : ℕ) (header body : List ℕ) → IsAt s start header body → is_whole s ≡ true → HeaderSays start header (whole (length header) (length body))
 at_whole (stage.Header line given) start header body at h = cc
 at_whole (stage.Content missing) start header body at h = cc
 at_whole stage.Whole start header body at h = at
@@ -28,7 +28,7 @@ at_whole (stage.Failed fault) start header body at h = cc
 pub whole_has_bytes : (m : Incoming) → IsRead m → is_whole m.stage ≡ true → bytes_of m ≡ [] → ⊥
 whole_has_bytes m read h none = no_bytes m.start m.header.items m.body.items (at_whole m.stage m.start m.header.items m.body.items read h) none
   where
-    no_bytes : (start : ℕ) (header body : List ℕ) → Says start header (whole (length header) (length body)) → header ++ body ≡ [] → ⊥
+    no_bytes : (start : ℕ) (header body : List ℕ) → HeaderSays start header (whole (length header) (length body)) → header ++ body ≡ [] → ⊥
     no_bytes start [] body says e = let said : unfinished ≡ whole 0 (length body) = says [] in cc
     no_bytes start (b ∷ header) body says e = cc
 
@@ -59,7 +59,7 @@ nothing_left : (s : Stage) (used : ℕ) (piece : List ℕ) → is_whole s ≡ fa
 nothing_left s used piece h all sound = ⊎_elim (λ left. let no = all left in let yes = waits s h sound in cc) (λ done. drop_of_length-le piece done) (cases_lt used (length piece))
 
 -- a message that is not whole, with nothing left of the piece but behind a fault
-pub reads_on : (old new : Incoming) (piece : List ℕ) (used : ℕ) → Grows old new piece used → is_whole new.stage ≡ false → (used < length piece → is_waiting new.stage ≡ false) → Reads old.start (bytes_of old ++ piece) [] new
+pub reads_on : (old new : Incoming) (piece : List ℕ) (used : ℕ) → Grows old new piece used → is_whole new.stage ≡ false → (used < length piece → is_waiting new.stage ≡ false) → ReadsMessages old.start (bytes_of old ++ piece) [] new
 reads_on old new piece used grows h all = record {
   dropped = drop used piece;
   goes_on = λ more. ap (λ s. split s ((bytes_of old ++ piece) ++ more)) (sym grows.start) ∙ ap (λ bs. split new.start (bs ++ more)) (grown_bytes old new piece used grows);
@@ -70,7 +70,7 @@ reads_on old new piece used grows h all = record {
 }
 
 -- a whole message, and then others
-pub reads_more : (old mid new : Incoming) (piece : List ℕ) (used : ℕ) (bodies : List (List ℕ)) → Grows old mid piece used → is_whole mid.stage ≡ true → Reads (mid.start + length (bytes_of mid)) (drop used piece) bodies new → Reads old.start (bytes_of old ++ piece) (mid.body.items ∷ bodies) new
+pub reads_more : (old mid new : Incoming) (piece : List ℕ) (used : ℕ) (bodies : List (List ℕ)) → Grows old mid piece used → is_whole mid.stage ≡ true → ReadsMessages (mid.start + length (bytes_of mid)) (drop used piece) bodies new → ReadsMessages old.start (bytes_of old ++ piece) (mid.body.items ∷ bodies) new
 reads_more old mid new piece used bodies grows h next = record {
   dropped = next.dropped;
   goes_on = continues_on old.start (mid.start + length (bytes_of mid)) new.start (bytes_of old ++ piece) (drop used piece) (bytes_of new ++ next.dropped) (mid.body.items ∷ []) bodies (continues_whole old mid piece used grows h) next.goes_on;
@@ -80,8 +80,8 @@ reads_more old mid new piece used bodies grows h next = record {
   end = omega (arith, next.end, grown_size old mid piece used grows, length-append (bytes_of old) piece, length-drop used piece, grows.within, grows.start);
 }
 
-pub reads_behind : (start at : ℕ) (bytes rest : List ℕ) (bodies more_bodies : List (List ℕ)) (m : Incoming) → Continues start bytes bodies at rest → at + length rest ≤ start + length bytes → Reads at rest more_bodies m
-    → Reads start bytes (bodies ++ more_bodies) m
+pub reads_behind : (start at : ℕ) (bytes rest : List ℕ) (bodies more_bodies : List (List ℕ)) (m : Incoming) → Continues start bytes bodies at rest → at + length rest ≤ start + length bytes → ReadsMessages at rest more_bodies m
+    → ReadsMessages start bytes (bodies ++ more_bodies) m
 reads_behind start at bytes rest bodies more_bodies m first h next = record {
   dropped = next.dropped;
   goes_on = continues_on start at m.start bytes rest (bytes_of m ++ next.dropped) bodies more_bodies first next.goes_on;
@@ -107,7 +107,7 @@ waits_no_whole stage.Whole h = cc
 waits_no_whole (stage.Failed fault) h = cc
 
 -- where the bytes end
-pub stands_end : (start : ℕ) (bytes : List ℕ) (bodies : List (List ℕ)) (used : ℕ) (m : Incoming) → StandsAt start bytes bodies used m → length bytes ≤ used → Reads start bytes bodies m
+pub stands_end : (start : ℕ) (bytes : List ℕ) (bodies : List (List ℕ)) (used : ℕ) (m : Incoming) → StandsAt start bytes bodies used m → length bytes ≤ used → ReadsMessages start bytes bodies m
 stands_end start bytes bodies used m stands done = record {
   dropped = [];
   goes_on = λ more. stands.goes more ∙ ap (λ bs. with_bodies bodies (split m.start (bs ++ more))) (drop_of_length-le bytes done ∙ sym (append-nil (bytes_of m) ∙ stands.empty));
@@ -122,12 +122,12 @@ rest_size start used bytes at e h = omega (arith, length-drop used bytes)
 
 -- where it does not become whole
 pub stands_stop : (start : ℕ) (bytes : List ℕ) (bodies : List (List ℕ)) (used n : ℕ) (old new : Incoming) (rest : List ℕ) → StandsAt start bytes bodies used old → rest ≡ drop used bytes → Grows old new rest n → is_whole new.stage ≡ false
-    → (n < length rest → is_waiting new.stage ≡ false) → Reads start bytes bodies new
+    → (n < length rest → is_waiting new.stage ≡ false) → ReadsMessages start bytes bodies new
 stands_stop start bytes bodies used n old new rest stands is grows h all =
-    let here : Reads old.start rest [] new = subst (λ bs. Reads old.start (bs ++ rest) [] new) stands.empty (reads_on old new rest n grows h all) in
+    let here : ReadsMessages old.start rest [] new = subst (λ bs. ReadsMessages old.start (bs ++ rest) [] new) stands.empty (reads_on old new rest n grows h all) in
     let goes : Continues start bytes bodies old.start rest = subst (λ bs. Continues start bytes bodies old.start bs) (sym is) stands.goes in
     let size : old.start + length rest ≤ start + length bytes = subst (λ bs. old.start + length bs ≤ start + length bytes) (sym is) (rest_size start used bytes old.start stands.at stands.within) in
-    subst (λ bs. Reads start bytes bs new) (append-nil bodies) (reads_behind start old.start bytes rest bodies [] new goes size here)
+    subst (λ bs. ReadsMessages start bytes bs new) (append-nil bodies) (reads_behind start old.start bytes rest bodies [] new goes size here)
 
 -- where it does
 pub stands_more : (start : ℕ) (bytes : List ℕ) (bodies : List (List ℕ)) (used n : ℕ) (old mid new : Incoming) (rest : List ℕ) → StandsAt start bytes bodies used old → rest ≡ drop used bytes → Grows old mid rest n → is_whole mid.stage ≡ true

@@ -2,7 +2,7 @@
 use Rattle.std.proofs.Common.{◌≡◌, ◌∙◌, ◌<◌, ◌≤◌, ◌+◌, ◌-◌, ℕ, zero, suc, List, [], ◌∷◌, length, take, drop, Bool, true, false, if◌then◌else◌, Option, Some, None, refl, ap, arith, length-drop, nat_le, nat_lt}
 use Rattle.lw_frame.specs.Lines.{joined}
 use Rattle.lw_frame.specs.Header.{Header, unfinished, faulty, whole, header_of, judged, good_so_far, ended, fields, has_end, before_bad, length_of, body_limit, header_limit}
-use Rattle.lw_frame.specs.Frames.{content, message, Split, with_body, split_behind, split_within, split}
+use Rattle.lw_frame.specs.Frames.{message_parts, message, Split, with_body, split_behind, split_within, split}
 use Rattle.lw_frame.specs.declared.fault.FrameFault.TheVariants.{BadHeader, TooLong}
 
 -- a message has bytes
@@ -30,7 +30,7 @@ first_bytes_are : (n : ℕ) (bytes : List ℕ) (found : List ℕ × List ℕ) (t
 first_bytes_are n bytes found true h = cc
 first_bytes_are n bytes found false h = cc
 
-content_shorter : (h : Header) (bytes : List ℕ) (found : List ℕ × List ℕ) → content h bytes ≡ Some found → ((n m : ℕ) → h ≡ whole n m → 0 < n) → 0 < length bytes → length found.1 < length bytes
+content_shorter : (h : Header) (bytes : List ℕ) (found : List ℕ × List ℕ) → message_parts h bytes ≡ Some found → ((n m : ℕ) → h ≡ whole n m → 0 < n) → 0 < length bytes → length found.1 < length bytes
 content_shorter unfinished bytes found e size some = cc
 content_shorter (faulty fault) bytes found e size some = cc
 content_shorter (whole n m) bytes found e size some =

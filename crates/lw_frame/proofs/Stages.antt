@@ -8,7 +8,7 @@ use Rattle.std.specs.Option.{option_or}
 use Rattle.lw_frame.specs.Lines.{line_end, joined, is_empty}
 use Rattle.lw_frame.specs.Header.{faulty, whole, header_limit, body_limit, is_good, is_field, names_length, length_in}
 use Rattle.lw_frame.specs.Field.{field_of, field_with}
-use Rattle.lw_frame.specs.Stage.{AreGood, Says, IsAt, is_open, stage_within, stage_behind, stage_after}
+use Rattle.lw_frame.specs.Stage.{AreGood, HeaderSays, IsAt, is_open, stage_within, stage_behind, stage_after}
 use Rattle.lw_frame.proofs.Headers.{says_ended, says_bad, says_too_long, before_bad-push}
 use Rattle.lw_frame.specs.declared.fault.FrameFault.TheVariants.{BadHeader, TooLong}
 use Rattle.lw_frame.specs.declared.field.Field.{Field}
@@ -104,11 +104,11 @@ pub at_within : (start line : ℕ) (header : List ℕ) (given : Option ℕ) (bef
     → is_open tail ≡ true → length header ≤ header_limit → IsAt (stage_within start (length header) line given) start header []
 at_within start line header given before tail good is line_is uncut h = within_step (length header == header_limit) start line header given before tail refl good is line_is uncut h
 
-behind_step : (long none : Bool) (start n : ℕ) (header : List ℕ) → long ≡ nat_lt body_limit n → none ≡ (n == 0) → Says start header (if long then faulty (TooLong n) else whole (length header) n)
+behind_step : (long none : Bool) (start n : ℕ) (header : List ℕ) → long ≡ nat_lt body_limit n → none ≡ (n == 0) → HeaderSays start header (if long then faulty (TooLong n) else whole (length header) n)
     → IsAt (if long then stage.Failed (TooLong n) else if none then stage.Whole else stage.Content n) start header []
 behind_step true none start n header e f says = (refl, says)
-behind_step false true start n header e f says = let zero_is : n ≡ 0 = grind (arith, nat_tests) in subst (λ m. Says start header (whole (length header) m)) zero_is says
-behind_step false false start n header e f says = (subst (λ m. Says start header (whole (length header) m)) (sym (zero-add n)) says, grind (arith, nat_tests))
+behind_step false true start n header e f says = let zero_is : n ≡ 0 = grind (arith, nat_tests) in subst (λ m. HeaderSays start header (whole (length header) m)) zero_is says
+behind_step false false start n header e f says = (subst (λ m. HeaderSays start header (whole (length header) m)) (sym (zero-add n)) says, grind (arith, nat_tests))
 
 -- behind a header part that has ended
 pub at_behind : (start : ℕ) (header : List ℕ) (given : Option ℕ) (before : List (List ℕ)) → AreGood before given → header ≡ joined before ++ line_end → length header ≤ header_limit → IsAt (stage_behind start given) start header []
@@ -131,7 +131,7 @@ at_after start line header given before text good is line_is uncut filled h = af
     size = ap length (is ∙ sym (joined-push before text))
 
     failed : (given : Option ℕ) → AreGood before given → is_good before text ≡ false → IsAt (stage.Failed (BadHeader (start + line))) start header []
-    failed given good bad = (refl, subst (λ n. Says start header (faulty (BadHeader (start + n)))) (sym line_is) (says_bad start header before given text good is h uncut filled bad))
+    failed given good bad = (refl, subst (λ n. HeaderSays start header (faulty (BadHeader (start + n)))) (sym line_is) (says_bad start header before given text good is h uncut filled bad))
 
     second : (n m : ℕ) → field_of text ≡ Length n → list_any names_length before ≡ true → is_good before text ≡ false
     second n m e named = let parts = length_is (is_field text) (names_length text) (length_in text) n e in rw (parts.0, parts.1, parts.2, named) refl

@@ -4,9 +4,9 @@ use Rattle.std.proofs.lemmas.List.{drop-append-le}
 use Rattle.std.specs.List.{concat}
 use Rattle.lw_frame.specs.Header.{faulty, header_of}
 use Rattle.lw_frame.specs.Frames.{Split, split, message, rest_fault, bodies_of, fault_of, rest_of}
-use Rattle.lw_frame.specs.Stream.{Stream, unfinished, needed, next_body, next_answer, answer, Answers}
-use Rattle.lw_frame.specs.Stage.{IsAt, Says}
-use Rattle.lw_frame.specs.Reading.{bytes_of, Reads, ReadsTo, WaitsFor, EndsIn, Continues, with_bodies, failure}
+use Rattle.lw_frame.specs.Stream.{Stream, unfinished, needed, next_body, next_answer, answer_next, AnswersStream}
+use Rattle.lw_frame.specs.Stage.{IsAt, HeaderSays}
+use Rattle.lw_frame.specs.Reading.{bytes_of, ReadsMessages, ReadsTo, WaitsFor, EndsIn, Continues, with_bodies, failure}
 use Rattle.lw_frame.proofs.Messages.{message_waiting, message_faulty, fault_waiting}
 use Rattle.lw_frame.proofs.Splits.{split_none}
 use Rattle.lw_frame.proofs.Readings.{continues_on, waits}
@@ -64,14 +64,14 @@ waits_on (Some fault) start bytes piece bodies more_bodies old new w next =
       empty = next.empty;
     }
 
-at_failed : (s : Stage) (fault : FrameFault) (start : ℕ) (header body : List ℕ) → IsAt s start header body → failure s ≡ Some fault → (body ≡ []) × Says start header (faulty fault)
+at_failed : (s : Stage) (fault : FrameFault) (start : ℕ) (header body : List ℕ) → IsAt s start header body → failure s ≡ Some fault → (body ≡ []) × HeaderSays start header (faulty fault)
 at_failed (stage.Header line given) fault start header body at h = cc
 at_failed (stage.Content missing) fault start header body at h = cc
 at_failed stage.Whole fault start header body at h = cc
-at_failed (stage.Failed other) fault start header body at h = let same : other ≡ fault = cc in (at.0, subst (λ f. Says start header (faulty f)) same at.1)
+at_failed (stage.Failed other) fault start header body at h = let same : other ≡ fault = cc in (at.0, subst (λ f. HeaderSays start header (faulty f)) same at.1)
 
 -- where a piece leaves a message that waits
-pub reads_waiting : (start : ℕ) (bytes : List ℕ) (bodies : List (List ℕ)) (m : Incoming) → Reads start bytes bodies m → failure m.stage ≡ None → WaitsFor start bytes bodies m
+pub reads_waiting : (start : ℕ) (bytes : List ℕ) (bodies : List (List ℕ)) (m : Incoming) → ReadsMessages start bytes bodies m → failure m.stage ≡ None → WaitsFor start bytes bodies m
 reads_waiting start bytes bodies m r h = record {
   goes_on = λ more. r.goes_on more ∙ ap (λ bs. with_bodies bodies (split m.start (bs ++ more))) (ap (λ bs. bytes_of m ++ bs) (r.none_dropped h) ∙ append-nil (bytes_of m));
   read = r.read;
@@ -80,7 +80,7 @@ reads_waiting start bytes bodies m r h = record {
 }
 
 -- and where it ends in a fault
-pub reads_faulty : (start : ℕ) (bytes : List ℕ) (bodies : List (List ℕ)) (m empty_one : Incoming) (fault : FrameFault) → Reads start bytes bodies m → failure m.stage ≡ Some fault → bytes_of empty_one ≡ [] → EndsIn fault start bytes bodies empty_one
+pub reads_faulty : (start : ℕ) (bytes : List ℕ) (bodies : List (List ℕ)) (m empty_one : Incoming) (fault : FrameFault) → ReadsMessages start bytes bodies m → failure m.stage ≡ Some fault → bytes_of empty_one ≡ [] → EndsIn fault start bytes bodies empty_one
 reads_faulty start bytes bodies m empty_one fault r h none =
     let failed = at_failed m.stage fault m.start m.header.items m.body.items r.read h in
     let rest : List ℕ → List ℕ = λ more. r.dropped ++ more in
@@ -171,11 +171,11 @@ pub read_within : (fault : Option FrameFault) (bytes : List ℕ) (bodies : List 
 read_within None bytes bodies m w = let e = w.end in omega arith
 read_within (Some fault) bytes bodies m e = tt
 
-by_case : (o : Option (List ℕ)) (f : Option FrameFault) (s : Stream) → next_body s ≡ o → fault_of s.fed s.closed ≡ f → Answers s (answer o f)
+by_case : (o : Option (List ℕ)) (f : Option FrameFault) (s : Stream) → next_body s ≡ o → fault_of s.fed s.closed ≡ f → AnswersStream s (answer_next o f)
 by_case (Some body) f s h k = h
 by_case None (Some fault) s h k = (h, k)
 by_case None None s h k = (h, k)
 
--- an answer, by its case
-pub answers_by_case : (s : Stream) (r : Result (Option (List ℕ)) FrameFault) → r ≡ next_answer s → Answers s r
-answers_by_case s r h = subst (Answers s) (sym h) (by_case (next_body s) (fault_of s.fed s.closed) s refl refl)
+-- an answer_next, by its case
+pub answers_by_case : (s : Stream) (r : Result (Option (List ℕ)) FrameFault) → r ≡ next_answer s → AnswersStream s r
+answers_by_case s r h = subst (AnswersStream s) (sym h) (by_case (next_body s) (fault_of s.fed s.closed) s refl refl)

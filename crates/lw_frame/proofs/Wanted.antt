@@ -4,11 +4,11 @@ use Rattle.std.proofs.Math.ListN.{drop_of_length-le}
 use Rattle.std.proofs.Math.Seq.{drop-append_seam}
 use Rattle.std.specs.List.{concat}
 use Rattle.lw_frame.specs.Header.{Header, unfinished, faulty, whole, header_of}
-use Rattle.lw_frame.specs.Frames.{content, Split, split, rest_fault, bodies_of, fault_of, rest_of}
+use Rattle.lw_frame.specs.Frames.{message_parts, Split, split, rest_fault, bodies_of, fault_of, rest_of}
 use Rattle.lw_frame.specs.Stage.{IsAt}
 use Rattle.lw_frame.specs.Stream.{Stream, with_piece, handed, needed, unfinished as rest_needed}
 use Rattle.lw_frame.specs.Reading.{bytes_of, with_bodies, WaitsFor, EndsIn, EndsBehind, left_at, is_waiting}
-use Rattle.lw_frame.specs.Wanted.{IsWithin, StaysWithin, LeavesNothing, bytes_left, wanted_of, shortest_header, fewest_left}
+use Rattle.lw_frame.specs.Wanted.{EndsWithin, StaysWithin, LeavesNothing, bytes_left, wanted_of, shortest_header, fewest_left}
 use Rattle.lw_frame.proofs.Messages.{header_open, header_closed}
 use Rattle.lw_frame.proofs.Ends.{current_is}
 use Rattle.lw_frame.proofs.Splits.{split_none, split_message}
@@ -28,7 +28,7 @@ body_ends true m rest h = inr (take m rest, ap (λ bs. Some (take m rest, bs)) (
 body_ends false m rest h = inl refl
 
 -- a message with nothing behind it, or none
-content_ends : (h : Header) (bytes : List ℕ) → ((n m : ℕ) → h ≡ whole n m → length bytes ≤ n + m) → (content h bytes ≡ None) ⊎ ((body : List ℕ) × (content h bytes ≡ Some (body, [])))
+content_ends : (h : Header) (bytes : List ℕ) → ((n m : ℕ) → h ≡ whole n m → length bytes ≤ n + m) → (message_parts h bytes ≡ None) ⊎ ((body : List ℕ) × (message_parts h bytes ≡ Some (body, [])))
 content_ends unfinished bytes size = inl refl
 content_ends (faulty fault) bytes size = inl refl
 content_ends (whole n m) bytes size = body_ends (nat_le m (length (drop n bytes))) m (drop n bytes) (let long = size n m refl in omega (arith, length-drop n bytes))
@@ -45,7 +45,7 @@ no_rest false = refl
 
 -- behind bodies that are known
 behind : (fed piece : List ℕ) (s : Split) → split 0 (fed ++ piece) ≡ with_bodies (bodies_of fed) s
-    → (s.bodies ≡ []) ⊎ ((body : List ℕ) × (at : ℕ) × (s ≡ record { bodies = body ∷ []; start = at; rest = [] })) → IsWithin fed piece
+    → (s.bodies ≡ []) ⊎ ((body : List ℕ) × (at : ℕ) × (s ≡ record { bodies = body ∷ []; start = at; rest = [] })) → EndsWithin fed piece
 behind fed piece s is =
     ⊎_elim (λ none. inl (ap (λ (s : Split). s.bodies) is ∙ ap (λ bs. bodies_of fed ++ bs) none ∙ append-nil (bodies_of fed)))
     (λ one.

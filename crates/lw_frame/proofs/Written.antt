@@ -14,11 +14,11 @@ use Rattle.std.proofs.lemmas.Bool.{le-leb, le-ltb}
 use Rattle.lw_frame.specs.Lines.{line_end, joined}
 use Rattle.lw_frame.specs.Header.{is_field, names_length, number, value, is_blank, without_blanks_before, without_blanks_after, header_limit, body_limit, unfinished, faulty, whole, ended, header_of, judged, good_so_far, before_bad, fields, has_end, length_of}
 use Rattle.lw_frame.specs.Field.{field_of, field_with}
-use Rattle.lw_frame.specs.Stage.{AreGood, Says, is_open}
+use Rattle.lw_frame.specs.Stage.{AreGood, HeaderSays, is_open}
 use Rattle.lw_frame.specs.declared.fault.FrameFault.TheVariants.{TooLong, BadHeader}
 use Rattle.lw_frame.specs.Reading.{is_newline}
 use Rattle.std.proofs.Math.Dec.{eqb-suc-zero}
-use Rattle.lw_frame.specs.Frames.{message, content, Split, split_within, split_behind, bodies_of, fault_of, rest_fault, frame_of}
+use Rattle.lw_frame.specs.Frames.{message, message_parts, Split, split_within, split_behind, bodies_of, fault_of, rest_fault, frame_of}
 use Rattle.lw_frame.proofs.Messages.{message_whole}
 use Rattle.lw_frame.proofs.Splits.{split_message}
 use Rattle.lw_frame.proofs.Cuts.{is_open-append}
@@ -87,7 +87,7 @@ field_open n h = is_open-append (codes "Content-Length: ") (decimal n) refl (non
 abbrev header : ℕ → List ℕ
 header n = codes "Content-Length: " ++ decimal n ++ line_end ++ line_end
 
-header_says : (start n : ℕ) → n ≤ body_limit → Says start (header n) (whole (length (header n)) n)
+header_says : (start n : ℕ) → n ≤ body_limit → HeaderSays start (header n) (whole (length (header n)) n)
 header_says start n h =
     let good : AreGood (field_line n ∷ []) (Some n) = good-length [] n (field_line n) nothing_good (field_open n h) (eqb-suc-zero _) (field_gives n h) in
     let bytes_are : header n ≡ joined (field_line n ∷ []) ++ line_end = ap (λ bs. bs ++ line_end) (sym (append-nil (field_line n ++ line_end))) in
@@ -101,19 +101,19 @@ header_says start n h =
 message-start : (s t : ℕ) (bytes : List ℕ) → message s bytes ≡ message t bytes
 message-start s t bytes = judged_alike (before_bad [] (fields bytes))
   where
-    long_alike : (b : Bool) (size n : ℕ) → content (if b then faulty (TooLong n) else whole size n) bytes ≡ content (if b then faulty (TooLong n) else whole size n) bytes
+    long_alike : (b : Bool) (size n : ℕ) → message_parts (if b then faulty (TooLong n) else whole size n) bytes ≡ message_parts (if b then faulty (TooLong n) else whole size n) bytes
     long_alike b size n = refl
 
-    ended_alike : (size : ℕ) (given : Option ℕ) → content (ended s size given) bytes ≡ content (ended t size given) bytes
+    ended_alike : (size : ℕ) (given : Option ℕ) → message_parts (ended s size given) bytes ≡ message_parts (ended t size given) bytes
     ended_alike size None = refl
     ended_alike size (Some n) = refl
 
-    good_alike : (b c : Bool) (size : ℕ) (given : Option ℕ) → content (if b then ended s size given else if c then faulty (BadHeader s) else unfinished) bytes ≡ content (if b then ended t size given else if c then faulty (BadHeader t) else unfinished) bytes
+    good_alike : (b c : Bool) (size : ℕ) (given : Option ℕ) → message_parts (if b then ended s size given else if c then faulty (BadHeader s) else unfinished) bytes ≡ message_parts (if b then ended t size given else if c then faulty (BadHeader t) else unfinished) bytes
     good_alike true c size given = ended_alike size given
     good_alike false true size given = refl
     good_alike false false size given = refl
 
-    judged_alike : (o : Option (List (List ℕ))) → content (judged s o (good_so_far s bytes)) bytes ≡ content (judged t o (good_so_far t bytes)) bytes
+    judged_alike : (o : Option (List (List ℕ))) → message_parts (judged s o (good_so_far s bytes)) bytes ≡ message_parts (judged t o (good_so_far t bytes)) bytes
     judged_alike None = good_alike (has_end bytes) (nat_le header_limit (length bytes)) (length (joined (fields bytes)) + 2) (length_of (fields bytes))
     judged_alike (Some before) = refl
 

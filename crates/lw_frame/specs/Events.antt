@@ -5,8 +5,8 @@ use Rattle.lw_frame.specs.declared.history.Event.TheVariants.{Fed, Given}
 use Rattle.lw_frame.specs.declared.history.History.{History}
 
 -- before anything happens
-abbrev pub beginning : History
-beginning = record { fed = []; given = 0 }
+abbrev pub no_history : History
+no_history = record { fed = []; given = 0 }
 
 -- once the event has happened
 abbrev pub after : History → Event → History

@@ -1,5 +1,5 @@
--- The messages of a stream of bytes. Language Server Protocol 3.17, Base Protocol: a message is a header part and then a content part of as
--- many bytes as its `Content-Length` says. The content part is the body.
+-- The messages of a stream of bytes. Language Server Protocol 3.17, Base Protocol: a message is a header part and then a message_parts part of as
+-- many bytes as its `Content-Length` says. The message_parts part is the body.
 use Rattle.std.specs.Prelude.{ℕ, zero, suc, ◌+◌, ◌-◌, List, [], ◌∷◌, ◌++◌, length, take, drop, nat_le, Bool, ◌&&◌, not, if◌then◌else◌, Option, Some, None, codes, decimal}
 use Rattle.lw_frame.specs.Lines.{is_empty, line_end}
 use Rattle.lw_frame.specs.Header.{Header, unfinished, faulty, whole, header_of}
@@ -11,14 +11,14 @@ use Rattle.lw_frame.specs.declared.whole.Frames.{Frames}
 abbrev pub first_bytes : ℕ → List ℕ → Option (List ℕ × List ℕ)
 first_bytes n bytes = if nat_le n (length bytes) then Some (take n bytes, drop n bytes) else None
 
-abbrev pub content : Header → List ℕ → Option (List ℕ × List ℕ)
-content unfinished bytes = None
-content (faulty fault) bytes = None
-content (whole size body) bytes = first_bytes body (drop size bytes)
+abbrev pub message_parts : Header → List ℕ → Option (List ℕ × List ℕ)
+message_parts unfinished bytes = None
+message_parts (faulty fault) bytes = None
+message_parts (whole size body) bytes = first_bytes body (drop size bytes)
 
 -- the body of the message at the head of the bytes, and the bytes behind the message, where it is all there
 abbrev pub message : ℕ → List ℕ → Option (List ℕ × List ℕ)
-message start bytes = content (header_of start bytes) bytes
+message start bytes = message_parts (header_of start bytes) bytes
 
 -- A stream as its messages, and the rest behind the last of them, which begins at offset `start`.
 pub record Split : Type 0 where

@@ -6,8 +6,8 @@ use Rattle.lw_frame.specs.Stream.{Reader}
 use Rattle.lw_frame.specs.Reading.{bytes_of, ReadsTo}
 use Rattle.lw_frame.specs.declared.reader.FrameReader.TheInside.{Inside}
 
-abbrev pub seen : Inside → Reader
-seen a = record {
+abbrev pub seen_reader : Inside → Reader
+seen_reader a = record {
   stream = record { fed = a.history.fed; closed = a.closed; given = a.history.given };
   held = concat a.finished.items ++ bytes_of a.incoming;
 }

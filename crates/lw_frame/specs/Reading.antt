@@ -85,7 +85,7 @@ abbrev pub Continues : ℕ → List ℕ → List (List ℕ) → ℕ → List ℕ
 Continues start bytes bodies at rest = (more : List ℕ) → split start (bytes ++ more) ≡ with_bodies bodies (split at (rest ++ more))
 
 -- the bytes from offset `start` on are these bodies, and then the message, with what is dropped behind a fault
-pub record Reads (start : ℕ) (bytes : List ℕ) (bodies : List (List ℕ)) (m : Incoming) : Type 0 where
+pub record ReadsMessages (start : ℕ) (bytes : List ℕ) (bodies : List (List ℕ)) (m : Incoming) : Type 0 where
   pub dropped : List ℕ
   pub goes_on : Continues start bytes bodies m.start (bytes_of m ++ dropped)
   pub none_dropped : failure m.stage ≡ None → dropped ≡ []

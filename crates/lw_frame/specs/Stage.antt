@@ -30,15 +30,15 @@ pub record IsHeader (header : List ℕ) (line : ℕ) (given : Option ℕ) : Type
   pub bytes : header ≡ joined before ++ drop line header
 
 -- what the header part says, however the stream goes on
-abbrev pub Says : ℕ → List ℕ → Header → Type 0
-Says start header said = (more : List ℕ) → header_of start (header ++ more) ≡ said
+abbrev pub HeaderSays : ℕ → List ℕ → Header → Type 0
+HeaderSays start header said = (more : List ℕ) → header_of start (header ++ more) ≡ said
 
 -- the stage is that of a message with these bytes of its header part and its body
 abbrev pub IsAt : Stage → ℕ → List ℕ → List ℕ → Type 0
 IsAt (stage.Header line given) start header body = (body ≡ []) × IsHeader header line given × (is_open (drop line header) ≡ true) × (length header < header_limit)
-IsAt (stage.Content missing) start header body = Says start header (whole (length header) (length body + missing)) × (0 < missing)
-IsAt stage.Whole start header body = Says start header (whole (length header) (length body))
-IsAt (stage.Failed fault) start header body = (body ≡ []) × Says start header (faulty fault)
+IsAt (stage.Content missing) start header body = HeaderSays start header (whole (length header) (length body + missing)) × (0 < missing)
+IsAt stage.Whole start header body = HeaderSays start header (whole (length header) (length body))
+IsAt (stage.Failed fault) start header body = (body ≡ []) × HeaderSays start header (faulty fault)
 
 -- in a header part of so many bytes that has not ended
 abbrev pub stage_within : ℕ → ℕ → ℕ → Option ℕ → Stage

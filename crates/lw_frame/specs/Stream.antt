@@ -23,11 +23,11 @@ with_piece s piece = record s { fed = s.fed ++ piece }
 abbrev pub at_end : Stream → Stream
 at_end s = record s { closed = true }
 
--- the answer for the body that comes next, if there is one, and the fault
-abbrev pub answer : Option (List ℕ) → Option FrameFault → Result (Option (List ℕ)) FrameFault
-answer (Some body) fault = Ok (Some body)
-answer None (Some fault) = Err fault
-answer None None = Ok None
+-- the answer_next for the body that comes next, if there is one, and the fault
+abbrev pub answer_next : Option (List ℕ) → Option FrameFault → Result (Option (List ℕ)) FrameFault
+answer_next (Some body) fault = Ok (Some body)
+answer_next None (Some fault) = Err fault
+answer_next None None = Ok None
 
 -- the body that comes next
 abbrev pub next_body : Stream → Option (List ℕ)
@@ -35,13 +35,13 @@ next_body s = slice_get (bodies_of s.fed) s.given
 
 -- what `next` answers: the bodies in order, then the fault, else nothing
 abbrev pub next_answer : Stream → Result (Option (List ℕ)) FrameFault
-next_answer s = answer (next_body s) (fault_of s.fed s.closed)
+next_answer s = answer_next (next_body s) (fault_of s.fed s.closed)
 
 -- the same, by the answer's case
-abbrev pub Answers : Stream → Result (Option (List ℕ)) FrameFault → Type 0
-Answers s (Ok (Some body)) = next_body s ≡ Some body
-Answers s (Ok None) = (next_body s ≡ None) × (fault_of s.fed s.closed ≡ None)
-Answers s (Err fault) = (next_body s ≡ None) × (fault_of s.fed s.closed ≡ Some fault)
+abbrev pub AnswersStream : Stream → Result (Option (List ℕ)) FrameFault → Type 0
+AnswersStream s (Ok (Some body)) = next_body s ≡ Some body
+AnswersStream s (Ok None) = (next_body s ≡ None) × (fault_of s.fed s.closed ≡ None)
+AnswersStream s (Err fault) = (next_body s ≡ None) × (fault_of s.fed s.closed ≡ Some fault)
 
 abbrev pub handed : Option (List ℕ) → Stream → Stream
 handed (Some body) s = record s { given = s.given + 1 }

@@ -31,13 +31,13 @@ wanted_of fed = let s = split 0 fed in bytes_left (header_of s.start s.rest) s.r
 -- AND NO MORE
 
 -- a piece brings no further body, or it brings one and ends with the last byte of that message: nothing is behind it, and no fault
-abbrev pub IsWithin : List ℕ → List ℕ → Type 0
-IsWithin fed piece = (bodies_of (fed ++ piece) ≡ bodies_of fed)
+abbrev pub EndsWithin : List ℕ → List ℕ → Type 0
+EndsWithin fed piece = (bodies_of (fed ++ piece) ≡ bodies_of fed)
     ⊎ ((body : List ℕ) × (bodies_of (fed ++ piece) ≡ bodies_of fed ++ body ∷ []) × (rest_of (fed ++ piece) ≡ []) × ((closed : Bool) → fault_of (fed ++ piece) closed ≡ None))
 
 -- no piece of at most so many bytes goes past the end of the message
 abbrev pub StaysWithin : List ℕ → ℕ → Type 0
-StaysWithin fed most = (piece : List ℕ) → length piece ≤ most → IsWithin fed piece
+StaysWithin fed most = (piece : List ℕ) → length piece ≤ most → EndsWithin fed piece
 
 -- where no body was left, and a piece of at most so many bytes brings one, nothing is needed any more once that body was handed out
 abbrev pub LeavesNothing : Stream → ℕ → Type 0

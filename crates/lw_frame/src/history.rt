@@ -26,11 +26,11 @@ pub(crate) enum Event<'a> {
 }
 
 impl History {
-    ghost use Rattle.lw_frame.specs.Events.{beginning, after};
+    ghost use Rattle.lw_frame.specs.Events.{no_history, after};
 
     /// Nothing has happened.
     pub(crate) fn new() -> History
-        ensures { result ≡ beginning }
+        ensures { result ≡ no_history }
     {
         History {}
     }

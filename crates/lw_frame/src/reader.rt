@@ -32,9 +32,9 @@ impl Model for FrameReader {
 
     ghost Value = { Reader };
 
-    ghost use Rattle.lw_frame.specs.Kept.{seen, IsKept};
+    ghost use Rattle.lw_frame.specs.Kept.{seen_reader, IsKept};
 
-    ghost view = { seen };
+    ghost view = { seen_reader };
 
     ghost invariant = { IsKept };
 }
@@ -42,7 +42,7 @@ impl Model for FrameReader {
 impl FrameReader {
     ghost use Rattle.lw_frame.specs.Frames.{bodies_of};
     ghost use Rattle.lw_frame.specs.Wanted.{wanted_of, LeavesNothing, StaysWithin};
-    ghost use Rattle.lw_frame.specs.Stream.{start, with_piece, at_end, next_answer, Answers, after_next, needed, BodiesStay, FaultStays};
+    ghost use Rattle.lw_frame.specs.Stream.{start, with_piece, at_end, next_answer, AnswersStream, after_next, needed, BodiesStay, FaultStays};
 
     /// A reader of a stream of which nothing has come. It takes no memory.
     pub fn new(alloc: Global) -> FrameReader
@@ -123,7 +123,7 @@ impl FrameReader {
     /// place the line comes first. A stream that is closed inside a message is truncated.
     pub fn next(&mut self) -> Result<Option<Body>, FrameFault>
         ensures answer { result ≡ next_answer self.old.stream }
-        ensures cases { Answers self.old.stream result }
+        ensures cases { AnswersStream self.old.stream result }
         ensures stream { self.new.stream ≡ after_next self.old.stream }
         ensures held { self.new.held ≡ needed self.new.stream }
     {

@@ -1,7 +1,7 @@
 // A stream read message by message.
 ghost use Rattle.std.specs.Prelude.{◌≡◌, ◌≤◌, ◌+◌, ◌^◌, ◌++◌, List, ℕ, length, IfOk, OnOk, OnErr, IfNone, IsTrue};
 ghost use Rattle.lw_frame.specs.Frames.{bodies_of, fault_of};
-ghost use Rattle.lw_frame.specs.Reading.{bytes_of, is_waiting, Feeds, IsRead, IsSame, KeepsFront, Reads, ReadsTo};
+ghost use Rattle.lw_frame.specs.Reading.{bytes_of, is_waiting, Feeds, IsRead, IsSame, KeepsFront, ReadsMessages, ReadsTo};
 
 use crate::incoming::Incoming;
 use crate::{Body, FrameFault};
@@ -14,7 +14,7 @@ use std::mem;
 /// the message behind them.
 fn messages(alloc: Global, start: u64, bytes: &[u8]) -> Result<(VecDeque<Body>, Incoming), NoMemory>
     requires { start + length bytes.now ≤ 2 ^ 40 }
-    ensures { IfOk result (λ read. Reads start bytes.now read.0.items read.1) }
+    ensures { IfOk result (λ read. ReadsMessages start bytes.now read.0.items read.1) }
 {
     let mut bodies = VecDeque::new(alloc);
     let mut incoming = Incoming::new(alloc, start);
@@ -41,7 +41,7 @@ fn take(
     requires read { IsRead incoming.old }
     requires session { incoming.old.start + length (bytes_of incoming.old) + length piece.now ≤ 2 ^ 40 }
     ensures ok { OnOk result ((bodies : List (List ℕ)) × (finished.new.items ≡ finished.old.items ++ bodies)
-        × Reads incoming.old.start (bytes_of incoming.old ++ piece.now) bodies incoming.new) }
+        × ReadsMessages incoming.old.start (bytes_of incoming.old ++ piece.now) bodies incoming.new) }
     ensures err { OnErr result (finished.new.items ≡ finished.old.items) }
     ensures front { OnErr result (KeepsFront incoming.old incoming.new) }
 {

@@ -8,7 +8,7 @@ use Rattle.lw_grammar.specs.declared.terminal.Terminal.{Terminal}
 use Rattle.lw_grammar.specs.Named.{IsFirst, IsTerminal}
 use Rattle.lw_grammar.specs.Leaves.{keywords_in}
 use Rattle.lw_grammar.specs.Reached.{IsReached, RuleCalls}
-use Rattle.lw_grammar.specs.Kept.{Keeps}
+use Rattle.lw_grammar.specs.Kept.{KeepsPassing}
 
 pub record Kinds : Type 0 where
   pub keywords : List (List ℕ)
@@ -29,9 +29,9 @@ module _ (g : Grammar) where
   -- these are the kinds of the grammar
   pub record AreKinds (kinds : Kinds) : Type 0 where
     pub rules : List Rule
-    pub reached : Keeps (IsReached g) g.rules rules
+    pub reached : KeepsPassing (IsReached g) g.rules rules
     pub keywords : kinds.keywords ≡ first_uses [] (flat_map (λ rule. keywords_in rule.body) rules)
-    pub terminals : Keeps IsKindTerminal g.terminals kinds.terminals
+    pub terminals : KeepsPassing IsKindTerminal g.terminals kinds.terminals
 
 -- the number of the kind that a keyword has
 abbrev pub IsKeywordKind : Kinds → List ℕ → ℕ → Type 0

@@ -6,4 +6,5 @@ pub mod NameRules
 pub mod Reached
 pub mod Kept
 pub mod Kinds
+pub mod KindTexts
 pub mod Size

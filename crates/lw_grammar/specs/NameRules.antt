@@ -14,13 +14,13 @@ use Rattle.lw_grammar.specs.Named.{IsFirst}
 use Rattle.lw_grammar.specs.Leaves.{Leaf, Assign, HasLeaves}
 use Rattle.lw_grammar.specs.Subtypes.{HasType, IsSubtype}
 
-abbrev pub ReadsBy : Value0-F Value0 → List ℕ → Type 0
-ReadsBy (value.Call name s) called = called ≡ name
-ReadsBy _ called = ⊥
+abbrev pub CallsBy : Value0-F Value0 → List ℕ → Type 0
+CallsBy (value.Call name s) called = called ≡ name
+CallsBy _ called = ⊥
 
 -- the leaf is `name=` and a call of this name; other assignments of `name` are passed over
 abbrev pub Names : Leaf → List ℕ → Type 0
-Names (Assign p op v s) called = (p ≡ codes "name") × (op ≡ One) × ReadsBy (out-Value0 v) called
+Names (Assign p op v s) called = (p ≡ codes "name") × (op ≡ One) × CallsBy (out-Value0 v) called
 Names _ called = ⊥
 
 pub data FirstNames : List Leaf → List ℕ → Type 0 where

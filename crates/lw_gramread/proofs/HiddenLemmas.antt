@@ -7,7 +7,7 @@ use Rattle.std.proofs.lemmas.Bool.{cases_order, and_parts}
 use Rattle.std.proofs.lemmas.Slice.Eq.{bytes_eq-Decides}
 use Rattle.std.proofs.Math.Seq.{drop-append_seam}
 use Rattle.std.proofs.lemmas.List.{drop-append-le}
-use Rattle.lw_gramread.specs.Symbols.{Begins}
+use Rattle.lw_gramread.specs.Symbols.{BeginsSpelling}
 use Rattle.lw_gramread.specs.FileTokens.{BeginsWith, IsHidden, is_line_end}
 
 -- ---- the first character
@@ -40,7 +40,7 @@ white_byte t cs b c e ascii none p white =
 
 -- ---- comments
 
-begins_end : (d a r : List ℕ) → 2 ≤ length d → d ++ a ≡ 42 ∷ 47 ∷ r → Begins d (codes "*/")
+begins_end : (d a r : List ℕ) → 2 ≤ length d → d ++ a ≡ 42 ∷ 47 ∷ r → BeginsSpelling d (codes "*/")
 begins_end [] a r long e = absurd (omega arith)
 begins_end (x ∷ []) a r long e = absurd (omega arith)
 begins_end (x ∷ y ∷ ds) a r long e =
@@ -48,7 +48,7 @@ begins_end (x ∷ y ∷ ds) a r long e =
     let q : y ≡ 47 = cc in
     rw (p, q) refl
 
-end_begun : (d a : List ℕ) → Begins d (codes "*/") → d ++ a ≡ 42 ∷ 47 ∷ (drop 2 d ++ a)
+end_begun : (d a : List ℕ) → BeginsSpelling d (codes "*/") → d ++ a ≡ 42 ∷ 47 ∷ (drop 2 d ++ a)
 end_begun d a h =
     let front : 42 ∷ 47 ∷ [] ≡ take 2 d = (bytes_eq-Decides (42 ∷ 47 ∷ []) (take 2 d)).0 h in
     ap (λ x. x ++ a) (sym (take-append-drop 2 d)) ∙ append_assoc (take 2 d) (drop 2 d) a ∙ ap (λ x. x ++ (drop 2 d ++ a)) (sym front)
@@ -62,7 +62,7 @@ behind_open t inside after rest e f =
 
 -- of two ends, none stands inside of the other comment
 not_shorter : (rest i j a b : List ℕ) → rest ≡ i ++ 42 ∷ 47 ∷ a → rest ≡ j ++ 42 ∷ 47 ∷ b →
-    ((k : ℕ) → k < length j → ¬ Begins (drop k (j ++ codes "*/")) (codes "*/")) → length i < length j → ⊥
+    ((k : ℕ) → k < length j → ¬ BeginsSpelling (drop k (j ++ codes "*/")) (codes "*/")) → length i < length j → ⊥
 not_shorter rest i j a b e f least shorter =
     let n = length i in
     let long : length (j ++ 42 ∷ 47 ∷ []) ≡ length j + 2 = length-append j (42 ∷ 47 ∷ []) in

@@ -4,7 +4,7 @@ use Rattle.std.proofs.Math.ListN.{drop_of_length-le}
 use Rattle.std.proofs.Common.{◌≡◌, ◌≢◌, ◌<◌, ◌≤◌, drop, get_or, ℕ, suc, ◌+◌, List, [], ◌∷◌, ◌++◌, length, take_while, Bool, true, false, not, ◌&&◌, ◌||◌, Option, Some, None, refl, sym, ap, ◌∙◌, subst, arith, add-zero, zero-add, append_assoc, length-append, if◌then◌else◌, ◌==◌}
 use Rattle.std.specs.Char.{is_ascii_lowercase}
 use Rattle.std.proofs.lemmas.Bool.{eqb-true, eqb-false, eq-eqb, ne_eqb}
-use Rattle.lw_gramread.specs.FileTokens.{is_line_end, NoLineEnd, IsClassInside, IsPart, AreParts, AreClosed, IsRegex}
+use Rattle.lw_gramread.specs.FileTokens.{is_line_end, NoLineEnd, IsClassInside, IsRegexPart, AreRegexParts, AreClosed, IsRegex}
 
 -- where the slash stands that closes the parts, n bytes having been passed: behind a backslash or not, in a class or not
 abbrev pub body_end : ℕ → Bool → Bool → List ℕ → Option ℕ
@@ -26,19 +26,19 @@ class_passed n _ after (IsClassInside.pair {c = c} {cs = cs} in_line rest) =
     let longer : n + 1 + 1 + length cs + 1 ≡ n + suc (suc (length cs)) + 1 = omega arith in
     rw in_line (class_passed (n + 1 + 1) cs after rest ∙ ap (λ k. body_end k false false after) longer)
 
-part_passed : (n : ℕ) (part after : List ℕ) → IsPart part → body_end n false false (part ++ after) ≡ body_end (n + length part) false false after
-part_passed n _ after (IsPart.one {c = c} in_line not_open not_slash not_backslash) =
+part_passed : (n : ℕ) (part after : List ℕ) → IsRegexPart part → body_end n false false (part ++ after) ≡ body_end (n + length part) false false after
+part_passed n _ after (IsRegexPart.one {c = c} in_line not_open not_slash not_backslash) =
     rw (in_line, ne_eqb c 47 not_slash, ne_eqb c 92 not_backslash, ne_eqb c 91 not_open) refl
-part_passed n _ after (IsPart.pair {c = c} in_line) =
+part_passed n _ after (IsRegexPart.pair {c = c} in_line) =
     let longer : n + 1 + 1 ≡ n + 2 = omega arith in
     rw in_line (ap (λ k. body_end k false false after) longer)
-part_passed n _ after (IsPart.class {cs = cs} within) =
+part_passed n _ after (IsRegexPart.class {cs = cs} within) =
     let longer : n + 1 + length cs + 1 ≡ n + suc (length (cs ++ 93 ∷ [])) = omega (arith, length-append cs (93 ∷ [])) in
     ap (body_end (n + 1) false true) (append_assoc cs (93 ∷ []) after) ∙ class_passed (n + 1) cs after within ∙ ap (λ k. body_end k false false after) longer
 
-pub body_end_finds : (n : ℕ) (body after : List ℕ) → AreParts body → body_end n false false (body ++ 47 ∷ after) ≡ Some (n + length body)
-body_end_finds n _ after AreParts.none = ap Some (sym (add-zero n))
-body_end_finds n _ after (AreParts.more {part = part} {parts = parts} is_part are_parts) =
+pub body_end_finds : (n : ℕ) (body after : List ℕ) → AreRegexParts body → body_end n false false (body ++ 47 ∷ after) ≡ Some (n + length body)
+body_end_finds n _ after AreRegexParts.none = ap Some (sym (add-zero n))
+body_end_finds n _ after (AreRegexParts.more {part = part} {parts = parts} is_part are_parts) =
     let longer : n + length part + length parts ≡ n + length (part ++ parts) = omega (arith, length-append part parts) in
     ap (body_end n false false) (append_assoc part parts (47 ∷ after)) ∙ part_passed n part (parts ++ 47 ∷ after) is_part ∙ body_end_finds (n + length part) parts after are_parts ∙ ap Some longer
 
@@ -50,11 +50,11 @@ pub record IsInClass (body : List ℕ) : Type 0 where
   pub others : List ℕ
   pub split : body ≡ class ++ 93 ∷ others
   pub within : IsClassInside class
-  pub are_parts : AreParts others
+  pub are_parts : AreRegexParts others
 
 abbrev pub InState : Bool → List ℕ → Type 0
 InState true body = IsInClass body
-InState false body = AreParts body
+InState false body = AreRegexParts body
 
 -- behind a backslash the body goes on the pair
 abbrev pub with_backslash : Bool → List ℕ → List ℕ
@@ -73,7 +73,7 @@ module _ (n c : ℕ) (cs : List ℕ) (m : ℕ) where
   behind_backslash true in_line f =
       let w = f.within in
       record { class = 92 ∷ c ∷ w.class; others = w.others; split = ap (λ x. 92 ∷ c ∷ x) w.split; within = IsClassInside.pair in_line w.within; are_parts = w.are_parts }
-  behind_backslash false in_line f = AreParts.more (IsPart.pair in_line) f.within
+  behind_backslash false in_line f = AreRegexParts.more (IsRegexPart.pair in_line) f.within
 
   from_backslash : (k : Bool) → IsFound (n + 1) true k cs m → IsFound n false k (92 ∷ cs) m
   from_backslash k f = record { body = 92 ∷ f.body; after = f.after; parts = ap (λ x. 92 ∷ x) f.parts; within = f.within; bytes = omega (arith, f.bytes) }
@@ -82,7 +82,7 @@ module _ (n c : ℕ) (cs : List ℕ) (m : ℕ) where
   into_class f =
       let w = f.within in
       let joined : 91 ∷ ((w.class ++ 93 ∷ []) ++ w.others) ≡ 91 ∷ f.body = ap (λ x. 91 ∷ x) (append_assoc w.class (93 ∷ []) w.others ∙ sym w.split) in
-      record { body = 91 ∷ f.body; after = f.after; parts = ap (λ x. 91 ∷ x) f.parts; within = subst AreParts joined (AreParts.more (IsPart.class w.within) w.are_parts); bytes = omega (arith, f.bytes) }
+      record { body = 91 ∷ f.body; after = f.after; parts = ap (λ x. 91 ∷ x) f.parts; within = subst AreRegexParts joined (AreRegexParts.more (IsRegexPart.class w.within) w.are_parts); bytes = omega (arith, f.bytes) }
 
   out_of_class : IsFound (n + 1) false false cs m → IsFound n false true (93 ∷ cs) m
   out_of_class f = record {
@@ -109,7 +109,7 @@ module _ (n c : ℕ) (cs : List ℕ) (m : ℕ) where
     body = c ∷ f.body;
     after = f.after;
     parts = ap (λ x. c ∷ x) f.parts;
-    within = AreParts.more (IsPart.one in_line not_open not_slash not_backslash) f.within;
+    within = AreRegexParts.more (IsRegexPart.one in_line not_open not_slash not_backslash) f.within;
     bytes = omega (arith, f.bytes);
   }
 
@@ -134,7 +134,7 @@ module _ (n c : ℕ) (cs : List ℕ) (m : ℕ) where
   step_parts later true b is is_slash g = cc
   step_parts later false true is is_slash g =
       let at : n ≡ m = cc in
-      record { body = []; after = cs; parts = ap (λ x. x ∷ cs) (eqb-true c 47 is_slash); within = AreParts.none; bytes = omega (arith, at) }
+      record { body = []; after = cs; parts = ap (λ x. x ∷ cs) (eqb-true c 47 is_slash); within = AreRegexParts.none; bytes = omega (arith, at) }
   step_parts later false false is is_slash g = in_parts is (eqb-false c 47 is_slash) (c == 92) (c == 91) refl refl (later g)
 
   -- inside of one
@@ -199,12 +199,12 @@ pub record HasHead (part : List ℕ) : Type 0 where
   pub no_slash : head ≢ 47
   pub star : head ≡ 42 → part ≡ 42 ∷ []
 
-part_head : (part : List ℕ) → IsPart part → HasHead part
-part_head _ (IsPart.one {c = c} in_line not_open not_slash not_backslash) =
+part_head : (part : List ℕ) → IsRegexPart part → HasHead part
+part_head _ (IsRegexPart.one {c = c} in_line not_open not_slash not_backslash) =
     record { head = c; tail = []; split = refl; no_slash = not_slash; star = λ e. ap (λ x. x ∷ []) e }
-part_head _ (IsPart.pair {c = c} in_line) =
+part_head _ (IsRegexPart.pair {c = c} in_line) =
     record { head = 92; tail = c ∷ []; split = refl; no_slash = λ e. omega arith; star = λ e. absurd (omega arith) }
-part_head _ (IsPart.class {cs = cs} within) =
+part_head _ (IsRegexPart.class {cs = cs} within) =
     record { head = 91; tail = cs ++ 93 ∷ []; split = refl; no_slash = λ e. omega arith; star = λ e. absurd (omega arith) }
 
 -- what the text behind the first slash of a regular expression is
@@ -243,8 +243,8 @@ regex_parts t cs c flags n e r = (
     rest : body ++ 47 ∷ r.after ≡ cs
     rest = cc
 
-    are_parts : AreParts body
-    are_parts = AreParts.more r.is_part r.are_parts
+    are_parts : AreRegexParts body
+    are_parts = AreRegexParts.more r.is_part r.are_parts
 
     h : HasHead r.first
     h = part_head r.first r.is_part
@@ -290,12 +290,12 @@ pub record IsSplit (body : List ℕ) : Type 0 where
   pub first : List ℕ
   pub others : List ℕ
   pub split : body ≡ first ++ others
-  pub is_part : IsPart first
-  pub are_parts : AreParts others
+  pub is_part : IsRegexPart first
+  pub are_parts : AreRegexParts others
 
-split_body : (body : List ℕ) → AreParts body → 0 < length body → IsSplit body
-split_body _ AreParts.none some = absurd (omega arith)
-split_body _ (AreParts.more {part = part} {parts = parts} is_part are_parts) some =
+split_body : (body : List ℕ) → AreRegexParts body → 0 < length body → IsSplit body
+split_body _ AreRegexParts.none some = absurd (omega arith)
+split_body _ (AreRegexParts.more {part = part} {parts = parts} is_part are_parts) some =
     record { first = part; others = parts; split = refl; is_part = is_part; are_parts = are_parts }
 
 pub regex_some : (t cs : List ℕ) (c m : ℕ) → t ≡ c ∷ cs → c ≡ 47 → AreClosed cs m → m ≢ 0 → get_or cs 0 0 ≢ 42 →

@@ -6,7 +6,7 @@ use Rattle.lw_gramread.specs.declared.token.Symbol.{Symbol}
 use Rattle.lw_gramread.specs.declared.token.Symbol.TheVariants.{DotDot, PlusEquals, QuestionEquals, FatArrow, ThinArrow, Colon, Semicolon, Question, Star, Plus, Bar, OpenParenthesis, CloseParenthesis, OpenBracket, CloseBracket, OpenBrace, CloseBrace, Comma, Dot, At, Equals, Less, Greater, Ampersand, Exclamation}
 use Rattle.lw_gramread.specs.declared.token.FileKind.{FileKind}
 use Rattle.lw_gramread.specs.declared.token.FileKind.TheVariants as kind
-use Rattle.lw_gramread.specs.Symbols.{Begins, IsSymbol, spelling}
+use Rattle.lw_gramread.specs.Symbols.{BeginsSpelling, IsSymbol, spelling}
 use Rattle.lw_gramread.specs.FileTokens.{BeginsWith, IsHidden, IsWord, IsString, IsRegex, IsFileToken, is_word_start}
 use Rattle.std.proofs.lemmas.Bool.{ne_eqb, eqb-true, leb-true, cases_lt, lt-leb, le-leb, or_cases, and_parts, not-true, cases_cond, agree_below_at}
 use Rattle.std.proofs.lemmas.Slice.Eq.{bytes_eq-Decides}
@@ -82,7 +82,7 @@ regex_class t flags n r =
     let b = (regex_parts t cs 47 flags n r.parts r).1 in
     ap class_of r.parts ∙ slash_class cs b.no_star b.no_slash
 
-begins_head : (t : List ℕ) (a : ℕ) (needle : List ℕ) → Begins t (a ∷ needle) → ((bs : List ℕ) → class_of (a ∷ bs) ≡ 5) → class_of t ≡ 5
+begins_head : (t : List ℕ) (a : ℕ) (needle : List ℕ) → BeginsSpelling t (a ∷ needle) → ((bs : List ℕ) → class_of (a ∷ bs) ≡ 5) → class_of t ≡ 5
 begins_head [] a needle h f = let e : a ∷ needle ≡ [] = (bytes_eq-Decides (a ∷ needle) []).0 h in cc
 begins_head (b ∷ bs) a needle h f =
     let e : a ∷ needle ≡ b ∷ take (length needle) bs = (bytes_eq-Decides (a ∷ needle) (b ∷ take (length needle) bs)).0 h in

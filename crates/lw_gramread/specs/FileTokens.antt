@@ -6,7 +6,7 @@ use Rattle.std.specs.Char.{IsScalar, is_whitespace, is_ascii_alphabetic, is_asci
 use Rattle.lw_gramread.specs.declared.token.Symbol.{Symbol}
 use Rattle.lw_gramread.specs.declared.token.FileKind.{FileKind}
 use Rattle.lw_gramread.specs.declared.token.FileKind.TheVariants as kind
-use Rattle.lw_gramread.specs.Symbols.{Begins, IsSymbol, spelling}
+use Rattle.lw_gramread.specs.Symbols.{BeginsSpelling, IsSymbol, spelling}
 
 -- ---- what is passed over
 
@@ -26,7 +26,7 @@ pub data IsHidden (text : List ℕ) : ℕ → Type 0 where
   line_comment : (after : List ℕ) → text ≡ codes "//" ++ after → IsHidden text (2 + length (take_while (λ c. not (is_line_end c)) after))
   -- up to the first `*/`
   block_comment : (inside after : List ℕ) → text ≡ codes "/*" ++ inside ++ codes "*/" ++ after →
-      ((j : ℕ) → j < length inside → ¬ Begins (drop j (inside ++ codes "*/")) (codes "*/")) → IsHidden text (length inside + 4)
+      ((j : ℕ) → j < length inside → ¬ BeginsSpelling (drop j (inside ++ codes "*/")) (codes "*/")) → IsHidden text (length inside + 4)
 
 -- ---- words
 
@@ -78,21 +78,21 @@ pub data IsClassInside : List ℕ → Type 0 where
   pair : {c : ℕ} {cs : List ℕ} → NoLineEnd c → IsClassInside cs → IsClassInside (92 ∷ c ∷ cs)
 
 -- one part: a character but a line end, `[`, `/` and `\`; a pair of `\` and any character but a line end; or a class
-pub data IsPart : List ℕ → Type 0 where
-  one : {c : ℕ} → NoLineEnd c → c ≢ 91 → c ≢ 47 → c ≢ 92 → IsPart (c ∷ [])
-  pair : {c : ℕ} → NoLineEnd c → IsPart (92 ∷ c ∷ [])
-  class : {cs : List ℕ} → IsClassInside cs → IsPart (91 ∷ cs ++ 93 ∷ [])
+pub data IsRegexPart : List ℕ → Type 0 where
+  one : {c : ℕ} → NoLineEnd c → c ≢ 91 → c ≢ 47 → c ≢ 92 → IsRegexPart (c ∷ [])
+  pair : {c : ℕ} → NoLineEnd c → IsRegexPart (92 ∷ c ∷ [])
+  class : {cs : List ℕ} → IsClassInside cs → IsRegexPart (91 ∷ cs ++ 93 ∷ [])
 
-pub data AreParts : List ℕ → Type 0 where
-  none : AreParts []
-  more : {part parts : List ℕ} → IsPart part → AreParts parts → AreParts (part ++ parts)
+pub data AreRegexParts : List ℕ → Type 0 where
+  none : AreRegexParts []
+  more : {part parts : List ℕ} → IsRegexPart part → AreRegexParts parts → AreRegexParts (part ++ parts)
 
 -- the first n bytes are parts, and the slash that closes them follows
 pub record AreClosed (text : List ℕ) (n : ℕ) : Type 0 where
   pub body : List ℕ
   pub after : List ℕ
   pub parts : text ≡ body ++ 47 ∷ after
-  pub are_parts : AreParts body
+  pub are_parts : AreRegexParts body
   pub bytes : n ≡ length body
 
 -- `/`, a part that is not `*`, further parts, `/`, and as many lower-case ASCII letters, the flags, as there are
@@ -101,9 +101,9 @@ pub record IsRegex (text : List ℕ) (flags n : ℕ) : Type 0 where
   pub others : List ℕ
   pub after : List ℕ
   pub parts : text ≡ 47 ∷ first ++ others ++ 47 ∷ after
-  pub is_part : IsPart first
+  pub is_part : IsRegexPart first
   pub no_star : first ≢ 42 ∷ []
-  pub are_parts : AreParts others
+  pub are_parts : AreRegexParts others
   pub count : flags ≡ length (take_while is_ascii_lowercase after)
   pub bytes : n ≡ length first + length others + 2 + flags
 

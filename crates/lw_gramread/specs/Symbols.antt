@@ -32,10 +32,10 @@ spelling Ampersand = codes "&"
 spelling Exclamation = codes "!"
 
 -- the text begins with these bytes
-abbrev pub Begins : List ℕ → List ℕ → Type 0
-Begins text front = starts_with nat_eq text front ≡ true
+abbrev pub BeginsSpelling : List ℕ → List ℕ → Type 0
+BeginsSpelling text front = starts_with nat_eq text front ≡ true
 
 -- the longest symbol that the text begins with
 pub record IsSymbol (text : List ℕ) (symbol : Symbol) : Type 0 where
-  pub begins : Begins text (spelling symbol)
-  pub longest : (other : Symbol) → Begins text (spelling other) → length (spelling other) ≤ length (spelling symbol)
+  pub begins : BeginsSpelling text (spelling symbol)
+  pub longest : (other : Symbol) → BeginsSpelling text (spelling other) → length (spelling other) ≤ length (spelling symbol)

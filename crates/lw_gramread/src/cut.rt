@@ -1,5 +1,6 @@
 // The cut of a grammar file into its tokens.
 ghost use Rattle.std.specs.Prelude.{◌≡◌, ℕ, ◌<◌, ◌≤◌, List, length, IfOk, All};
+ghost use Rattle.lw_base.specs.declared.limits.TheConstants.{LONGEST_TEXT};
 ghost use Rattle.lw_gramread.specs.declared.token.FileToken.{FileToken};
 ghost use Rattle.lw_gramread.specs.FileTokens.{IsHidden, IsFileToken};
 ghost use Rattle.lw_gramread.specs.FileCut.{IsFileCut};
@@ -23,7 +24,7 @@ use std::alloc::Global;
 ///
 /// The one error is want of memory.
 pub fn file_tokens(alloc: Global, text: &Name) -> Result<Vec<FileToken>, NoMemory>
-    requires { length text.now ≤ 67108864 }
+    requires { length text.now ≤ LONGEST_TEXT }
     ensures cut { IfOk result (λ tokens. IsFileCut text.now tokens.items) }
     ensures only { IfOk result
         (λ tokens. (other : List FileToken) → IsFileCut text.now other → other ≡ tokens.items) }
@@ -55,7 +56,7 @@ pub fn file_tokens(alloc: Global, text: &Name) -> Result<Vec<FileToken>, NoMemor
 // The token at the front of the text and how many bytes it has.
 fn token_at(rest: &str) -> (FileKind, usize)
     requires some { 0 < length rest.now }
-    requires few { length rest.now ≤ 67108864 }
+    requires few { length rest.now ≤ LONGEST_TEXT }
     requires shown { (n : ℕ) → ¬ IsHidden rest.now n }
     ensures { IsFileToken rest.now result.0 result.1 }
 {

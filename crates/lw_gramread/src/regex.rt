@@ -1,5 +1,6 @@
 // The regular expressions of a grammar file.
 ghost use Rattle.std.specs.Prelude.{◌≡◌, ℕ, ◌≤◌, length, take_while, MatchOption};
+ghost use Rattle.lw_base.specs.declared.limits.TheConstants.{LONGEST_TEXT};
 ghost use Rattle.std.specs.Char.{is_ascii_lowercase};
 ghost use Rattle.lw_gramread.specs.FileTokens.{IsRegex, AreClosed};
 
@@ -8,7 +9,7 @@ use crate::hidden::is_line_end;
 /// How many bytes the regular expression at the front of the text has, and how many of them are
 /// flags, or None where none stands there.
 pub(crate) fn regex_length(rest: &str) -> Option<(usize, u32)>
-    requires { length rest.now ≤ 67108864 }
+    requires { length rest.now ≤ LONGEST_TEXT }
     ensures { MatchOption result
         ((flags n : ℕ) → ¬ IsRegex rest.now flags n) (λ found. IsRegex rest.now found.1 found.0) }
 {

@@ -1,7 +1,7 @@
 // The symbols of a grammar file.
 ghost use Rattle.std.specs.Prelude.{◌≡◌, ◌≢◌, ℕ, [], ◌∷◌, length, MatchOption, IfSome};
 ghost use Rattle.lw_gramread.specs.declared.token.Symbol.{Symbol};
-ghost use Rattle.lw_gramread.specs.Symbols.{Begins, IsSymbol, spelling};
+ghost use Rattle.lw_gramread.specs.Symbols.{BeginsSpelling, IsSymbol, spelling};
 
 use crate::token::Symbol;
 
@@ -22,8 +22,8 @@ pub(crate) fn symbol_at(rest: &str) -> Option<(Symbol, usize)>
 // The symbol of two bytes at the front.
 fn long_symbol(bytes: &[u8]) -> Option<Symbol>
     ensures { MatchOption result
-        ((s : Symbol) → length (spelling s) ≡ 2 → ¬ Begins bytes.now (spelling s))
-        (λ s. (length (spelling s) ≡ 2) × Begins bytes.now (spelling s)) }
+        ((s : Symbol) → length (spelling s) ≡ 2 → ¬ BeginsSpelling bytes.now (spelling s))
+        (λ s. (length (spelling s) ≡ 2) × BeginsSpelling bytes.now (spelling s)) }
 {
     match bytes {
         [b'.', b'.', ..] => Some(Symbol::DotDot),

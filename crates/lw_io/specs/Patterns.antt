@@ -9,10 +9,10 @@ abbrev pub anchored : List ℕ → List ℕ
 anchored text = codes "\\A(?:" ++ text ++ codes ")"
 
 -- the count rises at `Refused`, and stands still at every other answer
-abbrev pub Counts : {T : Type 0} → ℕ → ℕ → Result T MakeFault → Type 0
-Counts before now (Ok pattern) = now ≡ before
-Counts before now (Err Refused) = Faulted before now
-Counts before now (Err NoMemory) = now ≡ before
+abbrev pub CountsMake : {T : Type 0} → ℕ → ℕ → Result T MakeFault → Type 0
+CountsMake before now (Ok pattern) = now ≡ before
+CountsMake before now (Err Refused) = Faulted before now
+CountsMake before now (Err NoMemory) = now ≡ before
 
 -- the text last refused is this one at `Refused`, and stays what it was at every other answer
 abbrev pub Remembers : {T : Type 0} → Option (List ℕ) → Option (List ℕ) → List ℕ → Result T MakeFault → Type 0

@@ -12,10 +12,10 @@ Takes old new bytes Failed = Keeps old new
 Takes old new bytes NoMemory = Keeps old new
 
 -- the count rises at `Failed`, and stands still at every other answer
-abbrev pub Counts : ℕ → ℕ → Wrote → Type 0
-Counts before now (Took n) = now ≡ before
-Counts before now Failed = Faulted before now
-Counts before now NoMemory = now ≡ before
+abbrev pub CountsWrite : ℕ → ℕ → Wrote → Type 0
+CountsWrite before now (Took n) = now ≡ before
+CountsWrite before now Failed = Faulted before now
+CountsWrite before now NoMemory = now ≡ before
 
 -- what is taken is all of the bytes
 abbrev pub TakesWhole : List ℕ → Wrote → Type 0

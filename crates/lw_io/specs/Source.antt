@@ -6,13 +6,13 @@ use Rattle.lw_io.specs.declared.source.Read.{Read}
 use Rattle.lw_io.specs.declared.source.Read.TheVariants.{Got, End, Failed}
 
 -- `Got(n)` gives and takes the first n of the bytes left, `End` comes where none is left, and a fault leaves them
-abbrev pub Gives : Option (List ℕ) → Option (List ℕ) → List ℕ → Read → Type 0
-Gives old new buf (Got n) = (1 ≤ n) × (n ≤ length buf) × Consumes old new (take n buf)
-Gives old new buf End = IsAtEnd old × IsAtEnd new × Keeps old new
-Gives old new buf Failed = Keeps old new
+abbrev pub GivesBytes : Option (List ℕ) → Option (List ℕ) → List ℕ → Read → Type 0
+GivesBytes old new buf (Got n) = (1 ≤ n) × (n ≤ length buf) × Consumes old new (take n buf)
+GivesBytes old new buf End = IsAtEnd old × IsAtEnd new × Keeps old new
+GivesBytes old new buf Failed = Keeps old new
 
 -- the count rises at `Failed`, and stands still at every other answer
-abbrev pub Counts : ℕ → ℕ → Read → Type 0
-Counts before now (Got n) = now ≡ before
-Counts before now End = now ≡ before
-Counts before now Failed = Faulted before now
+abbrev pub CountsRead : ℕ → ℕ → Read → Type 0
+CountsRead before now (Got n) = now ≡ before
+CountsRead before now End = now ≡ before
+CountsRead before now Failed = Faulted before now

@@ -2,7 +2,7 @@
 ghost use Rattle.std.specs.Prelude.{◌≡◌, None};
 ghost use Rattle.lw_io.specs.Causes.{Faulted};
 
-use crate::content::{LIMIT, content};
+use crate::content::content;
 use crate::{Found, ReadFault, StdSource, Store, read_all};
 use lw_base::Name;
 use std::alloc::Global;
@@ -51,7 +51,7 @@ impl<R: Files + Drop> Store for FileStore<R> {
             Err(error) if error.kind() == ErrorKind::NotFound => return Found::Absent,
             Err(_) => return self.fail(),
         };
-        match read_all(alloc, &mut StdSource::new(file), LIMIT + 1) {
+        match read_all(alloc, &mut StdSource::new(file), LONGEST_TEXT + 1) {
             Ok(bytes) => content(alloc, &bytes),
             Err(ReadFault::Failed) => self.fail(),
             Err(ReadFault::NoMemory) => Found::NoMemory,

@@ -34,7 +34,7 @@ impl Patterns for MemPatterns {
     ghost use Rattle.regex.specs.Patterns.{default_config};
     ghost use Rattle.regex.specs.Strings.{regex_source, regex_config, IsReadFromSource};
     ghost use Rattle.lw_io.specs.MemPatterns.{patterns_listed, patterns_last, patterns_faults};
-    ghost use Rattle.lw_io.specs.Patterns.{anchored, Counts, Remembers};
+    ghost use Rattle.lw_io.specs.Patterns.{anchored, CountsMake, Remembers};
 
     ghost last_refused = { patterns_last };
 
@@ -53,7 +53,7 @@ impl Patterns for MemPatterns {
         ensures config { IfOk result (λ pattern. regex_config pattern ≡ default_config) }
         ensures read { IfOk result IsReadFromSource }
         ensures refused { Remembers (patterns_last self.old) (patterns_last self.new) text result }
-        ensures cause { Counts (patterns_faults self.old) (patterns_faults self.new) result }
+        ensures cause { CountsMake (patterns_faults self.old) (patterns_faults self.new) result }
         ensures listed { Contains (patterns_listed self.old) text → result ≡ Err MakeFault.Refused }
         ensures same_list { patterns_listed self.new ≡ patterns_listed self.old }
     {

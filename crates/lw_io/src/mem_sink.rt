@@ -40,7 +40,7 @@ impl Sink for MemSink {
     ghost use Rattle.std.specs.Prelude.{◌≡◌, ◌<◌, ◌↔◌, ℕ, Some, length, Contains};
     ghost use Rattle.lw_io.specs.Calls.{next_number};
     ghost use Rattle.lw_io.specs.MemSink.{sink_taken, sink_failing, sink_calls, sink_faults};
-    ghost use Rattle.lw_io.specs.Sink.{Takes, Counts, TakesWhole};
+    ghost use Rattle.lw_io.specs.Sink.{Takes, CountsWrite, TakesWhole};
 
     ghost written = { λ s. Some (sink_taken s) };
 
@@ -53,7 +53,7 @@ impl Sink for MemSink {
     fn write(&mut self, bytes: &[u8]) -> Wrote
         requires { 0 < length bytes.now }
         ensures bytes { Takes (Some (sink_taken self.old)) (Some (sink_taken self.new)) bytes.now result }
-        ensures cause { Counts (sink_faults self.old) (sink_faults self.new) result }
+        ensures cause { CountsWrite (sink_faults self.old) (sink_faults self.new) result }
         ensures whole { TakesWhole bytes.now result }
         ensures number { sink_calls self.new ≡ next_number (sink_calls self.old) }
         ensures fails { (result ≡ Wrote.Failed) ↔ Contains (sink_failing self.new) (sink_calls self.new) }

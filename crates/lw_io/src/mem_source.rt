@@ -52,7 +52,7 @@ impl Source for MemSource {
     ghost use Rattle.std.specs.Prelude.{◌≡◌, ◌<◌, ◌↔◌, Some, length, Contains};
     ghost use Rattle.lw_io.specs.Calls.{next_number};
     ghost use Rattle.lw_io.specs.MemSource.{source_left, source_failing, source_calls, source_faults, GivesPiece};
-    ghost use Rattle.lw_io.specs.Source.{Gives, Counts};
+    ghost use Rattle.lw_io.specs.Source.{GivesBytes, CountsRead};
 
     ghost left = { λ s. Some (source_left s) };
 
@@ -64,8 +64,8 @@ impl Source for MemSource {
 
     fn read(&mut self, buf: &mut [u8]) -> Read
         requires { 0 < length buf.old }
-        ensures bytes { Gives (Some (source_left self.old)) (Some (source_left self.new)) buf.new result }
-        ensures cause { Counts (source_faults self.old) (source_faults self.new) result }
+        ensures bytes { GivesBytes (Some (source_left self.old)) (Some (source_left self.new)) buf.new result }
+        ensures cause { CountsRead (source_faults self.old) (source_faults self.new) result }
         ensures piece { GivesPiece self.old self.new (length buf.old) result }
         ensures number { source_calls self.new ≡ next_number (source_calls self.old) }
         ensures fails { (result ≡ Read.Failed) ↔ Contains (source_failing self.new) (source_calls self.new) }
@@ -96,7 +96,7 @@ fn piece_size(pieces: &[u32], left: usize) -> usize
     }
 }
 
-// Gives so many bytes of the piece, and returns the place of the next one.
+// GivesBytes so many bytes of the piece, and returns the place of the next one.
 fn piece_after(pieces: &mut [u32], piece: usize, count: usize) -> usize
     requires { piece ≤ length pieces.old }
     ensures pieces { drop result pieces.new ≡ spec.pieces_after (drop piece pieces.old) count }

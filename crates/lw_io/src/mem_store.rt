@@ -40,7 +40,7 @@ impl Store for MemStore {
     ghost use Rattle.std.specs.Prelude.{◌≡◌, ◌↔◌, Some, Contains};
     ghost use Rattle.lw_io.specs.Calls.{next_number};
     ghost use Rattle.lw_io.specs.MemStore.{store_files, store_failing, store_calls, store_faults};
-    ghost use Rattle.lw_io.specs.Store.{Answers, Counts, IsInLimit};
+    ghost use Rattle.lw_io.specs.Store.{AnswersFile, CountsFind, IsInLimit};
 
     ghost files = { λ s. Some (store_files s) };
 
@@ -51,10 +51,10 @@ impl Store for MemStore {
     }
 
     fn read(&mut self, alloc: Global, path: &Name) -> Found
-        ensures found { Answers (Some (store_files self.old)) path.now result }
+        ensures found { AnswersFile (Some (store_files self.old)) path.now result }
         ensures limit { IsInLimit result }
         ensures files { Some (store_files self.new) ≡ Some (store_files self.old) }
-        ensures cause { Counts (store_faults self.old) (store_faults self.new) result }
+        ensures cause { CountsFind (store_faults self.old) (store_faults self.new) result }
         ensures number { store_calls self.new ≡ next_number (store_calls self.old) }
         ensures fails { (result ≡ Found.Failed) ↔ Contains (store_failing self.new) (store_calls self.new) }
         ensures failing { store_failing self.new ≡ store_failing self.old }

@@ -2,7 +2,7 @@
 ghost use Rattle.std.specs.Prelude.{◌≡◌, List, ℕ, Option, IfOk, option_map};
 ghost use Rattle.regex.specs.Patterns.{default_config};
 ghost use Rattle.regex.specs.Strings.{regex_source, regex_config, IsReadFromSource};
-ghost use Rattle.lw_io.specs.Patterns.{anchored, Counts, Remembers};
+ghost use Rattle.lw_io.specs.Patterns.{anchored, CountsMake, Remembers};
 
 use lw_base::Name;
 use regex::Regex;
@@ -41,5 +41,5 @@ pub trait Patterns {
         ensures config { IfOk result (λ pattern. regex_config pattern ≡ default_config) }
         ensures read { IfOk result IsReadFromSource }
         ensures refused { Remembers (last_refused self.old) (last_refused self.new) text result }
-        ensures cause { Counts (count self.old) (count self.new) result };
+        ensures cause { CountsMake (count self.old) (count self.new) result };
 }

@@ -1,6 +1,6 @@
 // Where bytes go.
 ghost use Rattle.std.specs.Prelude.{◌≡◌, ◌<◌, List, ℕ, Option, length};
-ghost use Rattle.lw_io.specs.Sink.{Takes, Counts};
+ghost use Rattle.lw_io.specs.Sink.{Takes, CountsWrite};
 
 /// What a write answers.
 #[derive(Clone, Copy, Debug, PartialEq, Eq)]
@@ -29,5 +29,5 @@ pub trait Sink {
     fn write(&mut self, bytes: &[u8]) -> Wrote
         requires { 0 < length bytes.now }
         ensures bytes { Takes (written self.old) (written self.new) bytes.now result }
-        ensures cause { Counts (count self.old) (count self.new) result };
+        ensures cause { CountsWrite (count self.old) (count self.new) result };
 }

@@ -1,6 +1,6 @@
 // Where bytes come from.
 ghost use Rattle.std.specs.Prelude.{◌≡◌, ◌<◌, List, ℕ, Option, length};
-ghost use Rattle.lw_io.specs.Source.{Gives, Counts};
+ghost use Rattle.lw_io.specs.Source.{GivesBytes, CountsRead};
 
 /// What a read answers.
 #[derive(Clone, Copy, Debug, PartialEq, Eq)]
@@ -28,6 +28,6 @@ pub trait Source {
     /// Puts the next bytes at the front of the buffer, which is not empty.
     fn read(&mut self, buf: &mut [u8]) -> Read
         requires { 0 < length buf.old }
-        ensures bytes { Gives (left self.old) (left self.new) buf.new result }
-        ensures cause { Counts (count self.old) (count self.new) result };
+        ensures bytes { GivesBytes (left self.old) (left self.new) buf.new result }
+        ensures cause { CountsRead (count self.old) (count self.new) result };
 }

@@ -1,6 +1,6 @@
 // Files by path.
 ghost use Rattle.std.specs.Prelude.{◌≡◌, List, ℕ, Option};
-ghost use Rattle.lw_io.specs.Store.{Answers, Counts, IsInLimit};
+ghost use Rattle.lw_io.specs.Store.{AnswersFile, CountsFind, IsInLimit};
 
 use lw_base::Name;
 use std::alloc::Global;
@@ -36,8 +36,8 @@ pub trait Store {
 
     /// Reads the file of this path. A read changes no file.
     fn read(&mut self, alloc: Global, path: &Name) -> Found
-        ensures found { Answers (files self.old) path.now result }
+        ensures found { AnswersFile (files self.old) path.now result }
         ensures limit { IsInLimit result }
         ensures files { files self.new ≡ files self.old }
-        ensures cause { Counts (count self.old) (count self.new) result };
+        ensures cause { CountsFind (count self.old) (count self.new) result };
 }

@@ -7,10 +7,8 @@ ghost use Rattle.lw_lanes.specs.Utf8.{begins_character, begins_pair, characters,
 ghost use Rattle.lw_lanes.specs.LineBreak.{is_break, breaks};
 
 use crate::block::{BLOCK, at_least, below, break_marks, is_break, raised};
+use lw_base::LONGEST_TEXT;
 use std::simd::prelude::*;
-
-/// The most bytes that one call counts: 64 MiB, so that every count fits.
-pub const MAX_BYTES: usize = 67_108_864;
 
 /// How many units a UTF-8 text takes in UTF-16: one for each character, and one more for each of four
 /// bytes, from U+10000 on.
@@ -18,7 +16,7 @@ pub const MAX_BYTES: usize = 67_108_864;
 /// Of any bytes it is the number of those that are no continuation byte (128 to 191) plus the number
 /// of those that are 240 or more. After The Unicode Standard, section 3.9.
 pub fn utf16_len(bytes: &[u8]) -> u32
-    requires { length bytes.now ≤ MAX_BYTES }
+    requires { length bytes.now ≤ LONGEST_TEXT }
     ensures bytewise { result ≡ utf16_units bytes.now }
     ensures of_text { IsUtf8 bytes.now → result ≡ length (in_utf16 bytes.now) }
 {
@@ -30,7 +28,7 @@ pub fn utf16_len(bytes: &[u8]) -> u32
 /// Of any bytes it is the number of those that are no continuation byte (128 to 191).
 /// After The Unicode Standard, section 3.9.
 pub fn char_count(bytes: &[u8]) -> u32
-    requires { length bytes.now ≤ MAX_BYTES }
+    requires { length bytes.now ≤ LONGEST_TEXT }
     ensures bytewise { result ≡ characters bytes.now }
     ensures of_text { IsUtf8 bytes.now → result ≡ length (chars bytes.now) }
 {
@@ -40,7 +38,7 @@ pub fn char_count(bytes: &[u8]) -> u32
 /// How many bytes end a line: `\n` and `\r`, by the line ends of the Language Server Protocol 3.17.
 /// A `\r\n` counts as two.
 pub fn break_count(bytes: &[u8]) -> u32
-    requires { length bytes.now ≤ MAX_BYTES }
+    requires { length bytes.now ≤ LONGEST_TEXT }
     ensures { result ≡ breaks bytes.now }
 {
     total::<Break>(bytes)
@@ -110,7 +108,7 @@ impl Counted for Break {
 }
 
 fn total<C: Counted>(bytes: &[u8]) -> u32
-    requires { length bytes.now ≤ MAX_BYTES }
+    requires { length bytes.now ≤ LONGEST_TEXT }
     ensures { result ≡ sum_by C.at bytes.now }
 {
     let (blocks, rest) = bytes.as_chunks::<BLOCK>();
@@ -118,7 +116,7 @@ fn total<C: Counted>(bytes: &[u8]) -> u32
 }
 
 fn in_blocks<C: Counted>(blocks: &[[u8; BLOCK]]) -> u32
-    requires { length blocks.now * 32 ≤ MAX_BYTES }
+    requires { length blocks.now * 32 ≤ LONGEST_TEXT }
     ensures { result ≡ sum_by (λ block. sum_by C.at block) blocks.now }
 {
     let mut total = 0;

@@ -15,7 +15,7 @@ mod breaks;
 mod counts;
 
 pub use breaks::next_break;
-pub use counts::{MAX_BYTES, break_count, char_count, utf16_len};
+pub use counts::{break_count, char_count, utf16_len};
 
 #[cfg(test)]
 mod tests;

@@ -6,17 +6,17 @@ use Rattle.lw_grammar.specs.declared.grammar.Grammar.{Grammar}
 use Rattle.lw_grammar.specs.declared.terminal.Terminal.{Terminal}
 use Rattle.lw_grammar.specs.declared.terminal.TermElement.{out-TermElement}
 use Rattle.lw_grammar.specs.Kept as keep
-use Rattle.lw_grammar.specs.Kept.{KeepsFrom}
+use Rattle.lw_grammar.specs.Kept.{KeepsPassingFrom}
 use Rattle.lw_grammar.specs.Kinds.{Kinds, AreKinds, IsKindTerminal}
 use Rattle.lw_tokens.specs.Lexicon.{HasForm}
 use Rattle.lw_tokens.specs.Matching.{match_length}
 use Rattle.lw_tokens.specs.Patterns.{TerminalPattern, as_pattern, unescaped}
 use Rattle.lw_terminals.specs.declared.source.TerminalSource.{TerminalSource}
 use Rattle.lw_terminals.specs.TokenKinds.{TokenKinds}
-use Rattle.lw_terminals.specs.Made.{kinds_of, form_of, IsUsable}
+use Rattle.lw_terminals.specs.Made.{token_kinds_of, form_of, IsUsable}
 use Rattle.lw_lang.specs.Shape.{HasShape, IsPlainTerminal}
 use Rattle.lw_lang.specs.Obstacles.{MatchesEmpty}
-use Rattle.lw_reading.specs.KindTexts.{texts_of, quoted}
+use Rattle.lw_grammar.specs.KindTexts.{texts_of, quoted}
 use Rattle.lw_lang.specs.Flat.{IsSource, IsFlat}
 use Rattle.lw_lang.specs.Prepared.{IsPrepared}
 use Rattle.lw_lang.specs.declared.flat.Flat.{Flat}
@@ -26,7 +26,7 @@ use Rattle.lw_lang.proofs.FlatObstacles.{pattern_once}
 
 -- what was kept was there
 module _ {X : Type 0} (passes : ℕ → Type 0) where
-  kept_from : {i : ℕ} {xs ys : List X} (x : X) → KeepsFrom passes i xs ys → Contains ys x → Contains xs x
+  kept_from : {i : ℕ} {xs ys : List X} (x : X) → KeepsPassingFrom passes i xs ys → Contains ys x → Contains xs x
   kept_from x keep.nothing h = h
   kept_from x (keep.kept {x = y} {xs} {ys} p k) h = by (in_cons y ys h) (λ later. kept_from x k later)
     where
@@ -74,7 +74,7 @@ module _ (g : Grammar) (shape : HasShape g) (flat : Flat) (is : IsFlat g flat) w
       (All-contains IsUsable flat.terminals.items z.0 usable z.1).not_empty (subst (λ p. match_length p [] ≡ Some 0) same empty.2)
 
   -- what a language keeps of it
-  pub is_prepared : (tokens : TokenKinds) → tokens ≡ kinds_of flat.keywords.items flat.terminals.items → IsPrepared g tokens flat.row.items
+  pub is_prepared : (tokens : TokenKinds) → tokens ≡ token_kinds_of flat.keywords.items flat.terminals.items → IsPrepared g tokens flat.row.items
   is_prepared tokens made = subst (λ t. IsPrepared g t flat.row.items) (sym made) (record {
     of = is.of;
     kinds = is.kinds;

@@ -8,7 +8,7 @@ use Rattle.lw_grammar.specs.declared.terminal.Terminal.{Terminal}
 use Rattle.lw_gramread.specs.declared.token.FileToken.{FileToken}
 use Rattle.lw_gramread.specs.FileCut.{IsFileCut}
 use Rattle.lw_gramread.specs.Places.{IsPlace}
-use Rattle.lw_io.specs.Store.{file_at, Fits, Answers}
+use Rattle.lw_io.specs.Store.{file_at, FitsFile, AnswersFile}
 use Rattle.lw_io.specs.declared.store.Found.TheVariants as found
 use Rattle.lw_text.specs.Position.{IsPosition}
 use Rattle.lw_lang.specs.Small.{IsSmall, SaysSmall, IsUnexpected}
@@ -17,7 +17,8 @@ use Rattle.lw_lang.specs.Obstacles.{HasObstacle}
 use Rattle.lw_lang.specs.Refused.{FirstMatchesEmpty, IsToldBy, IsTried}
 use Rattle.lw_lang.specs.Language.{LanguageView}
 use Rattle.lw_lang.specs.Compiled as compiled
-use Rattle.lw_lang.specs.Compiled.{Says, HoldsText, HoldsGrammar, IsNotBuilt, Causes, FileCauses, GrammarCauses, NothingSaid, IsUnbuiltAt, IsPatternFault, PatternCounts, longest_file}
+use Rattle.lw_base.specs.declared.limits.TheConstants.{LONGEST_TEXT}
+use Rattle.lw_lang.specs.Compiled.{SaysOnly, HoldsText, HoldsGrammar, IsNotBuilt, Causes, FileCauses, GrammarCauses, NothingSaid, IsUnbuiltAt, IsPatternFault, CountsPatterns}
 use Rattle.lw_lang.specs.declared.fault.CompileFault.{CompileFault}
 use Rattle.lw_lang.specs.declared.fault.CompileFault.TheVariants as fault
 
@@ -85,7 +86,7 @@ module _ (g : Grammar) (file : List ℕ) (refused : Option (List ℕ)) where
   pattern_causes name fault.NoMemory is clear pattern same terminal tried once = absurd is
 
   -- the cause by the grammar is one by the text that says it
-  pub file_causes : (root : List ℕ) (f : CompileFault) → Says root file g → GrammarCauses g file refused f → FileCauses root file refused f
+  pub file_causes : (root : List ℕ) (f : CompileFault) → SaysOnly root file g → GrammarCauses g file refused f → FileCauses root file refused f
   file_causes root (fault.Unbuilt t at) says cause =
       (compiled.has_condition g says cause.0 cause.1, subst (λ u. IsPosition file u.start at) (sym cause.1) cause.2)
   file_causes root (fault.PatternRefused rule name at) says cause = (g, says, cause)
@@ -98,12 +99,12 @@ module _ (g : Grammar) (file : List ℕ) (refused : Option (List ℕ)) where
 -- ---- what a store holds
 
 module _ (files : List (List ℕ × List ℕ)) (root file : List ℕ) where
-  pub holds_text : Fits (file_at files root) (found.Text file) → HoldsText files root file
+  pub holds_text : FitsFile (file_at files root) (found.Text file) → HoldsText files root file
   holds_text fits = by (file_at files root) refl fits
     where
-      by : (o : Option (List ℕ)) → file_at files root ≡ o → Fits o (found.Text file) → HoldsText files root file
+      by : (o : Option (List ℕ)) → file_at files root ≡ o → FitsFile o (found.Text file) → HoldsText files root file
       by None is f = absurd f
-      by (Some bytes) is f = record { held = is ∙ ap (λ b. Some b) (sym f.0); short = subst (λ b. length b ≤ longest_file) (sym f.0) f.1; utf8 = subst IsUtf8 (sym f.0) f.2 }
+      by (Some bytes) is f = record { held = is ∙ ap (λ b. Some b) (sym f.0); short = subst (λ b. length b ≤ LONGEST_TEXT) (sym f.0) f.1; utf8 = subst IsUtf8 (sym f.0) f.2 }
 
   pub causes : (refused : Option (List ℕ)) (f : CompileFault) → HoldsText files root file → FileCauses root file refused f → Causes files root refused f
   causes refused (fault.Unbuilt t at) holds cause = (file, holds, cause.0, cause.1)
@@ -116,33 +117,33 @@ module _ (files : List (List ℕ × List ℕ)) (root file : List ℕ) where
   causes refused fault.NoMemory holds cause = tt
 
 module _ (told : Option (List (List ℕ × List ℕ))) (root : List ℕ) (refused : Option (List ℕ)) where
-  pub told_grammar : (file : List ℕ) (g : Grammar) → Answers told root (found.Text file) → Says root file g → IfSome told (λ files. HoldsGrammar files root g)
+  pub told_grammar : (file : List ℕ) (g : Grammar) → AnswersFile told root (found.Text file) → SaysOnly root file g → IfSome told (λ files. HoldsGrammar files root g)
   told_grammar file g answers says = by told answers
     where
-      by : (t : Option (List (List ℕ × List ℕ))) → Answers t root (found.Text file) → IfSome t (λ files. HoldsGrammar files root g)
+      by : (t : Option (List (List ℕ × List ℕ))) → AnswersFile t root (found.Text file) → IfSome t (λ files. HoldsGrammar files root g)
       by None a = tt
       by (Some files) a = record { text = file; holds = holds_text files root file a; says = says }
 
-  pub told_causes : (file : List ℕ) (f : CompileFault) → Answers told root (found.Text file) → FileCauses root file refused f → IfSome told (λ files. Causes files root refused f)
+  pub told_causes : (file : List ℕ) (f : CompileFault) → AnswersFile told root (found.Text file) → FileCauses root file refused f → IfSome told (λ files. Causes files root refused f)
   told_causes file f answers cause = by told answers
     where
-      by : (t : Option (List (List ℕ × List ℕ))) → Answers t root (found.Text file) → IfSome t (λ files. Causes files root refused f)
+      by : (t : Option (List (List ℕ × List ℕ))) → AnswersFile t root (found.Text file) → IfSome t (λ files. Causes files root refused f)
       by None a = tt
       by (Some files) a = causes files root file refused f (holds_text files root file a) cause
 
 -- ---- the same of answers
 
-pub file_faults : {T : Type 0} (g : Grammar) (file : List ℕ) (refused : Option (List ℕ)) (root : List ℕ) (r : Result T CompileFault) → Says root file g →
+pub file_faults : {T : Type 0} (g : Grammar) (file : List ℕ) (refused : Option (List ℕ)) (root : List ℕ) (r : Result T CompileFault) → SaysOnly root file g →
     IfErr r (GrammarCauses g file refused) → IfErr r (FileCauses root file refused)
 file_faults g file refused root (Ok x) says cause = tt
 file_faults g file refused root (Err f) says cause = file_causes g file refused root f says cause
 
-pub held : (told : Option (List (List ℕ × List ℕ))) (root file : List ℕ) (r : Result LanguageView CompileFault) → Answers told root (found.Text file) →
-    IfOk r (λ language. Says root file language.grammar) → IfOk r (λ language. IfSome told (λ files. HoldsGrammar files root language.grammar))
+pub held : (told : Option (List (List ℕ × List ℕ))) (root file : List ℕ) (r : Result LanguageView CompileFault) → AnswersFile told root (found.Text file) →
+    IfOk r (λ language. SaysOnly root file language.grammar) → IfOk r (λ language. IfSome told (λ files. HoldsGrammar files root language.grammar))
 held told root file (Ok language) answers says = told_grammar told root None file language.grammar answers says
 held told root file (Err f) answers says = tt
 
-pub faults : {T : Type 0} (told : Option (List (List ℕ × List ℕ))) (root file : List ℕ) (refused : Option (List ℕ)) (r : Result T CompileFault) → Answers told root (found.Text file) →
+pub faults : {T : Type 0} (told : Option (List (List ℕ × List ℕ))) (root file : List ℕ) (refused : Option (List ℕ)) (r : Result T CompileFault) → AnswersFile told root (found.Text file) →
     IfErr r (FileCauses root file refused) → IfErr r (λ f. IfSome told (λ files. Causes files root refused f))
 faults told root file refused (Ok x) answers cause = tt
 faults told root file refused (Err f) answers cause = told_causes told root refused file f answers cause

@@ -5,13 +5,13 @@ use Rattle.std.proofs.lemmas.Option.{slice_get_within}
 use Rattle.lw_base.specs.declared.token.Token.{Token}
 use Rattle.lw_tokens.specs.Lexicon.{Lexicon}
 use Rattle.lw_tokens.specs.NextToken as next
-use Rattle.lw_tokens.specs.NextToken.{Next, IsNext}
+use Rattle.lw_tokens.specs.NextToken.{Next, IsNextToken}
 use Rattle.lw_tokens.specs.Cut as cut
 use Rattle.lw_tokens.specs.Cut.{IsCutTo, visible}
 use Rattle.lw_reading.specs.declared.issue.Parsed.{Parsed}
 use Rattle.lw_lang.specs.Rows as rows
 use Rattle.lw_lang.specs.Rows.{ReadsRow}
-use Rattle.lw_lang.specs.Language.{IfBroken, IsNamed, IsWithin}
+use Rattle.lw_lang.specs.Language.{IfBroken, IsNamed, IsIssueWithin}
 
 module _ (lexicon : Lexicon) (text : List ℕ) where
   abbrev pub count : ℕ
@@ -21,7 +21,7 @@ module _ (lexicon : Lexicon) (text : List ℕ) where
   abbrev pub IsKnown : ℕ → Token → Type 0
   IsKnown at t = (t.kind.0 < count) × (t.span.start ≤ at) × (t.span.end ≤ at)
 
-  kind_known : (rest : List ℕ) {o : Option Next} → IsNext lexicon rest o → IfSome o (λ n. n.kind < count)
+  kind_known : (rest : List ℕ) {o : Option Next} → IsNextToken lexicon rest o → IfSome o (λ n. n.kind < count)
   kind_known rest (next.longer_terminal {i} {form} longest over there) =
       let within = slice_get_within lexicon.terminals i form there in omega arith
   kind_known rest (next.keyword {k} longest none) =
@@ -54,7 +54,7 @@ module _ (row : List ℕ) (tokens : List Token) (length_ count_ : ℕ) (known : 
       let at : IsKnownIn count_ length_ t = middle (IsKnownIn count_ length_) before after t (rw parts at known) in omega (arith, at.0, is)
   named_by_row texts is (rows.end_ fits not) = tt
 
-  pub within_by_row : (text : List ℕ) → length text ≡ length_ → {parsed : Parsed} → ReadsRow row tokens length_ parsed → IfBroken parsed (IsWithin text)
+  pub within_by_row : (text : List ℕ) → length text ≡ length_ → {parsed : Parsed} → ReadsRow row tokens length_ parsed → IfBroken parsed (IsIssueWithin text)
   within_by_row text is (rows.whole same) = tt
   within_by_row text is (rows.syntax_ before after t parts fits not) =
       let at : IsKnownIn count_ length_ t = middle (IsKnownIn count_ length_) before after t (rw parts at known) in (omega (arith, at.1, is), omega (arith, at.2, is))

@@ -14,20 +14,20 @@ use Rattle.lw_grammar.specs.Named.{IsEntry, IsTerminal}
 use Rattle.lw_grammar.specs.Leaves.{keywords_in}
 use Rattle.lw_grammar.specs.Reached.{IsReached, RuleCalls}
 use Rattle.lw_grammar.specs.Reached as reached
-use Rattle.lw_grammar.specs.Kept.{KeepsFrom, Keeps}
+use Rattle.lw_grammar.specs.Kept.{KeepsPassingFrom, KeepsPassing}
 use Rattle.lw_grammar.specs.Kept as keep
 use Rattle.lw_grammar.specs.Kinds.{Kinds, first_uses, IsKindTerminal, AreKinds}
 use Rattle.lw_grammar.specs.Kinds as kind
 use Rattle.lw_lang.specs.Shape.{HasShape, IsPlainPart, IsPlainTerminal, parts_of}
 use Rattle.lw_lang.specs.Obstacles.{names}
-use Rattle.lw_lang.specs.FlatParts.{keywords_of, calls_of, is_kind}
+use Rattle.lw_lang.specs.FlatParts.{row_keywords, row_calls, is_kind}
 use Rattle.lw_lang.proofs.Lists.{at_place}
 use Rattle.lw_lang.proofs.FirstUses.{stands_in, same_text, Contains-first_uses, Contains-from_first_uses}
 use Rattle.lw_lang.proofs.FlatLeaves.{called_name, name_called, keywords_in_parts}
 
 module _ {X : Type 0} (passes : ℕ → Type 0) where
   -- which items are kept is settled
-  pub kept_once : {i : ℕ} {xs ys zs : List X} → KeepsFrom passes i xs ys → KeepsFrom passes i xs zs → ys ≡ zs
+  pub kept_once : {i : ℕ} {xs ys zs : List X} → KeepsPassingFrom passes i xs ys → KeepsPassingFrom passes i xs zs → ys ≡ zs
   kept_once keep.nothing keep.nothing = refl
   kept_once (keep.kept {x} p k) (keep.kept q l) = ap (λ ys. x ∷ ys) (kept_once k l)
   kept_once (keep.kept p k) (keep.left_out q l) = absurd (q p)
@@ -36,7 +36,7 @@ module _ {X : Type 0} (passes : ℕ → Type 0) where
 
   -- a test that passes at the places that pass keeps them
   pub keeps_filter : (test : X → Bool) (i : ℕ) (xs : List X) → ((j : ℕ) (x : X) → slice_get xs j ≡ Some x → test x ≡ true → passes (i + j)) →
-      ((j : ℕ) (x : X) → slice_get xs j ≡ Some x → test x ≡ false → ¬ passes (i + j)) → KeepsFrom passes i xs (filter test xs)
+      ((j : ℕ) (x : X) → slice_get xs j ≡ Some x → test x ≡ false → ¬ passes (i + j)) → KeepsPassingFrom passes i xs (filter test xs)
   keeps_filter test i [] has lacks = keep.nothing
   keeps_filter test i (x ∷ xs) has lacks =
       by (test x) refl
@@ -45,7 +45,7 @@ module _ {X : Type 0} (passes : ℕ → Type 0) where
       next : (j : ℕ) → i + suc j ≡ (i + 1) + j
       next j = omega arith
 
-      by : (b : Bool) → test x ≡ b → KeepsFrom passes (i + 1) xs (filter test xs) → KeepsFrom passes i (x ∷ xs) (cond b (x ∷ filter test xs) (filter test xs))
+      by : (b : Bool) → test x ≡ b → KeepsPassingFrom passes (i + 1) xs (filter test xs) → KeepsPassingFrom passes i (x ∷ xs) (cond b (x ∷ filter test xs) (filter test xs))
       by true is rest = keep.kept (subst passes (add-zero i) (has 0 x refl is)) rest
       by false is rest = keep.left_out (λ p. lacks 0 x refl is (subst passes (sym (add-zero i)) p)) rest
 
@@ -64,10 +64,10 @@ only_rule rules rule other r only at = by r (ap (λ rs. slice_get rs r) (sym onl
 
 -- the names that a rule calls, and the kinds of its grammar
 abbrev pub called : Rule → List (List ℕ)
-called rule = first_uses [] (calls_of (parts_of rule.body))
+called rule = first_uses [] (row_calls (parts_of rule.body))
 
 abbrev pub the_kinds : Grammar → Rule → Kinds
-the_kinds g rule = record { keywords = first_uses [] (keywords_of (parts_of rule.body)); terminals = filter (is_kind (called rule)) g.terminals }
+the_kinds g rule = record { keywords = first_uses [] (row_keywords (parts_of rule.body)); terminals = filter (is_kind (called rule)) g.terminals }
 
 module _ (g : Grammar) (rule : Rule) (shape : HasShape g) (only : g.rules ≡ rule ∷ []) where
   pub its_rule : shape.rule ≡ rule
@@ -86,8 +86,8 @@ module _ (g : Grammar) (rule : Rule) (shape : HasShape g) (only : g.rules ≡ ru
     none_before = λ j y below. absurd (omega arith);
   }
 
-  pub reached_only : Keeps (IsReached g) g.rules (rule ∷ [])
-  reached_only = subst (λ rules. Keeps (IsReached g) rules (rule ∷ [])) (sym only) (keep.kept (reached.entry rule is_entry) keep.nothing)
+  pub reached_only : KeepsPassing (IsReached g) g.rules (rule ∷ [])
+  reached_only = subst (λ rules. KeepsPassing (IsReached g) rules (rule ∷ [])) (sym only) (keep.kept (reached.entry rule is_entry) keep.nothing)
 
   module _ (differ : AllPairs (λ a b. a ≢ b) (names g)) where
     all_names : names g ≡ rule.name ∷ map (λ t. t.name) g.terminals
@@ -117,7 +117,7 @@ module _ (g : Grammar) (rule : Rule) (shape : HasShape g) (only : g.rules ≡ ru
         by : (h : Bool) → terminal.is_hidden ≡ h → (s : Bool) → stands_in terminal.name (called rule) ≡ s → (h || s) ≡ true → IsKindTerminal g t
         by true is s stands _ = kind.hidden terminal at (whole t terminal at) is
         by false is true stands _ =
-            let name = Contains-from_first_uses (calls_of (parts_of rule.body)) terminal.name (Contains-from_any same_text terminal.name (called rule) stands) in
+            let name = Contains-from_first_uses (row_calls (parts_of rule.body)) terminal.name (Contains-from_any same_text terminal.name (called rule) stands) in
             kind.called terminal terminal.name 0 rule (is_first t terminal at) (whole t terminal at) (reached.entry rule is_entry) at_zero
             (name_called rule.body plain_parts g rule refl terminal.name name)
         by false is false stands none = absurd (true≢false (sym none))
@@ -129,7 +129,7 @@ module _ (g : Grammar) (rule : Rule) (shape : HasShape g) (only : g.rules ≡ ru
     fails_kind t terminal at fails (kind.called other name r caller is _ _ at_r names_it) =
         let same : terminal.name ≡ name = ap (λ x. x.name) (same_Some terminal other (sym at ∙ is.there)) ∙ is.does in
         let its_body : caller.body ≡ rule.body = ap (λ x. x.body) (sym (only_rule g.rules rule caller r only at_r).1) in
-        let listed = Contains-first_uses (calls_of (parts_of rule.body)) name (called_name rule.body plain_parts g caller its_body name names_it) in
+        let listed = Contains-first_uses (row_calls (parts_of rule.body)) name (called_name rule.body plain_parts g caller its_body name names_it) in
         let stands : stands_in terminal.name (called rule) ≡ true = ap (λ n. stands_in n (called rule)) same ∙ list_any-from_Contains nat_list_eq_equiv name (called rule) listed in
         true≢false (sym (ap (λ s. terminal.is_hidden || s) stands ∙ or_true terminal.is_hidden) ∙ fails)
       where
@@ -140,7 +140,7 @@ module _ (g : Grammar) (rule : Rule) (shape : HasShape g) (only : g.rules ≡ ru
     its_keywords : (the_kinds g rule).keywords ≡ first_uses [] (flat_map (λ r. keywords_in r.body) (rule ∷ []))
     its_keywords = ap (first_uses []) (sym (append-nil (keywords_in rule.body) ∙ keywords_in_parts rule.body plain_parts))
 
-    its_terminals : Keeps (IsKindTerminal g) g.terminals (the_kinds g rule).terminals
+    its_terminals : KeepsPassing (IsKindTerminal g) g.terminals (the_kinds g rule).terminals
     its_terminals =
         keeps_filter (IsKindTerminal g) (is_kind (called rule)) 0 g.terminals
         (λ j x at is. subst (IsKindTerminal g) (sym (zero-add j)) (passes_kind j x at is))

@@ -21,7 +21,7 @@ use Rattle.lw_grammar.specs.Leaves.{Leaf, Keyword, Call, Assign, leaves, layer_l
 use Rattle.lw_grammar.specs.Reached.{ValueCalls, RuleCalls}
 use Rattle.lw_grammar.specs.Reached as reached
 use Rattle.lw_lang.specs.Shape.{IsPlainPart, parts_of, layer_parts, keyword, assignment}
-use Rattle.lw_lang.specs.FlatParts.{keyword_of, layer_keyword, call_of, layer_call, value_call, keywords_of as texts_of, calls_of}
+use Rattle.lw_lang.specs.FlatParts.{part_keyword, layer_keyword, part_call, layer_call, value_call, row_keywords as texts_of, row_calls}
 use Rattle.lw_lang.proofs.Lists.{in_one, here, in_flat_map, flat_map_has, in_filter_map, filter_map_has}
 
 leaves_layer : (e : Element) (f : Element-F Element) → out-Element e ≡ f → leaves e ≡ layer_leaves (map-Element Element (List Leaf) leaves f)
@@ -32,9 +32,9 @@ values_layer v f is = fold_out-Value0 (List ValueLeaf) layer_values v ∙ ap (λ
 
 -- a part has one leaf: its text, or the call that it assigns
 pub data OneLeaf (part : Element) : Type 0 where
-  text : (word : List ℕ) (s : Span) → leaves part ≡ Keyword word s ∷ [] → keyword_of part ≡ Some word → call_of part ≡ None → OneLeaf part
+  text : (word : List ℕ) (s : Span) → leaves part ≡ Keyword word s ∷ [] → part_keyword part ≡ Some word → part_call part ≡ None → OneLeaf part
   call : (p : List ℕ) (v : Value0) (name : List ℕ) (s t : Span) → leaves part ≡ Assign p One v s ∷ [] → value_leaves v ≡ Calls name t ∷ [] →
-      keyword_of part ≡ None → call_of part ≡ Some name → OneLeaf part
+      part_keyword part ≡ None → part_call part ≡ Some name → OneLeaf part
 
 pub one_leaf : (part : Element) → IsPlainPart part → OneLeaf part
 one_leaf part (keyword word s is) = text word s (leaves_layer part (layer.Keyword word s) is) (ap layer_keyword is) (ap layer_call is)
@@ -66,11 +66,11 @@ module _ (body : Element) (plain : All IsPlainPart (parts_of body)) where
 
   -- an assignment among the leaves is one of a call by one of the called names
   pub assigned : (p : List ℕ) (op : Op) (v : Value0) (s : Span) → Contains (leaves body) (Assign p op v s) →
-      (name : List ℕ) × (t : Span) × (part : Element) × Contains (parts_of body) part × (call_of part ≡ Some name) × (value_leaves v ≡ Calls name t ∷ [])
+      (name : List ℕ) × (t : Span) × (part : Element) × Contains (parts_of body) part × (part_call part ≡ Some name) × (value_leaves v ≡ Calls name t ∷ [])
   assigned p op v s h = let found = part_with (Assign p op v s) h in by found.0 found.1 found.2 found.3
     where
       by : (part : Element) → Contains (parts_of body) part → Contains (leaves part) (Assign p op v s) → OneLeaf part →
-          (name : List ℕ) × (t : Span) × (part : Element) × Contains (parts_of body) part × (call_of part ≡ Some name) × (value_leaves v ≡ Calls name t ∷ [])
+          (name : List ℕ) × (t : Span) × (part : Element) × Contains (parts_of body) part × (part_call part ≡ Some name) × (value_leaves v ≡ Calls name t ∷ [])
       by part at has (text word _ is _ _) =
           let same : Keyword word _ ≡ Assign p op v s = in_one (Keyword word _) (subst (λ ls. Contains ls (Assign p op v s)) is has) in cc
       by part at has (call p' v' name s' t is values _ called) =
@@ -88,11 +88,11 @@ module _ (body : Element) (plain : All IsPlainPart (parts_of body)) where
 
   -- what a rule of this body calls is one of the called names, and each is called
   module _ (g : Grammar) (rule : Rule) (its_body : rule.body ≡ body) where
-    pub called_name : (name : List ℕ) → RuleCalls g rule name → Contains (calls_of (parts_of body)) name
+    pub called_name : (name : List ℕ) → RuleCalls g rule name → Contains (row_calls (parts_of body)) name
     called_name name (reached.calls s h) = absurd (no_calls name s (subst (λ b. Contains (leaves b) (Call name s)) its_body h))
     called_name name (reached.assigns p op v s h value) =
         let found = assigned p op v s (subst (λ b. Contains (leaves b) (Assign p op v s)) its_body h) in
-        filter_map_has call_of (parts_of body) found.2 name found.3 (found.4 ∙ ap Some (by found.0 found.1 found.5 value))
+        filter_map_has part_call (parts_of body) found.2 name found.3 (found.4 ∙ ap Some (by found.0 found.1 found.5 value))
       where
         by : (own : List ℕ) (t : Span) → value_leaves v ≡ Calls own t ∷ [] → ValueCalls g v name → own ≡ name
         by own t is (reached.calls u h) = let same : Calls own t ≡ Calls name u = in_one (Calls own t) (subst (λ ls. Contains ls (Calls name u)) is h) in cc
@@ -101,12 +101,12 @@ module _ (body : Element) (plain : All IsPlainPart (parts_of body)) where
         by own t is (reached.crosses_by_name wanted u h _) =
             let same : Calls own t ≡ Cross wanted None u = in_one (Calls own t) (subst (λ ls. Contains ls (Cross wanted None u)) is h) in cc
 
-    pub name_called : (name : List ℕ) → Contains (calls_of (parts_of body)) name → RuleCalls g rule name
+    pub name_called : (name : List ℕ) → Contains (row_calls (parts_of body)) name → RuleCalls g rule name
     name_called name h =
-        let found = in_filter_map call_of (parts_of body) name h in
+        let found = in_filter_map part_call (parts_of body) name h in
         by found.0 found.1 found.2 (one_leaf found.0 (All-contains IsPlainPart (parts_of body) found.0 plain found.1))
       where
-        by : (part : Element) → Contains (parts_of body) part → call_of part ≡ Some name → OneLeaf part → RuleCalls g rule name
+        by : (part : Element) → Contains (parts_of body) part → part_call part ≡ Some name → OneLeaf part → RuleCalls g rule name
         by part at is (text _ _ _ _ none) = let no : None ≡ Some name = sym none ∙ is in cc
         by part at is (call p v own s t one values _ own_is) =
             let same : own ≡ name = cc in
@@ -117,7 +117,7 @@ module _ (body : Element) (plain : All IsPlainPart (parts_of body)) where
 pub keywords_in_parts : (body : Element) → All IsPlainPart (parts_of body) → keywords_in body ≡ texts_of (parts_of body)
 keywords_in_parts body plain = ap (flat_map keywords_of) (leaves_of_parts body) ∙ each (parts_of body) plain
   where
-    one : (part : Element) → OneLeaf part → (rest : List (List ℕ)) → flat_map keywords_of (leaves part) ++ rest ≡ cons_option (keyword_of part) rest
+    one : (part : Element) → OneLeaf part → (rest : List (List ℕ)) → flat_map keywords_of (leaves part) ++ rest ≡ cons_option (part_keyword part) rest
     one part (text word s is word_is _) rest = ap (λ ls. flat_map keywords_of ls ++ rest) is ∙ ap (λ o. cons_option o rest) (sym word_is)
     one part (call p v name s t is values none _) rest =
         ap (λ ls. flat_map keywords_of ls ++ rest) is ∙ ap (λ ls. (flat_map literals_of ls ++ []) ++ rest) values ∙ ap (λ o. cons_option o rest) (sym none)

@@ -13,7 +13,7 @@ use Rattle.lw_lang.specs.Shape.{HasShape, parts_of}
 use Rattle.lw_lang.specs.Rows.{IsOnlyRow}
 use Rattle.lw_lang.specs.Obstacles.{HasObstacle, IsBlank}
 use Rattle.lw_lang.specs.Flat.{IsFlat, IsSource, IsReady}
-use Rattle.lw_lang.specs.FlatParts.{keywords_of, calls_of, is_kind, IsPlainSource, kind_of, HasSoundNames, HasUnsoundNames, AreWithinLimits, HasUnsoundKinds}
+use Rattle.lw_lang.specs.FlatParts.{row_keywords, row_calls, is_kind, IsPlainSource, kind_of, HasSoundNames, HasUnsoundNames, AreWithinLimits, HasUnsoundKinds}
 use Rattle.lw_lang.specs.FlatParts as flat
 use Rattle.lw_lang.proofs.Lists.{zip_weaker}
 use Rattle.lw_lang.proofs.FlatKinds.{the_kinds, are_kinds}
@@ -21,16 +21,16 @@ use Rattle.lw_lang.proofs.FlatRow.{makes_nodes, is_only_row}
 use Rattle.lw_lang.proofs.FlatObstacles.{has_pattern, limits_obstacle, row_obstacle, is_clear}
 
 module _ (g : Grammar) (rule : Rule) (shape : HasShape g) (only : g.rules ≡ rule ∷ []) (parts : List Element) (of_body : parts ≡ parts_of rule.body)
-    (sound : HasSoundNames g parts) (keywords : List (List ℕ)) (words : keywords ≡ first_uses [] (keywords_of parts)) (terminals : List TerminalSource)
-    (sources : AllZip IsPlainSource (filter (is_kind (first_uses [] (calls_of parts))) g.terminals) terminals) where
+    (sound : HasSoundNames g parts) (keywords : List (List ℕ)) (words : keywords ≡ first_uses [] (row_keywords parts)) (terminals : List TerminalSource)
+    (sources : AllZip IsPlainSource (filter (is_kind (first_uses [] (row_calls parts))) g.terminals) terminals) where
   sound_body : HasSoundNames g (parts_of rule.body)
   sound_body = subst (HasSoundNames g) of_body sound
 
   its_words : keywords ≡ (the_kinds g rule).keywords
-  its_words = words ∙ ap (λ ps. first_uses [] (keywords_of ps)) of_body
+  its_words = words ∙ ap (λ ps. first_uses [] (row_keywords ps)) of_body
 
   tied : AllZip IsPlainSource (the_kinds g rule).terminals terminals
-  tied = subst (λ ps. AllZip IsPlainSource (filter (is_kind (first_uses [] (calls_of ps))) g.terminals) terminals) of_body sources
+  tied = subst (λ ps. AllZip IsPlainSource (filter (is_kind (first_uses [] (row_calls ps))) g.terminals) terminals) of_body sources
 
   pub unsound_kinds : HasUnsoundKinds keywords terminals parts → HasObstacle g
   unsound_kinds h = by (subst (λ ws. HasUnsoundKinds ws terminals (parts_of rule.body)) its_words (subst (HasUnsoundKinds keywords terminals) of_body h))

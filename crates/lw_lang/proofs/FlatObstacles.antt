@@ -22,7 +22,7 @@ use Rattle.lw_terminals.specs.declared.source.TerminalSource.{TerminalSource}
 use Rattle.lw_lang.specs.Shape.{HasShape, IsPlainPart, parts_of}
 use Rattle.lw_lang.specs.Obstacles.{HasObstacle, HasKindPattern, IsBlank, names}
 use Rattle.lw_lang.specs.Obstacles as obstacle
-use Rattle.lw_lang.specs.FlatParts.{keyword_of, call_of, keywords_of, calls_of, is_kind, IsPlainSource, terminal_place, layer_kind, kind_of, HasSoundNames, HasUnsoundNames, AreWithinLimits, PassesLimit}
+use Rattle.lw_lang.specs.FlatParts.{part_keyword, part_call, row_keywords, row_calls, is_kind, IsPlainSource, terminal_place, layer_kind, kind_of, HasSoundNames, HasUnsoundNames, AreWithinLimits, PassesLimit}
 use Rattle.lw_lang.specs.FlatParts as flat
 use Rattle.lw_lang.proofs.Lists.{here, in_one, in_filter, filter_has, filter_map_has, in_filter_map, counted, from_count, has_position, at_place, zip_left, zip_right, zip_length}
 use Rattle.lw_lang.proofs.FirstUses.{stands_in, Contains-first_uses, Contains-from_first_uses}
@@ -71,7 +71,7 @@ module _ (g : Grammar) (rule : Rule) (shape : HasShape g) (only : g.rules ≡ ru
       obstacle.no_assignment (λ other p op v s in_rules in_leaves.
       let is = ap (λ r. r.body) (same_rule other in_rules) in
       let found = assigned rule.body plain p op v s (subst (λ b. Contains (leaves b) (Assign p op v s)) (sym is) in_leaves) in
-      let some = counted (λ part. is_some (call_of part)) (parts_of rule.body) found.2 found.3 (ap is_some found.4) in
+      let some = counted (λ part. is_some (part_call part)) (parts_of rule.body) found.2 found.3 (ap is_some found.4) in
       absurd (omega (arith, some, none)))
   names_obstacle (flat.too_large over) = obstacle.too_large over
   names_obstacle (flat.repeats (i, j, name, below, at_i, at_j)) = obstacle.same_names i j name below at_i at_j
@@ -87,10 +87,10 @@ module _ (g : Grammar) (rule : Rule) (shape : HasShape g) (only : g.rules ≡ ru
 
     word_written : (text : List ℕ) → Contains of.keywords text → Contains (keywords_in rule.body) text
     word_written text h =
-        subst (λ ts. Contains ts text) (sym (keywords_in_parts rule.body plain)) (Contains-from_first_uses (keywords_of (parts_of rule.body)) text h)
+        subst (λ ts. Contains ts text) (sym (keywords_in_parts rule.body plain)) (Contains-from_first_uses (row_keywords (parts_of rule.body)) text h)
 
     written_word : (text : List ℕ) → Contains (keywords_in rule.body) text → Contains of.keywords text
-    written_word text h = Contains-first_uses (keywords_of (parts_of rule.body)) text (subst (λ ts. Contains ts text) (keywords_in_parts rule.body plain) h)
+    written_word text h = Contains-first_uses (row_keywords (parts_of rule.body)) text (subst (λ ts. Contains ts text) (keywords_in_parts rule.body plain) h)
 
     pub limits_obstacle : PassesLimit of.keywords terminals → HasObstacle g
     limits_obstacle (flat.blank (k, text, inside, at, blank)) = obstacle.blank_keyword rule text the_rule (word_written text (k, inside, at)) blank
@@ -103,15 +103,15 @@ module _ (g : Grammar) (rule : Rule) (shape : HasShape g) (only : g.rules ≡ ru
     -- a part that has no kind calls no visible terminal
     no_kind : (part : Element) → Contains (parts_of rule.body) part → kind_of of.keywords terminals part ≡ None → OneLeaf part → HasObstacle g
     no_kind part at none (leaf.text word s _ is _) =
-        let listed = Contains-first_uses (keywords_of (parts_of rule.body)) word (filter_map_has keyword_of (parts_of rule.body) part word at is) in
-        let nowhere = ap (λ o. layer_kind of.keywords terminals o (call_of part)) (sym is) ∙ none in
+        let listed = Contains-first_uses (row_keywords (parts_of rule.body)) word (filter_map_has part_keyword (parts_of rule.body) part word at is) in
+        let nowhere = ap (λ o. layer_kind of.keywords terminals o (part_call part)) (sym is) ∙ none in
         absurd (has_position (bytes_eq word) of.keywords word listed ((bytes_eq-Decides word word).1 refl) nowhere)
     no_kind part at none (leaf.call p v name s t _ _ no_word is) =
-        let in_calls = filter_map_has call_of (parts_of rule.body) part name at is in
-        let listed = Contains-first_uses (calls_of (parts_of rule.body)) name in_calls in
+        let in_calls = filter_map_has part_call (parts_of rule.body) part name at is in
+        let listed = Contains-first_uses (row_calls (parts_of rule.body)) name in_calls in
         let stands : stands_in name (called rule) ≡ true = list_any-from_Contains nat_list_eq_equiv name (called rule) listed in
         let nowhere : option_map (λ i. length of.keywords + i) (terminal_place terminals name) ≡ None =
-        ap (λ o. layer_kind of.keywords terminals None o) (sym is) ∙ ap (λ o. layer_kind of.keywords terminals o (call_of part)) (sym no_word) ∙ none in
+        ap (λ o. layer_kind of.keywords terminals None o) (sym is) ∙ ap (λ o. layer_kind of.keywords terminals o (part_call part)) (sym no_word) ∙ none in
         obstacle.no_terminal rule name the_rule (name_called rule.body plain g rule refl name in_calls)
         (λ terminal in_terminals named. hidden terminal in_terminals named stands (no_place (terminal_place terminals name) nowhere) terminal.is_hidden refl)
       where
@@ -141,24 +141,24 @@ module _ (g : Grammar) (rule : Rule) (shape : HasShape g) (only : g.rules ≡ ru
     -- nothing keeps it from being built
     module _ (words_differ : AllPairs (λ a b. a ≢ b) of.keywords) (limits : AreWithinLimits of.keywords terminals) (row : List KindId)
         (all : AllZip (λ part kind. kind_of of.keywords terminals part ≡ Some kind.0) (parts_of rule.body) row) where
-      means_one : (name : List ℕ) (part : Element) → Contains (parts_of rule.body) part → call_of part ≡ Some name → OneLeaf part →
+      means_one : (name : List ℕ) (part : Element) → Contains (parts_of rule.body) part → part_call part ≡ Some name → OneLeaf part →
           (k : ℕ) → kind_of of.keywords terminals part ≡ Some k → IsCalled g rule shape only sound.differ words_differ terminals tied name k
       means_one name part at is (leaf.text _ _ _ _ none) k reads = absurd (none-some name (sym none ∙ is))
       means_one name part at is (leaf.call _ _ _ _ _ _ _ no_word _) k reads =
           call_means g rule shape only sound.differ words_differ terminals tied name k
-          (ap (λ o. layer_kind of.keywords terminals None o) (sym is) ∙ ap (λ o. layer_kind of.keywords terminals o (call_of part)) (sym no_word) ∙ reads)
+          (ap (λ o. layer_kind of.keywords terminals None o) (sym is) ∙ ap (λ o. layer_kind of.keywords terminals o (part_call part)) (sym no_word) ∙ reads)
 
       pub is_clear : HasObstacle g → ⊥
       is_clear (obstacle.no_assignment none) =
-          let found = from_count (λ part. is_some (call_of part)) (parts_of rule.body) sound.assigns in by found.0 found.1 found.2 (part_leaf found.0 found.1)
+          let found = from_count (λ part. is_some (part_call part)) (parts_of rule.body) sound.assigns in by found.0 found.1 found.2 (part_leaf found.0 found.1)
         where
-          by : (part : Element) → Contains (parts_of rule.body) part → is_some (call_of part) ≡ true → OneLeaf part → ⊥
+          by : (part : Element) → Contains (parts_of rule.body) part → is_some (part_call part) ≡ true → OneLeaf part → ⊥
           by part at calls (leaf.text _ _ _ _ no_call) = true≢false (sym calls ∙ ap is_some no_call)
           by part at calls (leaf.call p v name s t one _ _ _) = none rule p One v s the_rule (leaf_of rule.body plain part (Assign p One v s) at one)
       is_clear (obstacle.same_names i j name below at_i at_j) = no_repeat (names g) i j name sound.differ below at_i at_j
       is_clear (obstacle.no_terminal other name in_rules names_it none) =
           let in_calls = called_name rule.body plain g other (sym (ap (λ r. r.body) (same_rule other in_rules))) name names_it in
-          let found = in_filter_map call_of (parts_of rule.body) name in_calls in
+          let found = in_filter_map part_call (parts_of rule.body) name in_calls in
           let kind = zip_left (λ part kind. kind_of of.keywords terminals part ≡ Some kind.0) (parts_of rule.body) row found.0 all found.1 in
           let means = means_one name found.0 found.1 found.2 (part_leaf found.0 found.1) kind.0.0 kind.2 in
           let in_terminals = (in_filter (is_kind (called rule)) g.terminals means.terminal (at_place of.terminals means.place means.there)).0 in

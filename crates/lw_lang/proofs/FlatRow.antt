@@ -20,14 +20,14 @@ use Rattle.lw_grammar.specs.Nodes.{MakesNodes, assigns}
 use Rattle.lw_grammar.specs.Kinds.{Kinds, IsKeywordKind, IsTerminalKind}
 use Rattle.lw_sentences.specs.Marks.{Mark, kinds_of}
 use Rattle.lw_sentences.specs.Marks as mark
-use Rattle.lw_sentences.specs.Yields.{Yields, Gives, YieldsAll, Calls, RuleGives, Reads, ReadsLayer}
+use Rattle.lw_sentences.specs.Yields.{Yields, Gives, YieldsAll, Calls, RuleGives, GivesValue, GivesValueLayer}
 use Rattle.lw_sentences.specs.Yields as y
 use Rattle.lw_sentences.specs.Sentences.{IsWhole}
 use Rattle.lw_terminals.specs.declared.source.TerminalSource.{TerminalSource}
 use Rattle.lw_lang.specs.Shape.{HasShape, IsPlainPart, parts_of, layer_parts, keyword, assignment}
 use Rattle.lw_lang.specs.Obstacles.{names}
 use Rattle.lw_lang.specs.Rows.{IsOnlyRow}
-use Rattle.lw_lang.specs.FlatParts.{layer_keyword, call_of, layer_call, value_call, IsPlainSource, is_kind, terminal_place, layer_kind, kind_of}
+use Rattle.lw_lang.specs.FlatParts.{layer_keyword, part_call, layer_call, value_call, IsPlainSource, is_kind, terminal_place, layer_kind, kind_of}
 use Rattle.lw_lang.proofs.Lists.{in_filter, place_of, at_place, zip_at, from_count}
 use Rattle.lw_lang.proofs.FirstUses.{same_text}
 use Rattle.lw_lang.proofs.FlatLeaves.{OneLeaf, one_leaf, leaf_of}
@@ -176,11 +176,11 @@ module _ (g : Grammar) (rule : Rule) (shape : HasShape g) (only : g.rules ≡ ru
       inside (y.keyword {k = l} at) = ap (λ n. n ∷ []) (word_once text l k at (word_kind text k (word_reads part text s is k reads)))
   part_gives part (assignment p v name s t is calls) k reads m (y.yields gives) = inside (subst (λ f. Gives g of f m) is gives)
     where
-      in_value : {w c : Value0} {m : List Mark} → ReadsLayer g of w (value.Call name t) c m → kinds_of m ≡ k ∷ []
+      in_value : {w c : Value0} {m : List Mark} → GivesValueLayer g of w (value.Call name t) c m → kinds_of m ≡ k ∷ []
       in_value (y.call_value {m} made) = call_gives name k (call_reads part p v name s t is calls k reads) m made
 
-      read : {c : Value0} {m : List Mark} → Reads g of v c m → kinds_of m ≡ k ∷ []
-      read {c} {m} (y.reads layered) = in_value (subst (λ f. ReadsLayer g of v f c m) calls layered)
+      read : {c : Value0} {m : List Mark} → GivesValue g of v c m → kinds_of m ≡ k ∷ []
+      read {c} {m} (y.reads layered) = in_value (subst (λ f. GivesValueLayer g of v f c m) calls layered)
 
       inside : {m : List Mark} → Gives g of (layer.Assign p One v s) m → kinds_of m ≡ k ∷ []
       inside (y.assigned {m} values) = kinds_join m (mark.End ∷ []) ∙ append-nil (kinds_of m) ∙ read values
@@ -195,8 +195,8 @@ module _ (g : Grammar) (rule : Rule) (shape : HasShape g) (only : g.rules ≡ ru
   part_can part (assignment p v name s t is calls) k reads =
       let m = mark.Put p One v ∷ (mark.Token k ∷ []) ++ mark.End ∷ [] in
       let made : Calls g of name (mark.Token k ∷ []) = y.terminal (call_kind name k (call_reads part p v name s t is calls k reads)) in
-      let values : Reads g of v v (mark.Token k ∷ []) =
-      y.reads (subst (λ f. ReadsLayer g of v f v (mark.Token k ∷ [])) (sym calls) (y.call_value made)) in
+      let values : GivesValue g of v v (mark.Token k ∷ []) =
+      y.reads (subst (λ f. GivesValueLayer g of v f v (mark.Token k ∷ [])) (sym calls) (y.call_value made)) in
       (m, y.yields (subst (λ f. Gives g of f m) (sym is) (y.assigned values)), refl)
 
   abbrev Tied : Element → KindId → Type 0
@@ -241,13 +241,13 @@ module _ (g : Grammar) (rule : Rule) (shape : HasShape g) (only : g.rules ≡ ru
       alone (y.more {m} {n} p ps) = subst (Yields g of body) (sym (append-nil m) ∙ ap (λ x. m ++ x) (sym (nothing ps))) p
 
   -- the rule makes nodes, since a part is an assignment
-  pub makes_nodes : 0 < count_by (λ part. is_some (call_of part)) (parts_of rule.body) → MakesNodes g rule
+  pub makes_nodes : 0 < count_by (λ part. is_some (part_call part)) (parts_of rule.body) → MakesNodes g rule
   makes_nodes some =
-      let found = from_count (λ part. is_some (call_of part)) (parts_of rule.body) some in
+      let found = from_count (λ part. is_some (part_call part)) (parts_of rule.body) some in
       let plain = plain_parts g rule shape only in
       by found.0 found.1 found.2 (one_leaf found.0 (All-contains IsPlainPart (parts_of rule.body) found.0 plain found.1))
     where
-      by : (part : Element) → Contains (parts_of rule.body) part → is_some (call_of part) ≡ true → OneLeaf part → MakesNodes g rule
+      by : (part : Element) → Contains (parts_of rule.body) part → is_some (part_call part) ≡ true → OneLeaf part → MakesNodes g rule
       by part at calls (leaf.text _ _ _ _ none) = absurd (true≢false (sym calls ∙ ap is_some none))
       by part at calls (leaf.call p v name s t one _ _ _) = assigns p One v s (leaf_of rule.body (plain_parts g rule shape only) part _ at one)
 

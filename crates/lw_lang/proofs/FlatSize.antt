@@ -17,13 +17,13 @@ use Rattle.lw_grammar.specs.declared.terminal.TermElement.{TermElement, fold_out
 use Rattle.lw_grammar.specs.declared.terminal.TermElement.TheFolds.{map-TermElement}
 use Rattle.lw_grammar.specs.Size.{size, element_size, layer_size, value_size, value_layer_size, term_size, term_layer_size}
 use Rattle.lw_lang.specs.Shape.{HasShape, IsPlainPart, IsPlainTerminal, parts_of, layer_parts, keyword, assignment}
-use Rattle.lw_lang.specs.FlatParts.{is_group, layer_is_group, call_of, layer_call, value_call}
+use Rattle.lw_lang.specs.FlatParts.{is_group, layer_is_group, part_call, layer_call, value_call}
 
 abbrev bit : Bool → ℕ
 bit b = cond b 1 0
 
 abbrev calls : Element → Bool
-calls part = is_some (call_of part)
+calls part = is_some (part_call part)
 
 size_layer : (e : Element) (f : Element-F Element) → out-Element e ≡ f → element_size e ≡ layer_size (map-Element Element ℕ element_size f)
 size_layer e f is = fold_out-Element ℕ layer_size e ∙ ap (λ f. layer_size (map-Element Element ℕ element_size f)) is

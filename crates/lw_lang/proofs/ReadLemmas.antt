@@ -10,12 +10,13 @@ use Rattle.lw_tokens.specs.Cut.{IsCut, HasNoTokenAt, IsCharacterAt, visible}
 use Rattle.lw_reading.specs.declared.issue.Issue.TheVariants.{Lexical}
 use Rattle.lw_reading.specs.declared.issue.Parsed.{Parsed}
 use Rattle.lw_reading.specs.declared.issue.Parsed.TheVariants.{Broken}
-use Rattle.lw_reading.specs.Reading.{Reads, longest_document}
+use Rattle.lw_base.specs.declared.limits.TheConstants.{LONGEST_DOCUMENT}
+use Rattle.lw_reading.specs.Reading.{Reads}
 use Rattle.lw_reading.specs.Reading as reading
 use Rattle.lw_lang.specs.Rows.{ReadsRow}
-use Rattle.lw_reading.specs.KindTexts.{texts_of, quoted}
-use Rattle.lw_lang.specs.Language.{LanguageView, IfBroken, IsNamed, IsWithin, IsSpanWithin}
-use Rattle.lw_lang.specs.Ready.{seen_as, IsReady}
+use Rattle.lw_grammar.specs.KindTexts.{texts_of, quoted}
+use Rattle.lw_lang.specs.Language.{LanguageView, IfBroken, IsNamed, IsIssueWithin, IsSpanWithin}
+use Rattle.lw_lang.specs.Ready.{seen_as, IsLanguageReady}
 use Rattle.lw_lang.specs.declared.language.Language.TheInside.{Inside}
 use Rattle.lw_lang.proofs.RowReading.{ReadsBy-from_row}
 use Rattle.lw_lang.proofs.CutPlaces.{visible_known, named_by_row, within_by_row}
@@ -30,13 +31,13 @@ length-AllZip R (x ∷ xs) (y ∷ ys) h = omega (arith, length-AllZip R xs ys h.
 length-texts_of : (of : Kinds) → length (texts_of of) ≡ length of.keywords + length of.terminals
 length-texts_of of = simp (length-append, length-map) refl
 
-text_count : (l : Inside) → IsReady l → length l.tokens.texts ≡ length l.tokens.lexicon.keywords + length l.tokens.lexicon.terminals
+text_count : (l : Inside) → IsLanguageReady l → length l.tokens.texts ≡ length l.tokens.lexicon.keywords + length l.tokens.lexicon.terminals
 text_count l ready =
     let keywords = ap length ready.lexicon.keywords in
     let terminals : length ready.of.terminals ≡ length l.tokens.lexicon.terminals = length-AllZip (HasForm l.grammar) ready.of.terminals l.tokens.lexicon.terminals ready.lexicon.terminals in
     ap length ready.texts ∙ length-texts_of ready.of ∙ omega (arith, keywords, terminals)
 
-module _ (l : Inside) (seen : LanguageView) (is : seen_as l ≡ seen) (ready : IsReady l) (text : List ℕ) (short : length text ≤ longest_document) where
+module _ (l : Inside) (seen : LanguageView) (is : seen_as l ≡ seen) (ready : IsLanguageReady l) (text : List ℕ) (short : length text ≤ LONGEST_DOCUMENT) where
   pub read_fault : (s : Span) → HasNoTokenAt l.tokens.lexicon text s.start → IsCharacterAt text s → Reads seen.grammar text (Broken (Lexical s))
   read_fault s none at =
       subst (λ v. Reads v.grammar text (Broken (Lexical s))) is (reading.read ready.of l.tokens.lexicon short ready.kinds ready.lexicon (reading.lexical s none at))
@@ -56,7 +57,7 @@ module _ (l : Inside) (seen : LanguageView) (is : seen_as l ≡ seen) (ready : I
         subst (λ v. IfBroken parsed (IsNamed v.texts)) is
         (named_by_row _ (visible cut_tokens) (length text) _ (visible_known l.tokens.lexicon text cut_tokens cut) l.tokens.texts (text_count l ready) row_here)
 
-    pub within : IfBroken parsed (IsWithin text)
+    pub within : IfBroken parsed (IsIssueWithin text)
     within = within_by_row _ (visible cut_tokens) (length text) _ (visible_known l.tokens.lexicon text cut_tokens cut) text refl row_here
 
 -- a character stands inside the text

@@ -7,7 +7,7 @@ use Rattle.lw_base.specs.declared.token.Token.{Token}
 use Rattle.lw_tokens.specs.Cut.{visible, kinds}
 use Rattle.lw_reading.specs.declared.issue.Issue.TheVariants.{Syntax, End}
 use Rattle.lw_reading.specs.declared.issue.Parsed.TheVariants.{Whole, Broken}
-use Rattle.lw_lang.specs.Rows.{ReadsRow, Fits, whole, syntax_, end_}
+use Rattle.lw_lang.specs.Rows.{ReadsRow, BeginsRow, whole, syntax_, end_}
 
 slice_get_at : {X : Type 0} (xs ys : List X) (x : X) (n : ℕ) → length xs ≡ n → slice_get (xs ++ x ∷ ys) n ≡ Some x
 slice_get_at xs ys x n is =
@@ -17,11 +17,11 @@ slice_get_at xs ys x n is =
 abbrev pub HasRead : List ℕ → ℕ → List Token → Type 0
 HasRead row n tokens = kinds tokens ≡ take n row
 
-front_fits : (row : List ℕ) (n : ℕ) (tokens : List Token) → HasRead row n tokens → Fits row (kinds tokens)
+front_fits : (row : List ℕ) (n : ℕ) (tokens : List Token) → HasRead row n tokens → BeginsRow row (kinds tokens)
 front_fits row n tokens same = (drop n row, sym (take-append-drop n row) ∙ ap (λ x. x ++ drop n row) (sym same))
 
 one_more_misfits : (row : List ℕ) (n : ℕ) (tokens : List Token) (t : Token) → n ≤ length row → HasRead row n tokens → (slice_get row n ≡ Some t.kind.0 → ⊥) →
-    ¬ Fits row (kinds (tokens ++ t ∷ []))
+    ¬ BeginsRow row (kinds (tokens ++ t ∷ []))
 one_more_misfits row n tokens t within same wrong (rest, is) =
     let split : row ≡ take n row ++ t.kind.0 ∷ rest =
     is ∙ ap (λ x. x ++ rest) (map_push (λ t. t.kind.0) tokens t) ∙ append_assoc (kinds tokens) (t.kind.0 ∷ []) rest

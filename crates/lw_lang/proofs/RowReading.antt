@@ -9,15 +9,15 @@ use Rattle.lw_tokens.specs.Cut.{IsCut, visible, kinds}
 use Rattle.lw_reading.specs.declared.issue.Parsed.{Parsed}
 use Rattle.lw_reading.specs.Reading.{ReadsBy}
 use Rattle.lw_reading.specs.Reading as reading
-use Rattle.lw_lang.specs.Rows.{IsOnlyRow, Fits, ReadsRow}
+use Rattle.lw_lang.specs.Rows.{IsOnlyRow, BeginsRow, ReadsRow}
 use Rattle.lw_lang.specs.Rows as rows
 
 module _ (g : Grammar) (of : Kinds) (row : List ℕ) (only : IsOnlyRow g of row) where
   -- what begins the row begins a sentence, and the other way round
-  pub Starts-from_fits : (ks : List ℕ) → Fits row ks → Starts g of ks
+  pub Starts-from_fits : (ks : List ℕ) → BeginsRow row ks → Starts g of ks
   Starts-from_fits ks fits = (fits.0, (only (ks ++ fits.0)).1 (sym fits.1))
 
-  pub Fits-from_starts : (ks : List ℕ) → Starts g of ks → Fits row ks
+  pub Fits-from_starts : (ks : List ℕ) → Starts g of ks → BeginsRow row ks
   Fits-from_starts ks starts = (starts.0, sym ((only (ks ++ starts.0)).0 starts.1))
 
   module _ (lexicon : Lexicon) (text : List ℕ) (tokens : List Token) (cut : IsCut lexicon text tokens) where

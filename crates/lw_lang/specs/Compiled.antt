@@ -1,6 +1,7 @@
 -- What compiling a root file answers, by what the store holds.
 use Rattle.std.specs.Prelude.{ℕ, ◌≡◌, ◌≤◌, ◌<◌, ◌⊎◌, List, Option, Some, None, Result, Err, length}
 use Rattle.std.specs.Str.{IsUtf8}
+use Rattle.lw_base.specs.declared.limits.TheConstants.{LONGEST_TEXT}
 use Rattle.lw_base.specs.declared.token.Span.{Span}
 use Rattle.lw_grammar.specs.declared.grammar.Grammar.{Grammar}
 use Rattle.lw_grammar.specs.declared.terminal.Terminal.{Terminal}
@@ -15,18 +16,14 @@ use Rattle.lw_lang.specs.Refused.{FirstMatchesEmpty, IsToldBy, IsPatternRefused}
 use Rattle.lw_lang.specs.declared.fault.CompileFault.{CompileFault}
 use Rattle.lw_lang.specs.declared.fault.CompileFault.TheVariants.{Absent, NotUtf8, TooLong, StoreFault, Unbuilt, PatternRefused, NoMemory}
 
--- the longest file that is read, in bytes
-abbrev pub longest_file : ℕ
-longest_file = 67108864
-
 -- the path holds this text
 pub record HoldsText (files : List (List ℕ × List ℕ)) (path text : List ℕ) : Type 0 where
   pub held : file_at files path ≡ Some text
-  pub short : length text ≤ longest_file
+  pub short : length text ≤ LONGEST_TEXT
   pub utf8 : IsUtf8 text
 
 -- the text of a file at this path says this grammar and no other
-pub record Says (path text : List ℕ) (g : Grammar) : Type 0 where
+pub record SaysOnly (path text : List ℕ) (g : Grammar) : Type 0 where
   pub says : SaysSmall path text g
   pub only : (other : Grammar) → SaysSmall path text other → other ≡ g
 
@@ -34,7 +31,7 @@ pub record Says (path text : List ℕ) (g : Grammar) : Type 0 where
 pub record HoldsGrammar (files : List (List ℕ × List ℕ)) (path : List ℕ) (g : Grammar) : Type 0 where
   pub text : List ℕ
   pub holds : HoldsText files path text
-  pub says : Says path text g
+  pub says : SaysOnly path text g
 
 -- a grammar with none of the listed conditions
 abbrev pub IsClear : Grammar → Type 0
@@ -45,13 +42,13 @@ IsClear g = (¬ HasObstacle g) × (¬ MatchesEmpty g)
 pub data IsNotBuilt (path text : List ℕ) (s : Span) : Type 0 where
   says_nothing : ((g : Grammar) → ¬ SaysSmall path text g) → (tokens : List FileToken) → IsFileCut text tokens → IsUnexpected text tokens s →
       IsNotBuilt path text s
-  has_condition : (g : Grammar) → Says path text g → HasObstacle g ⊎ FirstMatchesEmpty g → s ≡ record { start = 0; end = 0 } → IsNotBuilt path text s
+  has_condition : (g : Grammar) → SaysOnly path text g → HasObstacle g ⊎ FirstMatchesEmpty g → s ≡ record { start = 0; end = 0 } → IsNotBuilt path text s
 
 -- why each fault comes, by the files and the text that the patterns refused last
 abbrev pub Causes : List (List ℕ × List ℕ) → List ℕ → Option (List ℕ) → CompileFault → Type 0
 Causes files root refused (Absent path) = (path ≡ root) × (file_at files root ≡ None)
-Causes files root refused (NotUtf8 path) = (path ≡ root) × ((bytes : List ℕ) × (file_at files root ≡ Some bytes) × (length bytes ≤ longest_file) × ¬ (IsUtf8 bytes))
-Causes files root refused (TooLong path) = (path ≡ root) × ((bytes : List ℕ) × (file_at files root ≡ Some bytes) × (longest_file < length bytes))
+Causes files root refused (NotUtf8 path) = (path ≡ root) × ((bytes : List ℕ) × (file_at files root ≡ Some bytes) × (length bytes ≤ LONGEST_TEXT) × ¬ (IsUtf8 bytes))
+Causes files root refused (TooLong path) = (path ≡ root) × ((bytes : List ℕ) × (file_at files root ≡ Some bytes) × (LONGEST_TEXT < length bytes))
 Causes files root refused (StoreFault path) = path ≡ root
 Causes files root refused (Unbuilt s at) = (text : List ℕ) × HoldsText files root text × IsNotBuilt root text s × IsPosition text s.start at
 Causes files root refused (PatternRefused rule name at) =
@@ -65,7 +62,7 @@ FileCauses root text refused (NotUtf8 path) = ⊥
 FileCauses root text refused (TooLong path) = ⊥
 FileCauses root text refused (StoreFault path) = ⊥
 FileCauses root text refused (Unbuilt s at) = IsNotBuilt root text s × IsPosition text s.start at
-FileCauses root text refused (PatternRefused rule name at) = (g : Grammar) × Says root text g × IsPatternRefused g text refused rule name at
+FileCauses root text refused (PatternRefused rule name at) = (g : Grammar) × SaysOnly root text g × IsPatternRefused g text refused rule name at
 FileCauses root text refused NoMemory = Unit {0}
 
 -- the same by the grammar that a text says
@@ -99,11 +96,11 @@ IsPatternFault g text name (PatternRefused rule told at) = (terminal : Terminal)
 IsPatternFault g text name _ = ⊥
 
 -- the count of the store rises at `StoreFault`, and stands still at every other answer
-abbrev pub StoreCounts : {T : Type 0} → ℕ → ℕ → Result T CompileFault → Type 0
-StoreCounts before now (Err (StoreFault path)) = Faulted before now
-StoreCounts before now _ = now ≡ before
+abbrev pub CountsStore : {T : Type 0} → ℕ → ℕ → Result T CompileFault → Type 0
+CountsStore before now (Err (StoreFault path)) = Faulted before now
+CountsStore before now _ = now ≡ before
 
 -- the count of the patterns rises at `PatternRefused`, and stands still at every other answer
-abbrev pub PatternCounts : {T : Type 0} → ℕ → ℕ → Result T CompileFault → Type 0
-PatternCounts before now (Err (PatternRefused rule name at)) = Faulted before now
-PatternCounts before now _ = now ≡ before
+abbrev pub CountsPatterns : {T : Type 0} → ℕ → ℕ → Result T CompileFault → Type 0
+CountsPatterns before now (Err (PatternRefused rule name at)) = Faulted before now
+CountsPatterns before now _ = now ≡ before

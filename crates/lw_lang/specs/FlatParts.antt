@@ -30,8 +30,8 @@ abbrev pub layer_keyword : Element-F Element → Option (List ℕ)
 layer_keyword (Keyword text s) = Some text
 layer_keyword _ = None
 
-abbrev pub keyword_of : Element → Option (List ℕ)
-keyword_of part = layer_keyword (out-Element part)
+abbrev pub part_keyword : Element → Option (List ℕ)
+part_keyword part = layer_keyword (out-Element part)
 
 -- the name that a part assigns a call of
 abbrev pub value_call : Value0-F Value0 → Option (List ℕ)
@@ -42,15 +42,15 @@ abbrev pub layer_call : Element-F Element → Option (List ℕ)
 layer_call (Assign p op v s) = value_call (out-Value0 v)
 layer_call _ = None
 
-abbrev pub call_of : Element → Option (List ℕ)
-call_of part = layer_call (out-Element part)
+abbrev pub part_call : Element → Option (List ℕ)
+part_call part = layer_call (out-Element part)
 
 -- the keywords and the called names of a row, each as often as it stands there
-abbrev pub keywords_of : List Element → List (List ℕ)
-keywords_of parts = filter_map keyword_of parts
+abbrev pub row_keywords : List Element → List (List ℕ)
+row_keywords parts = filter_map part_keyword parts
 
-abbrev pub calls_of : List Element → List (List ℕ)
-calls_of parts = filter_map call_of parts
+abbrev pub row_calls : List Element → List (List ℕ)
+row_calls parts = filter_map part_call parts
 
 -- a terminal is a kind where it is hidden or one of these names is its own
 abbrev pub is_kind : List (List ℕ) → Terminal → Bool
@@ -72,7 +72,7 @@ layer_kind keywords terminals (Some text) call = position (bytes_eq text) keywor
 layer_kind keywords terminals None call = option_map (λ i. length keywords + i) (option_and_then (terminal_place terminals) call)
 
 abbrev pub kind_of : List (List ℕ) → List TerminalSource → Element → Option ℕ
-kind_of keywords terminals part = layer_kind keywords terminals (keyword_of part) (call_of part)
+kind_of keywords terminals part = layer_kind keywords terminals (part_keyword part) (part_call part)
 
 -- an item stands at two places
 abbrev pub HasRepeat : {X : Type 0} → List X → Type 0
@@ -88,13 +88,13 @@ HasNoKind keywords terminals parts = Any (λ part. kind_of keywords terminals pa
 
 -- what a grammar has before there are kinds: an assignment among these parts, a size that is read, and names that differ
 pub record HasSoundNames (g : Grammar) (parts : List Element) : Type 0 where
-  pub assigns : 0 < count_by (λ part. is_some (call_of part)) parts
+  pub assigns : 0 < count_by (λ part. is_some (part_call part)) parts
   pub sized : size g ≤ 65535
   pub differ : AllPairs (λ a b. a ≢ b) (names g)
 
 -- it lacks one of them
 pub data HasUnsoundNames (g : Grammar) (parts : List Element) : Type 0 where
-  assigns_nothing : count_by (λ part. is_some (call_of part)) parts ≡ 0 → HasUnsoundNames g parts
+  assigns_nothing : count_by (λ part. is_some (part_call part)) parts ≡ 0 → HasUnsoundNames g parts
   too_large : 65535 < size g → HasUnsoundNames g parts
   repeats : HasRepeat (names g) → HasUnsoundNames g parts
 

@@ -21,11 +21,11 @@ abbrev pub IsSpanWithin : List ℕ → Span → Type 0
 IsSpanWithin text s = (s.start ≤ length text) × (s.end ≤ length text)
 
 -- the place of a fault is in the text or at its end
-abbrev pub IsWithin : List ℕ → Issue → Type 0
-IsWithin text (Lexical s) = IsSpanWithin text s
-IsWithin text (Syntax s kind) = IsSpanWithin text s
-IsWithin text (End at) = at ≤ length text
-IsWithin text TooLarge = Unit {0}
+abbrev pub IsIssueWithin : List ℕ → Issue → Type 0
+IsIssueWithin text (Lexical s) = IsSpanWithin text s
+IsIssueWithin text (Syntax s kind) = IsSpanWithin text s
+IsIssueWithin text (End at) = at ≤ length text
+IsIssueWithin text TooLarge = Unit {0}
 
 -- a fact of the fault, where there is one
 abbrev pub IfBroken : Parsed → (Issue → Type 0) → Type 0

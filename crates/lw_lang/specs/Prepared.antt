@@ -6,7 +6,7 @@ use Rattle.lw_grammar.specs.Kinds.{Kinds, AreKinds}
 use Rattle.lw_tokens.specs.Lexicon.{IsLexicon}
 use Rattle.lw_terminals.specs.TokenKinds.{TokenKinds}
 use Rattle.lw_lang.specs.Rows.{IsOnlyRow}
-use Rattle.lw_reading.specs.KindTexts.{texts_of}
+use Rattle.lw_grammar.specs.KindTexts.{texts_of}
 
 pub record IsPrepared (g : Grammar) (tokens : TokenKinds) (row_ : List KindId) : Type 0 where
   pub of : Kinds

@@ -6,5 +6,5 @@ use Rattle.lw_lang.specs.declared.language.Language.TheInside.{Inside}
 abbrev pub seen_as : Inside → LanguageView
 seen_as l = record { grammar = l.grammar; texts = l.tokens.texts }
 
-abbrev pub IsReady : Inside → Type 0
-IsReady l = IsPrepared l.grammar l.tokens l.row.items
+abbrev pub IsLanguageReady : Inside → Type 0
+IsLanguageReady l = IsPrepared l.grammar l.tokens l.row.items

@@ -7,19 +7,20 @@ use Rattle.lw_grammar.specs.declared.terminal.Terminal.{Terminal}
 use Rattle.lw_grammar.specs.Kinds.{Kinds, AreKinds}
 use Rattle.lw_text.specs.Position.{IsPosition}
 use Rattle.lw_text.specs.declared.place.Pos.{Pos}
-use Rattle.lw_tokens.specs.Matching.{anchored, pattern_of, match_length}
+use Rattle.lw_io.specs.Patterns.{anchored}
+use Rattle.lw_tokens.specs.Matching.{pattern_of, match_length}
 use Rattle.lw_tokens.specs.Patterns.{TerminalPattern}
 use Rattle.lw_lang.specs.Obstacles.{HasObstacle}
 
 -- a pattern that is one of `regex`, and does not match the empty text
-pub record Serves (pattern : List ℕ) : Type 0 where
+pub record IsGoodPattern (pattern : List ℕ) : Type 0 where
   pub readable : IsSome (pattern_of (anchored pattern))
   pub not_empty : match_length pattern [] ≢ Some 0
 
 module _ (g : Grammar) where
   -- the terminal has a pattern that serves
   abbrev pub HasGoodPattern : Terminal → Type 0
-  HasGoodPattern terminal = (pattern : List ℕ) × TerminalPattern g terminal pattern × Serves pattern
+  HasGoodPattern terminal = (pattern : List ℕ) × TerminalPattern g terminal pattern × IsGoodPattern pattern
 
   -- the terminal is a kind with this pattern, and those before it in the order of kinds have patterns that serve
   pub record IsTried (terminal : Terminal) (pattern : List ℕ) : Type 0 where

@@ -14,12 +14,12 @@ abbrev pub IsOnlyRow : Grammar → Kinds → List ℕ → Type 0
 IsOnlyRow g of row = (ks : List ℕ) → IsWhole g of ks ↔ (ks ≡ row)
 
 -- the row begins with these kinds
-abbrev pub Fits : List ℕ → List ℕ → Type 0
-Fits row ks = (rest : List ℕ) × (row ≡ ks ++ rest)
+abbrev pub BeginsRow : List ℕ → List ℕ → Type 0
+BeginsRow row ks = (rest : List ℕ) × (row ≡ ks ++ rest)
 
 -- what visible tokens read as against the row, where the text has this length
 pub data ReadsRow (row : List ℕ) (tokens : List Token) (length_ : ℕ) : Parsed → Type 0 where
   whole : kinds tokens ≡ row → ReadsRow row tokens length_ Whole
-  syntax_ : (before after : List Token) (t : Token) → tokens ≡ before ++ t ∷ after → Fits row (kinds before) → ¬ Fits row (kinds (before ++ t ∷ [])) →
+  syntax_ : (before after : List Token) (t : Token) → tokens ≡ before ++ t ∷ after → BeginsRow row (kinds before) → ¬ BeginsRow row (kinds (before ++ t ∷ [])) →
       ReadsRow row tokens length_ (Broken (Syntax t.span t.kind))
-  end_ : Fits row (kinds tokens) → kinds tokens ≢ row → ReadsRow row tokens length_ (Broken (End length_))
+  end_ : BeginsRow row (kinds tokens) → kinds tokens ≢ row → ReadsRow row tokens length_ (Broken (End length_))

@@ -1,9 +1,10 @@
 // From a grammar file to a language.
 ghost use Rattle.std.specs.Prelude.{◌≡◌, ◌+◌, ◌≤◌, ◌<◌, length, slice_get, IfOk, IfErr, IfSome, All, Any, bytes_eq, map, position};
-ghost use Rattle.lw_lang.specs.Compiled.{Says, HoldsGrammar, IsClear, Causes, FileCauses, GrammarCauses, NothingSaid, IsUnbuiltAt, StandsIn, IsPatternFault, StoreCounts, PatternCounts, longest_file};
+ghost use Rattle.lw_base.specs.declared.limits.TheConstants.{LONGEST_TEXT};
+ghost use Rattle.lw_lang.specs.Compiled.{SaysOnly, HoldsGrammar, IsClear, Causes, FileCauses, GrammarCauses, NothingSaid, IsUnbuiltAt, StandsIn, IsPatternFault, CountsStore, CountsPatterns};
 ghost use Rattle.lw_lang.specs.Obstacles.{HasObstacle};
 ghost use Rattle.lw_lang.specs.Flat.{IsFlat, IsReady};
-ghost use Rattle.lw_reading.specs.KindTexts.{AreKindTexts};
+ghost use Rattle.lw_grammar.specs.KindTexts.{AreKindTexts};
 ghost use Rattle.lw_lang.specs.Shape.{HasShape};
 
 use crate::fault::CompileFault;
@@ -41,8 +42,8 @@ pub fn compile<F: Store, P: Patterns>(
 
     // Each fault comes by its cause.
     ensures fault { IfErr result (λ fault. IfSome (F.files store.old) (λ files. Causes files root.now (P.last_refused patterns.new) fault)) }
-    ensures store { StoreCounts (F.count store.old) (F.count store.new) result }
-    ensures patterns { PatternCounts (P.count patterns.old) (P.count patterns.new) result }
+    ensures store { CountsStore (F.count store.old) (F.count store.new) result }
+    ensures patterns { CountsPatterns (P.count patterns.old) (P.count patterns.new) result }
     ensures files { F.files store.new ≡ F.files store.old }
 {
     let path = root.copy(alloc)?;
@@ -63,12 +64,12 @@ fn compile_file<P: Patterns>(
     file: &Name,
     patterns: &mut P,
 ) -> Result<Language, CompileFault>
-    requires { length file.now ≤ longest_file }
-    ensures says { IfOk result (λ language. Says root.now file.now language.grammar) }
+    requires { length file.now ≤ LONGEST_TEXT }
+    ensures says { IfOk result (λ language. SaysOnly root.now file.now language.grammar) }
     ensures clear { IfOk result (λ language. IsClear language.grammar) }
     ensures texts { IfOk result (λ language. AreKindTexts language.grammar language.texts) }
     ensures fault { IfErr result (FileCauses root.now file.now (P.last_refused patterns.new)) }
-    ensures patterns { PatternCounts (P.count patterns.old) (P.count patterns.new) result }
+    ensures patterns { CountsPatterns (P.count patterns.old) (P.count patterns.new) result }
 {
     let grammar = grammar_of(alloc, root, file)?;
     build(alloc, file, grammar, patterns)
@@ -76,8 +77,8 @@ fn compile_file<P: Patterns>(
 
 // The grammar that a file says.
 fn grammar_of(alloc: Global, root: &Name, file: &Name) -> Result<Grammar, CompileFault>
-    requires { length file.now ≤ longest_file }
-    ensures says { IfOk result (Says root.now file.now) }
+    requires { length file.now ≤ LONGEST_TEXT }
+    ensures says { IfOk result (SaysOnly root.now file.now) }
     ensures shape { IfOk result HasShape }
     ensures stand { IfOk result (λ grammar. All (StandsIn file.now) grammar.terminals) }
     ensures fault { IfErr result (NothingSaid root.now file.now) }
@@ -93,7 +94,7 @@ fn grammar_of(alloc: Global, root: &Name, file: &Name) -> Result<Grammar, Compil
 // The fault of a file that is not built, told at this place.
 fn unbuilt(file: &Name, span: Span) -> CompileFault
     requires within { span.start ≤ length file.now }
-    requires short { length file.now ≤ longest_file }
+    requires short { length file.now ≤ LONGEST_TEXT }
     ensures { IsUnbuiltAt file.now span result }
 {
     let at = position(file.text(), span.start as usize);
@@ -109,12 +110,12 @@ fn build<P: Patterns>(
 ) -> Result<Language, CompileFault>
     requires shape { HasShape grammar }
     requires stand { All (StandsIn file.now) grammar.terminals }
-    requires short { length file.now ≤ longest_file }
+    requires short { length file.now ≤ LONGEST_TEXT }
     ensures grammar { IfOk result (λ language. language.grammar ≡ grammar) }
     ensures clear { IfOk result (λ language. IsClear language.grammar) }
     ensures texts { IfOk result (λ language. AreKindTexts language.grammar language.texts) }
     ensures fault { IfErr result (GrammarCauses grammar file.now (P.last_refused patterns.new)) }
-    ensures patterns { PatternCounts (P.count patterns.old) (P.count patterns.new) result }
+    ensures patterns { CountsPatterns (P.count patterns.old) (P.count patterns.new) result }
 {
     match make_flat(alloc, &grammar) {
         Ok(flat) => language_of(alloc, file, grammar, flat, patterns),
@@ -133,7 +134,7 @@ fn language_of<P: Patterns>(
 ) -> Result<Language, CompileFault>
     requires shape { HasShape grammar }
     requires stand { All (StandsIn file.now) grammar.terminals }
-    requires short { length file.now ≤ longest_file }
+    requires short { length file.now ≤ LONGEST_TEXT }
     requires flat { IsFlat grammar flat }
     requires ready { IsReady flat }
     requires clear { ¬ HasObstacle grammar }
@@ -141,7 +142,7 @@ fn language_of<P: Patterns>(
     ensures clear { IfOk result (λ language. IsClear language.grammar) }
     ensures texts { IfOk result (λ language. AreKindTexts language.grammar language.texts) }
     ensures fault { IfErr result (GrammarCauses grammar file.now (P.last_refused patterns.new)) }
-    ensures patterns { PatternCounts (P.count patterns.old) (P.count patterns.new) result }
+    ensures patterns { CountsPatterns (P.count patterns.old) (P.count patterns.new) result }
 {
     let Flat {
         keywords,
@@ -174,7 +175,7 @@ fn refused(file: &Name, grammar: &Grammar, name: Name) -> CompileFault
     requires named { Any (λ terminal. terminal.name ≡ name) grammar.now.terminals }
     requires few { length grammar.now.rules + length grammar.now.terminals ≤ 65535 }
     requires stand { All (StandsIn file.now) grammar.now.terminals }
-    requires short { length file.now ≤ longest_file }
+    requires short { length file.now ≤ LONGEST_TEXT }
     ensures { IsPatternFault grammar.now file.now name result }
 {
     let terminals = grammar.terminals.as_slice();

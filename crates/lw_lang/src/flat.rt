@@ -4,7 +4,7 @@ ghost use Rattle.lw_grammar.specs.Size.{size};
 ghost use Rattle.lw_lang.specs.Shape.{HasShape};
 ghost use Rattle.lw_lang.specs.Obstacles.{HasObstacle, names, IsBlank};
 ghost use Rattle.lw_lang.specs.Flat.{IsFlat, IsReady};
-ghost use Rattle.lw_lang.specs.FlatParts.{call_of, HasRepeat, AreWithinLimits, PassesLimit, HasSoundNames, HasUnsoundNames, HasUnsoundKinds, AreKindsOf};
+ghost use Rattle.lw_lang.specs.FlatParts.{part_call, HasRepeat, AreWithinLimits, PassesLimit, HasSoundNames, HasUnsoundNames, HasUnsoundKinds, AreKindsOf};
 ghost use Rattle.std.specs.List.{IsDistinct};
 ghost use Rattle.std.specs.Str.{bytes_eq};
 
@@ -159,7 +159,7 @@ fn rule(g: &Grammar) -> &Rule
 
 /// How many parts are assignments.
 fn assignments(parts: &[Element]) -> usize
-    ensures { result ≡ count_by (λ part. is_some (call_of part)) parts.now }
+    ensures { result ≡ count_by (λ part. is_some (part_call part)) parts.now }
 {
     let mut count = 0;
     for part in parts {

@@ -3,7 +3,7 @@ ghost use Rattle.std.specs.Prelude.{◌≡◌, [], IfOk};
 ghost use Rattle.std.specs.Option.{option_copied};
 ghost use Rattle.lw_grammar.specs.Kinds.{first_uses};
 ghost use Rattle.lw_lang.specs.Shape.{parts_of};
-ghost use Rattle.lw_lang.specs.FlatParts.{is_group, keyword_of, call_of, keywords_of, calls_of};
+ghost use Rattle.lw_lang.specs.FlatParts.{is_group, part_keyword, part_call, row_keywords, row_calls};
 
 use indexmap::IndexSet;
 use lw_base::{Name, NoMemory};
@@ -30,7 +30,7 @@ pub(crate) fn is_group(body: &Element) -> bool
 
 /// The text of a part that is a keyword.
 pub(crate) fn keyword(part: &Element) -> Option<&Name>
-    ensures { option_copied result ≡ keyword_of part.now }
+    ensures { option_copied result ≡ part_keyword part.now }
 {
     match part {
         Element::Keyword(text, _) => Some(text),
@@ -40,7 +40,7 @@ pub(crate) fn keyword(part: &Element) -> Option<&Name>
 
 /// The name that a part assigns a call of.
 pub(crate) fn call(part: &Element) -> Option<&Name>
-    ensures { option_copied result ≡ call_of part.now }
+    ensures { option_copied result ≡ part_call part.now }
 {
     match part {
         Element::Assign(_, _, Value0::Call(name, _), _) => Some(name),
@@ -50,7 +50,7 @@ pub(crate) fn call(part: &Element) -> Option<&Name>
 
 /// The keywords, each at its first use.
 pub(crate) fn keywords(alloc: Global, parts: &[Element]) -> Result<IndexSet<Name>, NoMemory>
-    ensures { IfOk result (λ texts. texts.keys ≡ first_uses [] (keywords_of parts.now)) }
+    ensures { IfOk result (λ texts. texts.keys ≡ first_uses [] (row_keywords parts.now)) }
 {
     let mut texts = IndexSet::new(alloc);
     for part in parts {
@@ -63,7 +63,7 @@ pub(crate) fn keywords(alloc: Global, parts: &[Element]) -> Result<IndexSet<Name
 
 /// The called names, each at its first use.
 pub(crate) fn calls(alloc: Global, parts: &[Element]) -> Result<IndexSet<Name>, NoMemory>
-    ensures { IfOk result (λ names. names.keys ≡ first_uses [] (calls_of parts.now)) }
+    ensures { IfOk result (λ names. names.keys ≡ first_uses [] (row_calls parts.now)) }
 {
     let mut names = IndexSet::new(alloc);
     for part in parts {

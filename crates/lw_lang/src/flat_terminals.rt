@@ -6,7 +6,7 @@ ghost use Rattle.lw_grammar.specs.declared.terminal.TermElement.{out-TermElement
 ghost use Rattle.lw_tokens.specs.Patterns.{unescaped, as_pattern};
 ghost use Rattle.lw_lang.specs.Shape.{IsPlainTerminal};
 ghost use Rattle.lw_grammar.specs.Kinds.{first_uses};
-ghost use Rattle.lw_lang.specs.FlatParts.{calls_of, is_kind, IsPlainSource};
+ghost use Rattle.lw_lang.specs.FlatParts.{row_calls, is_kind, IsPlainSource};
 
 use crate::flat_parts::calls;
 use indexmap::IndexSet;
@@ -22,7 +22,7 @@ pub(crate) fn sources(
     parts: &[Element],
 ) -> Result<Vec<TerminalSource>, NoMemory>
     requires { All IsPlainTerminal terminals.now }
-    ensures { IfOk result (λ sources. AllZip IsPlainSource (filter (is_kind (first_uses [] (calls_of parts.now))) terminals.now) sources.items) }
+    ensures { IfOk result (λ sources. AllZip IsPlainSource (filter (is_kind (first_uses [] (row_calls parts.now))) terminals.now) sources.items) }
 {
     let called = calls(alloc, parts)?;
     sources_of_kinds(alloc, terminals, &called)

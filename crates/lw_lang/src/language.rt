@@ -1,21 +1,18 @@
 // A language: what a grammar was made into, and reading by it.
 ghost use Rattle.std.specs.Prelude.{◌≡◌, ◌≤◌, ◌<◌, IfOk, Some, length, slice_get};
 ghost use Rattle.lw_reading.specs.Reading.{Reads};
-ghost use Rattle.lw_reading.specs.KindTexts.{AreKindTexts};
-ghost use Rattle.lw_lang.specs.Language.{IfBroken, IsNamed, IsWithin};
+ghost use Rattle.lw_grammar.specs.KindTexts.{AreKindTexts};
+ghost use Rattle.lw_lang.specs.Language.{IfBroken, IsNamed, IsIssueWithin};
 ghost use Rattle.lw_lang.specs.Prepared.{IsPrepared};
 
 use crate::recogniser::recognise;
-use lw_base::{KindId, Name, NoMemory};
+use lw_base::{KindId, LONGEST_DOCUMENT, Name, NoMemory};
 use lw_grammar::Grammar;
 use lw_lexer::{LexFault, lex};
 use lw_reading::{Issue, Parsed};
 use lw_terminals::TokenSet;
 use std::alloc::Global;
 use std::marker::Model;
-
-/// The longest document that is read, in bytes.
-pub const LONGEST_DOCUMENT: usize = 2_097_152;
 
 /// A grammar made ready to read texts. It is seen as its grammar, and the texts by which messages name
 /// its kinds.
@@ -38,11 +35,11 @@ impl Model for Language {
 
     ghost coded = { Prim.hlevel (codes, element.the_row.coded, value.the_row.coded, term.the_row.coded) };
 
-    ghost use Rattle.lw_lang.specs.Ready.{seen_as, IsReady};
+    ghost use Rattle.lw_lang.specs.Ready.{seen_as, IsLanguageReady};
 
     ghost view = { seen_as };
 
-    ghost invariant = { IsReady };
+    ghost invariant = { IsLanguageReady };
 }
 
 impl Language {
@@ -78,7 +75,7 @@ impl Language {
     pub fn read(&self, alloc: Global, text: &Name) -> Result<Parsed, NoMemory>
         ensures reads { IfOk result (Reads self.now.grammar text.now) }
         ensures named { IfOk result (λ parsed. IfBroken parsed (IsNamed self.now.texts)) }
-        ensures within { IfOk result (λ parsed. IfBroken parsed (IsWithin text.now)) }
+        ensures within { IfOk result (λ parsed. IfBroken parsed (IsIssueWithin text.now)) }
     {
         let length = text.bytes().len();
         if length > LONGEST_DOCUMENT {

@@ -23,5 +23,5 @@ mod small;
 
 pub use compiler::compile;
 pub use fault::CompileFault;
-pub use language::{LONGEST_DOCUMENT, Language};
+pub use language::Language;
 pub use lw_reading::{Issue, Parsed};

@@ -5,11 +5,11 @@ use Rattle.std.proofs.lemmas.Bool.Decides.{nat_tests}
 use Rattle.std.proofs.lemmas.Option.{same_Some, slice_get-map}
 use Rattle.lw_tokens.specs.Lexicon.{Lexicon, TerminalForm}
 use Rattle.lw_tokens.specs.Matching.{match_length}
-use Rattle.lw_tokens.specs.NextToken.{IsNext, IsLongest, HasNone, IsFirstOver, NoneOver, lengths, terminal_token, longer_terminal, keyword, terminal, no_token}
+use Rattle.lw_tokens.specs.NextToken.{IsNextToken, IsLongest, HasNone, IsFirstOver, NoneOver, lengths, terminal_token, longer_terminal, keyword, terminal, no_token}
 use Rattle.lw_tokens.specs.NextToken as token
 use Rattle.lw_lexer.specs.declared.next.Next.{Next}
 use Rattle.lw_lexer.specs.Place.{next_of}
-use Rattle.lw_lexer.specs.Longer.{over, length_or_zero, keyword_token}
+use Rattle.lw_lexer.specs.Longer.{over, length_or_zero, found_keyword}
 
 le_of_over : (n : ℕ) (o : Option ℕ) (m : ℕ) → over n o ≡ None → o ≡ Some m → m ≤ n
 le_of_over n None m e f = absurd cc
@@ -39,19 +39,19 @@ IsLongestKeyword lexicon text found = MatchOption found (HasNone lexicon.keyword
 -- the terminal that matches more than the longest keyword is the token
 pub terminal_is_next : (lexicon : Lexicon) (text : List ℕ) (found : Option (ℕ × ℕ)) (i m : ℕ) (form : TerminalForm) → IsLongestKeyword lexicon text found →
     IsFirstOver (length_or_zero found) (lengths lexicon.terminals text) i m → slice_get lexicon.terminals i ≡ Some form →
-    IsNext lexicon text (Some (terminal_token lexicon text i m form))
+    IsNextToken lexicon text (Some (terminal_token lexicon text i m form))
 terminal_is_next lexicon text None i m form none first there = terminal none first there
 terminal_is_next lexicon text (Some k) i m form longest first there = longer_terminal longest first there
 
 -- where none does, the longest keyword is
 pub keyword_is_next : (lexicon : Lexicon) (text : List ℕ) (found : Option (ℕ × ℕ)) → IsLongestKeyword lexicon text found →
-    NoneOver (length_or_zero found) (lengths lexicon.terminals text) → IsNext lexicon text (option_map keyword_token found)
+    NoneOver (length_or_zero found) (lengths lexicon.terminals text) → IsNextToken lexicon text (option_map found_keyword found)
 keyword_is_next lexicon text None none others = no_token none others
 keyword_is_next lexicon text (Some k) longest others = keyword longest others
 
 -- the same of the code's token
-pub has_bytes : (next : Option Next) (found : Option (ℕ × ℕ)) → option_map next_of next ≡ option_map keyword_token found → IfSome found (λ k. 0 < k.1) →
+pub has_bytes : (next : Option Next) (found : Option (ℕ × ℕ)) → option_map next_of next ≡ option_map found_keyword found → IfSome found (λ k. 0 < k.1) →
     IfSome next (λ n. 0 < n.bytes)
 has_bytes None found e h = tt
 has_bytes (Some next) None e h = absurd cc
-has_bytes (Some next) (Some (k, n)) e h = let same : next_of next ≡ keyword_token (k, n) = cc in let bytes : next.bytes ≡ n = ap (λ (t : token.Next). t.bytes) same in rw bytes h
+has_bytes (Some next) (Some (k, n)) e h = let same : next_of next ≡ found_keyword (k, n) = cc in let bytes : next.bytes ≡ n = ap (λ (t : token.Next). t.bytes) same in rw bytes h

@@ -24,5 +24,5 @@ length_or_zero None = 0
 length_or_zero (Some (k, n)) = n
 
 -- a keyword, by its place and length, as a token
-abbrev pub keyword_token : ℕ × ℕ → Next
-keyword_token (k, n) = record { kind = k; bytes = n; hidden = false }
+abbrev pub found_keyword : ℕ × ℕ → Next
+found_keyword (k, n) = record { kind = k; bytes = n; hidden = false }

@@ -1,5 +1,6 @@
 // A text cut into tokens.
 ghost use Rattle.std.specs.Prelude.{◌≡◌, ◌+◌, ◌<◌, ◌≤◌, List, IfOk, Err, ℕ, ◌++◌, length, encode_utf8, drop};
+ghost use Rattle.lw_base.specs.declared.limits.TheConstants.{LONGEST_TEXT};
 ghost use Rattle.std.specs.Char.{IsScalar};
 ghost use Rattle.lw_base.specs.declared.token.Span.{Span};
 ghost use Rattle.lw_base.specs.declared.token.Token.{Token};
@@ -13,7 +14,7 @@ use std::alloc::Global;
 
 /// The tokens of the text. Where the text has no token at some place, the first such place is refused.
 pub fn lex(alloc: Global, set: &TokenSet, text: &Name) -> Result<Vec<Token>, LexFault>
-    requires { length text.now ≤ 67108864 }
+    requires { length text.now ≤ LONGEST_TEXT }
     ensures cut { IfOk result (λ tokens. IsCut set.now.lexicon text.now tokens.items) }
     ensures no_token { (s : Span) → result ≡ Err (LexFault.NoToken s) → HasNoTokenAt set.now.lexicon text.now s.start }
     ensures character { (s : Span) → result ≡ Err (LexFault.NoToken s) → IsCharacterAt text.now s }
@@ -46,7 +47,7 @@ pub fn lex(alloc: Global, set: &TokenSet, text: &Name) -> Result<Vec<Token>, Lex
 }
 
 fn span_of(start: usize, bytes: usize) -> Span
-    requires { start + bytes ≤ 67108864 }
+    requires { start + bytes ≤ LONGEST_TEXT }
     ensures { result ≡ record { start = start; end = start + bytes } }
 {
     Span {

@@ -1,7 +1,7 @@
 // The token at the start of a text.
 ghost use Rattle.std.specs.Prelude.{◌≡◌, ◌<◌, IfSome, IsCharBoundary, option_map};
-ghost use Rattle.lw_tokens.specs.NextToken.{IsNext};
-ghost use Rattle.lw_lexer.specs.Longer.{length_or_zero, keyword_token};
+ghost use Rattle.lw_tokens.specs.NextToken.{IsNextToken};
+ghost use Rattle.lw_lexer.specs.Longer.{length_or_zero, found_keyword};
 ghost use Rattle.lw_lexer.specs.Place.{next_of};
 
 use crate::keyword::longest_keyword;
@@ -24,7 +24,7 @@ pub(crate) fn next_token(
     text: &str,
 ) -> Option<Next>
     requires { matchers.old.items ≡ set.now.lexicon.terminals }
-    ensures next { IsNext set.now.lexicon text.now (option_map next_of result) }
+    ensures next { IsNextToken set.now.lexicon text.now (option_map next_of result) }
     ensures boundary { IfSome result (λ next. IsCharBoundary text.now next.bytes) }
     ensures some { IfSome result (λ next. 0 < next.bytes) }
     ensures same { matchers.new.items ≡ matchers.old.items }
@@ -36,14 +36,14 @@ pub(crate) fn next_token(
             bytes,
             hidden: matchers[i].is_hidden(),
         }),
-        None => keyword_token(&keyword),
+        None => found_keyword(&keyword),
     }
 }
 
 // The longest keyword as a token.
-fn keyword_token(keyword: &Option<(usize, usize)>) -> Option<Next>
+fn found_keyword(keyword: &Option<(usize, usize)>) -> Option<Next>
     requires { IfSome keyword.now (λ found. found.0 < 65536) }
-    ensures { option_map next_of result ≡ option_map keyword_token keyword.now }
+    ensures { option_map next_of result ≡ option_map found_keyword keyword.now }
 {
     match keyword {
         Some((k, bytes)) => Some(Next {

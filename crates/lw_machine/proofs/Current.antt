@@ -8,7 +8,8 @@ use Rattle.lw_rpc.specs.declared.message.Message.TheVariants.{BadJson, BadReques
 use Rattle.lw_rpc.specs.declared.reply.Reply.{Reply}
 use Rattle.lw_machine.specs.Documents.{Documents}
 use Rattle.lw_machine.specs.Events.{put, puts}
-use Rattle.lw_machine.specs.Answers.{Standing, Answer, answer, beginning, longest_text, most_documents}
+use Rattle.lw_base.specs.declared.limits.TheConstants.{LONGEST_TEXT}
+use Rattle.lw_machine.specs.Answers.{Standing, Answer, answer, beginning, most_documents}
 use Rattle.lw_machine.specs.Sessions.{Handles, Serves, unbuilt, built, waits, ends, goes_on}
 use Rattle.lw_machine.specs.Validity.{IsValid, AreCurrent}
 use Rattle.lw_machine.specs.declared.ended.Ended.{Ended}
@@ -34,7 +35,7 @@ module _ (P : Documents → Type 0) (s : Standing) (now : P s.documents)
   answered (BadParams None method) = either (s.initialized && not s.shut_down) _ _ now now
   answered (DidOpen address version text) =
       either (s.initialized && not s.shut_down) _ _
-      (either (nat_lt longest_text (length text)) _ _ now
+      (either (nat_lt LONGEST_TEXT (length text)) _ _ now
       (either (not (contains_key s.documents address) && nat_le most_documents (len s.documents)) _ _ now (later address text (Some version) true))) now
 
 module _ (g : Grammar) where

@@ -1,6 +1,7 @@
 -- What a message is answered at once, by the lifecycle of the Language Server Protocol 3.17 ("Server lifecycle") and the errors of JSON-RPC 2.0.
 use Rattle.std.specs.Prelude.{ℕ, ℤ, negsuc, List, [], ◌∷◌, ◌++◌, length, Bool, true, false, ◌&&◌, not, nat_lt, nat_le, if◌then◌else◌, Option, Some, None, codes}
 use Rattle.std.specs.FinMap.{empty, contains_key, len}
+use Rattle.lw_base.specs.declared.limits.TheConstants.{LONGEST_TEXT}
 use Rattle.lw_rpc.specs.declared.message.Id.{Id}
 use Rattle.lw_rpc.specs.declared.message.Message.{Message}
 use Rattle.lw_rpc.specs.declared.message.Message.TheVariants.{BadJson, BadRequest, Response, Unknown, BadParams, Initialize, Shutdown, Exit, DidOpen}
@@ -66,17 +67,14 @@ request s id answer = if not s.initialized then not_initialized s id else if s.s
 abbrev pub notification : Standing → Answer → Answer
 notification s answer = if s.initialized && not s.shut_down then answer else ignores s
 
--- the longest text that is held, in bytes, and how many documents are
-abbrev pub longest_text : ℕ
-longest_text = 67108864
-
+-- how many documents are held
 abbrev pub most_documents : ℕ
 most_documents = 1
 
 -- a document is opened: its text is put, unless it is too long, or too many others are held
 abbrev pub opens : Standing → List ℕ → ℤ → List ℕ → Answer
 opens s address version text =
-    if nat_lt longest_text (length text) then logs s (codes "text too long: " ++ address)
+    if nat_lt LONGEST_TEXT (length text) then logs s (codes "text too long: " ++ address)
     else if not (contains_key s.documents address) && nat_le most_documents (len s.documents) then logs s (codes "too many documents: " ++ address)
     else ignores (record s { documents = put s.documents address text (Some version) true })
 

@@ -6,17 +6,17 @@ use Rattle.std.proofs.lemmas.List.Elements.{Contains-append_cases}
 use Rattle.std.proofs.lemmas.Slice.Eq.{bytes_eq-Decides}
 use Rattle.lw_grammar.specs.declared.grammar.Grammar.{Grammar}
 use Rattle.lw_grammar.specs.declared.rule.Rule.{Rule}
-use Rattle.lw_grammar.specs.Kept.{KeepsFrom, Keeps}
+use Rattle.lw_grammar.specs.Kept.{KeepsPassingFrom, KeepsPassing}
 use Rattle.lw_grammar.specs.Kept as keep
 use Rattle.lw_grammar.specs.Leaves.{keywords_in}
 use Rattle.lw_grammar.specs.Reached.{IsReached}
 use Rattle.lw_grammar.specs.Kinds.{Kinds, AreKinds, IsKindTerminal, first_uses}
 use Rattle.lw_tokens.specs.Keywords.{AreKeywords}
-use Rattle.lw_reading.specs.KindTexts.{AreKindTexts, IsKindText, texts_of}
+use Rattle.lw_grammar.specs.KindTexts.{AreKindTexts, IsKindText, texts_of}
 use Rattle.lw_reading.specs.Laws.{HasNoEmptyKeyword, WritesNoEmptyKeyword}
 
 -- which items are kept is settled
-kept_once : {X : Type 0} (passes : ℕ → Type 0) {i : ℕ} {xs ys zs : List X} → KeepsFrom passes i xs ys → KeepsFrom passes i xs zs → ys ≡ zs
+kept_once : {X : Type 0} (passes : ℕ → Type 0) {i : ℕ} {xs ys zs : List X} → KeepsPassingFrom passes i xs ys → KeepsPassingFrom passes i xs zs → ys ≡ zs
 kept_once passes keep.nothing keep.nothing = refl
 kept_once passes (keep.kept {x} p k) (keep.kept q l) = ap (λ ys. x ∷ ys) (kept_once passes k l)
 kept_once passes (keep.kept p k) (keep.left_out q l) = absurd (q p)
@@ -81,7 +81,7 @@ in_texts x seen (text ∷ texts) = by (stands_in text seen) (in_texts x seen tex
     by false same new (suc k, inside, is) = there text texts x (new (k, omega arith, is))
 
 -- what is kept was there
-in_all : {X : Type 0} (passes : ℕ → Type 0) (y : X) {i : ℕ} {xs ys : List X} → KeepsFrom passes i xs ys → Contains ys y → Contains xs y
+in_all : {X : Type 0} (passes : ℕ → Type 0) (y : X) {i : ℕ} {xs ys : List X} → KeepsPassingFrom passes i xs ys → Contains ys y → Contains xs y
 in_all passes y keep.nothing has = has
 in_all passes y (keep.kept {x = x} {xs = xs} p rest) (zero, inside, is) = (0, omega arith, is)
 in_all passes y (keep.kept {x = x} {xs = xs} p rest) (suc k, inside, is) = there x xs y (in_all passes y rest (k, omega arith, is))

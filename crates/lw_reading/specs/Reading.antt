@@ -1,6 +1,7 @@
 -- What a text reads as by a grammar: whole, or broken at the first fault.
 -- The size, the tokens and the sentence are looked at in this order, and one fault is told.
 use Rattle.std.specs.Prelude.{ℕ, ◌≡◌, ◌<◌, ◌≤◌, ◌⊎◌, List, [], ◌∷◌, ◌++◌, length}
+use Rattle.lw_base.specs.declared.limits.TheConstants.{LONGEST_DOCUMENT}
 use Rattle.lw_base.specs.declared.token.Span.{Span}
 use Rattle.lw_base.specs.declared.token.Token.{Token}
 use Rattle.lw_grammar.specs.declared.grammar.Grammar.{Grammar}
@@ -11,10 +12,6 @@ use Rattle.lw_tokens.specs.Cut.{IsCut, HasNoTokenAt, IsCharacterAt, visible, kin
 use Rattle.lw_reading.specs.declared.issue.Issue.TheVariants.{Lexical, Syntax, End, TooLarge}
 use Rattle.lw_reading.specs.declared.issue.Parsed.{Parsed}
 use Rattle.lw_reading.specs.declared.issue.Parsed.TheVariants.{Whole, Broken}
-
--- the longest text that is read, in bytes
-abbrev pub longest_document : ℕ
-longest_document = 2097152
 
 module _ (g : Grammar) (of : Kinds) where
   -- `unexpected` is the first of the tokens that no sentence has after those before it
@@ -40,6 +37,6 @@ module _ (g : Grammar) (of : Kinds) where
 
 -- what a text reads as
 pub data Reads (g : Grammar) (text : List ℕ) : Parsed → Type 0 where
-  too_large : longest_document < length text → Reads g text (Broken TooLarge)
-  read : {parsed : Parsed} (of : Kinds) (lexicon : Lexicon) → length text ≤ longest_document → AreKinds g of → IsLexicon g of lexicon →
+  too_large : LONGEST_DOCUMENT < length text → Reads g text (Broken TooLarge)
+  read : {parsed : Parsed} (of : Kinds) (lexicon : Lexicon) → length text ≤ LONGEST_DOCUMENT → AreKinds g of → IsLexicon g of lexicon →
       ReadsBy g of lexicon text parsed → Reads g text parsed

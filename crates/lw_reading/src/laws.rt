@@ -1,7 +1,7 @@
 // What a reader may expect of readings, whatever the grammar and the text.
 ghost use Rattle.std.specs.Prelude.{◌≡◌, ℕ, List};
 ghost use Rattle.lw_grammar.specs.declared.grammar.Grammar.{Grammar};
-ghost use Rattle.lw_reading.specs.KindTexts.{IsKindText};
+ghost use Rattle.lw_grammar.specs.KindTexts.{IsKindText};
 ghost use Rattle.lw_reading.specs.Laws.{HasNoEmptyKeyword, WritesNoEmptyKeyword};
 ghost use Rattle.lw_reading.specs.Reading.{Reads};
 ghost use Rattle.lw_reading.specs.declared.issue.Parsed.{Parsed};

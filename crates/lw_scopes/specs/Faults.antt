@@ -6,7 +6,7 @@ use Rattle.lw_base.specs.declared.token.Span.{Span}
 use Rattle.lw_grammar.specs.declared.grammar.Grammar.{Grammar}
 use Rattle.lw_text.specs.Position.{IsPosition}
 use Rattle.lw_text.specs.declared.shown.Shown.{Shown}
-use Rattle.lw_reading.specs.KindTexts.{IsKindText}
+use Rattle.lw_grammar.specs.KindTexts.{IsKindText}
 use Rattle.lw_reading.specs.declared.issue.Issue.{Issue}
 use Rattle.lw_reading.specs.declared.issue.Issue.TheVariants.{Lexical, Syntax, End, TooLarge}
 

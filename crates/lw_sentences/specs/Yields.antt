@@ -28,7 +28,7 @@ module _ (g : Grammar) (kinds : Kinds) where
     pub data Gives : Element-F Element → List Mark → Type 0 where
       keyword : {text : List ℕ} {s : Span} {k : ℕ} → IsKeywordKind kinds text k → Gives (Keyword text s) (mark.Token k ∷ [])
       called : {name : List ℕ} {s : Span} {m : List Mark} → Calls name m → Gives (Call name s) m
-      assigned : {p : List ℕ} {op : Op} {v c : Value0} {s : Span} {m : List Mark} → Reads v c m → Gives (Assign p op v s) (mark.Put p op c ∷ m ++ mark.End ∷ [])
+      assigned : {p : List ℕ} {op : Op} {v c : Value0} {s : Span} {m : List Mark} → GivesValue v c m → Gives (Assign p op v s) (mark.Put p op c ∷ m ++ mark.End ∷ [])
       acted : {a : Action} → Gives (Act a) (mark.Act a ∷ [])
       grouped : {es : List Element} {s : Span} {m : List Mark} → YieldsAll es m → Gives (Group es s) m
       chosen : {es : List Element} {s : Span} {e : Element} {m : List Mark} → Contains es e → Yields e m → Gives (Choice es s) m
@@ -60,14 +60,14 @@ module _ (g : Grammar) (kinds : Kinds) where
           RuleGives r rule (mark.Open r ∷ m ++ mark.Shut ∷ [])
 
     -- `Reads v c m`: the value v reads the marks m, and c is the keyword, call or cross-reference of v that was read
-    pub data Reads : Value0 → Value0 → List Mark → Type 0 where
-      reads : {v c : Value0} {m : List Mark} → ReadsLayer v (out-Value0 v) c m → Reads v c m
+    pub data GivesValue : Value0 → Value0 → List Mark → Type 0 where
+      reads : {v c : Value0} {m : List Mark} → GivesValueLayer v (out-Value0 v) c m → GivesValue v c m
 
-    pub data ReadsLayer : Value0 → Value0-F Value0 → Value0 → List Mark → Type 0 where
-      keyword_value : {v : Value0} {text : List ℕ} {s : Span} {k : ℕ} → IsKeywordKind kinds text k → ReadsLayer v (value.Keyword text s) v (mark.Token k ∷ [])
-      call_value : {v : Value0} {name : List ℕ} {s : Span} {m : List Mark} → Calls name m → ReadsLayer v (value.Call name s) v m
-      cross_value : {v : Value0} {wanted name : List ℕ} {s : Span} {m : List Mark} → Calls name m → ReadsLayer v (value.Cross wanted (Some name) s) v m
+    pub data GivesValueLayer : Value0 → Value0-F Value0 → Value0 → List Mark → Type 0 where
+      keyword_value : {v : Value0} {text : List ℕ} {s : Span} {k : ℕ} → IsKeywordKind kinds text k → GivesValueLayer v (value.Keyword text s) v (mark.Token k ∷ [])
+      call_value : {v : Value0} {name : List ℕ} {s : Span} {m : List Mark} → Calls name m → GivesValueLayer v (value.Call name s) v m
+      cross_value : {v : Value0} {wanted name : List ℕ} {s : Span} {m : List Mark} → Calls name m → GivesValueLayer v (value.Cross wanted (Some name) s) v m
       cross_by_name : {v : Value0} {wanted : List ℕ} {s : Span} {m : List Mark} (name : List ℕ) → IsNameRule g wanted name → Calls name m →
-          ReadsLayer v (value.Cross wanted None s) v m
-      chosen_value : {v : Value0} {vs : List Value0} {s : Span} {w c : Value0} {m : List Mark} → Contains vs w → Reads w c m →
-          ReadsLayer v (value.Choice vs s) c m
+          GivesValueLayer v (value.Cross wanted None s) v m
+      chosen_value : {v : Value0} {vs : List Value0} {s : Span} {w c : Value0} {m : List Mark} → Contains vs w → GivesValue w c m →
+          GivesValueLayer v (value.Choice vs s) c m

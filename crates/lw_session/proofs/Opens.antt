@@ -5,15 +5,16 @@ use Rattle.std.specs.Cmp.Lexicographic.{nat_list_cmp_total}
 use Rattle.std.specs.FinMap.{empty, get, get-empty, insert, len, len-empty, len-insert, contains_key}
 use Rattle.lw_grammar.specs.declared.grammar.Grammar.{Grammar}
 use Rattle.lw_scopes.specs.Diagnostics.{IsList}
-use Rattle.lw_machine.specs.Answers.{Standing, Answer, answer, longest_text, logs, ignores}
+use Rattle.lw_base.specs.declared.limits.TheConstants.{LONGEST_TEXT}
+use Rattle.lw_machine.specs.Answers.{Standing, Answer, answer, logs, ignores}
 use Rattle.lw_machine.specs.Answers as machine
 use Rattle.lw_machine.specs.declared.state.State.TheVariants.{Changed}
 use Rattle.lw_machine.specs.Documents.{Document, Documents, IsBuilt}
 use Rattle.lw_machine.specs.Events.{put, with_text}
 use Rattle.lw_machine.specs.Sessions.{Handles}
 use Rattle.lw_machine.proofs.Places.{order, one_or_two, put_here}
-use Rattle.lw_session.specs.Keeping.{built, documents_of, HoldsAnother, last_list, unlisted, IsListTold}
-use Rattle.lw_session.specs.Lifecycle.{standing_of, IsLive, opens}
+use Rattle.lw_session.specs.Keeping.{built, documents_of, HoldsAnother, held_list, unlisted, IsListTold}
+use Rattle.lw_session.specs.Lifecycle.{standing_of, IsLive, opened_message}
 use Rattle.lw_session.specs.declared.held.Held.{Held}
 use Rattle.lw_session.specs.declared.held.Opened.{Opened}
 use Rattle.lw_session.specs.declared.lifecycle.Phase.{Phase}
@@ -31,19 +32,19 @@ module _ (documents : Documents) (phase : Phase) (live : IsLive phase) (opened :
   s = standing_of documents phase
 
   -- in a session that is live the document is opened
-  live_answer : answer s (opens opened) ≡ machine.opens s opened.address opened.version opened.text
+  live_answer : answer s (opened_message opened) ≡ machine.opens s opened.address opened.version opened.text
   live_answer = rw (live.0, live.1) refl
 
-  pub too_long : longest_text < length opened.text → answer s (opens opened) ≡ logs s (codes "text too long: " ++ opened.address)
-  too_long long = live_answer ∙ (let test : nat_lt longest_text (length opened.text) ≡ true = lt-ltb _ _ long in rw test refl)
+  pub too_long : LONGEST_TEXT < length opened.text → answer s (opened_message opened) ≡ logs s (codes "text too long: " ++ opened.address)
+  too_long long = live_answer ∙ (let test : nat_lt LONGEST_TEXT (length opened.text) ≡ true = lt-ltb _ _ long in rw test refl)
 
-  too_many : length opened.text ≤ longest_text → contains_key documents opened.address ≡ false → len documents ≡ 1 →
-      answer s (opens opened) ≡ logs s (codes "too many documents: " ++ opened.address)
-  too_many short other one = live_answer ∙ (let test : nat_lt longest_text (length opened.text) ≡ false = le-ltb _ _ short in rw (test, other, one) refl)
+  too_many : length opened.text ≤ LONGEST_TEXT → contains_key documents opened.address ≡ false → len documents ≡ 1 →
+      answer s (opened_message opened) ≡ logs s (codes "too many documents: " ++ opened.address)
+  too_many short other one = live_answer ∙ (let test : nat_lt LONGEST_TEXT (length opened.text) ≡ false = le-ltb _ _ short in rw (test, other, one) refl)
 
-  puts : length opened.text ≤ longest_text → (not (contains_key documents opened.address) && nat_le 1 (len documents)) ≡ false →
-      answer s (opens opened) ≡ ignores (record s { documents = put documents opened.address opened.text (Some opened.version) true })
-  puts short room = live_answer ∙ (let test : nat_lt longest_text (length opened.text) ≡ false = le-ltb _ _ short in rw (test, room) refl)
+  puts : length opened.text ≤ LONGEST_TEXT → (not (contains_key documents opened.address) && nat_le 1 (len documents)) ≡ false →
+      answer s (opened_message opened) ≡ ignores (record s { documents = put documents opened.address opened.text (Some opened.version) true })
+  puts short room = live_answer ∙ (let test : nat_lt LONGEST_TEXT (length opened.text) ≡ false = le-ltb _ _ short in rw (test, room) refl)
 
 module _ (h : Held) where
   one_held : len (documents_of (Some h)) ≡ 1
@@ -58,8 +59,8 @@ module _ (h : Held) where
   held_elsewhere address apart = (alone.alone_first h.opened.address (built h)).elsewhere address (λ same. apart (sym same))
 
 -- another is held: a line for the log
-pub refused : (document : Option Held) (phase : Phase) → IsLive phase → (opened : Opened) → length opened.text ≤ longest_text → HoldsAnother document opened.address →
-    answer (standing_of (documents_of document) phase) (opens opened)
+pub refused : (document : Option Held) (phase : Phase) → IsLive phase → (opened : Opened) → length opened.text ≤ LONGEST_TEXT → HoldsAnother document opened.address →
+    answer (standing_of (documents_of document) phase) (opened_message opened)
     ≡ logs (standing_of (documents_of document) phase) (codes "too many documents: " ++ opened.address)
 refused None phase live opened short another = absurd another
 refused (Some h) phase live opened short another =
@@ -99,17 +100,17 @@ module _ (h : Held) where
           (sym held.here) (alone.alone_again h.opened.address m (built b) (begun (Some b)) held)
       by (inr apart) = absurd (free apart)
 
-  module _ (g : Grammar) (before : Option Held) (phase : Phase) (live : IsLive phase) (short : length h.opened.text ≤ longest_text)
+  module _ (g : Grammar) (before : Option Held) (phase : Phase) (live : IsLive phase) (short : length h.opened.text ≤ LONGEST_TEXT)
       (free : ¬ (HoldsAnother before h.opened.address)) (is_list : IsList g h.opened.text h.list) where
     abbrev Becomes : Told → Type 0
-    Becomes told = Handles g (standing_of (documents_of before) phase) (opens h.opened) (standing_of (documents_of (Some h)) told.phase) told.replies told.ended
+    Becomes told = Handles g (standing_of (documents_of before) phase) (opened_message h.opened) (standing_of (documents_of (Some h)) told.phase) told.replies told.ended
 
     pub opened : (told : Told) → IsListTold phase before h told → Becomes told
     opened told (replies, publishes, is) =
         subst Becomes (sym is)
-        (handling.built g (standing_of (documents_of before) phase) (opens h.opened)
+        (handling.built g (standing_of (documents_of before) phase) (opened_message h.opened)
         (ignores (record (standing_of (documents_of before) phase) { documents = put (documents_of before) h.opened.address h.opened.text (Some h.opened.version) true }))
         (documents_of (Some h)) replies (puts (documents_of before) phase live h.opened short (room before h.opened.address free)) live.0
-        (alone.builds h.opened.address g h.opened.text (Some h.opened.version) true (last_list before)
+        (alone.builds h.opened.address g h.opened.text (Some h.opened.version) true (held_list before)
         (put (documents_of before) h.opened.address h.opened.text (Some h.opened.version) true) (option_map (λ b. b.opened.text) before)
         h.list replies (put_over before free) is_list publishes))

@@ -30,12 +30,12 @@ abbrev pub HoldsAnother : Option Held → List ℕ → Type 0
 HoldsAnother before address = IsSomeAnd before (λ h. h.opened.address ≢ address)
 
 -- the list that was published last, if any
-abbrev pub last_list : Option Held → Option (List Shown)
-last_list = option_map (λ h. h.list)
+abbrev pub held_list : Option Held → Option (List Shown)
+held_list = option_map (λ h. h.list)
 
 -- a document that is built but for its list, in the place of the one that was held
 abbrev pub unlisted : Option Held → Held → Document
-unlisted before h = record (built h) { state = IndexedReferences; published = last_list before }
+unlisted before h = record (built h) { state = IndexedReferences; published = held_list before }
 
 -- its list is told, unless it is the one that was published last
 abbrev pub IsListTold : Phase → Option Held → Held → Told → Type 0
@@ -51,5 +51,5 @@ abbrev pub standing_after : Standing → Next → Standing
 standing_after s next = standing_of (documents_after s.documents next.put) next.told.phase
 
 -- what comes next is what the machine does with the message
-abbrev pub IsNext : Grammar → Standing → Message → Next → Type 0
-IsNext g s message next = Handles g s message (standing_after s next) next.told.replies next.told.ended
+abbrev pub IsHandled : Grammar → Standing → Message → Next → Type 0
+IsHandled g s message next = Handles g s message (standing_after s next) next.told.replies next.told.ended

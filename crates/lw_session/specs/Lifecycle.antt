@@ -26,18 +26,18 @@ abbrev pub telling : Phase → List Reply → Told
 telling phase replies = record { replies = replies; ended = No; phase = phase }
 
 -- the answer is told, whatever the documents are, and they stay
-abbrev pub IsTold : (Standing → Answer) → Phase → Told → Type 0
-IsTold answer_at phase told = (documents : Documents) → answer_at (standing_of documents phase) ≡ answer_of documents told
+abbrev pub IsAnswerTold : (Standing → Answer) → Phase → Told → Type 0
+IsAnswerTold answer_at phase told = (documents : Documents) → answer_at (standing_of documents phase) ≡ answer_of documents told
 
 -- `initialize` was answered with a result, and `shutdown` was not
 abbrev pub IsLive : Phase → Type 0
 IsLive phase = (phase.initialized ≡ true) × (phase.shut_down ≡ false)
 
 -- the message that says this of a document
-abbrev pub opens : Opened → Message
-opens opened = DidOpen opened.address opened.version opened.text
+abbrev pub opened_message : Opened → Message
+opened_message opened = DidOpen opened.address opened.version opened.text
 
--- the step for a message: it is answered, or it opens a document in a session that is live
+-- the step for a message: it is answered, or it opened_message a document in a session that is live
 abbrev pub IsStep : Phase → Message → Step → Type 0
-IsStep phase message (step.Tells told) = IsTold (λ s. answer s message) phase told
-IsStep phase message (step.Opens opened) = (message ≡ opens opened) × IsLive phase
+IsStep phase message (step.Tells told) = IsAnswerTold (λ s. answer s message) phase told
+IsStep phase message (step.Opens opened) = (message ≡ opened_message opened) × IsLive phase

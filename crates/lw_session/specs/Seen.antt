@@ -4,5 +4,5 @@ use Rattle.lw_session.specs.Keeping.{documents_of}
 use Rattle.lw_session.specs.Lifecycle.{standing_of}
 use Rattle.lw_session.specs.declared.session.Session.TheInside.{Inside}
 
-abbrev pub seen : Inside → SessionView
-seen s = record { grammar = s.language.grammar; standing = standing_of (documents_of s.document) s.phase }
+abbrev pub seen_session : Inside → SessionView
+seen_session s = record { grammar = s.language.grammar; standing = standing_of (documents_of s.document) s.phase }

@@ -1,6 +1,6 @@
 // The document that a session holds.
 ghost use Rattle.std.specs.Prelude.{◌≡◌, ◌↔◌, IsTrue, IfOk, Some};
-ghost use Rattle.lw_session.specs.Keeping.{HoldsAnother, last_list};
+ghost use Rattle.lw_session.specs.Keeping.{HoldsAnother, held_list};
 
 use lw_base::{Items, Name, NoMemory};
 use lw_text::Shown;
@@ -33,7 +33,7 @@ pub(crate) fn holds_another(document: &Option<Held>, address: &Name) -> bool
 
 /// The list is the one that was published last.
 pub(crate) fn has_published(document: &Option<Held>, list: &[Shown]) -> bool
-    ensures { IsTrue result ↔ (last_list document.now ≡ Some list.now) }
+    ensures { IsTrue result ↔ (held_list document.now ≡ Some list.now) }
 {
     match document {
         Some(held) => are_same(held.list.as_slice(), list),

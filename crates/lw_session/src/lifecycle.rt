@@ -3,7 +3,7 @@ ghost use Rattle.std.specs.Prelude.{◌≡◌, [], ◌∷◌, ◌++◌, IfOk, So
 ghost use Rattle.lw_machine.specs.Answers.{answer, refuses, request as at_request};
 ghost use Rattle.lw_rpc.specs.declared.message.Message.TheVariants as message_;
 ghost use Rattle.lw_rpc.specs.declared.reply.Reply.TheVariants as reply_;
-ghost use Rattle.lw_session.specs.Lifecycle.{IsStep, IsTold, telling};
+ghost use Rattle.lw_session.specs.Lifecycle.{IsStep, IsAnswerTold, telling};
 
 use crate::held::Opened;
 use lw_base::{Items, Name, NoMemory};
@@ -117,7 +117,7 @@ impl Phase {
 
     // The session is over.
     fn ends(self, alloc: Global) -> Told
-        ensures { IsTold (λ s. answer s message_.Exit) self result }
+        ensures { IsAnswerTold (λ s. answer s message_.Exit) self result }
     {
         let ended = if self.shut_down {
             Ended::Clean
@@ -148,7 +148,7 @@ pub(crate) fn log(alloc: Global, phase: Phase, head: &str, name: &Name) -> Resul
 
 // A request is refused: before `initialize` and after `shutdown` for that, else for its own cause.
 fn refuse(alloc: Global, phase: Phase, id: Id, code: i32, message: &str) -> Result<Told, NoMemory>
-    ensures { IfOk result (IsTold (λ s. at_request s id (refuses s (Some id) code message.now)) phase) }
+    ensures { IfOk result (IsAnswerTold (λ s. at_request s id (refuses s (Some id) code message.now)) phase) }
 {
     let reply = if !phase.initialized {
         error(
@@ -166,7 +166,7 @@ fn refuse(alloc: Global, phase: Phase, id: Id, code: i32, message: &str) -> Resu
 }
 
 fn initialize(alloc: Global, phase: Phase, id: Id) -> Result<Told, NoMemory>
-    ensures { IfOk result (IsTold (λ s. answer s (message_.Initialize id)) phase) }
+    ensures { IfOk result (IsAnswerTold (λ s. answer s (message_.Initialize id)) phase) }
 {
     if phase.initialized {
         let reply = error(alloc, Some(id), INVALID_REQUEST, "invalid request")?;
@@ -178,7 +178,7 @@ fn initialize(alloc: Global, phase: Phase, id: Id) -> Result<Told, NoMemory>
 }
 
 fn shutdown(alloc: Global, phase: Phase, id: Id) -> Result<Told, NoMemory>
-    ensures { IfOk result (IsTold (λ s. answer s (message_.Shutdown id)) phase) }
+    ensures { IfOk result (IsAnswerTold (λ s. answer s (message_.Shutdown id)) phase) }
 {
     if !phase.is_live() {
         return refuse(alloc, phase, id, INVALID_REQUEST, "invalid request");
@@ -189,7 +189,7 @@ fn shutdown(alloc: Global, phase: Phase, id: Id) -> Result<Told, NoMemory>
 }
 
 fn unknown(alloc: Global, phase: Phase, id: Option<Id>, method: &Name) -> Result<Told, NoMemory>
-    ensures { IfOk result (IsTold (λ s. answer s (message_.Unknown id method.now)) phase) }
+    ensures { IfOk result (IsAnswerTold (λ s. answer s (message_.Unknown id method.now)) phase) }
 {
     match id {
         Some(id) => refuse(alloc, phase, id, METHOD_NOT_FOUND, "method not found"),
@@ -198,7 +198,7 @@ fn unknown(alloc: Global, phase: Phase, id: Option<Id>, method: &Name) -> Result
 }
 
 fn bad_params(alloc: Global, phase: Phase, id: Option<Id>, method: &Name) -> Result<Told, NoMemory>
-    ensures { IfOk result (IsTold (λ s. answer s (message_.BadParams id method.now)) phase) }
+    ensures { IfOk result (IsAnswerTold (λ s. answer s (message_.BadParams id method.now)) phase) }
 {
     match id {
         Some(id) => refuse(alloc, phase, id, INVALID_PARAMS, "invalid params"),

@@ -1,15 +1,14 @@
 // The opening of a document: its text is put and built.
 ghost use Rattle.std.specs.Prelude.{IfOk};
-ghost use Rattle.lw_session.specs.Keeping.{documents_of, IsListTold, IsNext};
-ghost use Rattle.lw_session.specs.Lifecycle.{standing_of, IsLive, opens};
+ghost use Rattle.lw_session.specs.Keeping.{documents_of, IsListTold, IsHandled};
+ghost use Rattle.lw_session.specs.Lifecycle.{standing_of, IsLive, opened_message};
 
 use crate::held::{Held, Opened, copied, has_published, holds_another};
 use crate::lifecycle::{Phase, Told, log};
-use lw_base::NoMemory;
+use lw_base::{LONGEST_TEXT, NoMemory};
 use lw_check::diagnostics;
 use lw_lang::Language;
 use lw_rpc::Reply;
-use lw_text::MAX_BYTES;
 use std::alloc::Global;
 
 /// What is told at a message, and the document that takes the place of the one that is held, where there
@@ -29,9 +28,9 @@ pub(crate) fn open(
     opened: Opened,
 ) -> Result<Next, NoMemory>
     requires { IsLive phase }
-    ensures { IfOk result (IsNext language.now.grammar (standing_of (documents_of document.now) phase) (opens opened)) }
+    ensures { IfOk result (IsHandled language.now.grammar (standing_of (documents_of document.now) phase) (opened_message opened)) }
 {
-    if opened.text.bytes().len() > MAX_BYTES {
+    if opened.text.bytes().len() > LONGEST_TEXT {
         let told = log(alloc, phase, "text too long: ", &opened.address)?;
         return Ok(Next { told, put: None });
     }

@@ -2,7 +2,7 @@
 ghost use Rattle.std.specs.Prelude.{◌≡◌, IfOk, OnErr};
 ghost use Rattle.lw_machine.specs.Answers.{beginning};
 ghost use Rattle.lw_machine.specs.Sessions.{HandlesBody};
-ghost use Rattle.lw_session.specs.Keeping.{IsNext, standing_after};
+ghost use Rattle.lw_session.specs.Keeping.{IsHandled, standing_after};
 
 use crate::held::Held;
 use crate::lifecycle::{Phase, Step, decide};
@@ -33,7 +33,7 @@ pub struct Handled {
     pub ended: Ended,
 }
 
-/// A session of the language server, seen as the grammar of its language and its standing: the documents
+/// A session of the language server, seen_session as the grammar of its language and its standing: the documents
 /// by address, and whether `initialize` and `shutdown` were answered with a result.
 #[derive(Drop)]
 pub struct Session {
@@ -57,9 +57,9 @@ impl Model for Session {
 
     ghost coded = { Prim.hlevel (codes, map.code, element.the_row.coded, value.the_row.coded, term.the_row.coded, state.the_row.coded) };
 
-    ghost use Rattle.lw_session.specs.Seen.{seen};
+    ghost use Rattle.lw_session.specs.Seen.{seen_session};
 
-    ghost view = { seen };
+    ghost view = { seen_session };
 }
 
 impl Session {
@@ -112,7 +112,7 @@ impl Session {
 
     // What the session becomes with the message, and what is told.
     fn next(&self, message: Message) -> Result<Next, NoMemory>
-        ensures { IfOk result (IsNext self.now.grammar self.now.standing message) }
+        ensures { IfOk result (IsHandled self.now.grammar self.now.standing message) }
     {
         match decide(self.alloc, self.phase, message)? {
             Step::Tells(told) => Ok(Next { told, put: None }),

@@ -9,7 +9,8 @@ use Rattle.regex.proofs.ForCallers.{spans}
 use Rattle.regex_syntax.specs.Grammar.{read}
 use Rattle.regex_syntax.proofs.Written.{find_str_as_read}
 use Rattle.regex_syntax.proofs.TreeLaws.{same_refl}
-use Rattle.lw_tokens.specs.Matching.{anchored, pattern_of, length_at_start, match_at_start, match_length}
+use Rattle.lw_io.specs.Patterns.{anchored}
+use Rattle.lw_tokens.specs.Matching.{pattern_of, length_at_start, match_at_start, match_length}
 use Rattle.lw_terminals.specs.Compiled.{IsCompiled, MatchesAs}
 
 length_of_spans : (o p : Option Match) → option_map spans o ≡ option_map spans p → option_and_then length_at_start o ≡ option_and_then length_at_start p

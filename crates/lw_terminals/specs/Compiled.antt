@@ -3,7 +3,8 @@ use Rattle.std.specs.Prelude.{ℕ, ◌≡◌, ◌<◌, List, slice_index}
 use Rattle.regex.specs.Patterns.{Re, default_config}
 use Rattle.regex.specs.Strings.{regex_source, regex_config, IsReadFromSource}
 use Rattle.regex.specs.declared.string.regex.Regex.{Regex}
-use Rattle.lw_tokens.specs.Matching.{anchored, match_at_start, match_length}
+use Rattle.lw_io.specs.Patterns.{anchored}
+use Rattle.lw_tokens.specs.Matching.{match_at_start, match_length}
 
 -- the regular expression is what the text `\A(?:p)` reads as, under the default options
 pub record IsCompiled (pattern : List ℕ) (regex : Regex) : Type 0 where

@@ -1,23 +1,21 @@
 -- What a set of tokens is made from, and why it is not made.
 use Rattle.std.specs.Prelude.{ℕ, ◌≡◌, ◌≢◌, List, [], ◌++◌, map, take, codes, All, Option, Some, IsSome, Result, Ok, Err, slice_get}
+use Rattle.lw_grammar.specs.KindTexts.{quoted}
 use Rattle.lw_io.specs.Causes.{Faulted}
 use Rattle.lw_tokens.specs.Lexicon.{TerminalForm}
-use Rattle.lw_tokens.specs.Matching.{anchored, pattern_of, match_length}
+use Rattle.lw_io.specs.Patterns.{anchored}
+use Rattle.lw_tokens.specs.Matching.{pattern_of, match_length}
 use Rattle.lw_terminals.specs.TokenKinds.{TokenKinds}
 use Rattle.lw_terminals.specs.declared.source.TerminalSource.{TerminalSource}
 use Rattle.lw_terminals.specs.declared.fault.MakeTokensFault.{MakeTokensFault}
 use Rattle.lw_terminals.specs.declared.fault.MakeTokensFault.TheVariants.{Refused, EmptyMatch, NoMemory}
 
--- a keyword's text in single quotes
-abbrev pub quoted : List ℕ → List ℕ
-quoted text = codes "'" ++ text ++ codes "'"
-
 abbrev pub form_of : TerminalSource → TerminalForm
 form_of source = record { pattern = source.pattern; hidden = source.hidden }
 
 -- the kinds of tokens of these keywords and terminals
-abbrev pub kinds_of : List (List ℕ) → List TerminalSource → TokenKinds
-kinds_of keywords terminals = record {
+abbrev pub token_kinds_of : List (List ℕ) → List TerminalSource → TokenKinds
+token_kinds_of keywords terminals = record {
   lexicon = record { keywords = keywords; terminals = map form_of terminals };
   texts = map quoted keywords ++ map (λ terminal. terminal.name) terminals;
 }
@@ -28,32 +26,32 @@ pub record IsUsable (terminal : TerminalSource) : Type 0 where
   pub not_empty : match_length terminal.pattern [] ≢ Some 0
 
 -- the terminal at the place i is this, and all before it are usable
-pub record IsReached (terminals : List TerminalSource) (i : ℕ) (terminal : TerminalSource) : Type 0 where
+pub record IsReachedTerminal (terminals : List TerminalSource) (i : ℕ) (terminal : TerminalSource) : Type 0 where
   pub there : slice_get terminals i ≡ Some terminal
   pub before : All IsUsable (take i terminals)
 
 -- the pattern last refused is that of the terminal at the place i
 pub record IsRefusedAt (terminals : List TerminalSource) (last_refused : Option (List ℕ)) (i : ℕ) : Type 0 where
   pub terminal : TerminalSource
-  pub reached : IsReached terminals i terminal
+  pub reached : IsReachedTerminal terminals i terminal
   pub refused : last_refused ≡ Some terminal.pattern
 
 -- the terminal at the place i is the first whose pattern matches the empty text
 pub record MatchesEmptyAt (terminals : List TerminalSource) (i : ℕ) : Type 0 where
   pub terminal : TerminalSource
-  pub reached : IsReached terminals i terminal
+  pub reached : IsReachedTerminal terminals i terminal
   pub matches_empty : match_length terminal.pattern [] ≡ Some 0
 
 -- the count of refusals rises at `Refused`, and stands still at every other answer
-abbrev pub Counts : {T : Type 0} → ℕ → ℕ → Result T MakeTokensFault → Type 0
-Counts before now (Ok made) = now ≡ before
-Counts before now (Err (Refused i)) = Faulted before now
-Counts before now (Err (EmptyMatch i)) = now ≡ before
-Counts before now (Err NoMemory) = now ≡ before
+abbrev pub CountsTokens : {T : Type 0} → ℕ → ℕ → Result T MakeTokensFault → Type 0
+CountsTokens before now (Ok made) = now ≡ before
+CountsTokens before now (Err (Refused i)) = Faulted before now
+CountsTokens before now (Err (EmptyMatch i)) = now ≡ before
+CountsTokens before now (Err NoMemory) = now ≡ before
 
 -- the text last refused stays what it was at every answer but `Refused`
-abbrev pub Keeps : {T : Type 0} → Option (List ℕ) → Option (List ℕ) → Result T MakeTokensFault → Type 0
-Keeps before now (Ok made) = now ≡ before
-Keeps before now (Err (Refused i)) = Unit {0}
-Keeps before now (Err (EmptyMatch i)) = now ≡ before
-Keeps before now (Err NoMemory) = now ≡ before
+abbrev pub KeepsRefused : {T : Type 0} → Option (List ℕ) → Option (List ℕ) → Result T MakeTokensFault → Type 0
+KeepsRefused before now (Ok made) = now ≡ before
+KeepsRefused before now (Err (Refused i)) = Unit {0}
+KeepsRefused before now (Err (EmptyMatch i)) = now ≡ before
+KeepsRefused before now (Err NoMemory) = now ≡ before

@@ -8,11 +8,11 @@ pub record TokenKinds : Type 0 where
   pub texts : List (List ℕ)
 
 -- how many kinds there are: the keywords come first, then the terminals
-abbrev pub kind_count : Lexicon → ℕ
-kind_count lexicon = length lexicon.keywords + length lexicon.terminals
+abbrev pub lexicon_size : Lexicon → ℕ
+lexicon_size lexicon = length lexicon.keywords + length lexicon.terminals
 
 -- each kind has a number of 16 bits and a text, and the keywords can be told apart
 pub record AreTokenKinds (kinds : TokenKinds) : Type 0 where
   pub keywords : AreKeywords kinds.lexicon.keywords
-  pub count : kind_count kinds.lexicon ≤ 65535
-  pub texts : length kinds.texts ≡ kind_count kinds.lexicon
+  pub count : lexicon_size kinds.lexicon ≤ 65535
+  pub texts : length kinds.texts ≡ lexicon_size kinds.lexicon

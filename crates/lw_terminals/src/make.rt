@@ -1,7 +1,9 @@
 // The making of a set of tokens.
 ghost use Rattle.std.specs.Prelude.{◌≡◌, ◌≢◌, ℕ, ◌+◌, ◌≤◌, ◌++◌, [], List, map, length, All, IfOk, Err, OnOk, IsSome, Some};
-ghost use Rattle.lw_tokens.specs.Matching.{anchored, pattern_of, match_length};
-ghost use Rattle.lw_terminals.specs.Made.{quoted, form_of, IsUsable, IsRefusedAt, MatchesEmptyAt, Counts, Keeps};
+ghost use Rattle.lw_io.specs.Patterns.{anchored};
+ghost use Rattle.lw_tokens.specs.Matching.{pattern_of, match_length};
+ghost use Rattle.lw_grammar.specs.KindTexts.{quoted};
+ghost use Rattle.lw_terminals.specs.Made.{form_of, IsUsable, IsRefusedAt, MatchesEmptyAt, CountsTokens, KeepsRefused};
 
 use crate::{MakeTokensFault, Terminal, TerminalSource};
 use lw_base::{Name, NoMemory};
@@ -44,8 +46,8 @@ pub(crate) fn make_terminals<P: Patterns>(
     ensures refused { (i : ℕ) → result ≡ Err (MakeTokensFault.Refused i)
         → IsRefusedAt sources.items (P.last_refused patterns.new) i }
     ensures empty_match { (i : ℕ) → result ≡ Err (MakeTokensFault.EmptyMatch i) → MatchesEmptyAt sources.items i }
-    ensures count { Counts (P.count patterns.old) (P.count patterns.new) result }
-    ensures last { Keeps (P.last_refused patterns.old) (P.last_refused patterns.new) result }
+    ensures count { CountsTokens (P.count patterns.old) (P.count patterns.new) result }
+    ensures last { KeepsRefused (P.last_refused patterns.old) (P.last_refused patterns.new) result }
 {
     let mut terminals = Vec::with_capacity(alloc, sources.len())?;
     for source in sources {
@@ -72,8 +74,8 @@ fn make_terminal<P: Patterns>(
         → (i ≡ place) × (P.last_refused patterns.new ≡ Some pattern) }
     ensures empty_match { (i : ℕ) → result ≡ Err (MakeTokensFault.EmptyMatch i)
         → (i ≡ place) × (match_length pattern [] ≡ Some 0) }
-    ensures count { Counts (P.count patterns.old) (P.count patterns.new) result }
-    ensures last { Keeps (P.last_refused patterns.old) (P.last_refused patterns.new) result }
+    ensures count { CountsTokens (P.count patterns.old) (P.count patterns.new) result }
+    ensures last { KeepsRefused (P.last_refused patterns.old) (P.last_refused patterns.new) result }
 {
     let text = pattern.copy(alloc)?;
     let regex = match patterns.make(alloc, text) {

@@ -27,7 +27,8 @@ impl Model for Terminal {
 
 impl Terminal {
     ghost use Rattle.std.specs.Prelude.{◌≡◌, ◌↔◌, [], IfOk, IsTrue, IsSome, Some};
-    ghost use Rattle.lw_tokens.specs.Matching.{anchored, pattern_of, match_length};
+    ghost use Rattle.lw_io.specs.Patterns.{anchored};
+    ghost use Rattle.lw_tokens.specs.Matching.{pattern_of, match_length};
     ghost use Rattle.lw_terminals.specs.Compiled.{IsCompiled};
 
     /// The terminal of a pattern that is compiled.

@@ -1,12 +1,12 @@
--- The cut of a text into lines: there is one, there is only one, and its lines joined are the text.
+-- The cut of a text into lines: there is one, there is only one, and its lines joined_lines are the text.
 use Rattle.std.proofs.Common.{◌≡◌, ◌≢◌, ℕ, ◌⊎◌, inl, inr, ⊎_elim, List, [], ◌∷◌, ◌++◌, All, refl, sym, ap, ap₂, ◌∙◌, subst, append_assoc, append-nil}
 use Rattle.std.proofs.lemmas.Bool.{cases_eq}
 use Rattle.std.proofs.lemmas.List.Elements.{All-head, All-tail, All-nil, All-cons, All-append}
 use Rattle.lw_text.specs.Starts.{IsBreakOrOver}
-use Rattle.lw_text.specs.Lines.{IsNoBreak, Line, IsEnding, line_feed, both, carriage_return, AreLines, last, next, joined}
+use Rattle.lw_text.specs.Lines.{IsNoBreak, Line, IsEnding, line_feed, both, carriage_return, AreLines, last, next, joined_lines}
 
--- ---- the lines joined
-pub AreLines-joined : {text : List ℕ} {lines : List Line} → AreLines text lines → text ≡ joined lines
+-- ---- the lines joined_lines
+pub AreLines-joined : {text : List ℕ} {lines : List Line} → AreLines text lines → text ≡ joined_lines lines
 AreLines-joined (last {content} _) = sym (append-nil (content ++ []) ∙ append-nil content)
 AreLines-joined (next {content} {ending} _ _ rest) = ap (λ bytes. content ++ ending ++ bytes) (AreLines-joined rest)
 

@@ -6,7 +6,7 @@ use Rattle.lw_text.specs.Changes.{AreMade, none, next, Changes, refused, HasBadR
 use Rattle.lw_text.specs.declared.change.Change.{Change}
 use Rattle.lw_text.specs.declared.change.EditFault.{EditFault}
 use Rattle.lw_text.specs.declared.change.EditFault.TheVariants.{NoMemory}
-use Rattle.lw_text.specs.declared.change.TheConstants.{MAX_BYTES}
+use Rattle.lw_base.specs.declared.limits.TheConstants.{LONGEST_TEXT}
 use Rattle.lw_text.specs.declared.units.Encoding.{Encoding}
 
 -- ---- one change
@@ -14,7 +14,7 @@ use Rattle.lw_text.specs.declared.units.Encoding.{Encoding}
 pub one_change : (enc : Encoding) (text : List ℕ) (change : Change) (number : ℕ) (new : List ℕ) (result : Result (List ℕ) EditFault) → ¬ (HasBadRange change) → IsChanged enc text change new → IsTextOrFault new result →
     IfOk result (IsMade enc text change) × IfErr result (λ fault. (fault ≡ NoMemory) ⊎ IsRefused enc text change number fault)
 one_change enc text change number new (Ok doc) ordered changed is =
-    (record { ordered = ordered; changed = subst (λ bytes. IsChanged enc text change bytes) (sym is.0) changed; fits = subst (λ bytes. length bytes ≤ MAX_BYTES) (sym is.0) is.1 }, tt)
+    (record { ordered = ordered; changed = subst (λ bytes. IsChanged enc text change bytes) (sym is.0) changed; fits = subst (λ bytes. length bytes ≤ LONGEST_TEXT) (sym is.0) is.1 }, tt)
 one_change enc text change number new (Err fault) ordered changed is =
     (tt, ⊎_elim (λ refused. inl refused) (λ long. inr (subst (λ f. IsRefused enc text change number f) (sym long.0) (too_long ordered changed long.1))) is)
 

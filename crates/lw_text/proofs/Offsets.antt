@@ -3,7 +3,7 @@ use Rattle.std.proofs.Common.{◌≡◌, ℕ, ◌+◌, ◌-◌, ◌<◌, ◌≤�
 use Rattle.std.proofs.lemmas.Bool.{cases_lt}
 use Rattle.std.proofs.lemmas.List.{append_cancel_left, get_or_at, get_or_read, take_at}
 use Rattle.std.proofs.lemmas.Str.{IsCharBoundary-at_seam, IsCharBoundary-before_ascii, IsCharBoundary-end, IsCharBoundary-from_rest, IsUtf8-drop, IsUtf8-take, encodes-chars, scalars-chars}
-use Rattle.lw_text.specs.Lines.{Line, AreLines, bytes_of_all, joined}
+use Rattle.lw_text.specs.Lines.{Line, AreLines, lines_bytes, joined_lines}
 use Rattle.lw_text.specs.Offset.{IsOffset, in_line, past_lines, IsOffsetInLine, IsOffsetPastLines}
 use Rattle.lw_text.specs.Position.{AreCharsWithin, units_of}
 use Rattle.lw_text.specs.Starts.{AreStarts, IsBreakOrOver, IsLineEnd}
@@ -23,7 +23,7 @@ pub record StartsLine (text : List ℕ) (n start : ℕ) : Type 0 where
   pub after : List Line
   pub cut : AreLines text (before ++ line ∷ after)
   pub number : n ≡ length before
-  pub begins : start ≡ bytes_of_all before
+  pub begins : start ≡ lines_bytes before
 
 pub StartsLine-at : (text starts : List ℕ) (n start : ℕ) → AreStarts text starts → n < length starts → start ≡ get_or starts n start → StartsLine text n start
 StartsLine-at text starts n start are within at =
@@ -45,8 +45,8 @@ begins_with : (text : List ℕ) (n start : ℕ) → (s : StartsLine text n start
 begins_with text n start s = subst (λ k. BeginsWith (drop k text) s.line s.after) (sym s.begins) (line_in s.before s.cut s.line s.after refl)
 
 -- a line's ending begins with a break, if there is one
-over_behind : {bytes : List ℕ} {line : Line} {after : List Line} → BeginsWith bytes line after → IsBreakOrOver (line.ending ++ joined after)
-over_behind {after} b = ⊎_elim (λ over. subst₂ (λ ending lines. IsBreakOrOver (ending ++ joined lines)) (sym over.0) (sym over.1) tt) (λ ends. IsBreakOrOver-ending (joined after) ends.0) b.ends
+over_behind : {bytes : List ℕ} {line : Line} {after : List Line} → BeginsWith bytes line after → IsBreakOrOver (line.ending ++ joined_lines after)
+over_behind {after} b = ⊎_elim (λ over. subst₂ (λ ending lines. IsBreakOrOver (ending ++ joined_lines lines)) (sym over.0) (sym over.1) tt) (λ ends. IsBreakOrOver-ending (joined_lines after) ends.0) b.ends
 
 -- what stands before a break ends with a whole character
 seam : (front tail : List ℕ) → IsBreakOrOver tail → IsCharBoundary (front ++ tail) (length front)
@@ -64,7 +64,7 @@ end_boundary text start end within e =
 content_is : (text : List ℕ) (n start end : ℕ) → (s : StartsLine text n start) → (e : IsLineEnd text start end) → e.content ≡ s.line.content
 content_is text n start end s e =
     let b = begins_with text n start s in
-    (same_content e.content s.line.content (drop end text) (s.line.ending ++ joined s.after) e.bare b.bare e.over (over_behind b) (sym e.parts ∙ b.parts)).0
+    (same_content e.content s.line.content (drop end text) (s.line.ending ++ joined_lines s.after) e.bare b.bare e.over (over_behind b) (sym e.parts ∙ b.parts)).0
 
 pub IsOffset-in_line : (enc : Encoding) (text : List ℕ) (at : Pos) (offset start end : ℕ) (cs : List ℕ) → StartsLine text at.line start → IsLineEnd text start end →
     AreCharsWithin (units_of enc) (take (end - start) (drop start text)) at.character cs → offset ≡ start + length (encode_utf8_all cs) → IsOffset enc text at offset
@@ -89,13 +89,13 @@ IsOffset-past enc text starts at are past = past_lines (record { lines = are.lin
 pub IsOffset-boundary : (enc : Encoding) (text : List ℕ) (at : Pos) (offset : ℕ) → IsUtf8 text → IsOffset enc text at offset → (offset ≤ length text) × IsCharBoundary text offset
 IsOffset-boundary enc text at offset utf8 (past_lines p) = (omega (arith, p.far), subst (λ k. IsCharBoundary text k) (sym p.far) (IsCharBoundary-end text))
 IsOffset-boundary enc text at offset utf8 (in_line p) =
-    let start = bytes_of_all p.before in
+    let start = lines_bytes p.before in
     let starts = start_boundary text p.before p.line p.after utf8 p.cut in
     let rest = drop start text in
     let cs = p.chars in
-    let tail = p.chars_before.rest ++ (p.line.ending ++ joined p.after) in
-    let parts : rest ≡ encode_utf8_all cs ++ tail = (line_in p.before p.cut p.line p.after refl).parts ∙ ap (λ bytes. bytes ++ (p.line.ending ++ joined p.after)) p.chars_before.parts
-    ∙ append_assoc (encode_utf8_all cs) p.chars_before.rest (p.line.ending ++ joined p.after) in
+    let tail = p.chars_before.rest ++ (p.line.ending ++ joined_lines p.after) in
+    let parts : rest ≡ encode_utf8_all cs ++ tail = (line_in p.before p.cut p.line p.after refl).parts ∙ ap (λ bytes. bytes ++ (p.line.ending ++ joined_lines p.after)) p.chars_before.parts
+    ∙ append_assoc (encode_utf8_all cs) p.chars_before.rest (p.line.ending ++ joined_lines p.after) in
     let rest_utf8 = IsUtf8-drop text start utf8 starts in
     let found = begins cs (chars rest) tail (scalars-chars rest rest_utf8) (encodes-chars rest rest_utf8 ∙ parts) in
     let here : IsCharBoundary rest (length (encode_utf8_all cs)) = IsCharBoundary-at_seam rest (encode_utf8_all cs) tail parts (found.more, (found.more_scalars, found.left)) in
@@ -121,13 +121,13 @@ IsOffset-only enc text at a b (in_line p) (in_line q) =
     let same = same_front at.line p.before q.before p.line q.line p.after q.after p.number q.number (AreLines-only p.cut q.cut) in
     let moved = subst (λ line. AreCharsWithin (units_of enc) line.content at.character p.chars) same.1 p.chars_before in
     let cs = AreCharsWithin-only (units_of enc) q.line.content at.character p.chars q.chars moved q.chars_before in
-    p.far ∙ ap₂ (λ before chars. bytes_of_all before + length (encode_utf8_all chars)) same.0 cs ∙ sym q.far
+    p.far ∙ ap₂ (λ before chars. lines_bytes before + length (encode_utf8_all chars)) same.0 cs ∙ sym q.far
 
 -- ---- there is one
 pub content_utf8 : (text : List ℕ) (n start : ℕ) → IsUtf8 text → (s : StartsLine text n start) → IsUtf8 s.line.content
 content_utf8 text n start utf8 s =
     let b = begins_with text n start s in
-    let tail = s.line.ending ++ joined s.after in
+    let tail = s.line.ending ++ joined_lines s.after in
     let starts = StartsLine-boundary text n start utf8 s in
     let rest = subst IsUtf8 b.parts (IsUtf8-drop text start utf8 starts) in
     subst IsUtf8 (take_at s.line.content tail (length s.line.content) refl) (IsUtf8-take (s.line.content ++ tail) (length s.line.content) rest (seam s.line.content tail (over_behind b)))
@@ -138,10 +138,10 @@ some_offset enc text at utf8 =
     let lines = cut.0 in
     ⊎_elim
     (λ there. let found = numbered lines at.line 0 (omega (arith, length-starts_from lines 0)) in
-    let s : StartsLine text at.line (bytes_of_all found.before) = record { before = found.before; line = found.line; after = found.after; cut = subst (λ ls. AreLines text ls) found.parts cut.1; number = found.number; begins = refl } in
-    let within = AreCharsWithin-some (units_of enc) found.line.content at.character (content_utf8 text at.line (bytes_of_all found.before) utf8 s) in
+    let s : StartsLine text at.line (lines_bytes found.before) = record { before = found.before; line = found.line; after = found.after; cut = subst (λ ls. AreLines text ls) found.parts cut.1; number = found.number; begins = refl } in
+    let within = AreCharsWithin-some (units_of enc) found.line.content at.character (content_utf8 text at.line (lines_bytes found.before) utf8 s) in
     let result : (offset : ℕ) × IsOffset enc text at offset = (
-      bytes_of_all found.before + length (encode_utf8_all within.0),
+      lines_bytes found.before + length (encode_utf8_all within.0),
       in_line (record {
         before = s.before;
         line = s.line;

@@ -11,7 +11,7 @@ use Rattle.lw_text.specs.declared.change.EditFault.{EditFault}
 use Rattle.lw_text.specs.declared.change.EditFault.TheVariants.{TooLong, BadRange}
 use Rattle.lw_text.specs.declared.place.Pos.{Pos}
 use Rattle.lw_text.specs.declared.units.Encoding.{Encoding}
-use Rattle.lw_text.specs.declared.change.TheConstants.{MAX_BYTES}
+use Rattle.lw_base.specs.declared.limits.TheConstants.{LONGEST_TEXT}
 use Rattle.lw_text.proofs.Making.{AreMade-push}
 use Rattle.lw_text.proofs.Offsets.{IsOffset-only, IsOffset-some}
 
@@ -91,7 +91,7 @@ module _ (enc : Encoding) where
   -- by the length of the text that it makes
   by_length : (text : List ℕ) (change : Change) (number : ℕ) (new : List ℕ) → ¬ (HasBadRange change) → IsUtf8 new → IsChanged enc text change new → Decided text change number
   by_length text change number new ordered utf8 changed =
-      ⊎_elim (λ long. inr (TooLong (length new), too_long ordered changed long)) (λ fits. inl (new, utf8, record { ordered = ordered; changed = changed; fits = fits })) (cases_lt MAX_BYTES (length new))
+      ⊎_elim (λ long. inr (TooLong (length new), too_long ordered changed long)) (λ fits. inl (new, utf8, record { ordered = ordered; changed = changed; fits = fits })) (cases_lt LONGEST_TEXT (length new))
 
   decide_after : (a b : Pos) → (IsAfter a b) ⊎ ¬ (IsAfter a b)
   decide_after a b =

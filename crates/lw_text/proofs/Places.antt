@@ -7,7 +7,7 @@ use Rattle.std.proofs.lemmas.List.{drop_at, drop-drop, drop-append-le, take_at, 
 use Rattle.std.proofs.lemmas.List.Elements.{All-nil, All-cons, All-take, All-get_or}
 use Rattle.std.proofs.lemmas.List.Sums.{sum_by-cons}
 use Rattle.std.proofs.lemmas.Str.{IsUtf8-drop, IsCharBoundary-from_drop, IsCharBoundary-from_rest, IsCharBoundary-before_ascii, IsCharBoundary-past_char, inside_one, length-encode, len_utf8_ascii, len_utf8_bounds, encodes-chars, scalars-chars}
-use Rattle.lw_text.specs.Lines.{IsNoBreak, Line, IsEnding, line_feed, both, carriage_return, AreLines, last, next, joined, bytes_of, bytes_of_all}
+use Rattle.lw_text.specs.Lines.{IsNoBreak, Line, IsEnding, line_feed, both, carriage_return, AreLines, last, next, joined_lines, line_bytes, lines_bytes}
 use Rattle.lw_text.specs.Position.{AreCharsWithin, IsInLine, IsLineOf, IsPositionIn, units_of, utf8_len}
 use Rattle.lw_text.specs.declared.units.Encoding.{Encoding}
 use Rattle.lw_text.proofs.Lines.{AreLines-joined, not_none}
@@ -16,14 +16,14 @@ use Rattle.lw_text.proofs.Lines.{AreLines-joined, not_none}
 -- these bytes begin with the line, and go on with the lines after it
 pub record BeginsWith (bytes : List ℕ) (line : Line) (after : List Line) : Type 0 where
   pub bare : All IsNoBreak line.content
-  pub parts : bytes ≡ line.content ++ (line.ending ++ joined after)
-  pub ends : ((line.ending ≡ []) × (after ≡ [])) ⊎ (IsEnding (joined after) line.ending × (after ≢ []))
+  pub parts : bytes ≡ line.content ++ (line.ending ++ joined_lines after)
+  pub ends : ((line.ending ≡ []) × (after ≡ [])) ⊎ (IsEnding (joined_lines after) line.ending × (after ≢ []))
 
 some_lines : {text : List ℕ} {lines : List Line} → AreLines text lines → lines ≢ []
 some_lines (last _) e = cc
 some_lines (next _ _ _) e = cc
 
-pub line_in : (before : List Line) {text : List ℕ} {lines : List Line} → AreLines text lines → (line : Line) (after : List Line) → lines ≡ before ++ line ∷ after → BeginsWith (drop (bytes_of_all before) text) line after
+pub line_in : (before : List Line) {text : List ℕ} {lines : List Line} → AreLines text lines → (line : Line) (after : List Line) → lines ≡ before ++ line ∷ after → BeginsWith (drop (lines_bytes before) text) line after
 line_in [] (last {content} bare) line after e =
     let first : record { content = content; ending = [] } ≡ line = cc in
     let rest : [] ≡ after = cc in
@@ -31,18 +31,18 @@ line_in [] (last {content} bare) line after e =
 line_in [] (next {content} {ending} {rest} {lines} bare ends more) line after e =
     let first : record { content = content; ending = ending } ≡ line = cc in
     let others : lines ≡ after = cc in
-    let whole : content ++ ending ++ rest ≡ content ++ (ending ++ joined lines) = append_assoc content ending rest ∙ ap (λ bytes. content ++ (ending ++ bytes)) (AreLines-joined more) in
+    let whole : content ++ ending ++ rest ≡ content ++ (ending ++ joined_lines lines) = append_assoc content ending rest ∙ ap (λ bytes. content ++ (ending ++ bytes)) (AreLines-joined more) in
     subst₂ (λ l ls. BeginsWith (content ++ ending ++ rest) l ls) first others
     (record { bare = bare; parts = whole; ends = inr (subst (λ bytes. IsEnding bytes ending) (AreLines-joined more) ends, some_lines more) })
 line_in (first ∷ before) (last _) line after e = let over : [] ≡ before ++ line ∷ after = cc in absurd (not_none before line after over)
 line_in (first ∷ before) (next {content} {ending} {rest} {lines} bare ends more) line after e =
     let same : record { content = content; ending = ending } ≡ first = cc in
     let others : lines ≡ before ++ line ∷ after = cc in
-    let sizes : length content + length ending ≡ bytes_of first = ap bytes_of same in
-    let past : bytes_of_all (first ∷ before) ≡ length (content ++ ending) + bytes_of_all before = omega (arith, sizes, sum_by-cons bytes_of first before, length-append content ending) in
-    let left : drop (bytes_of_all (first ∷ before)) (content ++ ending ++ rest) ≡ drop (bytes_of_all before) rest =
-    ap (λ n. drop n (content ++ ending ++ rest)) past ∙ sym (drop-drop (bytes_of_all before) (length (content ++ ending)) (content ++ ending ++ rest))
-    ∙ ap (λ bytes. drop (bytes_of_all before) bytes) (drop_at (content ++ ending) rest (length (content ++ ending)) refl) in
+    let sizes : length content + length ending ≡ line_bytes first = ap line_bytes same in
+    let past : lines_bytes (first ∷ before) ≡ length (content ++ ending) + lines_bytes before = omega (arith, sizes, sum_by-cons line_bytes first before, length-append content ending) in
+    let left : drop (lines_bytes (first ∷ before)) (content ++ ending ++ rest) ≡ drop (lines_bytes before) rest =
+    ap (λ n. drop n (content ++ ending ++ rest)) past ∙ sym (drop-drop (lines_bytes before) (length (content ++ ending)) (content ++ ending ++ rest))
+    ∙ ap (λ bytes. drop (lines_bytes before) bytes) (drop_at (content ++ ending) rest (length (content ++ ending)) refl) in
     subst (λ bytes. BeginsWith bytes line after) (sym left) (line_in before more line after others)
 
 -- ---- the character boundary at or before a place
@@ -177,8 +177,8 @@ inside_ending size into (carriage_return _) behind before = absurd (omega arith)
 module _ (bytes : List ℕ) (line : Line) (after : List Line) (into place : ℕ) (held : List ℕ) (begins : BeginsWith bytes line after) (utf8 : IsUtf8 bytes) (text : IsUtf8 held) (floor : IsFloor bytes into place) (strip : IsStripped (take place bytes) held) where
   in_content : into ≤ length line.content → AreCharsWithin utf8_len line.content into (chars held)
   in_content within =
-      let tail = line.ending ++ joined after in
-      let low : IsLow tail = ⊎_elim (λ over. subst₂ (λ ending lines. IsLow (ending ++ joined lines)) (sym over.0) (sym over.1) tt) (λ ends. low_ending (joined after) ends.0) begins.ends in
+      let tail = line.ending ++ joined_lines after in
+      let low : IsLow tail = ⊎_elim (λ over. subst₂ (λ ending lines. IsLow (ending ++ joined_lines lines)) (sym over.0) (sym over.1) tt) (λ ends. low_ending (joined_lines after) ends.0) begins.ends in
       let cut : take place bytes ≡ take place line.content = ap (take place) begins.parts ∙ take-append-le place line.content tail (omega (arith, floor.bound)) in
       let is : held ≡ take place line.content = ⊎_elim
       (λ return. absurd (no_return_last (take place line.content) held (All-take IsNoBreak place line.content begins.bare) (sym cut ∙ return)))
@@ -190,24 +190,24 @@ module _ (bytes : List ℕ) (line : Line) (after : List Line) (into place : ℕ)
   in_ending two at =
       let front = line.content ++ 13 ∷ [] in
       let size : length front ≡ into = length_push line.content 13 ∙ sym at in
-      let regroup : line.content ++ ((13 ∷ 10 ∷ []) ++ joined after) ≡ front ++ 10 ∷ joined after = sym (append_assoc line.content (13 ∷ []) (10 ∷ joined after)) in
-      let parts : bytes ≡ front ++ 10 ∷ joined after = begins.parts ∙ ap (λ ending. line.content ++ (ending ++ joined after)) two ∙ regroup in
-      let sizes : length bytes ≡ length front + length (10 ∷ joined after) = ap length parts ∙ length-append front (10 ∷ joined after) in
-      let feed : get_or bytes into 0 ≡ 10 = ap (λ bs. get_or bs into 0) parts ∙ get_or_at front 10 (joined after) 0 into size in
+      let regroup : line.content ++ ((13 ∷ 10 ∷ []) ++ joined_lines after) ≡ front ++ 10 ∷ joined_lines after = sym (append_assoc line.content (13 ∷ []) (10 ∷ joined_lines after)) in
+      let parts : bytes ≡ front ++ 10 ∷ joined_lines after = begins.parts ∙ ap (λ ending. line.content ++ (ending ++ joined_lines after)) two ∙ regroup in
+      let sizes : length bytes ≡ length front + length (10 ∷ joined_lines after) = ap length parts ∙ length-append front (10 ∷ joined_lines after) in
+      let feed : get_or bytes into 0 ≡ 10 = ap (λ bs. get_or bs into 0) parts ∙ get_or_at front 10 (joined_lines after) 0 into size in
       let here : IsCharBoundary bytes into = IsCharBoundary-before_ascii bytes into (omega (arith, sizes, size)) (omega (arith, feed)) in
       let split : (place ≡ into) ⊎ (place < into) = let le = floor.bound in grind arith in
       let same : place ≡ into = ⊎_elim (λ e. e) (λ lt. let le : into ≤ into = omega arith in absurd (floor.nearest into lt le here)) split in
-      let piece : take place bytes ≡ front = ap (λ n. take n bytes) same ∙ ap (take into) parts ∙ take_at front (10 ∷ joined after) into size in
+      let piece : take place bytes ≡ front = ap (λ n. take n bytes) same ∙ ap (take into) parts ∙ take_at front (10 ∷ joined_lines after) into size in
       let is : held ≡ line.content = ⊎_elim (λ return. (same_from_push held line.content 13 13 (sym return ∙ piece)).0) (λ whole. absurd (whole.1 line.content piece)) strip in
       all_before line.content into held text is (omega (arith, at))
 
-  chars_at : into ≤ length bytes → (into < bytes_of line) ⊎ (after ≡ []) → AreCharsWithin utf8_len line.content into (chars held)
+  chars_at : into ≤ length bytes → (into < line_bytes line) ⊎ (after ≡ []) → AreCharsWithin utf8_len line.content into (chars held)
   chars_at within inside =
       let split : (into ≤ length line.content) ⊎ (length line.content < into) = grind arith in
-      let sizes : length bytes ≡ length line.content + length (line.ending ++ joined after) = ap length begins.parts ∙ length-append line.content (line.ending ++ joined after) in
+      let sizes : length bytes ≡ length line.content + length (line.ending ++ joined_lines after) = ap length begins.parts ∙ length-append line.content (line.ending ++ joined_lines after) in
       ⊎_elim in_content
       (λ behind. ⊎_elim
-      (λ over. let none : length (line.ending ++ joined after) ≡ 0 = subst₂ (λ ending lines. length (ending ++ joined lines) ≡ 0) (sym over.0) (sym over.1) refl in absurd (omega arith))
+      (λ over. let none : length (line.ending ++ joined_lines after) ≡ 0 = subst₂ (λ ending lines. length (ending ++ joined_lines lines) ≡ 0) (sym over.0) (sym over.1) refl in absurd (omega arith))
       (λ ends. ⊎_elim (λ before. let two = inside_ending (length line.content) into ends.0 behind before in in_ending two.0 two.1) (λ over. absurd (ends.1 over)) inside)
       begins.ends)
       split
@@ -216,8 +216,8 @@ pub position_at : (enc : Encoding) (text : List ℕ) (offset count start place :
 position_at enc text offset count start place held units utf8 within at starts bound boundary nearest piece strip is =
     let floor : IsFloor text offset place = record { bound = bound; boundary = boundary; nearest = nearest } in
     let begins : BeginsWith (drop start text) at.line at.after = subst (λ n. BeginsWith (drop n text) at.line at.after) (sym at.begins) (line_in at.before at.cut at.line at.after refl) in
-    let far : offset ≡ bytes_of_all at.before + (offset - start) = omega (arith, at.begins, at.inside.0) in
-    let inside : (offset - start < bytes_of at.line) ⊎ (at.after ≡ []) = ⊎_elim (λ lt. inl (omega (arith, at.inside.0))) (λ over. inr over) at.inside.1 in
+    let far : offset ≡ lines_bytes at.before + (offset - start) = omega (arith, at.begins, at.inside.0) in
+    let inside : (offset - start < line_bytes at.line) ⊎ (at.after ≡ []) = ⊎_elim (λ lt. inl (omega (arith, at.inside.0))) (λ over. inr over) at.inside.1 in
     record {
       before = at.before;
       line = at.line;

@@ -4,7 +4,7 @@ use Rattle.std.specs.Char.{IsScalar}
 use Rattle.std.proofs.lemmas.List.{append_cancel_left}
 use Rattle.std.proofs.lemmas.List.Sums.{sum_by-cons}
 use Rattle.std.proofs.lemmas.Str.{encode_same, length-encode, len_utf8_bounds}
-use Rattle.lw_text.specs.Lines.{Line, bytes_of, bytes_of_all}
+use Rattle.lw_text.specs.Lines.{Line, line_bytes, lines_bytes}
 use Rattle.lw_text.specs.Position.{AreCharsWithin, IsInLine, IsPositionIn, units_of, utf8_len}
 use Rattle.lw_text.specs.declared.place.Pos.{Pos}
 use Rattle.lw_text.specs.declared.units.Encoding.{Encoding}
@@ -13,27 +13,27 @@ use Rattle.lw_text.proofs.Lines.{AreLines-only, not_none}
 -- ---- the line
 -- a place in the first of some lines is in no later one
 not_later : (first : Line) (before : List Line) (line other : Line) (after others : List Line) (offset start : ℕ) →
-    line ∷ after ≡ (first ∷ before) ++ other ∷ others → IsInLine offset (start + 0) line after → ¬ (start + bytes_of_all (first ∷ before) ≤ offset)
+    line ∷ after ≡ (first ∷ before) ++ other ∷ others → IsInLine offset (start + 0) line after → ¬ (start + lines_bytes (first ∷ before) ≤ offset)
 not_later first before line other after others offset start e inside beyond =
     let same : line ≡ first = cc in
     let more : after ≡ before ++ other ∷ others = cc in
-    let sizes : bytes_of line ≡ bytes_of first = ap bytes_of same in
-    let size : bytes_of_all (first ∷ before) ≡ bytes_of first + bytes_of_all before = sum_by-cons bytes_of first before in
-    ⊎_elim (λ short. let below : offset < start + 0 + bytes_of line = short in omega arith) (λ over. not_none before other others (sym over ∙ more)) inside.1
+    let sizes : line_bytes line ≡ line_bytes first = ap line_bytes same in
+    let size : lines_bytes (first ∷ before) ≡ line_bytes first + lines_bytes before = sum_by-cons line_bytes first before in
+    ⊎_elim (λ short. let below : offset < start + 0 + line_bytes line = short in omega arith) (λ over. not_none before other others (sym over ∙ more)) inside.1
 
 same_before : (before befores : List Line) (line other : Line) (after others : List Line) (offset start : ℕ) →
-    before ++ line ∷ after ≡ befores ++ other ∷ others → IsInLine offset (start + bytes_of_all before) line after →
-    IsInLine offset (start + bytes_of_all befores) other others → before ≡ befores
+    before ++ line ∷ after ≡ befores ++ other ∷ others → IsInLine offset (start + lines_bytes before) line after →
+    IsInLine offset (start + lines_bytes befores) other others → before ≡ befores
 same_before [] [] line other after others offset start e a b = refl
 same_before [] (first ∷ befores) line other after others offset start e a b = absurd (not_later first befores line other after others offset start e a b.0)
 same_before (first ∷ before) [] line other after others offset start e a b = absurd (not_later first before other line others after offset start (sym e) b a.0)
 same_before (first ∷ before) (second ∷ befores) line other after others offset start e a b =
     let same : first ≡ second = cc in
     let rest : before ++ line ∷ after ≡ befores ++ other ∷ others = cc in
-    let sizes : bytes_of first ≡ bytes_of second = ap bytes_of same in
-    let p : start + bytes_of_all (first ∷ before) ≡ start + bytes_of first + bytes_of_all before = omega (arith, sum_by-cons bytes_of first before) in
-    let q : start + bytes_of_all (second ∷ befores) ≡ start + bytes_of first + bytes_of_all befores = omega (arith, sizes, sum_by-cons bytes_of second befores) in
-    ap₂ (λ x xs. x ∷ xs) same (same_before before befores line other after others offset (start + bytes_of first) rest (subst (λ n. IsInLine offset n line after) p a) (subst (λ n. IsInLine offset n other others) q b))
+    let sizes : line_bytes first ≡ line_bytes second = ap line_bytes same in
+    let p : start + lines_bytes (first ∷ before) ≡ start + line_bytes first + lines_bytes before = omega (arith, sum_by-cons line_bytes first before) in
+    let q : start + lines_bytes (second ∷ befores) ≡ start + line_bytes first + lines_bytes befores = omega (arith, sizes, sum_by-cons line_bytes second befores) in
+    ap₂ (λ x xs. x ∷ xs) same (same_before before befores line other after others offset (start + line_bytes first) rest (subst (λ n. IsInLine offset n line after) p a) (subst (λ n. IsInLine offset n other others) q b))
 
 -- ---- the characters
 -- the next character, if there is one, ends behind the unit n
@@ -100,11 +100,11 @@ IsPositionIn-only enc text offset a b p q =
     let zeroth : (k : ℕ) → k ≡ 0 + k = λ k. omega arith in
     let lines = AreLines-only p.cut q.cut in
     let before = same_before p.before q.before p.line q.line p.after q.after offset 0 lines
-    (subst (λ k. IsInLine offset k p.line p.after) (zeroth (bytes_of_all p.before)) p.inside)
-    (subst (λ k. IsInLine offset k q.line q.after) (zeroth (bytes_of_all q.before)) q.inside) in
+    (subst (λ k. IsInLine offset k p.line p.after) (zeroth (lines_bytes p.before)) p.inside)
+    (subst (λ k. IsInLine offset k q.line q.after) (zeroth (lines_bytes q.before)) q.inside) in
     let rest = append_cancel_left q.before (p.line ∷ p.after) (q.line ∷ q.after) (ap (λ xs. xs ++ p.line ∷ p.after) (sym before) ∙ lines) in
     let line : p.line ≡ q.line = cc in
-    let starts : bytes_of_all p.before ≡ bytes_of_all q.before = ap bytes_of_all before in
+    let starts : lines_bytes p.before ≡ lines_bytes q.before = ap lines_bytes before in
     let into : p.into ≡ q.into = omega (arith, p.far, q.far) in
     let moved = subst (λ n. AreCharsWithin utf8_len q.line.content n p.chars) into (subst (λ l. AreCharsWithin utf8_len l.content p.into p.chars) line p.chars_before) in
     let chars = AreCharsWithin-only utf8_len q.line.content q.into p.chars q.chars moved q.chars_before in

@@ -9,7 +9,7 @@ use Rattle.std.proofs.lemmas.List.{drop-drop, drop_all, drop_more, get_or-drop, 
 use Rattle.std.proofs.lemmas.List.Elements.{All-from_get_or}
 use Rattle.std.proofs.lemmas.List.Sums.{sum_by-cons, sum_by_push}
 use Rattle.lw_lanes.specs.LineBreak.{is_break, IsLeastBreak, NoBreakBetween}
-use Rattle.lw_text.specs.Lines.{IsNoBreak, Line, IsEnding, line_feed, both, carriage_return, AreLines, last, next, bytes_of, bytes_of_all}
+use Rattle.lw_text.specs.Lines.{IsNoBreak, Line, IsEnding, line_feed, both, carriage_return, AreLines, last, next, line_bytes, lines_bytes}
 use Rattle.lw_text.specs.Position.{IsLineOf}
 use Rattle.lw_text.specs.Starts.{AreStarts, IsBreakOrOver, IsLineEnd, IsNextLine, starts_from}
 use Rattle.lw_text.proofs.Lines.{cut_of}
@@ -117,7 +117,7 @@ next_line_test text start end pair e is =
 -- these are the lines before the one that begins at `start`
 pub record Reached (text : List ℕ) (start : ℕ) (before : List Line) : Type 0 where
   pub opens : (after : List Line) → AreLines (drop start text) after → AreLines text (before ++ after)
-  pub begins : start ≡ bytes_of_all before
+  pub begins : start ≡ lines_bytes before
 
 pub Reached-start : (text : List ℕ) → Reached text 0 []
 Reached-start text = record { opens = λ after cut. cut; begins = refl }
@@ -131,7 +131,7 @@ cut_to text start end n after cut = subst (λ bytes. AreLines bytes (line_to n �
 pub Reached-next : (text : List ℕ) (start end : ℕ) (before : List Line) → Reached text start before → (n : IsNextLine text start end) → Reached text end (before ++ line_to n ∷ [])
 Reached-next text start end before r n = record {
   opens = λ after cut. subst (λ lines. AreLines text lines) (sym (append_assoc before (line_to n ∷ []) after)) (r.opens (line_to n ∷ after) (cut_to text start end n after cut));
-  begins = omega (arith, sum_by_push bytes_of before (line_to n), r.begins, n.far);
+  begins = omega (arith, sum_by_push line_bytes before (line_to n), r.begins, n.far);
 }
 
 abbrev last_of : List ℕ → Line
@@ -163,11 +163,11 @@ in_line_to text start end offset number before r from ahead is n =
     }
 
 -- ---- where the lines begin
-pub starts_from-append : (base : ℕ) (before after : List Line) → starts_from base (before ++ after) ≡ starts_from base before ++ starts_from (base + bytes_of_all before) after
+pub starts_from-append : (base : ℕ) (before after : List Line) → starts_from base (before ++ after) ≡ starts_from base before ++ starts_from (base + lines_bytes before) after
 starts_from-append base [] after = ap (λ n. starts_from n after) (omega arith)
 starts_from-append base (line ∷ before) after =
-    let far : base + bytes_of line + bytes_of_all before ≡ base + bytes_of_all (line ∷ before) = omega (arith, sum_by-cons bytes_of line before) in
-    ap (λ starts. base ∷ starts) (starts_from-append (base + bytes_of line) before after ∙ ap (λ n. starts_from (base + bytes_of line) before ++ starts_from n after) far)
+    let far : base + line_bytes line + lines_bytes before ≡ base + lines_bytes (line ∷ before) = omega (arith, sum_by-cons line_bytes line before) in
+    ap (λ starts. base ∷ starts) (starts_from-append (base + line_bytes line) before after ∙ ap (λ n. starts_from (base + line_bytes line) before ++ starts_from n after) far)
 
 -- the lines before the one that begins at the last of these places
 pub record Noted (text : List ℕ) (start : ℕ) (starts : List ℕ) : Type 0 where
@@ -180,7 +180,7 @@ Noted-start text = record { before = []; reached = Reached-start text; places = 
 
 pub Noted-next : (text : List ℕ) (start end : ℕ) (starts : List ℕ) → Noted text start starts → IsNextLine text start end → Noted text end (starts ++ end ∷ [])
 Noted-next text start end starts noted n =
-    let begins : 0 + bytes_of_all noted.before ≡ start = omega (arith, noted.reached.begins) in
+    let begins : 0 + lines_bytes noted.before ≡ start = omega (arith, noted.reached.begins) in
     record {
       before = noted.before ++ line_to n ∷ [];
       reached = Reached-next text start end noted.before noted.reached n;
@@ -189,7 +189,7 @@ Noted-next text start end starts noted n =
 
 pub Noted-last : (text : List ℕ) (start : ℕ) (starts : List ℕ) → Noted text start starts → All IsNoBreak (drop start text) → AreStarts text starts
 Noted-last text start starts noted bare =
-    let begins : 0 + bytes_of_all noted.before ≡ start = omega (arith, noted.reached.begins) in
+    let begins : 0 + lines_bytes noted.before ≡ start = omega (arith, noted.reached.begins) in
     record {
       lines = noted.before ++ last_of (drop start text) ∷ [];
       cut = noted.reached.opens (last_of (drop start text) ∷ []) (last bare);

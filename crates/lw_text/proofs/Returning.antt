@@ -5,7 +5,7 @@ use Rattle.std.proofs.lemmas.Bool.Decides.{nat_tests}
 use Rattle.std.proofs.lemmas.List.{drop-drop, get_or-drop, get_or_append_left, get_or_at}
 use Rattle.std.proofs.lemmas.Option.{slice_get-get_or}
 use Rattle.std.proofs.lemmas.Str.{IsCharBoundary-from_drop, IsUtf8-drop, IsUtf8-take, encodes-chars}
-use Rattle.lw_text.specs.Lines.{bytes_of_all, joined}
+use Rattle.lw_text.specs.Lines.{lines_bytes, joined_lines}
 use Rattle.lw_text.specs.Offset.{IsOffset, in_line}
 use Rattle.lw_text.specs.Position.{AreCharsWithin, IsInsideBreak, IsPositionIn, units_of, utf8_len}
 use Rattle.lw_text.specs.declared.place.Pos.{Pos}
@@ -42,36 +42,36 @@ narrowed content tail into within at = (
 )
 
 module _ (enc : Encoding) (text : List ℕ) (offset : ℕ) (at : Pos) (utf8 : IsUtf8 text) (boundary : IsCharBoundary text offset) (apart : ¬ (IsInsideBreak text offset)) (p : IsPositionIn enc text offset at) where
-  rest_begins : BeginsWith (drop (bytes_of_all p.before) text) p.line p.after
+  rest_begins : BeginsWith (drop (lines_bytes p.before) text) p.line p.after
   rest_begins = line_in p.before p.cut p.line p.after refl
 
-  tail_size : length text ≡ bytes_of_all p.before + length p.line.content + length (p.line.ending ++ joined p.after)
+  tail_size : length text ≡ lines_bytes p.before + length p.line.content + length (p.line.ending ++ joined_lines p.after)
   tail_size =
       let starts = start_boundary text p.before p.line p.after utf8 p.cut in
-      omega (arith, starts.0, length-drop (bytes_of_all p.before) text, ap length rest_begins.parts, length-append p.line.content (p.line.ending ++ joined p.after))
+      omega (arith, starts.0, length-drop (lines_bytes p.before) text, ap length rest_begins.parts, length-append p.line.content (p.line.ending ++ joined_lines p.after))
 
   -- the byte k of what follows the line's start
-  byte_at : (k c : ℕ) → bytes_of_all p.before + k < length text → get_or (drop (bytes_of_all p.before) text) k 0 ≡ c → slice_get text (bytes_of_all p.before + k) ≡ Some c
-  byte_at k c within is = slice_get-get_or text (bytes_of_all p.before + k) 0 within ∙ ap (λ b. Some b) (sym (get_or-drop (bytes_of_all p.before) text k 0) ∙ is)
+  byte_at : (k c : ℕ) → lines_bytes p.before + k < length text → get_or (drop (lines_bytes p.before) text) k 0 ≡ c → slice_get text (lines_bytes p.before + k) ≡ Some c
+  byte_at k c within is = slice_get-get_or text (lines_bytes p.before + k) 0 within ∙ ap (λ b. Some b) (sym (get_or-drop (lines_bytes p.before) text k 0) ∙ is)
 
   inside_pair : p.line.ending ≡ 13 ∷ 10 ∷ [] → p.into ≡ length p.line.content + 1 → IsInsideBreak text offset
   inside_pair two into =
       let content = p.line.content in
       let n = length content in
-      let parts : drop (bytes_of_all p.before) text ≡ content ++ 13 ∷ 10 ∷ joined p.after = rest_begins.parts ∙ ap (λ ending. content ++ (ending ++ joined p.after)) two in
-      let long : length (p.line.ending ++ joined p.after) ≡ 2 + length (joined p.after) = ap (λ ending. length (ending ++ joined p.after)) two ∙ omega arith in
-      let regroup : content ++ 13 ∷ 10 ∷ joined p.after ≡ (content ++ 13 ∷ []) ++ 10 ∷ joined p.after = sym (append_assoc content (13 ∷ []) (10 ∷ joined p.after)) in
+      let parts : drop (lines_bytes p.before) text ≡ content ++ 13 ∷ 10 ∷ joined_lines p.after = rest_begins.parts ∙ ap (λ ending. content ++ (ending ++ joined_lines p.after)) two in
+      let long : length (p.line.ending ++ joined_lines p.after) ≡ 2 + length (joined_lines p.after) = ap (λ ending. length (ending ++ joined_lines p.after)) two ∙ omega arith in
+      let regroup : content ++ 13 ∷ 10 ∷ joined_lines p.after ≡ (content ++ 13 ∷ []) ++ 10 ∷ joined_lines p.after = sym (append_assoc content (13 ∷ []) (10 ∷ joined_lines p.after)) in
       let size : length (content ++ 13 ∷ []) ≡ n + 1 = length-append content (13 ∷ []) in
-      let first : get_or (drop (bytes_of_all p.before) text) n 0 ≡ 13 = ap (λ bytes. get_or bytes n 0) parts ∙ get_or_at content 13 (10 ∷ joined p.after) 0 n refl in
-      let second : get_or (drop (bytes_of_all p.before) text) (n + 1) 0 ≡ 10 = ap (λ bytes. get_or bytes (n + 1) 0) (parts ∙ regroup) ∙ get_or_at (content ++ 13 ∷ []) 10 (joined p.after) 0 (n + 1) size in
-      let far : bytes_of_all p.before + (n + 1) ≡ offset = omega (arith, p.far) in
-      (bytes_of_all p.before + n, omega (arith, p.far), byte_at n 13 (omega (arith, tail_size)) first, subst (λ k. slice_get text k ≡ Some 10) far (byte_at (n + 1) 10 (omega (arith, tail_size)) second))
+      let first : get_or (drop (lines_bytes p.before) text) n 0 ≡ 13 = ap (λ bytes. get_or bytes n 0) parts ∙ get_or_at content 13 (10 ∷ joined_lines p.after) 0 n refl in
+      let second : get_or (drop (lines_bytes p.before) text) (n + 1) 0 ≡ 10 = ap (λ bytes. get_or bytes (n + 1) 0) (parts ∙ regroup) ∙ get_or_at (content ++ 13 ∷ []) 10 (joined_lines p.after) 0 (n + 1) size in
+      let far : lines_bytes p.before + (n + 1) ≡ offset = omega (arith, p.far) in
+      (lines_bytes p.before + n, omega (arith, p.far), byte_at n 13 (omega (arith, tail_size)) first, subst (λ k. slice_get text k ≡ Some 10) far (byte_at (n + 1) 10 (omega (arith, tail_size)) second))
 
   in_content : p.into ≤ length p.line.content
   in_content =
       ⊎_elim
       (λ behind. ⊎_elim
-      (λ over. let none : length (p.line.ending ++ joined p.after) ≡ 0 = subst₂ (λ ending lines. length (ending ++ joined lines) ≡ 0) (sym over.0) (sym over.1) refl in absurd (omega (arith, boundary.0, p.far, tail_size)))
+      (λ over. let none : length (p.line.ending ++ joined_lines p.after) ≡ 0 = subst₂ (λ ending lines. length (ending ++ joined_lines lines) ≡ 0) (sym over.0) (sym over.1) refl in absurd (omega (arith, boundary.0, p.far, tail_size)))
       (λ ends. ⊎_elim
       (λ before. let two = inside_ending (length p.line.content) p.into ends.0 behind (omega (arith, p.far)) in absurd (apart (inside_pair two.0 two.1)))
       (λ over. absurd (ends.1 over))
@@ -82,15 +82,15 @@ module _ (enc : Encoding) (text : List ℕ) (offset : ℕ) (at : Pos) (utf8 : Is
 
   whole_before : IsCharBoundary p.line.content p.into
   whole_before =
-      let rest = drop (bytes_of_all p.before) text in
-      let left : drop p.into rest ≡ drop offset text = drop-drop p.into (bytes_of_all p.before) text ∙ ap (λ n. drop n text) (sym p.far) in
-      let here : IsCharBoundary rest p.into = IsCharBoundary-from_drop rest p.into (omega (arith, boundary.0, p.far, length-drop (bytes_of_all p.before) text)) (subst IsUtf8 (sym left) (IsUtf8-drop text offset utf8 boundary)) in
-      narrowed p.line.content (p.line.ending ++ joined p.after) p.into in_content (subst (λ bytes. IsCharBoundary bytes p.into) rest_begins.parts here)
+      let rest = drop (lines_bytes p.before) text in
+      let left : drop p.into rest ≡ drop offset text = drop-drop p.into (lines_bytes p.before) text ∙ ap (λ n. drop n text) (sym p.far) in
+      let here : IsCharBoundary rest p.into = IsCharBoundary-from_drop rest p.into (omega (arith, boundary.0, p.far, length-drop (lines_bytes p.before) text)) (subst IsUtf8 (sym left) (IsUtf8-drop text offset utf8 boundary)) in
+      narrowed p.line.content (p.line.ending ++ joined_lines p.after) p.into in_content (subst (λ bytes. IsCharBoundary bytes p.into) rest_begins.parts here)
 
   pub lead_back : IsOffset enc text at offset
   lead_back =
-      let s : StartsLine text at.line (bytes_of_all p.before) = record { before = p.before; line = p.line; after = p.after; cut = p.cut; number = p.number; begins = refl } in
-      let held = content_utf8 text at.line (bytes_of_all p.before) utf8 s in
+      let s : StartsLine text at.line (lines_bytes p.before) = record { before = p.before; line = p.line; after = p.after; cut = p.cut; number = p.number; begins = refl } in
+      let held = content_utf8 text at.line (lines_bytes p.before) utf8 s in
       let size = length-before p.line.content p.into p.chars held whole_before p.chars_before in
       in_line (record {
         before = p.before;

@@ -6,7 +6,7 @@ use Rattle.lw_text.specs.Offset.{IsOffset}
 use Rattle.lw_text.specs.declared.change.Change.{Change}
 use Rattle.lw_text.specs.declared.change.EditFault.{EditFault}
 use Rattle.lw_text.specs.declared.change.EditFault.TheVariants.{BadRange, TooLong, NoMemory}
-use Rattle.lw_text.specs.declared.change.TheConstants.{MAX_BYTES}
+use Rattle.lw_base.specs.declared.limits.TheConstants.{LONGEST_TEXT}
 use Rattle.lw_text.specs.declared.place.Pos.{Pos}
 use Rattle.lw_text.specs.declared.units.Encoding.{Encoding}
 
@@ -28,7 +28,7 @@ pub data IsChanged (enc : Encoding) (text : List ℕ) (change : Change) : List �
 pub record IsMade (enc : Encoding) (text : List ℕ) (change : Change) (new : List ℕ) : Type 0 where
   pub ordered : ¬ HasBadRange change
   pub changed : IsChanged enc text change new
-  pub fits : length new ≤ MAX_BYTES
+  pub fits : length new ≤ LONGEST_TEXT
 
 -- all of these changes are made in order, each in the text that the one before left
 pub data AreMade (enc : Encoding) : List ℕ → List Change → List ℕ → Type 0 where
@@ -40,7 +40,7 @@ pub data AreMade (enc : Encoding) : List ℕ → List Change → List ℕ → Ty
 -- list, counted from zero.
 pub data IsRefused (enc : Encoding) (text : List ℕ) (change : Change) (number : ℕ) : EditFault → Type 0 where
   bad_range : HasBadRange change → IsRefused enc text change number (BadRange number)
-  too_long : {new : List ℕ} → ¬ HasBadRange change → IsChanged enc text change new → MAX_BYTES < length new → IsRefused enc text change number (TooLong (length new))
+  too_long : {new : List ℕ} → ¬ HasBadRange change → IsChanged enc text change new → LONGEST_TEXT < length new → IsRefused enc text change number (TooLong (length new))
 
 -- what the changes make of a text: all of them are made, or those before the first that cannot be
 pub data Changes (enc : Encoding) (text : List ℕ) (changes : List Change) : Result (List ℕ) EditFault → Type 0 where
@@ -50,5 +50,5 @@ pub data Changes (enc : Encoding) (text : List ℕ) (changes : List Change) : Re
 
 -- a text of these bytes, or why there is none: they are too many, or memory was refused
 abbrev pub IsTextOrFault : List ℕ → Result (List ℕ) EditFault → Type 0
-IsTextOrFault bytes (Ok text) = (text ≡ bytes) × (length bytes ≤ MAX_BYTES)
-IsTextOrFault bytes (Err fault) = (fault ≡ NoMemory) ⊎ ((fault ≡ TooLong (length bytes)) × (MAX_BYTES < length bytes))
+IsTextOrFault bytes (Ok text) = (text ≡ bytes) × (length bytes ≤ LONGEST_TEXT)
+IsTextOrFault bytes (Err fault) = (fault ≡ NoMemory) ⊎ ((fault ≡ TooLong (length bytes)) × (LONGEST_TEXT < length bytes))

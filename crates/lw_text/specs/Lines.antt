@@ -24,15 +24,15 @@ pub data AreLines : List ℕ → List Line → Type 0 where
       AreLines (content ++ ending ++ rest) (record { content = content; ending = ending } ∷ lines)
 
 -- the lines one after the other, each with what ends it
-abbrev pub joined : List Line → List ℕ
-joined lines = flat_map (λ line. line.content ++ line.ending) lines
+abbrev pub joined_lines : List Line → List ℕ
+joined_lines lines = flat_map (λ line. line.content ++ line.ending) lines
 
 -- how many bytes a line takes, with what ends it
-abbrev pub bytes_of : Line → ℕ
-bytes_of line = length line.content + length line.ending
+abbrev pub line_bytes : Line → ℕ
+line_bytes line = length line.content + length line.ending
 
-abbrev pub bytes_of_all : List Line → ℕ
-bytes_of_all lines = sum_by bytes_of lines
+abbrev pub lines_bytes : List Line → ℕ
+lines_bytes lines = sum_by line_bytes lines
 
 -- the byte at i is the last of what ends a line: a `\n`, or a `\r` with no `\n` behind it
 abbrev pub EndsLine : List ℕ → ℕ → Type 0

@@ -1,7 +1,7 @@
 -- The place in a text that a position means, as a number of bytes: the Language Server Protocol 3.17, "Position", where a character past
 -- the line's end is the line's end. The protocol leaves open what a line past the last means: it is the text's end.
 use Rattle.std.specs.Prelude.{ℕ, ◌≡◌, ◌+◌, ◌≤◌, List, ◌∷◌, ◌++◌, length, encode_utf8_all}
-use Rattle.lw_text.specs.Lines.{Line, AreLines, bytes_of_all}
+use Rattle.lw_text.specs.Lines.{Line, AreLines, lines_bytes}
 use Rattle.lw_text.specs.Position.{AreCharsWithin, units_of}
 use Rattle.lw_text.specs.declared.place.Pos.{Pos}
 use Rattle.lw_text.specs.declared.units.Encoding.{Encoding}
@@ -16,7 +16,7 @@ pub record IsOffsetInLine (enc : Encoding) (text : List ℕ) (at : Pos) (offset 
   pub cut : AreLines text (before ++ line ∷ after)
   pub number : at.line ≡ length before
   pub chars_before : AreCharsWithin (units_of enc) line.content at.character chars
-  pub far : offset ≡ bytes_of_all before + length (encode_utf8_all chars)
+  pub far : offset ≡ lines_bytes before + length (encode_utf8_all chars)
 
 -- the text has no such line
 pub record IsOffsetPastLines (text : List ℕ) (at : Pos) (offset : ℕ) : Type 0 where

@@ -2,7 +2,7 @@
 -- encoding that client and server have agreed on (Language Server Protocol 3.17, "Position" and "PositionEncodingKind").
 use Rattle.std.specs.Prelude.{ℕ, ◌≡◌, ◌+◌, ◌<◌, ◌≤◌, ◌⊎◌, List, [], ◌∷◌, ◌++◌, length, sum_by, nat_lt, if◌then◌else◌, Some, slice_get, encode_utf8, encode_utf8_all, All}
 use Rattle.std.specs.Char.{IsScalar}
-use Rattle.lw_text.specs.Lines.{Line, AreLines, bytes_of, bytes_of_all}
+use Rattle.lw_text.specs.Lines.{Line, AreLines, line_bytes, lines_bytes}
 use Rattle.lw_text.specs.declared.place.Pos.{Pos}
 use Rattle.lw_text.specs.declared.units.Encoding.{Encoding}
 use Rattle.lw_text.specs.declared.units.Encoding.TheVariants.{Utf16}
@@ -30,7 +30,7 @@ pub record AreCharsWithin (size : ℕ → ℕ) (bytes : List ℕ) (n : ℕ) (cs 
 
 -- the place is in this line, which begins at `start`: before the next line, or anywhere after its start where it is the last
 abbrev pub IsInLine : ℕ → ℕ → Line → List Line → Type 0
-IsInLine offset start line after = (start ≤ offset) × ((offset < start + bytes_of line) ⊎ (after ≡ []))
+IsInLine offset start line after = (start ≤ offset) × ((offset < start + line_bytes line) ⊎ (after ≡ []))
 
 -- the line that the byte offset is in: how many lines come before it, and where it begins
 pub record IsLineOf (text : List ℕ) (offset count start : ℕ) : Type 0 where
@@ -38,7 +38,7 @@ pub record IsLineOf (text : List ℕ) (offset count start : ℕ) : Type 0 where
   pub line : Line
   pub after : List Line
   pub cut : AreLines text (before ++ line ∷ after)
-  pub begins : start ≡ bytes_of_all before
+  pub begins : start ≡ lines_bytes before
   pub inside : IsInLine offset start line after
   pub number : count ≡ length before
 
@@ -51,8 +51,8 @@ pub record IsPositionIn (enc : Encoding) (text : List ℕ) (offset : ℕ) (at : 
   pub into : ℕ
   pub chars : List ℕ
   pub cut : AreLines text (before ++ line ∷ after)
-  pub inside : IsInLine offset (bytes_of_all before) line after
-  pub far : offset ≡ bytes_of_all before + into
+  pub inside : IsInLine offset (lines_bytes before) line after
+  pub far : offset ≡ lines_bytes before + into
   pub chars_before : AreCharsWithin utf8_len line.content into chars
   pub number : at.line ≡ length before
   pub character : at.character ≡ sum_by (units_of enc) chars

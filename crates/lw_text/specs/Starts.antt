@@ -1,13 +1,13 @@
 -- Where the lines of a text begin: the index by which a text finds a line without looking at the lines before it. The lines are those of
 -- the Language Server Protocol 3.17, "Text Documents".
 use Rattle.std.specs.Prelude.{ℕ, ◌≡◌, ◌+◌, ◌≤◌, ◌⊎◌, List, [], ◌∷◌, ◌++◌, length, drop, All}
-use Rattle.lw_text.specs.declared.change.TheConstants.{MAX_BYTES}
-use Rattle.lw_text.specs.Lines.{Line, AreLines, IsNoBreak, IsEnding, bytes_of}
+use Rattle.lw_base.specs.declared.limits.TheConstants.{LONGEST_TEXT}
+use Rattle.lw_text.specs.Lines.{Line, AreLines, IsNoBreak, IsEnding, line_bytes}
 
 -- where these lines begin, the first of them at `start`
 abbrev pub starts_from : ℕ → List Line → List ℕ
 starts_from start [] = []
-starts_from start (line ∷ lines) = start ∷ starts_from (start + bytes_of line) lines
+starts_from start (line ∷ lines) = start ∷ starts_from (start + line_bytes line) lines
 
 -- where the lines of the text begin
 pub record AreStarts (text starts : List ℕ) : Type 0 where
@@ -18,7 +18,7 @@ pub record AreStarts (text starts : List ℕ) : Type 0 where
 -- what a text that knows its lines keeps true: these are its lines, and it is not too long
 pub record IsIndexed (text starts : List ℕ) : Type 0 where
   pub lines : AreStarts text starts
-  pub fits : length text ≤ MAX_BYTES
+  pub fits : length text ≤ LONGEST_TEXT
 
 -- the bytes are over, or go on with a byte that ends a line
 abbrev pub IsBreakOrOver : List ℕ → Type 0

@@ -3,9 +3,6 @@ use crate::Pos;
 use lw_base::{Name, NoMemory};
 use std::alloc::AllocError;
 
-/// The most bytes that a text may have: 64 MiB.
-pub const MAX_BYTES: usize = 67_108_864;
-
 /// A change of a text: its new text, in place of what stands in the range, from its start up to its
 /// end, or of the whole text where there is no range (Language Server Protocol 3.17,
 /// "TextDocumentContentChangeEvent").
@@ -36,7 +33,7 @@ pub enum EditFault {
     /// The start of a range comes after its end, both as given: the number of the change, counted from
     /// zero.
     BadRange(u64),
-    /// The text would be longer than [`MAX_BYTES`]: its length in bytes.
+    /// The text would be longer than [`LONGEST_TEXT`]: its length in bytes.
     TooLong(u64),
     /// Memory was refused.
     NoMemory,

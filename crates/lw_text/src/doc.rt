@@ -5,16 +5,16 @@ ghost use Rattle.lw_text.specs.Changes.{AreMade, Changes, IsMade, IsRefused, IsT
 ghost use Rattle.lw_text.specs.Offset.{IsOffset};
 ghost use Rattle.lw_text.specs.Position.{IsPositionIn};
 
-use crate::change::{Change, EditFault, MAX_BYTES};
+use crate::change::{Change, EditFault};
 use crate::line::{line_among, line_starts};
 use crate::place::{Pos, offset_in, position_in};
 use crate::units::Encoding;
-use lw_base::{Items, Name, NoMemory};
+use lw_base::{Items, LONGEST_TEXT, Name, NoMemory};
 use std::alloc::Global;
 use std::marker::Model;
 
 /// A text that knows where its lines begin, seen as its list of bytes. These are always UTF-8, and
-/// never more than [`MAX_BYTES`].
+/// never more than [`LONGEST_TEXT`].
 ///
 /// It keeps four bytes for each line beside the text.
 #[derive(Debug, Drop)]
@@ -35,12 +35,12 @@ impl Model for TextDoc {
 }
 
 impl TextDoc {
-    /// The text of this name, or [`EditFault::TooLong`] where it has more than [`MAX_BYTES`] bytes.
+    /// The text of this name, or [`EditFault::TooLong`] where it has more than [`LONGEST_TEXT`] bytes.
     ///
     /// The bytes are copied once and looked through once.
     pub fn new(alloc: Global, text: Name) -> Result<TextDoc, EditFault>
         ensures text { IfOk result (λ doc. doc ≡ text) }
-        ensures too_long { (result ≡ Err (EditFault.TooLong (length text))) ↔ (MAX_BYTES < length text) }
+        ensures too_long { (result ≡ Err (EditFault.TooLong (length text))) ↔ (LONGEST_TEXT < length text) }
         ensures faults { IfErr result (λ fault. (fault ≡ EditFault.TooLong (length text)) ⊎ (fault ≡ EditFault.NoMemory)) }
     {
         TextDoc::from_text(alloc, text.text())
@@ -50,7 +50,7 @@ impl TextDoc {
     pub fn text(&self, alloc: Global) -> Result<Name, NoMemory>
         ensures text { IfOk result (λ name. name ≡ self.now) }
         ensures utf8 { IsUtf8 self.now }
-        ensures fits { length self.now ≤ MAX_BYTES }
+        ensures fits { length self.now ≤ LONGEST_TEXT }
     {
         Name::from_text(alloc, self.as_text())
     }
@@ -59,7 +59,7 @@ impl TextDoc {
     pub fn as_text(&self) -> &str
         ensures text { result.now ≡ self.now }
         ensures utf8 { IsUtf8 self.now }
-        ensures fits { length self.now ≤ MAX_BYTES }
+        ensures fits { length self.now ≤ LONGEST_TEXT }
     {
         let _ = &self.starts;
         self.text.as_str()
@@ -69,7 +69,7 @@ impl TextDoc {
     pub fn len(&self) -> u32
         ensures len { result ≡ length self.now }
         ensures utf8 { IsUtf8 self.now }
-        ensures fits { length self.now ≤ MAX_BYTES }
+        ensures fits { length self.now ≤ LONGEST_TEXT }
     {
         self.as_text().len() as u32
     }
@@ -186,7 +186,7 @@ impl TextDoc {
             // No memory has so many bytes.
             return Err(EditFault::NoMemory);
         };
-        if len > MAX_BYTES {
+        if len > LONGEST_TEXT {
             return Err(EditFault::TooLong(len as u64));
         }
         TextDoc::with_lines(alloc, joined(alloc, &text[..from], new, &text[to..])?)
@@ -194,9 +194,9 @@ impl TextDoc {
 
     fn from_text(alloc: Global, text: &str) -> Result<TextDoc, EditFault>
         ensures text { IsTextOrFault text.now result }
-        ensures too_long { MAX_BYTES < length text.now → result ≡ Err (EditFault.TooLong (length text.now)) }
+        ensures too_long { LONGEST_TEXT < length text.now → result ≡ Err (EditFault.TooLong (length text.now)) }
     {
-        if text.len() > MAX_BYTES {
+        if text.len() > LONGEST_TEXT {
             return Err(EditFault::TooLong(text.len() as u64));
         }
         TextDoc::with_lines(alloc, String::from_str(alloc, text)?)
@@ -204,7 +204,7 @@ impl TextDoc {
 
     /// The text with its lines looked up.
     fn with_lines(alloc: Global, text: String) -> Result<TextDoc, EditFault>
-        requires { string_len text ≤ MAX_BYTES }
+        requires { string_len text ≤ LONGEST_TEXT }
         ensures { MatchResult result (λ doc. doc ≡ string_bytes text) (λ fault. fault ≡ EditFault.NoMemory) }
     {
         let starts = line_starts(alloc, text.as_str())?;
@@ -214,7 +214,7 @@ impl TextDoc {
 
 /// The three texts as one.
 fn joined(alloc: Global, before: &str, new: &str, after: &str) -> Result<String, NoMemory>
-    requires { length before.now + length new.now + length after.now ≤ MAX_BYTES }
+    requires { length before.now + length new.now + length after.now ≤ LONGEST_TEXT }
     ensures { IfOk result (λ text. string_bytes text ≡ before.now ++ new.now ++ after.now) }
 {
     let mut text = String::with_capacity(alloc, before.len() + new.len() + after.len())?;

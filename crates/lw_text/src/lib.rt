@@ -20,7 +20,7 @@ mod place;
 mod shown;
 mod units;
 
-pub use change::{Change, EditFault, MAX_BYTES};
+pub use change::{Change, EditFault};
 pub use doc::TextDoc;
 pub use laws::{
     a_place_has_one_position, a_position_means_one_place, changes_have_one_outcome,

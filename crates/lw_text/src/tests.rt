@@ -1,7 +1,7 @@
 // Places, positions and changes, by hand.
 ghost use Rattle.std.specs.Prelude.{◌≡◌};
 
-use crate::{Change, EditFault, Encoding, MAX_BYTES, Pos, TextDoc, position};
+use crate::{Change, EditFault, Encoding, LONGEST_TEXT, Pos, TextDoc, position};
 use lw_base::{Items, Name, NoMemory};
 use std::alloc::Global;
 use std::process::Abort;
@@ -221,14 +221,14 @@ fn changes_are_made_in_order(rt: HostRuntime) -> Result<(), Fail> {
 #[test]
 fn a_text_has_a_longest_length(rt: HostRuntime) -> Result<(), Fail> {
     let alloc = rt.alloc();
-    let most = MAX_BYTES as u64;
+    let most = LONGEST_TEXT as u64;
     let mut text = String::from_str(alloc, "a")?;
     for _ in 0..26u32 {
         let half = text.clone()?;
         text.push_str(half.as_str())?;
     }
     let mut doc = doc(alloc, text.as_str())?;
-    assert_eq!(rt; doc.len() as usize, MAX_BYTES);
+    assert_eq!(rt; doc.len() as usize, LONGEST_TEXT);
     text.push_str("b")?;
     let over = TextDoc::new(alloc, Name::from_text(alloc, text.as_str())?);
     assert!(rt; over.is_err_and(|fault| fault == EditFault::TooLong(most + 1)));

@@ -3,7 +3,7 @@ ghost use Rattle.std.specs.Prelude.{◌≡◌, ◌+◌, ◌<◌, ◌≤◌, ◌^
 ghost use Rattle.std.specs.Str.{IsCharBoundary, chars};
 ghost use Rattle.lw_text.specs.Position.{AreCharsWithin, units_of};
 
-use lw_lanes::MAX_BYTES;
+use lw_base::LONGEST_TEXT;
 
 /// The encoding in whose units the character of a position is counted (Language Server Protocol 3.17,
 /// "PositionEncodingKind").
@@ -26,13 +26,13 @@ pub(crate) fn units_in(text: &str, enc: Encoding) -> u32
     }
 }
 
-/// How many UTF-16 units the text takes. The lanes count no more than [`MAX_BYTES`] at once, so a longer
+/// How many UTF-16 units the text takes. The lanes count no more than [`LONGEST_TEXT`] at once, so a longer
 /// text is counted character by character.
 fn utf16_len(text: &str) -> u32
     requires { length text.now < 2 ^ 32 }
     ensures { result ≡ sum_by (units_of Encoding.Utf16) (chars text.now) }
 {
-    if text.len() <= MAX_BYTES {
+    if text.len() <= LONGEST_TEXT {
         lw_lanes::utf16_len(text.as_bytes())
     } else {
         text.chars().map(|c| c.len_utf16() as u32).sum()

@@ -6,7 +6,7 @@ use Rattle.std.proofs.lemmas.Slice.Eq.{bytes_eq-Decides}
 use Rattle.lw_base.specs.declared.token.Token.{Token}
 use Rattle.lw_tokens.specs.Keywords.{AreKeywords}
 use Rattle.lw_tokens.specs.Lexicon.{Lexicon, TerminalForm}
-use Rattle.lw_tokens.specs.NextToken.{Next, IsNext, IsLongest, HasNone, IsFirstOver, NoneOver, Begins, lengths, longer_terminal, keyword, terminal, no_token}
+use Rattle.lw_tokens.specs.NextToken.{Next, IsNextToken, IsLongest, HasNone, IsFirstOver, NoneOver, Begins, lengths, longer_terminal, keyword, terminal, no_token}
 use Rattle.lw_tokens.specs.Cut.{IsCutTo, IsCut, HasNoTokenAt, token_at, start, then}
 
 front_of : (text word : List ℕ) → Begins text word → word ≡ take (length word) text
@@ -69,7 +69,7 @@ module _ (lexicon : Lexicon) (apart : AreKeywords lexicon.keywords) (text : List
   none_and_longest k n none longest = absurd (none k longest.keyword longest.there longest.begins)
 
   -- at most one token is next
-  pub one_next : (a b : Option Next) → IsNext lexicon text a → IsNext lexicon text b → a ≡ b
+  pub one_next : (a b : Option Next) → IsNextToken lexicon text a → IsNextToken lexicon text b → a ≡ b
   one_next a b (longer_terminal {k = k} {n = n} {i = i} {m = m} {form = form} p q r) (longer_terminal {k = j} {n = l} {i = h} {m = o} {form = other} s t u) =
       let same = same_terminal n l i m h o form other (same_length lexicon.keywords apart text k n j l p s) q t r u in
       let e = same.0 in let f = same.1 in let g = same.2 in cc
@@ -96,7 +96,7 @@ module _ (lexicon : Lexicon) (apart : AreKeywords lexicon.keywords) (text : List
   one_next a b (no_token p q) (no_token s t) = refl
 
   -- and it has a byte
-  pub next_has_bytes : (a : Option Next) → IsNext lexicon text a → IfSome a (λ next. 0 < next.bytes)
+  pub next_has_bytes : (a : Option Next) → IsNextToken lexicon text a → IfSome a (λ next. 0 < next.bytes)
   next_has_bytes a (longer_terminal {n = n} {m = m} p q r) = omega (arith, q.longer)
   next_has_bytes a (keyword {k = k} {n = n} p q) = is_filled lexicon.keywords apart text k n p
   next_has_bytes a (terminal p q r) = omega (arith, q.longer)
@@ -106,7 +106,7 @@ module _ (lexicon : Lexicon) (apart : AreKeywords lexicon.keywords) (text : List
   -- from a place on, up to the end, these are the tokens
   data Goes (end : ℕ) : ℕ → List Token → Type 0 where
     stop : {at : ℕ} → at ≡ end → Goes end at []
-    go : {at : ℕ} {tokens : List Token} (next : Next) → at < length text → IsNext lexicon (drop at text) (Some next) → Goes end (at + next.bytes) tokens →
+    go : {at : ℕ} {tokens : List Token} (next : Next) → at < length text → IsNextToken lexicon (drop at text) (Some next) → Goes end (at + next.bytes) tokens →
         Goes end at (token_at at next ∷ tokens)
 
   before : (end at : ℕ) (front tokens : List Token) → IsCutTo lexicon text at front → Goes end at tokens → Goes end 0 (front ++ tokens)
@@ -117,10 +117,10 @@ module _ (lexicon : Lexicon) (apart : AreKeywords lexicon.keywords) (text : List
   goes_to : (end : ℕ) (tokens : List Token) → IsCutTo lexicon text end tokens → Goes end 0 (tokens ++ [])
   goes_to end tokens cut = before end end tokens [] cut (stop refl)
 
-  same_next : (at : ℕ) (next other : Next) → IsNext lexicon (drop at text) (Some next) → IsNext lexicon (drop at text) (Some other) → next ≡ other
+  same_next : (at : ℕ) (next other : Next) → IsNextToken lexicon (drop at text) (Some next) → IsNextToken lexicon (drop at text) (Some other) → next ≡ other
   same_next at next other is was = same_Some _ _ (one_next lexicon apart (drop at text) (Some next) (Some other) is was)
 
-  not_both : {A : Type 0} (at : ℕ) (next : Next) → IsNext lexicon (drop at text) (Some next) → IsNext lexicon (drop at text) None → A
+  not_both : {A : Type 0} (at : ℕ) (next : Next) → IsNextToken lexicon (drop at text) (Some next) → IsNextToken lexicon (drop at text) None → A
   not_both at next is none = absurd (let e = one_next lexicon apart (drop at text) (Some next) None is none in cc)
 
   within : (end at : ℕ) (tokens : List Token) → Goes end at tokens → at ≤ end
@@ -138,23 +138,23 @@ module _ (lexicon : Lexicon) (apart : AreKeywords lexicon.keywords) (text : List
       let later = one_way end (at + next.bytes) tail rest goes (subst (λ n. Goes end (at + n) rest) (sym (ap (λ (x : Next). x.bytes) same)) went) in
       ap (λ n. token_at at n ∷ tail) same ∙ ap (λ l. token_at at other ∷ l) later
 
-  stuck : {A : Type 0} (place : ℕ) → place < length text → IsNext lexicon (drop place text) None → (at : ℕ) (tokens others : List Token) → Goes place at tokens →
+  stuck : {A : Type 0} (place : ℕ) → place < length text → IsNextToken lexicon (drop place text) None → (at : ℕ) (tokens others : List Token) → Goes place at tokens →
       Goes (length text) at others → A
   stuck place inside none at tokens others (stop e) (stop f) = absurd (omega (arith, inside, e, f))
   stuck place inside none at tokens others (stop e) (go next below is goes) =
-      not_both at next is (subst (λ n. IsNext lexicon (drop n text) None) (sym e) none)
+      not_both at next is (subst (λ n. IsNextToken lexicon (drop n text) None) (sym e) none)
   stuck place inside none at tokens others (go next below is goes) (stop f) = absurd (omega (arith, below, f))
   stuck place inside none at tokens others (go {tokens = tail} next below is goes) (go {tokens = rest} other under was went) =
       let same = same_next at next other is was in
       stuck place inside none (at + next.bytes) tail rest goes (subst (λ n. Goes (length text) (at + n) rest) (sym (ap (λ (x : Next). x.bytes) same)) went)
 
-  one_stop : (place other : ℕ) → IsNext lexicon (drop place text) None → IsNext lexicon (drop other text) None → (at : ℕ) (tokens others : List Token) →
+  one_stop : (place other : ℕ) → IsNextToken lexicon (drop place text) None → IsNextToken lexicon (drop other text) None → (at : ℕ) (tokens others : List Token) →
       Goes place at tokens → Goes other at others → place ≡ other
   one_stop place other none also at tokens others (stop e) (stop f) = sym e ∙ f
   one_stop place other none also at tokens others (stop e) (go next below is goes) =
-      not_both at next is (subst (λ n. IsNext lexicon (drop n text) None) (sym e) none)
+      not_both at next is (subst (λ n. IsNextToken lexicon (drop n text) None) (sym e) none)
   one_stop place other none also at tokens others (go next below is goes) (stop f) =
-      not_both at next is (subst (λ n. IsNext lexicon (drop n text) None) (sym f) also)
+      not_both at next is (subst (λ n. IsNextToken lexicon (drop n text) None) (sym f) also)
   one_stop place other none also at tokens others (go {tokens = tail} next below is goes) (go {tokens = rest} second under was went) =
       let same = same_next at next second is was in
       one_stop place other none also (at + next.bytes) tail rest goes (subst (λ n. Goes other (at + n) rest) (sym (ap (λ (x : Next). x.bytes) same)) went)

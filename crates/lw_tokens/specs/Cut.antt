@@ -4,7 +4,7 @@ use Rattle.std.specs.Char.{IsScalar}
 use Rattle.lw_base.specs.declared.token.Span.{Span}
 use Rattle.lw_base.specs.declared.token.Token.{Token}
 use Rattle.lw_tokens.specs.Lexicon.{Lexicon}
-use Rattle.lw_tokens.specs.NextToken.{Next, IsNext}
+use Rattle.lw_tokens.specs.NextToken.{Next, IsNextToken}
 
 -- the token that stands at a place
 abbrev pub token_at : ℕ → Next → Token
@@ -14,7 +14,7 @@ module _ (lexicon : Lexicon) (text : List ℕ) where
   -- the text up to a place is cut into these tokens
   pub data IsCutTo : ℕ → List Token → Type 0 where
     start : IsCutTo 0 []
-    then : {at : ℕ} {tokens : List Token} {next : Next} → IsCutTo at tokens → at < length text → IsNext lexicon (drop at text) (Some next) →
+    then : {at : ℕ} {tokens : List Token} {next : Next} → IsCutTo at tokens → at < length text → IsNextToken lexicon (drop at text) (Some next) →
         IsCutTo (at + next.bytes) (tokens ++ token_at at next ∷ [])
 
   -- the text is cut into these tokens
@@ -26,7 +26,7 @@ module _ (lexicon : Lexicon) (text : List ℕ) where
     pub before : List Token
     pub cut : IsCutTo at before
     pub inside : at < length text
-    pub none : IsNext lexicon (drop at text) None
+    pub none : IsNextToken lexicon (drop at text) None
 
 -- the character that begins at a place
 abbrev pub IsCharacterAt : List ℕ → Span → Type 0

@@ -2,10 +2,7 @@
 use Rattle.std.specs.Prelude.{ℕ, ◌==◌, List, ◌++◌, Option, Some, None, codes, if◌then◌else◌, option_map, option_and_then, chars}
 use Rattle.regex.specs.Patterns.{Re, Match, find_str, default_config}
 use Rattle.regex_syntax.specs.Grammar.{read}
-
--- the text that a pattern p is made from: `\A(?:p)`
-abbrev pub anchored : List ℕ → List ℕ
-anchored p = codes "\\A(?:" ++ p ++ codes ")"
+use Rattle.lw_io.specs.Patterns.{anchored}
 
 -- what the text of a pattern is read as under the default options, where it is a pattern
 abbrev pub pattern_of : List ℕ → Option Re

@@ -51,10 +51,10 @@ module _ (lexicon : Lexicon) (text : List ℕ) where
   abbrev pub keyword_token : ℕ → ℕ → Next
   keyword_token k n = record { kind = k; bytes = n; hidden = false }
 
-  pub data IsNext : Option Next → Type 0 where
+  pub data IsNextToken : Option Next → Type 0 where
     longer_terminal : {k n i m : ℕ} {form : TerminalForm} → IsLongest lexicon.keywords text k n → IsFirstOver n (lengths lexicon.terminals text) i m →
-        slice_get lexicon.terminals i ≡ Some form → IsNext (Some (terminal_token i m form))
-    keyword : {k n : ℕ} → IsLongest lexicon.keywords text k n → NoneOver n (lengths lexicon.terminals text) → IsNext (Some (keyword_token k n))
+        slice_get lexicon.terminals i ≡ Some form → IsNextToken (Some (terminal_token i m form))
+    keyword : {k n : ℕ} → IsLongest lexicon.keywords text k n → NoneOver n (lengths lexicon.terminals text) → IsNextToken (Some (keyword_token k n))
     terminal : {i m : ℕ} {form : TerminalForm} → HasNone lexicon.keywords text → IsFirstOver 0 (lengths lexicon.terminals text) i m →
-        slice_get lexicon.terminals i ≡ Some form → IsNext (Some (terminal_token i m form))
-    no_token : HasNone lexicon.keywords text → NoneOver 0 (lengths lexicon.terminals text) → IsNext None
+        slice_get lexicon.terminals i ≡ Some form → IsNextToken (Some (terminal_token i m form))
+    no_token : HasNone lexicon.keywords text → NoneOver 0 (lengths lexicon.terminals text) → IsNextToken None

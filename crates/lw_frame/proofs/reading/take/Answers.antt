@@ -1,5 +1,5 @@
 use Rattle.std.proofs.Common.{◌≡◌, ◌∙◌, ◌+◌, ◌++◌, [], ◌∷◌, length, drop, sym, ap, subst, append-nil, append_assoc, is_ok, if◌then◌else◌}
-use Rattle.lw_frame.specs.Reading.{Reads, bytes_of}
+use Rattle.lw_frame.specs.Reading.{ReadsMessages, bytes_of}
 use Rattle.lw_frame.specs.declared.incoming.Incoming.{Incoming}
 use Rattle.lw_frame.proofs.Growth.{to_end}
 use Rattle.lw_frame.proofs.Readings.{reads_on, reads_more}
@@ -21,8 +21,8 @@ returns-clause-ok c =
     let items : c.append.new.self.items ≡ was ++ read.body.items ∷ bodies =
     c.append.ensures.items ∙ ap (λ r. if is_ok r then c.push_back_reserved.new.self.items ++ bodies else c.push_back_reserved.new.self.items) c.unwrap.ensures ∙ ap (λ bs. bs ++ bodies) pushed ∙ append_assoc was (read.body.items ∷ []) bodies in
     let rest = drop c.in_ok-used.used c.args.piece.now in
-    let next : Reads (read.start + length (bytes_of read)) rest bodies c.in_ok-bodies.next =
-    subst (λ s. Reads s rest bodies c.in_ok-bodies.next) c.end.ensures (subst (λ bs. Reads c.end.result bs bodies c.in_ok-bodies.next) (to_end c.in_ok-used.used c.args.piece.now) c.in_ok-bodies.ensures) in
-    let all : Reads old.start (bytes_of old ++ c.args.piece.now) (read.body.items ∷ bodies) c.in_ok-bodies.next =
+    let next : ReadsMessages (read.start + length (bytes_of read)) rest bodies c.in_ok-bodies.next =
+    subst (λ s. ReadsMessages s rest bodies c.in_ok-bodies.next) c.end.ensures (subst (λ bs. ReadsMessages c.end.result bs bodies c.in_ok-bodies.next) (to_end c.in_ok-used.used c.args.piece.now) c.in_ok-bodies.ensures) in
+    let all : ReadsMessages old.start (bytes_of old ++ c.args.piece.now) (read.body.items ∷ bodies) c.in_ok-bodies.next =
     reads_more old read c.in_ok-bodies.next c.args.piece.now c.in_ok-used.used bodies c.in_ok-used.ensures.ok (sym c.is_whole.ensures ∙ c.if-not-is_whole.false) next in
-    (read.body.items ∷ bodies, items, subst (λ m. Reads old.start (bytes_of old ++ c.args.piece.now) (read.body.items ∷ bodies) m) (sym c.replace.ensures.after) all)
+    (read.body.items ∷ bodies, items, subst (λ m. ReadsMessages old.start (bytes_of old ++ c.args.piece.now) (read.body.items ∷ bodies) m) (sym c.replace.ensures.after) all)

@@ -1,7 +1,7 @@
 use Rattle.std.proofs.Common.{◌≡◌, ◌∙◌, ◌≤◌, ◌++◌, ◌∷◌, [], ℕ, List, Bool, Option, Some, None, Ok, length, drop, sym, ap, subst, arith, append_assoc, append-nil}
 use Rattle.std.proofs.Math.ListN.{drop_of_length-le}
 use Rattle.lw_frame.specs.Frames.{bodies_of, fault_of}
-use Rattle.lw_frame.specs.Stream.{Stream, Answers, next_body}
+use Rattle.lw_frame.specs.Stream.{Stream, AnswersStream, next_body}
 use Rattle.lw_frame.specs.declared.fault.FrameFault.{FrameFault}
 use Rattle.lw_frame.proofs.Handing.{HandsOut, hands_out, none_left}
 use Rattle.lw_frame.proofs.whole.drain.Goals as goal
@@ -9,7 +9,7 @@ use Rattle.lw_frame.proofs.whole.drain.Goals as goal
 -- one body more
 more : (c : goal.In_ok-push-in-Ok-Some) → HandsOut c.bodies.reader.stream c.next.new.self.stream c.in-Ok-Some.body
 more c =
-    let told : next_body c.bodies.reader.stream ≡ Some c.in-Ok-Some.body = subst (λ o. Answers c.bodies.reader.stream (Ok o)) c.in-Ok-Some.field-0-is c.in-Ok-Some.ensures.cases in
+    let told : next_body c.bodies.reader.stream ≡ Some c.in-Ok-Some.body = subst (λ o. AnswersStream c.bodies.reader.stream (Ok o)) c.in-Ok-Some.field-0-is c.in-Ok-Some.ensures.cases in
     hands_out c.bodies.reader.stream c.next.new.self.stream c.in-Ok-Some.body told c.in-Ok-Some.ensures.stream
 
 pub bodies-smaller : goal.bodies-smaller
@@ -44,20 +44,20 @@ same_fault s fed closed fault e f h = sym h ∙ ap (λ bs. fault_of bs s.closed)
 pub returns-in-Ok-None-clause-bodies : goal.returns-in-Ok-None-clause-bodies
 returns-in-Ok-None-clause-bodies c =
     let s = c.bodies.reader.stream in
-    let told = subst (λ o. Answers s (Ok o)) c.in-Ok-None.field-0-is c.in-Ok-None.ensures.cases in
+    let told = subst (λ o. AnswersStream s (Ok o)) c.in-Ok-None.field-0-is c.in-Ok-None.ensures.cases in
     all_given s c.args.reader.now.stream.fed c.bodies.bodies c.args.bodies.now c.args.reader.now.stream.given c.bodies.invariant.fed (none_left s c.next.new.self.stream told.0 c.in-Ok-None.ensures.stream).1 c.bodies.invariant.bodies
 
 pub returns-in-Ok-None-clause-given : goal.returns-in-Ok-None-clause-given
 returns-in-Ok-None-clause-given c =
     let s = c.bodies.reader.stream in
-    let told = subst (λ o. Answers s (Ok o)) c.in-Ok-None.field-0-is c.in-Ok-None.ensures.cases in
+    let told = subst (λ o. AnswersStream s (Ok o)) c.in-Ok-None.field-0-is c.in-Ok-None.ensures.cases in
     let left = none_left s c.next.new.self.stream told.0 c.in-Ok-None.ensures.stream in
     omega (arith, ap (λ (t : Stream). t.given) left.0, left.1, c.bodies.invariant.given, ap (λ f. length (bodies_of f)) c.bodies.invariant.fed)
 
 pub returns-in-Ok-None-clause-fault : goal.returns-in-Ok-None-clause-fault
 returns-in-Ok-None-clause-fault c =
     let s = c.bodies.reader.stream in
-    let told = subst (λ o. Answers s (Ok o)) c.in-Ok-None.field-0-is c.in-Ok-None.ensures.cases in
+    let told = subst (λ o. AnswersStream s (Ok o)) c.in-Ok-None.field-0-is c.in-Ok-None.ensures.cases in
     same_fault s c.args.reader.now.stream.fed c.args.reader.now.stream.closed None c.bodies.invariant.fed c.bodies.invariant.closed told.1
 
 pub returns-in-Err-clause-bodies : goal.returns-in-Err-clause-bodies

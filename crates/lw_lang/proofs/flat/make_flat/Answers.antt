@@ -5,7 +5,7 @@ use Rattle.std.proofs.lemmas.Slice.Eq.{bytes_eq-Decides}
 use Rattle.std.specs.List.{AllZip}
 use Rattle.lw_grammar.specs.Kinds.{first_uses}
 use Rattle.lw_lang.specs.Shape.{IsPlainTerminal}
-use Rattle.lw_lang.specs.FlatParts.{calls_of, is_kind, IsPlainSource, HasUnsoundNames, HasUnsoundKinds, AreWithinLimits, AreKindsOf}
+use Rattle.lw_lang.specs.FlatParts.{row_calls, is_kind, IsPlainSource, HasUnsoundNames, HasUnsoundKinds, AreWithinLimits, AreKindsOf}
 use Rattle.lw_lang.proofs.FlatObstacles.{names_obstacle}
 use Rattle.lw_lang.proofs.FlatMade.{unsound_kinds, clear, makes_flat, makes_ready}
 use Rattle.lw_lang.proofs.flat.make_flat.Goals as goal
@@ -29,7 +29,7 @@ returns-in_err-row-clause-obstacle c is =
     let p = err_from_is_err_and c.from_residual-in_err-row.result c.from_residual-in_err-row.ensures.1 in
     let same = passed_on c.from_residual-in_err-row.result p.0 c.in_err-row.field-0.0 _ p.1 p.2 is in
     let items = c.in_ok-terminals.terminals.items in
-    let tied = subst (λ ts. AllZip IsPlainSource (filter (is_kind (first_uses [] (calls_of c.parts-parts.result.now))) ts) items) c.as_slice.ensures c.in_ok-terminals.ensures in
+    let tied = subst (λ ts. AllZip IsPlainSource (filter (is_kind (first_uses [] (row_calls c.parts-parts.result.now))) ts) items) c.as_slice.ensures c.in_ok-terminals.ensures in
     unsound_kinds c.args.g.now c.rule.result.now c.requires c.rule.ensures c.parts-parts.result.now c.parts-parts.ensures c.in_ok-check_names.ensures.ok
     c.in_ok-keywords.keywords.keys c.in_ok-keywords.ensures items tied
     (subst (λ ts. HasUnsoundKinds c.in_ok-keywords.keywords.keys ts c.parts-parts.result.now) c.deref.ensures.value (c.in_err-row.ensures.obstacle (ap Err same)))
@@ -38,7 +38,7 @@ pub returns-clause-flat : goal.returns-clause-flat
 returns-clause-flat c =
     let keys = c.in_ok-keywords.keywords.keys in
     let items = c.in_ok-terminals.terminals.items in
-    let tied = subst (λ ts. AllZip IsPlainSource (filter (is_kind (first_uses [] (calls_of c.parts-parts.result.now))) ts) items) c.as_slice.ensures c.in_ok-terminals.ensures in
+    let tied = subst (λ ts. AllZip IsPlainSource (filter (is_kind (first_uses [] (row_calls c.parts-parts.result.now))) ts) items) c.as_slice.ensures c.in_ok-terminals.ensures in
     makes_flat c.args.g.now c.rule.result.now c.requires c.rule.ensures c.parts-parts.result.now c.parts-parts.ensures c.in_ok-check_names.ensures.ok keys
     c.in_ok-keywords.ensures items tied (subst (AreWithinLimits keys) c.deref.ensures.value c.in_ok-row.ensures.limits)
     (AllPairs-from_IsDistinct bytes_eq-Decides keys c.in_ok-row.ensures.differ) c.in_ok-row.row.items
@@ -54,7 +54,7 @@ pub returns-clause-clear : goal.returns-clause-clear
 returns-clause-clear c _ =
     let keys = c.in_ok-keywords.keywords.keys in
     let items = c.in_ok-terminals.terminals.items in
-    let tied = subst (λ ts. AllZip IsPlainSource (filter (is_kind (first_uses [] (calls_of c.parts-parts.result.now))) ts) items) c.as_slice.ensures c.in_ok-terminals.ensures in
+    let tied = subst (λ ts. AllZip IsPlainSource (filter (is_kind (first_uses [] (row_calls c.parts-parts.result.now))) ts) items) c.as_slice.ensures c.in_ok-terminals.ensures in
     clear c.args.g.now c.rule.result.now c.requires c.rule.ensures c.parts-parts.result.now c.parts-parts.ensures c.in_ok-check_names.ensures.ok keys
     c.in_ok-keywords.ensures items tied (subst (AreWithinLimits keys) c.deref.ensures.value c.in_ok-row.ensures.limits)
     (AllPairs-from_IsDistinct bytes_eq-Decides keys c.in_ok-row.ensures.differ) c.in_ok-row.row.items

@@ -1,7 +1,7 @@
 use Rattle.std.proofs.Common.{◌≡◌, [], take}
 use Rattle.lw_grammar.specs.Kinds.{first_uses}
-use Rattle.lw_lang.specs.FlatParts.{calls_of}
+use Rattle.lw_lang.specs.FlatParts.{row_calls}
 use Rattle.lw_lang.proofs.flat_parts.calls.Given as goal
 
 abbrev pub invariant-loop-part : goal.invariant-loop-part
-invariant-loop-part l = l.names.keys ≡ first_uses [] (calls_of (take l.part-index l.parts))
+invariant-loop-part l = l.names.keys ≡ first_uses [] (row_calls (take l.part-index l.parts))

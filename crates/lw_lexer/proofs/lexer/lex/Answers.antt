@@ -3,7 +3,7 @@ use Rattle.std.proofs.lemmas.Str.{IsCharBoundary-start, IsCharBoundary-from_rest
 use Rattle.lw_base.specs.declared.token.Span.{Span}
 use Rattle.lw_tokens.specs.Cut as cut
 use Rattle.lw_tokens.specs.Cut.{IsCut, IsCutTo, HasNoTokenAt}
-use Rattle.lw_tokens.specs.NextToken.{IsNext}
+use Rattle.lw_tokens.specs.NextToken.{IsNextToken}
 use Rattle.lw_lexer.specs.Place.{next_of}
 use Rattle.lw_tokens.proofs.OneCut.{one_cut, no_cut, one_place}
 use Rattle.lw_lexer.proofs.lexer.lex.Goals as goal
@@ -23,7 +23,7 @@ cutting-preserved c =
     let next = c.in-Some.next in
     let below : at < length text = omega (arith, c.cutting-test.true) in
     let boundary : IsCharBoundary (drop at text) next.bytes = rw c.range_from-rest.ensures.value at c.in-Some.ensures.boundary in
-    let is_next : IsNext c.args.set.now.lexicon (drop at text) (Some (next_of next)) = rw c.range_from-rest.ensures.value at c.in-Some.ensures.next in
+    let is_next : IsNextToken c.args.set.now.lexicon (drop at text) (Some (next_of next)) = rw c.range_from-rest.ensures.value at c.in-Some.ensures.next in
     record {
       matchers = c.next_token.ensures.same ∙ inv.matchers;
       boundary = IsCharBoundary-from_rest text at next.bytes (omega (arith, below)) boundary;

@@ -1,5 +1,5 @@
 use Rattle.std.proofs.Common.{◌≡◌, map, take}
-use Rattle.lw_terminals.specs.Made.{quoted}
+use Rattle.lw_grammar.specs.KindTexts.{quoted}
 use Rattle.lw_terminals.proofs.make.keyword_texts.Given as goal
 
 abbrev pub invariant-loop-keyword : goal.invariant-loop-keyword

@@ -13,7 +13,7 @@ sum-requires-clause-fits c =
     (YieldsList-from_map _ utf16_len (YieldsList-at c.map.ensures.source (YieldsList-from_chars c.args.text.now c.utf8.text cc)) c.map.ensures.closure (λ x r q k. search (rules, tests)))
     (omega (arith, utf16_units-chars-le c.args.text.now c.utf8.text, c.requires))
 
-pub returns-then-text-le-MAX_BYTES : goal.returns-then-text-le-MAX_BYTES
-returns-then-text-le-MAX_BYTES c =
+pub returns-then-text-le-LONGEST_TEXT : goal.returns-then-text-le-LONGEST_TEXT
+returns-then-text-le-LONGEST_TEXT c =
     let bytes = c.as_bytes.result.now in
     c.utf16_len.ensures.of_text c.as_bytes.ensures.utf8 ∙ ap (λ text. length (in_utf16 text)) c.as_bytes.ensures.value ∙ length-in_utf16 c.args.text.now

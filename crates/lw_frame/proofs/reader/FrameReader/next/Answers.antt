@@ -2,7 +2,7 @@ use Rattle.std.proofs.Common.{ℕ, List, length, arith, ◌∷◌, ◌≡◌, �
 use Rattle.std.specs.List.{concat}
 use Rattle.lw_frame.specs.Frames.{bodies_of, fault_of}
 use Rattle.lw_frame.specs.Reading.{bytes_of}
-use Rattle.lw_frame.specs.Stream.{Stream, Reader, answer, handed, needed, next_answer, next_body}
+use Rattle.lw_frame.specs.Stream.{Stream, Reader, answer_next, handed, needed, next_answer, next_body}
 use Rattle.lw_frame.specs.declared.history.History.{History}
 use Rattle.lw_frame.proofs.Streams.{held_is_needed, no_body, answers_by_case}
 use Rattle.lw_frame.proofs.reader.FrameReader.next.Goals as goal
@@ -34,10 +34,10 @@ answered c =
     let same : record { fed = a.history.fed; closed = a.closed; given = a.history.given } ≡ c.args.self.now.stream = ap (λ (r : Reader). r.stream) c.self.view_is in
     let fault_is : c.fault_now.result ≡ fault_of c.args.self.now.stream.fed c.args.self.now.stream.closed =
     c.fault_now.ensures a.history.fed c.self.invariant.rest ∙ ap (λ (s : Stream). fault_of s.fed s.closed) same in
-    let told : answer None c.fault_now.result ≡ next_answer c.args.self.now.stream = ap (answer None) fault_is ∙ ap (λ o. answer o (fault_of c.args.self.now.stream.fed c.args.self.now.stream.closed)) (sym (nothing_there c)) in
+    let told : answer_next None c.fault_now.result ≡ next_answer c.args.self.now.stream = ap (answer_next None) fault_is ∙ ap (λ o. answer_next o (fault_of c.args.self.now.stream.fed c.args.self.now.stream.closed)) (sym (nothing_there c)) in
     elim c.match-fault_now.branch [
-      | in-Some-fault_now w ↦ w.result-is ∙ ap (answer None) (sym w.in-Some-fault_now.is) ∙ told
-      | in-None w ↦ w.result-is ∙ ap (answer None) (sym w.in-None.is) ∙ told
+      | in-Some-fault_now w ↦ w.result-is ∙ ap (answer_next None) (sym w.in-Some-fault_now.is) ∙ told
+      | in-None w ↦ w.result-is ∙ ap (answer_next None) (sym w.in-None.is) ∙ told
     ]
 
 pub returns-clause-answer : goal.returns-clause-answer
