@@ -4,7 +4,7 @@ ghost use Rattle.lw_io.specs.Causes.{Faulted};
 
 use crate::content::content;
 use crate::{Found, ReadFault, StdSource, Store, read_all};
-use lw_base::Name;
+use lw_base::{LONGEST_TEXT, Name};
 use std::alloc::Global;
 use std::fs::File;
 use std::io::ErrorKind;
