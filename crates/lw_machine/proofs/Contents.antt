@@ -2,7 +2,7 @@
 use Rattle.std.proofs.Common.{◌≡◌, ◌≢◌, ℕ, List, Option, Some, option_map, inl, inr, ◌⊎◌, sym, refl, ap, ◌∙◌}
 use Rattle.std.specs.FinMap.{get, insert}
 use Rattle.lw_grammar.specs.declared.grammar.Grammar.{Grammar}
-use Rattle.lw_rpc.specs.declared.reply.Reply.{Reply}
+use Rattle.lw_machine.specs.declared.published.Published.{Published}
 use Rattle.lw_scopes.specs.Diagnostics.{Texts}
 use Rattle.lw_machine.specs.declared.state.State.{State}
 use Rattle.lw_machine.specs.Documents.{Document, Documents, shown_texts}
@@ -43,7 +43,7 @@ module _ {A : Type 0} (look : Option Document → A) (stateless : (d : Document)
         by (inr apart) = settles_at before (shown_texts m) other (get m other) (get n other) (settled.others other apart)
 
 module _ (g : Grammar) where
-  pub builds_same : (m n : Documents) (published : List Reply) → Builds g m n published → HaveSameContent m n
+  pub builds_same : (m n : Documents) (published : List Published) → Builds g m n published → HaveSameContent m n
   builds_same m n published (rises {address = address} {d = d} taken no_show no_list) =
       put_alike (option_map content) (λ d s. refl) m address d (risen d) taken.held refl
   builds_same m n published (shows {address = address} {d = d} {n = o} taken is settled) =
@@ -54,7 +54,7 @@ module _ (g : Grammar) where
       put_alike (option_map content) (λ d s. refl) m address d (validated d list) taken.held refl
   builds_same m n published (rests built) = λ other. refl
 
-  pub to_end_same : (m n : Documents) (published : List Reply) → BuildsToEnd g m n published → HaveSameContent m n
+  pub to_end_same : (m n : Documents) (published : List Published) → BuildsToEnd g m n published → HaveSameContent m n
   to_end_same m n published (done built) = λ other. refl
   to_end_same m n published (step {n = o} {o = end} {first = first} {others = others} taken does rest) =
       λ other. to_end_same o end others rest other ∙ builds_same m o first does other

@@ -6,7 +6,7 @@ use Rattle.std.specs.FinMap.{get, insert, keys}
 use Rattle.lw_grammar.specs.declared.grammar.Grammar.{Grammar}
 use Rattle.lw_text.specs.declared.place.Pos.{Pos}
 use Rattle.lw_text.specs.declared.shown.Shown.{Shown}
-use Rattle.lw_rpc.specs.declared.reply.Reply.{Reply}
+use Rattle.lw_machine.specs.declared.published.Published.{Published}
 use Rattle.lw_scopes.specs.Diagnostics.{AreDiagnostics, IsList}
 use Rattle.lw_scopes.specs.Links.{AreLinks}
 use Rattle.lw_machine.specs.declared.state.State.{State}
@@ -64,7 +64,7 @@ told_or_not : (o : Option (List Shown)) (list : List Shown) → OneOrTwo o (Some
 told_or_not None list = inr (λ same. cc)
 told_or_not (Some other) list = elim (one_list other list) [ inl same ↦ inl (ap Some same) | inr apart ↦ inr (λ same. apart (same_Some other list same)) ]
 
-publishes : (address : List ℕ) (d : Document) (list : List Shown) → (published : List Reply) × Publishes address d list published
+publishes : (address : List ℕ) (d : Document) (list : List Shown) → (published : List Published) × Publishes address d list published
 publishes address d list = elim (told_or_not d.published list) [ inl is ↦ ([], building.same is) | inr apart ↦ (_, building.other apart) ]
 
 module _ (g : Grammar) where
@@ -99,10 +99,10 @@ module _ (g : Grammar) where
     settled = record { here = refl; others = λ other apart. settles_at other (get (insert m address (indexed d)) other) apart refl }
 
   -- ---- a step can be taken
-  abbrev CanStep : Documents → Type 0
-  CanStep m = (n : Documents) × (published : List Reply) × Builds g m n published
+  abbrev pub CanStep : Documents → Type 0
+  CanStep m = (n : Documents) × (published : List Published) × Builds g m n published
 
-  can_step : (m : Documents) (address : List ℕ) (d : Document) → IsValid g m → HaveLists g m → IsNext m address d → CanStep m
+  pub can_step : (m : Documents) (address : List ℕ) (d : Document) → IsValid g m → HaveLists g m → IsNext m address d → CanStep m
   can_step m address d valid lists taken = by d.state refl
     where
       rises : d.state ≢ Parsed → d.state ≢ IndexedReferences → CanStep m
@@ -132,14 +132,14 @@ module _ (g : Grammar) where
       let both = same_Some (content e) (content f) (sym same ∙ ap (option_map content) is) in
       (e, refl, ap (λ (x : List ℕ × Option ℤ × Bool). x.0) both)
 
-  lists_kept : (m n : Documents) (published : List Reply) → Builds g m n published → HaveLists g m → HaveLists g n
+  lists_kept : (m n : Documents) (published : List Published) → Builds g m n published → HaveLists g m → HaveLists g n
   lists_kept m n published does lists address f held =
       let was = text_kept (get m address) (get n address) f (builds_same g m n published does address) held in
       let list = lists address was.0 was.1 in
       (list.0, subst (λ text. IsList g text list.0) was.2 list.1)
 
   abbrev HasEnd : Documents → Type 0
-  HasEnd m = (n : Documents) × (published : List Reply) × BuildsToEnd g m n published
+  HasEnd m = (n : Documents) × (published : List Published) × BuildsToEnd g m n published
 
   -- one step, and the build from there
   goes_from : (m : Documents) (address : List ℕ) (d : Document) → IsNext m address d → (step : CanStep m) → HasEnd step.0 → HasEnd m

@@ -7,6 +7,4 @@ pub mod Validity
 pub mod Contents
 pub mod OneBuild
 pub mod News
-pub mod OneOutcome
-pub mod Current
 pub mod HasEnd

@@ -9,7 +9,7 @@ use Rattle.std.specs.FinMap.{get, insert, entries, is_sorted, entries_sorted}
 use Rattle.std.specs.FinMap.Entries.{below_all}
 use Rattle.lw_grammar.specs.declared.grammar.Grammar.{Grammar}
 use Rattle.lw_text.specs.declared.shown.Shown.{Shown}
-use Rattle.lw_rpc.specs.declared.reply.Reply.{Reply}
+use Rattle.lw_machine.specs.declared.published.Published.{Published}
 use Rattle.lw_machine.specs.declared.state.State.{State}
 use Rattle.lw_machine.specs.declared.state.State.TheVariants.{Changed, Parsed, IndexedContent, ComputedScopes, Linked, IndexedReferences, Validated}
 use Rattle.lw_machine.specs.Documents.{Document, Documents, rank, next, shown_texts}
@@ -25,7 +25,7 @@ use Rattle.lw_machine.proofs.Contents.{put_alike, settled_alike, to_end_same}
 
 -- ---- news
 -- documents with the same last lists have the same news
-alike : (m o : Documents) (es : List (List ℕ × Document)) (news : List Reply) → ((a : List ℕ) (d : Document) → Among (a, d) es → last_list m a ≡ last_list o a) →
+alike : (m o : Documents) (es : List (List ℕ × Document)) (news : List Published) → ((a : List ℕ) (d : Document) → Among (a, d) es → last_list m a ≡ last_list o a) →
     AreNews o es news → AreNews m es news
 alike m o es news each law.nothing = law.nothing
 alike m o es news each (law.same {address = a} {d = d} {others = rest} {news = more} is are) =
@@ -37,7 +37,7 @@ no_news : (m : Documents) (es : List (List ℕ × Document)) → ((a : List ℕ)
 no_news m [] each = law.nothing
 no_news m (e ∷ es) each = law.same (each e.0 e.1 first) (no_news m es (λ a d there. each a d (later there)))
 
-of_the_others : (m : Documents) (a : List ℕ) (d : Document) (rest : List (List ℕ × Document)) (news : List Reply) → last_list m a ≡ d.published →
+of_the_others : (m : Documents) (a : List ℕ) (d : Document) (rest : List (List ℕ × Document)) (news : List Published) → last_list m a ≡ d.published →
     AreNews m ((a, d) ∷ rest) news → AreNews m rest news
 of_the_others m a d rest news same (law.same is are) = are
 of_the_others m a d rest news same (law.new is apart are) = absurd (apart (same ∙ is))
@@ -68,7 +68,7 @@ still_late m a d list is late b e held = by (one_or_two b a)
 
 module _ (g : Grammar) where
   -- what is validated then stays as it is
-  one_stays : (m o : Documents) (published : List Reply) → Builds g m o published → AreLate m → AreLate o × ((a : List ℕ) (d : Document) → get m a ≡ Some d →
+  one_stays : (m o : Documents) (published : List Published) → Builds g m o published → AreLate m → AreLate o × ((a : List ℕ) (d : Document) → get m a ≡ Some d →
       d.state ≡ Validated → get o a ≡ Some d)
   one_stays m o published (rises {address = b} {d = e} taken no_show no_list) late =
       absurd (no_list (validates_next e.state (late b e taken.held) taken.unfinished))
@@ -83,7 +83,7 @@ module _ (g : Grammar) where
           let apart = sym last ∙ ap (λ (x : Document). x.state) same ∙ is in cc
   one_stays m o published (rests built) late = (late, λ a d held last. held)
 
-  stays_validated : (m n : Documents) (published : List Reply) → BuildsToEnd g m n published → AreLate m → (a : List ℕ) (d : Document) → get m a ≡ Some d →
+  stays_validated : (m n : Documents) (published : List Published) → BuildsToEnd g m n published → AreLate m → (a : List ℕ) (d : Document) → get m a ≡ Some d →
       d.state ≡ Validated → get n a ≡ Some d
   stays_validated m n published (done built) late a d held last = held
   stays_validated m n published (step {n = o} {o = end} {first = told} {others = others} taken does rest) late a d held last =
@@ -99,7 +99,7 @@ module _ (m o n : Documents) (address : List ℕ) (d : Document) (list : List Sh
   abbrev AllHeld : List (List ℕ × Document) → Type 0
   AllHeld es = (a : List ℕ) (e : Document) → Among (a, e) es → get n a ≡ Some e
 
-  here_first : (rest : List (List ℕ × Document)) (heard others : List Reply) → Publishes address d list heard → AreNews m rest others →
+  here_first : (rest : List (List ℕ × Document)) (heard others : List Published) → Publishes address d list heard → AreNews m rest others →
       AreNews m ((address, validated d list) ∷ rest) (heard ++ others)
   here_first rest heard others (building.same is) are = law.same (was ∙ is) are
   here_first rest heard others (building.other apart) are = law.new refl (λ same. apart (sym was ∙ same)) are
@@ -114,7 +114,7 @@ module _ (m o n : Documents) (address : List ℕ) (d : Document) (list : List Sh
       by Equal is low = low
       by Greater is low = low
 
-  here_news : (rest : List (List ℕ × Document)) (heard others : List Reply) → T (below_all order address rest) → Publishes address d list heard →
+  here_news : (rest : List (List ℕ × Document)) (heard others : List Published) → T (below_all order address rest) → Publishes address d list heard →
       AreNews o ((address, validated d list) ∷ rest) others → AreNews m ((address, validated d list) ∷ rest) (heard ++ others)
   here_news rest heard others below publishes are =
       here_first rest heard others publishes
@@ -129,7 +129,7 @@ module _ (m o n : Documents) (address : List ℕ) (d : Document) (list : List Sh
   in_the_rest a rest below first = absurd (let no = sym below ∙ tied_itself nat_list_cmp_total a in cc)
   in_the_rest a rest below (later there) = there
 
-  all_news : (es : List (List ℕ × Document)) → T (is_sorted order es) → AllHeld es → Among address (map (λ e. e.0) es) → (heard others : List Reply) →
+  all_news : (es : List (List ℕ × Document)) → T (is_sorted order es) → AllHeld es → Among address (map (λ e. e.0) es) → (heard others : List Published) →
       Publishes address d list heard → AreNews o es others → AreNews m es (heard ++ others)
   all_news [] sorted held there heard others publishes are = elim there [ ]
   all_news (e ∷ rest) sorted held there heard others publishes are =
@@ -174,7 +174,7 @@ module _ (g : Grammar) where
   was_there None p f same is = absurd (let no = sym same ∙ ap (option_map content) is in cc)
   was_there (Some e) p f same is = (e, refl)
 
-  validating : (m n : Documents) (a : List ℕ) (d : Document) (list : List Shown) (told others : List Reply) → IsNext m a d → d.state ≡ IndexedReferences →
+  validating : (m n : Documents) (a : List ℕ) (d : Document) (list : List Shown) (told others : List Published) → IsNext m a d → d.state ≡ IndexedReferences →
       Publishes a d list told → BuildsToEnd g (insert m a (validated d list)) n others → AreNews (insert m a (validated d list)) (entries n) others →
       AreNews m (entries n) (told ++ others)
   validating m n a d list told others taken is publishes rest are =
@@ -208,7 +208,7 @@ module _ (g : Grammar) where
           let list_then = list_of m b (Some e) before ∙ ap (λ (x : Document). x.published) (sym same) in
           (list_then, sym (elsewhere b apart) ∙ list_then)
 
-  after_step : (m o n : Documents) (told others : List Reply) → Builds g m o told → BuildsToEnd g o n others → AreNews o (entries n) others →
+  after_step : (m o n : Documents) (told others : List Published) → Builds g m o told → BuildsToEnd g o n others → AreNews o (entries n) others →
       AreNews m (entries n) (told ++ others)
   after_step m o n told others (rises {address = a} {d = d} taken no_show no_list) rest are =
       alike m (insert m a (risen d)) (entries n) others
@@ -221,7 +221,7 @@ module _ (g : Grammar) where
       validating m n a d list news others taken is publishes rest are
   after_step m o n told others (rests built) rest are = are
 
-  pub news : (m n : Documents) (published : List Reply) → BuildsToEnd g m n published → AreNews m (entries n) published
+  pub news : (m n : Documents) (published : List Published) → BuildsToEnd g m n published → AreNews m (entries n) published
   news m n published (done built) = no_news m (entries m) (λ a d there. list_of m a (Some d) (entry_held m a d there))
   news m n published (step {n = o} {o = end} {first = told} {others = others} taken does rest) =
       after_step m o end told others does rest (news o end others rest)

@@ -4,7 +4,7 @@ use Rattle.std.specs.FinMap.{get, insert}
 use Rattle.lw_grammar.specs.declared.grammar.Grammar.{Grammar}
 use Rattle.lw_text.specs.declared.shown.Shown.{Shown}
 use Rattle.lw_reading.specs.Laws.{HasNoEmptyKeyword}
-use Rattle.lw_rpc.specs.declared.reply.Reply.{Reply}
+use Rattle.lw_machine.specs.declared.published.Published.{Published}
 use Rattle.lw_scopes.specs.Diagnostics.{Texts, AreDiagnostics}
 use Rattle.lw_scopes.specs.Links.{AreLinks}
 use Rattle.lw_scopes.proofs.OneList.{one_list, one_list_of_links}
@@ -20,7 +20,7 @@ never_both : {A B : Type 0} (Before After : A → Type 0) → ((a b : A) → Bef
     Differ Before After → Agree Before After → B
 never_both Before After one_before one_after (a, b, is, was, apart) (c, now, also) = absurd (apart (one_before a c is now ∙ one_after c b also was))
 
-one_published : (address : List ℕ) (d : Document) (list : List Shown) (p q : List Reply) → Publishes address d list p → Publishes address d list q → p ≡ q
+one_published : (address : List ℕ) (d : Document) (list : List Shown) (p q : List Published) → Publishes address d list p → Publishes address d list q → p ≡ q
 one_published address d list p q (same is) (same was) = refl
 one_published address d list p q (same is) (other apart) = absurd (apart is)
 one_published address d list p q (other apart) (same is) = absurd (apart is)
@@ -74,7 +74,7 @@ module _ (g : Grammar) (filled : HasNoEmptyKeyword g) where
       by place (inr apart) =
           one_settled_at before (shown_texts m) place (get m place) (get n place) (get o place) (settled.others place apart) (also.others place apart)
 
-  abbrev AreOne : Documents → List Reply → Documents → List Reply → Type 0
+  abbrev AreOne : Documents → List Published → Documents → List Published → Type 0
   AreOne n p o q = (n ≡ o) × (p ≡ q)
 
   state_of : (d e : Document) → e ≡ d → e.state ≡ d.state
@@ -83,7 +83,7 @@ module _ (g : Grammar) (filled : HasNoEmptyKeyword g) where
   built_or_next : {A : Type 0} (m : Documents) (address : List ℕ) (d : Document) → IsBuilt m → IsNext m address d → A
   built_or_next m address d built taken = absurd (let low = taken.unfinished in let last = ap rank (built address d taken.held) in omega arith)
 
-  pub one_step : (m n o : Documents) (p q : List Reply) → Builds g m n p → Builds g m o q → AreOne n p o q
+  pub one_step : (m n o : Documents) (p q : List Published) → Builds g m n p → Builds g m o q → AreOne n p o q
   one_step m n o p q (rises {address = a} {d = d} taken no_show no_list) (rises {address = b} {d = e} also not_shown not_told) =
       let is = one_next m b e a d also taken in (ap₂ (λ x y. insert m x (risen y)) is.0 is.1, refl)
   one_step m n o p q (rises {address = a} {d = d} taken no_show no_list) (shows {address = b} {d = e} also is settled) =
@@ -120,7 +120,7 @@ module _ (g : Grammar) (filled : HasNoEmptyKeyword g) where
   one_step m n o p q (rests built) (validates {address = b} {d = e} also is are publishes) = built_or_next m b e built also
   one_step m n o p q (rests built) (rests too) = (refl, refl)
 
-  pub one_build : (m n o : Documents) (p q : List Reply) → BuildsToEnd g m n p → BuildsToEnd g m o q → AreOne n p o q
+  pub one_build : (m n o : Documents) (p q : List Published) → BuildsToEnd g m n p → BuildsToEnd g m o q → AreOne n p o q
   one_build m n o p q (done built) (done too) = (refl, refl)
   one_build m n o p q (done built) (step {address = b} {d = e} taken does rest) = built_or_next m b e built taken
   one_build m n o p q (step {address = a} {d = d} taken does rest) (done built) = built_or_next m a d built taken

@@ -2,7 +2,7 @@
 use Rattle.std.proofs.Common.{◌≡◌, ◌≢◌, ℕ, ◌+◌, ◌-◌, ◌*◌, ◌<◌, ◌≤◌, List, length, sum_by, Option, Some, None, inl, inr, ◌⊎◌, sym, refl, ap, ◌∙◌, subst, arith, mul-le-mul_left}
 use Rattle.std.specs.FinMap.{get, insert, keys, values, len}
 use Rattle.lw_grammar.specs.declared.grammar.Grammar.{Grammar}
-use Rattle.lw_rpc.specs.declared.reply.Reply.{Reply}
+use Rattle.lw_machine.specs.declared.published.Published.{Published}
 use Rattle.lw_scopes.specs.Diagnostics.{Texts}
 use Rattle.lw_machine.specs.declared.state.State.{State}
 use Rattle.lw_machine.specs.declared.state.State.TheVariants.{Changed, Parsed, IndexedContent, ComputedScopes, Linked, IndexedReferences, Validated}
@@ -122,7 +122,7 @@ module _ (g : Grammar) (m n : Documents) (address : List ℕ) (d : Document) (is
 abbrev pub Steps : Documents → Documents → Type 0
 Steps m n = (address : List ℕ) × (IsStep m n address 0 0 ⊎ IsStep m n address 3 1)
 
-pub steps : (g : Grammar) (m n : Documents) (published : List Reply) (other : List ℕ) (e : Document) → IsNext m other e → Builds g m n published → Steps m n
+pub steps : (g : Grammar) (m n : Documents) (published : List Published) (other : List ℕ) (e : Document) → IsNext m other e → Builds g m n published → Steps m n
 steps g m n published other e is_next (rises {address = address} {d = d} taken no_show no_list) =
     (address, inl (one_step m address d (risen d) taken.held (no_less_shown d) (nearer d.state taken.unfinished)))
 steps g m n published other e is_next (shows {address = address} {d = d} {n = o} taken is settled) =

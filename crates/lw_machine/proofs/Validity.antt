@@ -3,7 +3,7 @@ use Rattle.std.proofs.Common.{◌≡◌, ◌≢◌, ℕ, ◌<◌, ◌≤◌, Lis
 use Rattle.std.proofs.lemmas.Option.{same_Some}
 use Rattle.std.specs.FinMap.{get, insert, remove, empty, get-empty}
 use Rattle.lw_grammar.specs.declared.grammar.Grammar.{Grammar}
-use Rattle.lw_rpc.specs.declared.reply.Reply.{Reply}
+use Rattle.lw_machine.specs.declared.published.Published.{Published}
 use Rattle.lw_text.specs.declared.shown.Shown.{Shown}
 use Rattle.lw_scopes.specs.Diagnostics.{Texts, AreDiagnostics}
 use Rattle.lw_machine.specs.declared.state.State.{State}
@@ -122,7 +122,7 @@ module _ (g : Grammar) where
       by (inl same) = sound other f (ap (get m) same ∙ sym settled.here ∙ ap (get n) (sym same) ∙ held)
       by (inr apart) = settled_at before (shown_texts m) other (get m other) (get n other) f (settled.others other apart) held (sound other)
 
-  builds_sound : (m n : Documents) (published : List Reply) → Builds g m n published → AreSound m → AreSound n
+  builds_sound : (m n : Documents) (published : List Published) → Builds g m n published → AreSound m → AreSound n
   builds_sound m n published (rises {address = address} {d = d} taken no_show no_list) sound =
       put_sound m address (risen d) sound (sound_at g address d d.state no_show no_list taken.unfinished (sound address d taken.held).shown)
   builds_sound m n published (shows {address = address} {d = d} {n = o} taken is settled) sound =
@@ -141,7 +141,7 @@ module _ (g : Grammar) where
   cleared_at address None f is = absurd (let no = is in cc)
   cleared_at address (Some d) f is = subst (IsSound g address) (same_Some (cleared d) f is) (sound_below g address (cleared d) (omega arith))
 
-  happens_sound : (m n : Documents) (published : List Reply) → Happens g m n published → AreSound m → AreSound n
+  happens_sound : (m n : Documents) (published : List Published) → Happens g m n published → AreSound m → AreSound n
   happens_sound m n published (puts address text version is_open) sound =
       put_sound m address (with_text (get m address) text version is_open) sound (put_text address text version is_open (get m address))
   happens_sound m n published (edits address d changes version {text = text} held made) sound =
@@ -156,22 +156,22 @@ module _ (g : Grammar) where
   pub begins_valid : IsValid g empty
   begins_valid = valid_if_sound empty (λ address d held. absurd (let no = sym (get-empty order address) ∙ held in cc))
 
-  pub stays_valid : (m n : Documents) (published : List Reply) → IsValid g m → Happens g m n published → IsValid g n
+  pub stays_valid : (m n : Documents) (published : List Published) → IsValid g m → Happens g m n published → IsValid g n
   stays_valid m n published valid happens = valid_if_sound n (happens_sound m n published happens (sound_if_valid m valid))
 
-  to_end_sound : (m n : Documents) (published : List Reply) → BuildsToEnd g m n published → AreSound m → AreSound n
+  to_end_sound : (m n : Documents) (published : List Published) → BuildsToEnd g m n published → AreSound m → AreSound n
   to_end_sound m n published (done built) sound = sound
   to_end_sound m n published (step {n = o} {o = end} {first = first} {others = others} taken does rest) sound =
       to_end_sound o end others rest (builds_sound m o first does sound)
 
-  pub end_is_built : (m n : Documents) (published : List Reply) → BuildsToEnd g m n published → IsBuilt n
+  pub end_is_built : (m n : Documents) (published : List Published) → BuildsToEnd g m n published → IsBuilt n
   end_is_built m n published (done built) = built
   end_is_built m n published (step {n = o} {o = end} {others = others} taken does rest) = end_is_built o end others rest
 
-  pub end_is_valid : (m n : Documents) (published : List Reply) → IsValid g m → BuildsToEnd g m n published → IsValid g n
+  pub end_is_valid : (m n : Documents) (published : List Published) → IsValid g m → BuildsToEnd g m n published → IsValid g n
   end_is_valid m n published valid to_end = valid_if_sound n (to_end_sound m n published to_end (sound_if_valid m valid))
 
-  pub end_is_current : (m n : Documents) (published : List Reply) → IsValid g m → BuildsToEnd g m n published → AreCurrent g n
+  pub end_is_current : (m n : Documents) (published : List Published) → IsValid g m → BuildsToEnd g m n published → AreCurrent g n
   end_is_current m n published valid to_end address d held =
       let state = end_is_built m n published to_end address d held in
       let end = end_is_valid m n published valid to_end in

@@ -1,14 +1,13 @@
 -- The build: one step takes one document one state up.
 -- Held against Langium's document lifecycle: a build takes all documents through the states in their order.
-use Rattle.std.specs.Prelude.{ℕ, ◌≡◌, ◌≢◌, ◌<◌, List, [], ◌∷◌, ◌++◌, Some}
+use Rattle.std.specs.Prelude.{ℕ, ℤ, ◌≡◌, ◌≢◌, ◌<◌, List, [], ◌∷◌, ◌++◌, Option, Some}
 use Rattle.std.specs.Cmp.Lexicographic.{slice_cmp}
 use Rattle.std.specs.FinMap.{get, insert}
 use Rattle.std.specs.Ordering.{nat_cmp}
 use Rattle.std.specs.declared.cmp.Ordering.TheVariants.{Greater}
 use Rattle.lw_grammar.specs.declared.grammar.Grammar.{Grammar}
 use Rattle.lw_text.specs.declared.shown.Shown.{Shown}
-use Rattle.lw_rpc.specs.declared.reply.Reply.{Reply}
-use Rattle.lw_rpc.specs.declared.reply.Reply.TheVariants.{Publish}
+use Rattle.lw_machine.specs.declared.published.Published.{Published}
 use Rattle.lw_scopes.specs.Diagnostics.{AreDiagnostics}
 use Rattle.lw_machine.specs.Documents.{Document, Documents, IsBuilt, next, rank, shown_texts}
 use Rattle.lw_machine.specs.Settling.{IsSettled}
@@ -37,26 +36,30 @@ indexed d = record (risen d) { shown = Some d.text }
 abbrev pub validated : Document → List Shown → Document
 validated d list = record (risen d) { published = Some list }
 
+-- what is published: a list of diagnostics of the document at an address, which has this version then
+abbrev pub publication : List ℕ → Option ℤ → List Shown → Published
+publication address version list = record { uri = address; version = version; list = list }
+
 -- what is published where the list of a document is known: the list, unless it is the one that was published last
-pub data Publishes (address : List ℕ) (d : Document) (list : List Shown) : List Reply → Type 0 where
+pub data Publishes (address : List ℕ) (d : Document) (list : List Shown) : List Published → Type 0 where
   same : d.published ≡ Some list → Publishes address d list []
-  other : d.published ≢ Some list → Publishes address d list (Publish address d.version list ∷ [])
+  other : d.published ≢ Some list → Publishes address d list (publication address d.version list ∷ [])
 
 module _ (g : Grammar) where
   -- One step: the documents before and after it, and what is published. A document that becomes indexed is shown, and the others settle; one that becomes
   -- validated has its list published.
-  pub data Builds (m : Documents) : Documents → List Reply → Type 0 where
+  pub data Builds (m : Documents) : Documents → List Published → Type 0 where
     rises : {address : List ℕ} {d : Document} → IsNext m address d → d.state ≢ Parsed → d.state ≢ IndexedReferences →
         Builds m (insert m address (risen d)) []
     shows : {address : List ℕ} {d : Document} {n : Documents} → IsNext m address d → d.state ≡ Parsed →
         IsSettled g (shown_texts m) address (insert m address (indexed d)) n → Builds m n []
-    validates : {address : List ℕ} {d : Document} {list : List Shown} {published : List Reply} → IsNext m address d → d.state ≡ IndexedReferences →
+    validates : {address : List ℕ} {d : Document} {list : List Shown} {published : List Published} → IsNext m address d → d.state ≡ IndexedReferences →
         AreDiagnostics g (shown_texts m) address list → Publishes address d list published → Builds m (insert m address (validated d list)) published
     -- where every document is validated there is nothing to do
     rests : IsBuilt m → Builds m m []
 
   -- steps until every document is validated, and what they publish
-  pub data BuildsToEnd : Documents → Documents → List Reply → Type 0 where
+  pub data BuildsToEnd : Documents → Documents → List Published → Type 0 where
     done : {m : Documents} → IsBuilt m → BuildsToEnd m m []
-    step : {m n o : Documents} {first others : List Reply} {address : List ℕ} {d : Document} → IsNext m address d → Builds m n first → BuildsToEnd n o others →
+    step : {m n o : Documents} {first others : List Published} {address : List ℕ} {d : Document} → IsNext m address d → Builds m n first → BuildsToEnd n o others →
         BuildsToEnd m o (first ++ others)

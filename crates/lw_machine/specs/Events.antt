@@ -7,11 +7,10 @@ use Rattle.lw_text.specs.Changes.{AreMade}
 use Rattle.lw_text.specs.declared.change.Change.{Change}
 use Rattle.lw_text.specs.declared.shown.Shown.{Shown}
 use Rattle.lw_text.specs.declared.units.Encoding.TheVariants.{Utf16}
-use Rattle.lw_rpc.specs.declared.reply.Reply.{Reply}
-use Rattle.lw_rpc.specs.declared.reply.Reply.TheVariants.{Publish}
+use Rattle.lw_machine.specs.declared.published.Published.{Published}
 use Rattle.lw_machine.specs.Documents.{Document, Documents, shown_texts}
 use Rattle.lw_machine.specs.Settling.{IsSettled}
-use Rattle.lw_machine.specs.Building.{Builds}
+use Rattle.lw_machine.specs.Building.{Builds, publication}
 use Rattle.lw_machine.specs.declared.state.State.TheVariants.{Changed}
 
 -- a document whose text is put: its shown text and its last list stay
@@ -36,14 +35,14 @@ abbrev pub cleared : Document → Document
 cleared d = record d { state = Changed; shown = None }
 
 -- what is published where a document is removed: an empty list, where its last list had an entry
-abbrev pub farewell : List ℕ → Option (List Shown) → List Reply
+abbrev pub farewell : List ℕ → Option (List Shown) → List Published
 farewell address None = []
 farewell address (Some []) = []
-farewell address (Some (_ ∷ _)) = Publish address None [] ∷ []
+farewell address (Some (_ ∷ _)) = publication address None [] ∷ []
 
 module _ (g : Grammar) where
   -- the documents before and after an event, and what is published
-  pub data Happens (m : Documents) : Documents → List Reply → Type 0 where
+  pub data Happens (m : Documents) : Documents → List Published → Type 0 where
     -- a text is put at an address, which may be new
     puts : (address text : List ℕ) (version : Option ℤ) (is_open : Bool) → Happens m (put m address text version is_open) []
     -- an editor changes parts of the text of a document
@@ -55,6 +54,6 @@ module _ (g : Grammar) where
     removes : (address : List ℕ) (d : Document) {n : Documents} → get m address ≡ Some d → IsSettled g (shown_texts m) address (remove m address) n →
         Happens m n (farewell address d.published)
     -- one step of the build
-    builds : {n : Documents} {published : List Reply} → Builds g m n published → Happens m n published
+    builds : {n : Documents} {published : List Published} → Builds g m n published → Happens m n published
     -- all that was computed is forgotten
     resets : {n : Documents} → ((address : List ℕ) → get n address ≡ option_map cleared (get m address)) → Happens m n []

@@ -4,10 +4,9 @@ use Rattle.std.specs.Prelude.{ℕ, ◌≡◌, ◌≢◌, ◌+◌, ◌-◌, ◌*�
 use Rattle.std.specs.FinMap.{get, values, len}
 use Rattle.lw_grammar.specs.declared.grammar.Grammar.{Grammar}
 use Rattle.lw_text.specs.declared.shown.Shown.{Shown}
-use Rattle.lw_rpc.specs.declared.reply.Reply.{Reply}
-use Rattle.lw_rpc.specs.declared.reply.Reply.TheVariants.{Publish}
+use Rattle.lw_machine.specs.declared.published.Published.{Published}
 use Rattle.lw_machine.specs.Documents.{Document, Documents, IsBuilt, rank}
-use Rattle.lw_machine.specs.Building.{IsNext, Builds}
+use Rattle.lw_machine.specs.Building.{IsNext, Builds, publication}
 
 -- either every document is validated, or one document is next, and no other
 abbrev pub GoesOn : Documents → Type 0
@@ -18,7 +17,7 @@ module _ (g : Grammar) where
   -- so many steps, each of which takes up a document, lead from some documents to others
   pub data Chain : ℕ → Documents → Documents → Type 0 where
     none : {m : Documents} → Chain zero m m
-    more : {steps : ℕ} {m n o : Documents} {address : List ℕ} {d : Document} {published : List Reply} → IsNext m address d → Builds g m n published →
+    more : {steps : ℕ} {m n o : Documents} {address : List ℕ} {d : Document} {published : List Published} → IsNext m address d → Builds g m n published →
         Chain steps n o → Chain (suc steps) m o
 
 -- how many states a document is away from being validated
@@ -40,9 +39,9 @@ last_list m address = option_and_then (λ d. d.published) (get m address)
 
 -- What is to be published where the documents m have become these, which are given with their addresses in order: of each whose last list is another
 -- now, this list, once, under its version.
-pub data AreNews (m : Documents) : List (List ℕ × Document) → List Reply → Type 0 where
+pub data AreNews (m : Documents) : List (List ℕ × Document) → List Published → Type 0 where
   nothing : AreNews m [] []
-  same : {address : List ℕ} {d : Document} {others : List (List ℕ × Document)} {news : List Reply} → last_list m address ≡ d.published → AreNews m others news →
+  same : {address : List ℕ} {d : Document} {others : List (List ℕ × Document)} {news : List Published} → last_list m address ≡ d.published → AreNews m others news →
       AreNews m ((address, d) ∷ others) news
-  new : {address : List ℕ} {d : Document} {others : List (List ℕ × Document)} {list : List Shown} {news : List Reply} → d.published ≡ Some list →
-      last_list m address ≢ Some list → AreNews m others news → AreNews m ((address, d) ∷ others) (Publish address d.version list ∷ news)
+  new : {address : List ℕ} {d : Document} {others : List (List ℕ × Document)} {list : List Shown} {news : List Published} → d.published ≡ Some list →
+      last_list m address ≢ Some list → AreNews m others news → AreNews m ((address, d) ∷ others) (publication address d.version list ∷ news)

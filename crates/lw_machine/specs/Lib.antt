@@ -2,7 +2,5 @@ pub mod Documents
 pub mod Settling
 pub mod Building
 pub mod Events
-pub mod Answers
-pub mod Sessions
 pub mod Validity
 pub mod Laws

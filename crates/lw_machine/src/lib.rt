@@ -1,5 +1,5 @@
-//! The machine that a session is held against: documents with their states, the events that happen to them,
-//! what a message is answered, and what a session writes.
+//! The machine that a workspace is held against: documents with their states, and the events that happen to
+//! them. It knows neither messages nor frames; what it tells are lists of diagnostics ([`Published`]).
 //!
 //! It keeps texts, versions, states and the lists that were published last, and computes everything else
 //! anew from the shown texts. The definitions stand in `specs/`:
@@ -8,27 +8,23 @@
 //! - `Events.antt`: what puts, edits, closes, removes and resets documents.
 //! - `Building.antt`: a build step takes one document one state up; a text that becomes the shown one lowers
 //!   the others (`Settling.antt`); a build runs to its end.
-//! - `Answers.antt`: what a message is answered at once.
-//! - `Sessions.antt`: what a session does with a body, and with all bodies of a stream.
-//!
 //! - `Validity.antt`: what holds of the documents at every moment, and at the end of a build.
 //! - `Laws.antt`: what laws of the machine speak of.
 //!
-//! There is no code here but the types [`State`] and [`Ended`]. What keeps documents and answers messages is
-//! held against these definitions. Each function here has an empty body, and its contract is a law that a
-//! reader would expect of them: a build goes on ([`build_goes_on`]), ends ([`build_ends`], [`build_has_end`])
-//! and has one outcome ([`one_build`]); behind it every document is validated and its list is told
-//! ([`built`], [`stays_valid`]), and it publishes what differs ([`publishes_what_differs`]); what a session
-//! does is settled ([`one_outcome`]), and leaves nothing to do behind a message ([`sessions_stay_current`]).
+//! There is no code here but the types [`State`] and [`Published`]. What keeps documents is held against
+//! these definitions. Each function here has an empty body, and its contract is a law that a reader would
+//! expect of them: a build goes on ([`build_goes_on`], [`a_step_can_be_taken`]), ends ([`build_ends`],
+//! [`build_has_end`]) and has one outcome ([`one_build`]); behind it every document is validated and its list
+//! is told ([`built`], [`stays_valid`]), and it publishes what differs ([`publishes_what_differs`]).
 #![tactic(auto)]
 
-mod ended;
 mod laws;
+mod published;
 mod state;
 
-pub use ended::Ended;
 pub use laws::{
-    build_ends, build_goes_on, build_has_end, built, one_build, one_outcome,
-    publishes_what_differs, sessions_stay_current, stays_valid,
+    a_step_can_be_taken, build_ends, build_goes_on, build_has_end, built, one_build,
+    publishes_what_differs, stays_valid,
 };
+pub use published::Published;
 pub use state::State;

@@ -1,0 +1,84 @@
+-- What a session does with the bodies of a stream is settled, since a build has one outcome.
+use Rattle.std.proofs.Common.{◌≡◌, ℕ, ℤ, ◌≤◌, ◌<◌, List, [], ◌∷◌, ◌++◌, map, length, true, false, inl, inr, sym, refl, ap, ap₂, ◌∙◌, subst, true≢false, arith}
+use Rattle.lw_grammar.specs.declared.grammar.Grammar.{Grammar}
+use Rattle.lw_io.specs.declared.store.Found.{Found}
+use Rattle.lw_reading.specs.Laws.{HasNoEmptyKeyword}
+use Rattle.lw_rpc.specs.Messages.{message_of}
+use Rattle.lw_rpc.specs.declared.message.Message.{Message}
+use Rattle.lw_rpc.specs.declared.reply.Reply.{Reply}
+use Rattle.lw_machine.specs.Building.{BuildsToEnd}
+use Rattle.lw_machine.specs.Documents.{Documents}
+use Rattle.lw_machine.proofs.OneBuild.{one_build}
+use Rattle.lw_conversation.specs.Standing.{Standing, with_documents, with_phase}
+use Rattle.lw_conversation.specs.Gate.{Stops, Passes, gate}
+use Rattle.lw_conversation.specs.Opening.{HasRoom, IsFull, Opens, too_long, too_many, puts, most_documents}
+use Rattle.lw_conversation.specs.Effects.{TakesEffect, opens, asks, as_reply}
+use Rattle.lw_conversation.specs.Answered.{Answered, stops, passes}
+use Rattle.lw_conversation.specs.Sessions.{Handles, Serves, unbuilt, built, waits, ends, goes_on}
+use Rattle.lw_conversation.specs.declared.ended.Ended.{Ended}
+use Rattle.lw_conversation.specs.declared.ended.Ended.TheVariants.{No}
+use Rattle.lw_conversation.specs.declared.phase.Phase.{Phase}
+
+never_both : {A : Type 0} (m : Documents) (address : List ℕ) → IsFull m address → HasRoom m address → A
+never_both m address (absent, full) (inl held) = absurd (true≢false (sym held ∙ absent))
+never_both m address (absent, full) (inr room) = absurd (omega arith)
+
+one_opening : (m : Documents) (address : List ℕ) (version : ℤ) (text : List ℕ) (n o : Documents) (p q : List Reply) → Opens m address version text n p →
+    Opens m address version text o q → (n ≡ o) × (p ≡ q)
+one_opening m address version text n o p q (too_long long) (too_long also) = (refl, refl)
+one_opening m address version text n o p q (too_long long) (too_many short full) = absurd (omega arith)
+one_opening m address version text n o p q (too_long long) (puts short room) = absurd (omega arith)
+one_opening m address version text n o p q (too_many short full) (too_long long) = absurd (omega arith)
+one_opening m address version text n o p q (too_many short full) (too_many also too) = (refl, refl)
+one_opening m address version text n o p q (too_many short full) (puts also room) = never_both m address full room
+one_opening m address version text n o p q (puts short room) (too_long long) = absurd (omega arith)
+one_opening m address version text n o p q (puts short room) (too_many also full) = never_both m address full room
+one_opening m address version text n o p q (puts short room) (puts also too) = (refl, refl)
+
+module _ (g : Grammar) (filled : HasNoEmptyKeyword g) where
+  one_effect : (m : Documents) (message : Message) (found : List Found) (n o : Documents) (p q : List Reply) → TakesEffect g m message found n p →
+      TakesEffect g m message found o q → (n ≡ o) × (p ≡ q)
+  one_effect m message found n o p q (opens {address = a} {text = t} {version = v} first) (opens second) = one_opening m a v t n o p q first second
+  one_effect m message found n o p q (opens first) (asks published reply builds replies) = absurd replies
+  one_effect m message found n o p q (asks published reply builds replies) second = absurd replies
+
+  abbrev AreOne : Standing → List Reply → Ended → Standing → List Reply → Ended → Type 0
+  AreOne t p e u q f = (t ≡ u) × (p ≡ q) × (e ≡ f)
+
+  one_answered : (s : Standing) (m : Message) (found : List Found) (t u : Standing) (p q : List Reply) (e f : Ended) → Answered g s m found t p e →
+      Answered g s m found u q f → AreOne t p e u q f
+  one_answered s m found t u p q e f (stops {phase = a} is) (stops {phase = b} was) =
+      let same = sym is ∙ was in let phases : a ≡ b = cc in (ap (with_phase s) phases, cc, cc)
+  one_answered s m found t u p q e f (stops is) (passes was effect) = absurd (let same = sym is ∙ was in cc)
+  one_answered s m found t u p q e f (passes was effect) (stops is) = absurd (let same = sym is ∙ was in cc)
+  one_answered s m found t u p q e f (passes {n = n} is effect) (passes {n = o} was other) =
+      let one = one_effect s.documents m found n o p q effect other in (ap (with_documents s) one.0, one.1, refl)
+
+  one_handled : (s : Standing) (m : Message) (found : List Found) (t u : Standing) (p q : List Reply) (e f : Ended) → Handles g s m found t p e →
+      Handles g s m found u q f → AreOne t p e u q f
+  one_handled s m found t u p q e f (unbuilt first before) (unbuilt second also) = one_answered s m found t u p q e f first second
+  one_handled s m found t u p q e f (unbuilt first before) (built {t = v} {replies = r} second since builds) =
+      let one = one_answered s m found t v p r e f first second in
+      absurd (true≢false (sym since ∙ sym (ap (λ (x : Standing). x.phase.initialized) one.0) ∙ before))
+  one_handled s m found t u p q e f (built {t = v} {replies = r} first since builds) (unbuilt second before) =
+      let one = one_answered s m found v u r q e f first second in
+      absurd (true≢false (sym since ∙ ap (λ (x : Standing). x.phase.initialized) one.0 ∙ before))
+  one_handled s m found t u p q e f (built {t = v} {replies = r} {n = n} {published = h} first since builds)
+      (built {t = w} {replies = l} {n = o} {published = k} second also too) =
+      let one = one_answered s m found v w r l e f first second in
+      let end = one_build g filled v.documents n o h k builds (subst (λ (x : Standing). BuildsToEnd g x.documents o k) (sym one.0) too) in
+      (ap₂ with_documents one.0 end.0, ap₂ (λ x y. x ++ map as_reply y) one.1 end.1, one.2)
+
+  pub one_outcome : (s t u : Standing) (bodies : List (List ℕ)) (found : List (List Found)) (p q : List Reply) (e f : Ended) → Serves g s bodies found t p e →
+      Serves g s bodies found u q f → AreOne t p e u q f
+  one_outcome s t u bodies found p q e f waits waits = (refl, refl, refl)
+  one_outcome s t u bodies found p q e f (ends {body = b} {found = h} first over) (ends second done) = one_handled s (message_of b) h t u p q e f first second
+  one_outcome s t u bodies found p q e f (ends {body = b} {found = h} first over) (goes_on {t = w} {first = r} second more) =
+      absurd (over (one_handled s (message_of b) h t w p r e No first second).2)
+  one_outcome s t u bodies found p q e f (goes_on {t = v} {body = b} {found = h} {first = r} first rest) (ends second over) =
+      absurd (over (sym (one_handled s (message_of b) h v u r q No f first second).2))
+  one_outcome s t u bodies found p q e f (goes_on {t = v} {body = b} {others = bs} {found = h} {more = hs} {first = r} {replies = rs} first rest)
+      (goes_on {t = w} {first = l} {replies = ls} second more) =
+      let one = one_handled s (message_of b) h v w r l No No first second in
+      let end = one_outcome v t u bs hs rs ls e f rest (subst (λ z. Serves g z bs hs u ls f) (sym one.0) more) in
+      (end.0, ap₂ (λ x y. x ++ y) one.1 end.1, end.2)

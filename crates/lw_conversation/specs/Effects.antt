@@ -1,0 +1,31 @@
+-- What a message that has passed the gate makes of the documents: one relation for each method, with what the store answered at each of the message's
+-- reads, in their order.
+-- Language Server Protocol 3.17, "Text Document Synchronization" and "Language Features".
+use Rattle.std.specs.Prelude.{ℕ, ℤ, List, [], ◌∷◌, ◌++◌, map}
+use Rattle.lw_grammar.specs.declared.grammar.Grammar.{Grammar}
+use Rattle.lw_io.specs.declared.store.Found.{Found}
+use Rattle.lw_rpc.specs.declared.message.Message.{Message}
+use Rattle.lw_rpc.specs.declared.message.Message.TheVariants.{DidOpen}
+use Rattle.lw_rpc.specs.declared.reply.Reply.{Reply}
+use Rattle.lw_rpc.specs.declared.reply.Reply.TheVariants.{Publish}
+use Rattle.lw_machine.specs.Building.{BuildsToEnd}
+use Rattle.lw_machine.specs.Documents.{Documents}
+use Rattle.lw_machine.specs.declared.published.Published.{Published}
+use Rattle.lw_conversation.specs.Opening.{Opens}
+
+-- a list of diagnostics is told by a publication
+abbrev pub as_reply : Published → Reply
+as_reply p = Publish p.uri p.version p.list
+
+-- what a request that asks of a built workspace is replied over these documents; no such request is known yet
+abbrev pub RepliesTo : Documents → Message → Reply → Type 0
+RepliesTo documents message reply = ⊥
+
+module _ (g : Grammar) where
+  -- the documents before a message, the message, what the store answered, and the documents and the replies behind it
+  pub data TakesEffect (m : Documents) : Message → List Found → Documents → List Reply → Type 0 where
+    opens : {address text : List ℕ} {version : ℤ} {n : Documents} {replies : List Reply} → Opens m address version text n replies →
+        TakesEffect m (DidOpen address version text) [] n replies
+    -- a question: the build runs to its end before it, and the reply comes behind what that publishes
+    asks : {message : Message} {n : Documents} (published : List Published) (reply : Reply) → BuildsToEnd g m n published → RepliesTo n message reply →
+        TakesEffect m message [] n (map as_reply published ++ reply ∷ [])

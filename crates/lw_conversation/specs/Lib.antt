@@ -1,0 +1,6 @@
+pub mod Standing
+pub mod Gate
+pub mod Opening
+pub mod Effects
+pub mod Answered
+pub mod Sessions

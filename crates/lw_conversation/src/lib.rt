@@ -1,0 +1,27 @@
+//! What a session of the language server does with the bodies of a stream, as definitions over the machine of
+//! `lw_machine`.
+//!
+//! A session is the documents of its workspace and two facts, a [`Phase`]. A body is one message. The definitions
+//! stand in `specs/`, each one step of the way from a body to what is written:
+//!
+//! - `Standing.antt`: a session between two messages, and the one that begins once texts were put.
+//! - `Gate.antt`: what the life of the session makes of a message: it is answered at once, or it has its effect.
+//! - `Effects.antt`: what a message that passes the gate makes of the documents, one relation for each method
+//!   (`Opening.antt`), with what the store answered at each of its reads. The build stands before the reply to a
+//!   question.
+//! - `Answered.antt`: both together, and what may stand where memory is refused at a message.
+//! - `Sessions.antt`: the build stands behind every message once `initialize` was answered, and so on through all
+//!   bodies up to `exit`.
+//!
+//! There is no code here but the types [`Ended`] and [`Phase`]. Each function has an empty body, and its contract is
+//! a law that a reader would expect: what a session does is settled ([`one_outcome`]), and leaves nothing to do
+//! behind a message ([`sessions_stay_current`]).
+#![tactic(auto)]
+
+mod ended;
+mod laws;
+mod phase;
+
+pub use ended::Ended;
+pub use laws::{one_outcome, sessions_stay_current};
+pub use phase::Phase;

@@ -1,6 +1,0 @@
--- By induction on the bodies.
-use Rattle.lw_machine.proofs.OneOutcome.{one_outcome}
-use Rattle.lw_machine.proofs.laws.one_outcome.Goals as goal
-
-pub returns : goal.returns
-returns c = one_outcome

@@ -1,6 +1,0 @@
--- Each message keeps what holds of a session.
-use Rattle.lw_machine.proofs.Current.{session_valid, session_current}
-use Rattle.lw_machine.proofs.laws.sessions_stay_current.Goals as goal
-
-pub returns : goal.returns
-returns c = record { valid = session_valid; current = session_current }
