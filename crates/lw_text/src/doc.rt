@@ -1,5 +1,5 @@
 // A text that is changed.
-ghost use Rattle.std.specs.Prelude.{◌≡◌, ◌+◌, ◌<◌, ◌≤◌, ◌↔◌, ◌⊎◌, ◌++◌, ℕ, length, take, drop, IsTrue, IfOk, IfErr, OnOk, OnErr, MatchResult, string_bytes, string_len, unwrap_or};
+ghost use Rattle.std.specs.Prelude.{◌≡◌, ◌+◌, ◌<◌, ◌≤◌, ◌↔◌, ◌⊎◌, ◌++◌, ℕ, length, take, drop, IsTrue, IfOk, IfErr, OnOk, OnErr, MatchResult, string_bytes, unwrap_or};
 ghost use Rattle.std.specs.Str.{IsUtf8, IsCharBoundary};
 ghost use Rattle.lw_text.specs.Changes.{AreMade, Changes, IsMade, IsRefused, IsTextOrFault};
 ghost use Rattle.lw_text.specs.Offset.{IsOffset};
@@ -19,31 +19,35 @@ use std::marker::Model;
 /// It keeps four bytes for each line beside the text.
 #[derive(Debug, Drop)]
 pub struct TextDoc {
-    text: String,
+    text: Name,
     starts: Items<u32>,
 }
 
 impl Model for TextDoc {
-    ghost use Rattle.std.specs.Prelude.{List, ℕ, string_bytes};
+    ghost use Rattle.std.specs.Prelude.{List, ℕ};
     ghost use Rattle.lw_text.specs.Starts.{IsIndexed};
 
     ghost Value = { List ℕ };
 
-    ghost view = { λ d. string_bytes d.text };
+    ghost view = { λ d. d.text };
 
-    ghost invariant = { λ d. IsIndexed (string_bytes d.text) d.starts };
+    ghost invariant = { λ d. IsIndexed d.text d.starts };
 }
 
 impl TextDoc {
     /// The text of this name, or [`EditFault::TooLong`] where it has more than [`LONGEST_TEXT`] bytes.
     ///
-    /// The bytes are copied once and looked through once.
+    /// The text is taken over as it is, and looked through once for its lines.
     pub fn new(alloc: Global, text: Name) -> Result<TextDoc, EditFault>
         ensures text { IfOk result (λ doc. doc ≡ text) }
         ensures too_long { (result ≡ Err (EditFault.TooLong (length text))) ↔ (LONGEST_TEXT < length text) }
         ensures faults { IfErr result (λ fault. (fault ≡ EditFault.TooLong (length text)) ⊎ (fault ≡ EditFault.NoMemory)) }
     {
-        TextDoc::from_text(alloc, text.text())
+        let length = text.bytes().len();
+        if length > LONGEST_TEXT {
+            return Err(EditFault::TooLong(length as u64));
+        }
+        TextDoc::with_lines(alloc, text)
     }
 
     /// The text, in memory of its own.
@@ -55,14 +59,22 @@ impl TextDoc {
         Name::from_text(alloc, self.as_text())
     }
 
+    /// The text, borrowed as a name.
+    pub fn as_name(&self) -> &Name
+        ensures text { result.now ≡ self.now }
+        ensures fits { length self.now ≤ LONGEST_TEXT }
+    {
+        let _ = &self.starts;
+        &self.text
+    }
+
     /// The text, borrowed.
     pub fn as_text(&self) -> &str
         ensures text { result.now ≡ self.now }
         ensures utf8 { IsUtf8 self.now }
         ensures fits { length self.now ≤ LONGEST_TEXT }
     {
-        let _ = &self.starts;
-        self.text.as_str()
+        self.as_name().text()
     }
 
     /// The length in bytes.
@@ -91,7 +103,7 @@ impl TextDoc {
         ensures within { result ≤ length self.now }
         ensures boundary { IsCharBoundary self.now result }
     {
-        offset_in(self.text.as_str(), self.starts.as_slice(), at, enc) as u32
+        offset_in(self.text.text(), self.starts.as_slice(), at, enc) as u32
     }
 
     /// The position of the byte `off`. Inside a character it is where the character begins, and inside
@@ -103,7 +115,7 @@ impl TextDoc {
         requires { off ≤ length self.now }
         ensures { IsPositionIn enc self.now off result }
     {
-        let text = self.text.as_str();
+        let text = self.text.text();
         let line = line_among(text, self.starts.as_slice(), off as usize);
         position_in(text, off as usize, line, enc)
     }
@@ -189,7 +201,8 @@ impl TextDoc {
         if len > LONGEST_TEXT {
             return Err(EditFault::TooLong(len as u64));
         }
-        TextDoc::with_lines(alloc, joined(alloc, &text[..from], new, &text[to..])?)
+        let text = joined(alloc, &text[..from], new, &text[to..])?;
+        TextDoc::with_lines(alloc, Name::from_string(text))
     }
 
     fn from_text(alloc: Global, text: &str) -> Result<TextDoc, EditFault>
@@ -199,15 +212,15 @@ impl TextDoc {
         if text.len() > LONGEST_TEXT {
             return Err(EditFault::TooLong(text.len() as u64));
         }
-        TextDoc::with_lines(alloc, String::from_str(alloc, text)?)
+        TextDoc::with_lines(alloc, Name::from_text(alloc, text)?)
     }
 
     /// The text with its lines looked up.
-    fn with_lines(alloc: Global, text: String) -> Result<TextDoc, EditFault>
-        requires { string_len text ≤ LONGEST_TEXT }
-        ensures { MatchResult result (λ doc. doc ≡ string_bytes text) (λ fault. fault ≡ EditFault.NoMemory) }
+    fn with_lines(alloc: Global, text: Name) -> Result<TextDoc, EditFault>
+        requires { length text ≤ LONGEST_TEXT }
+        ensures { MatchResult result (λ doc. doc ≡ text) (λ fault. fault ≡ EditFault.NoMemory) }
     {
-        let starts = line_starts(alloc, text.as_str())?;
+        let starts = line_starts(alloc, text.text())?;
         Ok(TextDoc { text, starts })
     }
 }
