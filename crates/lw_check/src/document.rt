@@ -1,47 +1,60 @@
 // The diagnostics of one document.
-ghost use Rattle.std.specs.Prelude.{◌≤◌, length, IfOk};
-ghost use Rattle.std.specs.Str.{IsUtf8};
-ghost use Rattle.lw_base.specs.declared.limits.TheConstants.{LONGEST_TEXT};
+ghost use Rattle.std.specs.Prelude.{◌≡◌, IfOk};
 ghost use Rattle.lw_lang.specs.Language.{IsNamed, IsSpanWithin, IsIssueWithin};
 ghost use Rattle.lw_scopes.specs.Diagnostics.{IsList};
-ghost use Rattle.lw_scopes.specs.Faults.{IsFaultShown, IsShownAt};
+ghost use Rattle.lw_scopes.specs.Faults.{IsFaultShown, IsShownAt, too_large_shown};
 
-use lw_base::{Items, Name, NoMemory, Span};
+use lw_base::{Items, LONGEST_DOCUMENT, Name, NoMemory, Span};
 use lw_lang::{Issue, Language, Parsed};
-use lw_text::{Shown, position};
+use lw_text::{Encoding, Pos, Shown, TextDoc};
 use std::alloc::Global;
 
-/// The list of a text: empty where the grammar reads it whole, else its one fault.
+/// The list of a text: empty where the grammar reads it whole, else its one fault. The one error is want of
+/// memory.
 ///
-/// Positions are zero-based lines and UTF-16 units (Language Server Protocol 3.17, "Position"). It takes
-/// time linear in the length of the text, and memory for its tokens.
+/// Positions are zero-based lines and UTF-16 units (Language Server Protocol 3.17, "Position"), found by the
+/// lines that the text knows. It takes time linear in the length of the text, and memory for its tokens.
 pub fn diagnostics(
     alloc: Global,
     language: &Language,
-    text: &Name,
+    document: &TextDoc,
 ) -> Result<Items<Shown>, NoMemory>
-    requires { length text.now ≤ LONGEST_TEXT }
-    ensures list { IfOk result (IsList language.now.grammar text.now) }
-    ensures utf8 { IsUtf8 text.now }
+    ensures { IfOk result (IsList language.now.grammar document.now) }
 {
-    let source = text.text();
     let mut list = Items::new(alloc);
-    match language.read(alloc, text)? {
+    match language.read(alloc, document.as_name())? {
         Parsed::Whole => Ok(list),
         Parsed::Broken(issue) => {
-            list.push(fault_shown(alloc, language, source, issue)?)?;
+            list.push(fault_shown(alloc, language, document, issue)?)?;
             Ok(list)
         }
     }
 }
 
+/// The one diagnostic of a text that is longer than a document may be, at the text's start. The one error is
+/// want of memory.
+pub fn too_large(alloc: Global) -> Result<Shown, NoMemory>
+    ensures { IfOk result (λ shown. shown ≡ too_large_shown) }
+{
+    let start = Pos {
+        line: 0,
+        character: 0,
+    };
+    let message = format!(in alloc; "Document is longer than {LONGEST_DOCUMENT} bytes.")?;
+    Ok(Shown {
+        start,
+        end: start,
+        code: 7,
+        message: Name::from_string(message),
+    })
+}
+
 fn fault_shown(
     alloc: Global,
     language: &Language,
-    text: &str,
+    text: &TextDoc,
     issue: Issue,
 ) -> Result<Shown, NoMemory>
-    requires short { length text.now ≤ LONGEST_TEXT }
     requires within { IsIssueWithin text.now issue }
     requires named { IsNamed language.now.texts issue }
     ensures { IfOk result (IsFaultShown language.now.grammar text.now issue) }
@@ -54,29 +67,24 @@ fn fault_shown(
         Issue::Syntax(span, kind) => {
             let kind = language.kind_text(kind);
             let message = format!(in alloc; "Unexpected {kind}.")?;
-            let message = Name::from_text(alloc, message.as_str())?;
-            Ok(shown_at(text, span, 2, message))
+            Ok(shown_at(text, span, 2, Name::from_string(message)))
         }
         Issue::End(at) => {
             let message = Name::from_text(alloc, "Unexpected end of text.")?;
             Ok(shown_at(text, Span { start: at, end: at }, 2, message))
         }
-        Issue::TooLarge => {
-            let message = Name::from_text(alloc, "Document is longer than 2097152 bytes.")?;
-            Ok(shown_at(text, Span { start: 0, end: 0 }, 7, message))
-        }
+        Issue::TooLarge => too_large(alloc),
     }
 }
 
 // It is shown from the start of the span to its end.
-fn shown_at(text: &str, span: Span, code: u8, message: Name) -> Shown
-    requires short { length text.now ≤ LONGEST_TEXT }
-    requires within { IsSpanWithin text.now span }
+fn shown_at(text: &TextDoc, span: Span, code: u8, message: Name) -> Shown
+    requires { IsSpanWithin text.now span }
     ensures { IsShownAt text.now span.start span.end code message result }
 {
     Shown {
-        start: position(text, span.start as usize),
-        end: position(text, span.end as usize),
+        start: text.position(span.start, Encoding::Utf16),
+        end: text.position(span.end, Encoding::Utf16),
         code,
         message,
     }

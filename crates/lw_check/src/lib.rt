@@ -4,13 +4,14 @@
 //! with where it begins and ends, its code and its message. Which list a text has is defined in
 //! `specs/Diagnostics.antt` of `lw_scopes`, and how a fault is shown in `specs/Faults.antt` there.
 //!
-//! It promises that [`diagnostics`] answers exactly that list, or that memory was refused. What a
+//! It promises that [`diagnostics`] answers exactly that list, or that memory was refused; [`too_large`] is the one
+//! entry of a document that is not read, which a caller may know before it has the whole text. What a
 //! command line prints of a document and what an editor is told of it both come from here.
 #![tactic(auto)]
 
 mod document;
 
-pub use document::diagnostics;
+pub use document::{diagnostics, too_large};
 
 #[cfg(test)]
 mod tests;

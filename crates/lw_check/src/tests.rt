@@ -1,10 +1,10 @@
 // What the clauses do not say: that a list is answered where there is memory. The places and messages are
 // worked by hand.
-use crate::diagnostics;
+use crate::{diagnostics, too_large};
 use lw_base::{Items, Name, NoMemory};
 use lw_io::{MemPatterns, MemStore};
 use lw_lang::{Language, compile};
-use lw_text::{Pos, Shown};
+use lw_text::{Pos, Shown, TextDoc};
 use std::alloc::Global;
 use std::process::Abort;
 use std::test::Fail;
@@ -31,9 +31,10 @@ fn listed(
     language: &Language,
     text: &str,
 ) -> Result<Items<Shown>, NoMemory> {
-    let text = Name::from_text(alloc, text)?;
-    assert!(rt; text.bytes().len() < 100);
-    diagnostics(alloc, language, &text)
+    match TextDoc::new(alloc, Name::from_text(alloc, text)?) {
+        Ok(document) => diagnostics(alloc, language, &document),
+        Err(_) => panic!(rt; "the text is short"),
+    }
 }
 
 // Whether the list has one entry, on this line from one character to another.
@@ -59,6 +60,8 @@ fn is_one(list: &[Shown], line: u32, from: u32, to: u32, code: u8, message: &str
 fn a_broken_text_has_one_entry(rt: HostRuntime) -> Result<(), Fail> {
     let language = language(&rt, rt.alloc())?;
     assert!(rt; listed(&rt, rt.alloc(), &language, "model m")?.is_empty());
+    let message = too_large(rt.alloc())?.message;
+    assert_eq!(rt; message.text(), "Document is longer than 2097152 bytes.");
     for (text, line, from, to, code, message) in [
         ("model", 0u32, 5, 5, 2u8, "Unexpected end of text."),
         ("\r\nmodel model", 1, 6, 11, 2, "Unexpected 'model'."),

@@ -2,7 +2,7 @@
 -- is no message; a response; `exit`; what comes before `initialize`; what comes after `shutdown`; a second `initialize`; what is not known;
 -- parameters of another shape than the method asks for.
 -- Language Server Protocol 3.17, "Server lifecycle" and "ErrorCodes"; JSON-RPC 2.0, "Error object".
-use Rattle.std.specs.Prelude.{ℕ, ℤ, negsuc, List, [], ◌∷◌, ◌++◌, Bool, true, ◌&&◌, not, if◌then◌else◌, Option, Some, None, codes}
+use Rattle.std.specs.Prelude.{ℕ, ℤ, List, [], ◌∷◌, ◌++◌, Bool, true, ◌&&◌, not, if◌then◌else◌, Option, Some, None, codes}
 use Rattle.lw_rpc.specs.declared.message.Id.{Id}
 use Rattle.lw_rpc.specs.declared.message.Message.{Message}
 use Rattle.lw_rpc.specs.declared.message.Message.TheVariants.{BadJson, BadRequest, Response, Unknown, BadParams, Initialize, Shutdown, Exit, DidOpen}
@@ -10,6 +10,7 @@ use Rattle.lw_rpc.specs.declared.reply.Outcome.TheVariants.{Nothing, Hello}
 use Rattle.lw_rpc.specs.declared.reply.Reply.{Reply}
 use Rattle.lw_rpc.specs.declared.reply.Reply.TheVariants.{Done, Error, Log}
 use Rattle.lw_conversation.specs.declared.ended.Ended.{Ended}
+use Rattle.lw_conversation.specs.declared.error_code.TheConstants.{PARSE_ERROR, INVALID_REQUEST, METHOD_NOT_FOUND, INVALID_PARAMS, SERVER_NOT_INITIALIZED}
 use Rattle.lw_conversation.specs.declared.ended.Ended.TheVariants.{No, Clean, Early}
 use Rattle.lw_conversation.specs.declared.phase.Phase.{Phase}
 
@@ -28,19 +29,19 @@ abbrev pub refuses : Phase → Option Id → ℤ → List ℕ → Passage
 refuses phase id code message = replies_at phase (Error id code message ∷ [])
 
 abbrev pub parse_error : Phase → Passage
-parse_error phase = refuses phase None (negsuc 32699) (codes "parse error")
+parse_error phase = refuses phase None PARSE_ERROR (codes "parse error")
 
 abbrev pub invalid_request : Phase → Option Id → Passage
-invalid_request phase id = refuses phase id (negsuc 32599) (codes "invalid request")
+invalid_request phase id = refuses phase id INVALID_REQUEST (codes "invalid request")
 
 abbrev pub method_not_found : Phase → Id → Passage
-method_not_found phase id = refuses phase (Some id) (negsuc 32600) (codes "method not found")
+method_not_found phase id = refuses phase (Some id) METHOD_NOT_FOUND (codes "method not found")
 
 abbrev pub invalid_params : Phase → Id → Passage
-invalid_params phase id = refuses phase (Some id) (negsuc 32601) (codes "invalid params")
+invalid_params phase id = refuses phase (Some id) INVALID_PARAMS (codes "invalid params")
 
 abbrev pub not_initialized : Phase → Id → Passage
-not_initialized phase id = refuses phase (Some id) (negsuc 32001) (codes "server not initialized")
+not_initialized phase id = refuses phase (Some id) SERVER_NOT_INITIALIZED (codes "server not initialized")
 
 -- a request is looked at between `initialize` and `shutdown` alone
 abbrev pub request : Phase → Id → Passage → Passage

@@ -13,15 +13,19 @@
 //! - `Sessions.antt`: the build stands behind every message once `initialize` was answered, and so on through all
 //!   bodies up to `exit`.
 //!
-//! There is no code here but the types [`Ended`] and [`Phase`]. Each function has an empty body, and its contract is
+//! There is no code here but the types [`Ended`] and [`Phase`] and the codes of errors. Each function has an empty body, and its contract is
 //! a law that a reader would expect: what a session does is settled ([`one_outcome`]), and leaves nothing to do
 //! behind a message ([`sessions_stay_current`]).
 #![tactic(auto)]
 
 mod ended;
+mod error_code;
 mod laws;
 mod phase;
 
 pub use ended::Ended;
+pub use error_code::{
+    INVALID_PARAMS, INVALID_REQUEST, METHOD_NOT_FOUND, PARSE_ERROR, SERVER_NOT_INITIALIZED,
+};
 pub use laws::{one_outcome, sessions_stay_current};
 pub use phase::Phase;

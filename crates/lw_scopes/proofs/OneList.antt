@@ -29,7 +29,7 @@ module _ (g : Grammar) where
   one_fault_shown text issue s r (syntax_ {s = at} {k = k} kind told is) (syntax_ other also was) =
       one_shown text at.start at.end 2 (unexpected kind) (unexpected other) s r (ap unexpected (one_kind_text g k.0 kind other told also)) is was
   one_fault_shown text issue s r (end_ {at = at} is) (end_ was) = one_shown text at at 2 _ _ s r refl is was
-  one_fault_shown text issue s r (too_large is) (too_large was) = one_shown text 0 0 7 _ _ s r refl is was
+  one_fault_shown text issue s r too_large too_large = refl
 
   module _ (filled : HasNoEmptyKeyword g) where
     one_list_of : (text : List ℕ) (list other : List Shown) → IsList g text list → IsList g text other → list ≡ other

@@ -1,33 +1,34 @@
 -- The documents that a session keeps, by the document that it holds, and what is kept behind a message.
-use Rattle.std.specs.Prelude.{ℕ, ◌≡◌, ◌≢◌, IsSomeAnd, List, true, Option, Some, None, option_map}
+use Rattle.std.specs.Prelude.{ℕ, ◌≡◌, ◌≢◌, IsSomeAnd, List, [], true, Option, Some, None, map, option_map}
 use Rattle.std.specs.FinMap.{empty, insert}
 use Rattle.lw_grammar.specs.declared.grammar.Grammar.{Grammar}
 use Rattle.lw_rpc.specs.declared.message.Message.{Message}
-use Rattle.lw_rpc.specs.declared.reply.Reply.{Reply}
 use Rattle.lw_text.specs.declared.shown.Shown.{Shown}
-use Rattle.lw_machine.specs.Answers.{Standing}
 use Rattle.lw_machine.specs.Building.{Publishes}
 use Rattle.lw_machine.specs.Documents.{Document, Documents}
-use Rattle.lw_machine.specs.Sessions.{Handles}
+use Rattle.lw_machine.specs.declared.published.Published.{Published}
 use Rattle.lw_machine.specs.declared.state.State.TheVariants.{IndexedReferences, Validated}
-use Rattle.lw_session.specs.Lifecycle.{standing_of, telling}
+use Rattle.lw_conversation.specs.Effects.{as_reply}
+use Rattle.lw_conversation.specs.Sessions.{Handles}
+use Rattle.lw_conversation.specs.Standing.{Standing}
+use Rattle.lw_conversation.specs.declared.phase.Phase.{Phase}
+use Rattle.lw_session.specs.Lifecycle.{telling}
 use Rattle.lw_session.specs.declared.held.Held.{Held}
-use Rattle.lw_session.specs.declared.lifecycle.Phase.{Phase}
 use Rattle.lw_session.specs.declared.lifecycle.Told.{Told}
 use Rattle.lw_session.specs.declared.opening.Next.{Next}
 
 -- an open document that is built: its text is the shown one, and this list was published last
-abbrev pub built : Held → Document
-built h = record { text = h.opened.text; version = Some h.opened.version; is_open = true; state = Validated; shown = Some h.opened.text; published = Some h.list }
+abbrev pub held_document : Held → Document
+held_document h = record { text = h.text; version = Some h.version; is_open = true; state = Validated; shown = Some h.text; published = Some h.list }
 
 -- the one document that is held, if any
 abbrev pub documents_of : Option Held → Documents
 documents_of None = empty
-documents_of (Some h) = insert empty h.opened.address (built h)
+documents_of (Some h) = insert empty h.address (held_document h)
 
 -- a document at another address is held
 abbrev pub HoldsAnother : Option Held → List ℕ → Type 0
-HoldsAnother before address = IsSomeAnd before (λ h. h.opened.address ≢ address)
+HoldsAnother before address = IsSomeAnd before (λ h. h.address ≢ address)
 
 -- the list that was published last, if any
 abbrev pub held_list : Option Held → Option (List Shown)
@@ -35,11 +36,11 @@ held_list = option_map (λ h. h.list)
 
 -- a document that is built but for its list, in the place of the one that was held
 abbrev pub unlisted : Option Held → Held → Document
-unlisted before h = record (built h) { state = IndexedReferences; published = held_list before }
+unlisted before h = record (held_document h) { state = IndexedReferences; published = held_list before }
 
 -- its list is told, unless it is the one that was published last
 abbrev pub IsListTold : Phase → Option Held → Held → Told → Type 0
-IsListTold phase before h told = (replies : List Reply) × Publishes h.opened.address (unlisted before h) h.list replies × (told ≡ telling phase replies)
+IsListTold phase before h told = (lists : List Published) × Publishes h.address (unlisted before h) h.list lists × (told ≡ telling phase (map as_reply lists))
 
 -- the documents once one is put in the place of the one that is held, if any is put
 abbrev pub documents_after : Documents → Option Held → Documents
@@ -48,8 +49,8 @@ documents_after documents (Some h) = documents_of (Some h)
 
 -- a session after a message
 abbrev pub standing_after : Standing → Next → Standing
-standing_after s next = standing_of (documents_after s.documents next.put) next.told.phase
+standing_after s next = record { documents = documents_after s.documents next.put; phase = next.told.phase }
 
--- what comes next is what the machine does with the message
+-- what comes next is what is said of the message; the store is not read for it
 abbrev pub IsHandled : Grammar → Standing → Message → Next → Type 0
-IsHandled g s message next = Handles g s message (standing_after s next) next.told.replies next.told.ended
+IsHandled g s message next = Handles g s message [] (standing_after s next) next.told.replies next.told.ended

@@ -3,7 +3,7 @@ ghost use Rattle.std.specs.Prelude.{◌≡◌, ◌↔◌, IsTrue, IfOk, Some};
 ghost use Rattle.lw_session.specs.Keeping.{HoldsAnother, held_list};
 
 use lw_base::{Items, Name, NoMemory};
-use lw_text::Shown;
+use lw_text::{Shown, TextDoc};
 use std::alloc::Global;
 
 /// What an editor says of a document that it opens.
@@ -17,7 +17,9 @@ pub(crate) struct Opened {
 /// An open document, built, with the list that was published last.
 #[derive(Drop)]
 pub(crate) struct Held {
-    pub opened: Opened,
+    pub address: Name,
+    pub version: i64,
+    pub text: TextDoc,
     pub list: Items<Shown>,
 }
 
@@ -26,7 +28,7 @@ pub(crate) fn holds_another(document: &Option<Held>, address: &Name) -> bool
     ensures { IsTrue result ↔ HoldsAnother document.now address.now }
 {
     match document {
-        Some(held) => held.opened.address != *address,
+        Some(held) => held.address != *address,
         None => false,
     }
 }

@@ -3,12 +3,12 @@
 //! Its model: a [`Session`] is the grammar of its language and its standing, which is the documents by
 //! address, each with its state, and whether `initialize` and `shutdown` were answered with a result
 //! (`specs/View.antt`). What a body makes of the standing, what is replied and whether the session is over
-//! is said by the machine of `lw_machine` (`specs/Answers.antt` and `specs/Sessions.antt` there), which
-//! keeps texts, states and published lists alone and computes everything else anew by the grammar.
+//! is said by `lw_conversation` over the machine of `lw_machine`, which keeps texts, states and published
+//! lists alone and computes everything else anew by the grammar.
 //!
-//! It promises that [`Session::handle`] does with each body exactly what the machine does, a build to its
-//! end behind it, or is refused memory and leaves the session as it was; and that it touches neither the
-//! grammar nor the store nor the count of steps.
+//! It promises that [`Session::handle`] does with each body exactly what is said there, a build to its end
+//! behind it. Where it is refused memory the replies are lost, and the texts and the phase are such as they
+//! may be in the middle of the message. The grammar stays, and so do the files of the store.
 //!
 //! How it is made: `lifecycle` decides a message by the two facts of a session alone; `opening` puts a
 //! text, computes its diagnostics (`lw_check`) and tells them; nothing of the session changes before all
@@ -23,7 +23,7 @@ mod opening;
 mod session;
 mod texts;
 
-pub use lw_machine::Ended;
+pub use lw_conversation::{Ended, Phase};
 pub use session::{Handled, Mode, Session};
 
 #[cfg(test)]

@@ -1,35 +1,18 @@
 // The lifecycle of a session: which messages are answered, refused or dropped by its two facts alone.
 ghost use Rattle.std.specs.Prelude.{◌≡◌, [], ◌∷◌, ◌++◌, IfOk, Some, codes, not, ◌&&◌};
-ghost use Rattle.lw_machine.specs.Answers.{answer, refuses, request as at_request};
+ghost use Rattle.lw_conversation.specs.Gate.{gate, refuses, request as at_request};
 ghost use Rattle.lw_rpc.specs.declared.message.Message.TheVariants as message_;
 ghost use Rattle.lw_rpc.specs.declared.reply.Reply.TheVariants as reply_;
-ghost use Rattle.lw_session.specs.Lifecycle.{IsStep, IsAnswerTold, telling};
+ghost use Rattle.lw_session.specs.Lifecycle.{IsStep, passage_of, telling};
 
 use crate::held::Opened;
 use lw_base::{Items, Name, NoMemory};
-use lw_machine::Ended;
+use lw_conversation::{
+    Ended, INVALID_PARAMS, INVALID_REQUEST, METHOD_NOT_FOUND, PARSE_ERROR, Phase,
+    SERVER_NOT_INITIALIZED,
+};
 use lw_rpc::{Id, Message, Outcome, Reply};
 use std::alloc::Global;
-
-// The codes of errors (JSON-RPC 2.0, "Error object"; Language Server Protocol 3.17, "ErrorCodes").
-const PARSE_ERROR: i32 = -32700;
-
-const INVALID_REQUEST: i32 = -32600;
-
-const METHOD_NOT_FOUND: i32 = -32601;
-
-const INVALID_PARAMS: i32 = -32602;
-
-const SERVER_NOT_INITIALIZED: i32 = -32002;
-
-/// The two facts of a session.
-#[derive(Clone, Copy, Debug, PartialEq, Eq)]
-pub(crate) struct Phase {
-    /// `initialize` was answered with a result.
-    pub initialized: bool,
-    /// `shutdown` was answered with a result.
-    pub shut_down: bool,
-}
 
 /// What is told at a message, and what it leaves.
 #[derive(Drop)]
@@ -42,8 +25,8 @@ pub(crate) struct Told {
 /// What is done with a message.
 #[derive(Drop)]
 pub(crate) enum Step {
-    /// It is answered, and no document changes.
-    Tells(Told),
+    /// It stops at the gate: it is answered, and no document changes.
+    Stops(Told),
     /// It opens a document, in a session that is live.
     Opens(Opened),
 }
@@ -55,80 +38,78 @@ pub(crate) fn decide(alloc: Global, phase: Phase, message: Message) -> Result<St
     match message {
         Message::BadJson => {
             let reply = error(alloc, None, PARSE_ERROR, "parse error")?;
-            Ok(Step::Tells(phase.tells(alloc, reply)?))
+            Ok(Step::Stops(tells(alloc, phase, reply)?))
         }
         Message::BadRequest => {
             let reply = error(alloc, None, INVALID_REQUEST, "invalid request")?;
-            Ok(Step::Tells(phase.tells(alloc, reply)?))
+            Ok(Step::Stops(tells(alloc, phase, reply)?))
         }
-        Message::Response => Ok(Step::Tells(phase.keeps_silent(alloc))),
-        Message::Exit => Ok(Step::Tells(phase.ends(alloc))),
-        Message::Initialize { id } => Ok(Step::Tells(initialize(alloc, phase, id)?)),
-        Message::Shutdown { id } => Ok(Step::Tells(shutdown(alloc, phase, id)?)),
-        Message::Unknown { id, method } => Ok(Step::Tells(unknown(alloc, phase, id, &method)?)),
-        Message::BadParams { id, method } => Ok(Step::Tells(bad_params(
+        Message::Response => Ok(Step::Stops(keeps_silent(alloc, phase))),
+        Message::Exit => Ok(Step::Stops(ends(alloc, phase))),
+        Message::Initialize { id } => Ok(Step::Stops(initialize(alloc, phase, id)?)),
+        Message::Shutdown { id } => Ok(Step::Stops(shutdown(alloc, phase, id)?)),
+        Message::Unknown { id, method } => Ok(Step::Stops(unknown(alloc, phase, id, &method)?)),
+        Message::BadParams { id, method } => Ok(Step::Stops(bad_params(
             alloc, phase, id, &method,
         )?)),
         Message::DidOpen { uri, version, text } => {
-            if phase.is_live() {
+            if is_live(phase) {
                 Ok(Step::Opens(Opened {
                     address: uri,
                     version,
                     text,
                 }))
             } else {
-                Ok(Step::Tells(phase.keeps_silent(alloc)))
+                Ok(Step::Stops(keeps_silent(alloc, phase)))
             }
         }
     }
 }
 
-impl Phase {
-    // `initialize` was answered with a result, and `shutdown` was not.
-    fn is_live(self) -> bool
-        ensures { result ≡ (self.initialized && not self.shut_down) }
-    {
-        self.initialized && !self.shut_down
-    }
+// `initialize` was answered with a result, and `shutdown` was not.
+fn is_live(phase: Phase) -> bool
+    ensures { result ≡ (phase.initialized && not phase.shut_down) }
+{
+    phase.initialized && !phase.shut_down
+}
 
-    /// Nothing is told.
-    pub(crate) fn keeps_silent(self, alloc: Global) -> Told
-        ensures { result ≡ telling self [] }
-    {
-        Told {
-            replies: Items::new(alloc),
-            ended: Ended::No,
-            phase: self,
-        }
+/// Nothing is told.
+pub(crate) fn keeps_silent(alloc: Global, phase: Phase) -> Told
+    ensures { result ≡ telling phase [] }
+{
+    Told {
+        replies: Items::new(alloc),
+        ended: Ended::No,
+        phase,
     }
+}
 
-    /// One reply is told.
-    pub(crate) fn tells(self, alloc: Global, reply: Reply) -> Result<Told, NoMemory>
-        ensures { IfOk result (λ told. told ≡ telling self (reply ∷ [])) }
-    {
-        let mut replies = Items::new(alloc);
-        replies.push(reply)?;
-        Ok(Told {
-            replies,
-            ended: Ended::No,
-            phase: self,
-        })
-    }
+/// One reply is told.
+pub(crate) fn tells(alloc: Global, phase: Phase, reply: Reply) -> Result<Told, NoMemory>
+    ensures { IfOk result (λ told. told ≡ telling phase (reply ∷ [])) }
+{
+    let mut replies = Items::new(alloc);
+    replies.push(reply)?;
+    Ok(Told {
+        replies,
+        ended: Ended::No,
+        phase,
+    })
+}
 
-    // The session is over.
-    fn ends(self, alloc: Global) -> Told
-        ensures { IsAnswerTold (λ s. answer s message_.Exit) self result }
-    {
-        let ended = if self.shut_down {
-            Ended::Clean
-        } else {
-            Ended::Early
-        };
-        Told {
-            replies: Items::new(alloc),
-            ended,
-            phase: self,
-        }
+// The session is over.
+fn ends(alloc: Global, phase: Phase) -> Told
+    ensures { gate phase message_.Exit ≡ passage_of result }
+{
+    let ended = if phase.shut_down {
+        Ended::Clean
+    } else {
+        Ended::Early
+    };
+    Told {
+        replies: Items::new(alloc),
+        ended,
+        phase,
     }
 }
 
@@ -143,12 +124,12 @@ pub(crate) fn log(alloc: Global, phase: Phase, head: &str, name: &Name) -> Resul
     ensures { IfOk result (λ told. told ≡ telling phase (reply_.Log (head.now ++ name.now) ∷ [])) }
 {
     let line = format!(in alloc; "{head}{name}")?;
-    phase.tells(alloc, Reply::Log(Name::from_text(alloc, line.as_str())?))
+    tells(alloc, phase, Reply::Log(Name::from_string(line)))
 }
 
 // A request is refused: before `initialize` and after `shutdown` for that, else for its own cause.
 fn refuse(alloc: Global, phase: Phase, id: Id, code: i32, message: &str) -> Result<Told, NoMemory>
-    ensures { IfOk result (IsAnswerTold (λ s. at_request s id (refuses s (Some id) code message.now)) phase) }
+    ensures { IfOk result (λ told. at_request phase id (refuses phase (Some id) code message.now) ≡ passage_of told) }
 {
     let reply = if !phase.initialized {
         error(
@@ -162,49 +143,49 @@ fn refuse(alloc: Global, phase: Phase, id: Id, code: i32, message: &str) -> Resu
     } else {
         error(alloc, Some(id), code, message)?
     };
-    phase.tells(alloc, reply)
+    tells(alloc, phase, reply)
 }
 
 fn initialize(alloc: Global, phase: Phase, id: Id) -> Result<Told, NoMemory>
-    ensures { IfOk result (IsAnswerTold (λ s. answer s (message_.Initialize id)) phase) }
+    ensures { IfOk result (λ told. gate phase (message_.Initialize id) ≡ passage_of told) }
 {
     if phase.initialized {
         let reply = error(alloc, Some(id), INVALID_REQUEST, "invalid request")?;
-        return phase.tells(alloc, reply);
+        return tells(alloc, phase, reply);
     }
-    let mut told = phase.tells(alloc, Reply::Done(id, Outcome::Hello))?;
+    let mut told = tells(alloc, phase, Reply::Done(id, Outcome::Hello))?;
     told.phase.initialized = true;
     Ok(told)
 }
 
 fn shutdown(alloc: Global, phase: Phase, id: Id) -> Result<Told, NoMemory>
-    ensures { IfOk result (IsAnswerTold (λ s. answer s (message_.Shutdown id)) phase) }
+    ensures { IfOk result (λ told. gate phase (message_.Shutdown id) ≡ passage_of told) }
 {
-    if !phase.is_live() {
+    if !is_live(phase) {
         return refuse(alloc, phase, id, INVALID_REQUEST, "invalid request");
     }
-    let mut told = phase.tells(alloc, Reply::Done(id, Outcome::Nothing))?;
+    let mut told = tells(alloc, phase, Reply::Done(id, Outcome::Nothing))?;
     told.phase.shut_down = true;
     Ok(told)
 }
 
 fn unknown(alloc: Global, phase: Phase, id: Option<Id>, method: &Name) -> Result<Told, NoMemory>
-    ensures { IfOk result (IsAnswerTold (λ s. answer s (message_.Unknown id method.now)) phase) }
+    ensures { IfOk result (λ told. gate phase (message_.Unknown id method.now) ≡ passage_of told) }
 {
     match id {
         Some(id) => refuse(alloc, phase, id, METHOD_NOT_FOUND, "method not found"),
-        None => Ok(phase.keeps_silent(alloc)),
+        None => Ok(keeps_silent(alloc, phase)),
     }
 }
 
 fn bad_params(alloc: Global, phase: Phase, id: Option<Id>, method: &Name) -> Result<Told, NoMemory>
-    ensures { IfOk result (IsAnswerTold (λ s. answer s (message_.BadParams id method.now)) phase) }
+    ensures { IfOk result (λ told. gate phase (message_.BadParams id method.now) ≡ passage_of told) }
 {
     match id {
         Some(id) => refuse(alloc, phase, id, INVALID_PARAMS, "invalid params"),
         None => {
-            if !phase.is_live() {
-                return Ok(phase.keeps_silent(alloc));
+            if !is_live(phase) {
+                return Ok(keeps_silent(alloc, phase));
             }
             log(alloc, phase, "bad params: ", method)
         }

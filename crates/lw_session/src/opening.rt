@@ -1,14 +1,16 @@
 // The opening of a document: its text is put and built.
 ghost use Rattle.std.specs.Prelude.{IfOk};
 ghost use Rattle.lw_session.specs.Keeping.{documents_of, IsListTold, IsHandled};
-ghost use Rattle.lw_session.specs.Lifecycle.{standing_of, IsLive, opened_message};
+ghost use Rattle.lw_session.specs.Lifecycle.{IsLive, opened_message};
 
 use crate::held::{Held, Opened, copied, has_published, holds_another};
-use crate::lifecycle::{Phase, Told, log};
-use lw_base::{LONGEST_TEXT, NoMemory};
+use crate::lifecycle::{Told, keeps_silent, log, tells};
+use lw_base::NoMemory;
 use lw_check::diagnostics;
+use lw_conversation::Phase;
 use lw_lang::Language;
 use lw_rpc::Reply;
+use lw_text::{EditFault, TextDoc};
 use std::alloc::Global;
 
 /// What is told at a message, and the document that takes the place of the one that is held, where there
@@ -28,18 +30,32 @@ pub(crate) fn open(
     opened: Opened,
 ) -> Result<Next, NoMemory>
     requires { IsLive phase }
-    ensures { IfOk result (IsHandled language.now.grammar (standing_of (documents_of document.now) phase) (opened_message opened)) }
+    ensures { IfOk result (IsHandled language.now.grammar (record { documents = documents_of document.now; phase = phase }) (opened_message opened)) }
 {
-    if opened.text.bytes().len() > LONGEST_TEXT {
-        let told = log(alloc, phase, "text too long: ", &opened.address)?;
+    let Opened {
+        address,
+        version,
+        text,
+    } = opened;
+    let text = match TextDoc::new(alloc, text) {
+        Ok(text) => text,
+        Err(EditFault::TooLong(_)) => {
+            let told = log(alloc, phase, "text too long: ", &address)?;
+            return Ok(Next { told, put: None });
+        }
+        Err(_) => return Err(NoMemory),
+    };
+    if holds_another(document, &address) {
+        let told = log(alloc, phase, "too many documents: ", &address)?;
         return Ok(Next { told, put: None });
     }
-    if holds_another(document, &opened.address) {
-        let told = log(alloc, phase, "too many documents: ", &opened.address)?;
-        return Ok(Next { told, put: None });
-    }
-    let list = diagnostics(alloc, language, &opened.text)?;
-    let held = Held { opened, list };
+    let list = diagnostics(alloc, language, &text)?;
+    let held = Held {
+        address,
+        version,
+        text,
+        list,
+    };
     let told = publish(alloc, phase, document, &held)?;
     Ok(Next {
         told,
@@ -57,12 +73,13 @@ fn publish(
     ensures { IfOk result (IsListTold phase document.now held.now) }
 {
     if has_published(document, held.list.as_slice()) {
-        return Ok(phase.keeps_silent(alloc));
+        return Ok(keeps_silent(alloc, phase));
     }
-    let address = held.opened.address.copy(alloc)?;
+    let address = held.address.copy(alloc)?;
     let list = copied(alloc, held.list.as_slice())?;
-    phase.tells(
+    tells(
         alloc,
-        Reply::Publish(address, Some(held.opened.version), list),
+        phase,
+        Reply::Publish(address, Some(held.version), list),
     )
 }

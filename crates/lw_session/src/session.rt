@@ -1,17 +1,19 @@
 // A session: message bodies in, reply bodies out.
-ghost use Rattle.std.specs.Prelude.{◌≡◌, IfOk, OnErr};
-ghost use Rattle.lw_machine.specs.Answers.{beginning};
-ghost use Rattle.lw_machine.specs.Sessions.{HandlesBody};
+ghost use Rattle.std.specs.Prelude.{◌≡◌, [], IfOk, OnErr};
+ghost use Rattle.lw_rpc.specs.Messages.{message_of};
+ghost use Rattle.lw_conversation.specs.Answered.{IsCutShort};
+ghost use Rattle.lw_conversation.specs.Sessions.{HandlesBody};
+ghost use Rattle.lw_conversation.specs.Standing.{beginning};
 ghost use Rattle.lw_session.specs.Keeping.{IsHandled, standing_after};
 
 use crate::held::Held;
-use crate::lifecycle::{Phase, Step, decide};
+use crate::lifecycle::{Step, decide};
 use crate::opening::{Next, open};
 use crate::texts::texts_of;
 use lw_base::{Items, Name, NoMemory, Steps};
+use lw_conversation::{Ended, Phase};
 use lw_io::Store;
 use lw_lang::Language;
-use lw_machine::Ended;
 use lw_rpc::{Message, read_message};
 use std::alloc::Global;
 use std::marker::Model;
@@ -66,7 +68,7 @@ impl Session {
     /// A session to which nothing has come. It takes no memory.
     pub fn new(alloc: Global, language: Language, mode: Mode) -> Result<Session, NoMemory>
         ensures grammar { IfOk result (λ session. session.grammar ≡ language.grammar) }
-        ensures standing { IfOk result (λ session. session.standing ≡ beginning) }
+        ensures standing { IfOk result (λ session. session.standing ≡ beginning []) }
     {
         Ok(Session {
             language,
@@ -84,23 +86,24 @@ impl Session {
     ///
     /// A document that is opened has its diagnostics published, unless they are those that were published
     /// last of it; positions in them are zero-based, in UTF-16 units. At most one document is held, and a
-    /// text has at most 67,108,864 bytes: what goes beyond is refused by a line for the editor's log. Where
-    /// memory is refused ([`NoMemory`]), the session stays as it was and nothing was replied.
+    /// text has at most 67,108,864 bytes: what goes beyond is refused by a line for the editor's log.
     ///
-    /// It takes time linear in the length of the body and in that of each diagnostic's place in the text.
-    /// The store is not read, and no step is counted: no message that is known asks for either.
+    /// Where memory is refused ([`NoMemory`]) the replies are lost. The texts are then those after some of the
+    /// message's changes, from the first on, none to all of them, and the phase is the one before the message
+    /// or the one behind it.
+    ///
+    /// It takes time linear in the length of the body.
     pub fn handle<F: Store, L: Ledger>(
         &mut self,
         body: &[u8],
         store: &mut F,
         steps: &mut Steps<L>,
     ) -> Result<Handled, NoMemory>
-        ensures handles { IfOk result (λ handled. HandlesBody self.old.grammar self.old.standing body.now self.new.standing handled.replies handled.ended) }
-        ensures refused { OnErr result (self.new ≡ self.old) }
+        ensures handles { IfOk result (λ handled. HandlesBody self.old.grammar self.old.standing body.now (F.count store.old) (F.count store.new)
+            self.new.standing handled.replies handled.ended) }
+        ensures cut_short { OnErr result (IsCutShort self.old.grammar self.old.standing (message_of body.now) self.new.standing) }
         ensures grammar { self.new.grammar ≡ self.old.grammar }
         ensures files { F.files store.new ≡ F.files store.old }
-        ensures count { F.count store.new ≡ F.count store.old }
-        ensures steps { steps.new ≡ steps.old }
     {
         let message = read_message(self.alloc, body)?;
         let next = self.next(message)?;
@@ -115,7 +118,7 @@ impl Session {
         ensures { IfOk result (IsHandled self.now.grammar self.now.standing message) }
     {
         match decide(self.alloc, self.phase, message)? {
-            Step::Tells(told) => Ok(Next { told, put: None }),
+            Step::Stops(told) => Ok(Next { told, put: None }),
             Step::Opens(opened) => open(
                 self.alloc,
                 &self.language,

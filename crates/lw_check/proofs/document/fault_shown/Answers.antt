@@ -11,17 +11,5 @@ shown_as text message said from to code shown says is = subst (λ m. IsShownAt t
 pub returns-in_ok-message-in-Lexical : goal.returns-in_ok-message-in-Lexical
 returns-in_ok-message-in-Lexical c = rw c.in-Lexical.is (fault.lexical (shown_as _ _ _ _ _ _ _ c.in_ok-message-in-Lexical.ensures c.shown_at.ensures))
 
-pub returns-in_ok-message-in-Syntax-2 : goal.returns-in_ok-message-in-Syntax-2
-returns-in_ok-message-in-Syntax-2 c =
-    let says : c.in_ok-message-in-Syntax-2.message ≡ fault.unexpected c.kind_text-kind.result.now =
-    c.in_ok-message-in-Syntax-2.ensures ∙ c.as_str.ensures.value ∙ c.in_ok-message-in-Syntax.ensures.ok in
-    rw c.in-Syntax.is
-    (fault.syntax_ c.kind_text-kind.result.now (c.args.language.now.texts, c.kind_text-kind.ensures.all, c.kind_text-kind.ensures.text)
-    (shown_as _ _ _ _ _ _ _ says c.shown_at-in-Syntax.ensures))
-
 pub returns-in_ok-message-in-End : goal.returns-in_ok-message-in-End
 returns-in_ok-message-in-End c = rw c.in-End.is (fault.end_ (shown_as _ _ _ _ _ _ _ c.in_ok-message-in-End.ensures c.shown_at-in-End.ensures))
-
-pub returns-in_ok-message-in-TooLarge : goal.returns-in_ok-message-in-TooLarge
-returns-in_ok-message-in-TooLarge c =
-    rw c.in-TooLarge.is (fault.too_large (shown_as _ _ _ _ _ _ _ c.in_ok-message-in-TooLarge.ensures c.shown_at-in-TooLarge.ensures))
