@@ -5,7 +5,7 @@ use Rattle.std.specs.Cmp.Lexicographic.{nat_list_cmp_total}
 use Rattle.std.specs.FinMap.{empty, get, get-empty, insert}
 use Rattle.lw_grammar.specs.declared.grammar.Grammar.{Grammar}
 use Rattle.lw_text.specs.declared.shown.Shown.{Shown}
-use Rattle.lw_rpc.specs.declared.reply.Reply.{Reply}
+use Rattle.lw_machine.specs.declared.published.Published.{Published}
 use Rattle.lw_scopes.specs.Diagnostics.{Texts, AreDiagnostics, IsList}
 use Rattle.lw_machine.specs.declared.state.State.{State}
 use Rattle.lw_machine.specs.declared.state.State.TheVariants.{Changed, Parsed, IndexedContent, ComputedScopes, Linked, IndexedReferences, Validated}
@@ -75,7 +75,7 @@ module _ (address : List ℕ) where
           subst (λ (o : Option Document). SettlesAt g before (shown_texts m) other o o) (sym (alone.elsewhere other apart)) settling.none;
     }
 
-    pub builds : (m : Documents) (shown : Option (List ℕ)) (list : List Shown) (published : List Reply) → Alone m (at Changed shown) → IsList g text list →
+    pub builds : (m : Documents) (shown : Option (List ℕ)) (list : List Shown) (published : List Published) → Alone m (at Changed shown) → IsList g text list →
         Publishes address (at IndexedReferences (Some text)) list published → BuildsToEnd g m (insert empty address (validated (at IndexedReferences (Some text)) list)) published
     builds m shown list published alone is_list publishes =
         let shown_text : Option (List ℕ) = Some text in

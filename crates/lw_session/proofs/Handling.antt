@@ -1,38 +1,42 @@
--- What a session does with a message, by what the message is answered and the build behind it.
-use Rattle.std.proofs.Common.{◌≡◌, Bool, true, false, List, [], ◌++◌, refl, subst, append-nil}
+-- What a session does with a message, by what the message makes of it and the build behind it.
+use Rattle.std.proofs.Common.{◌≡◌, Bool, true, false, List, [], ◌++◌, map, Result, Ok, Err, OnErr, refl, subst, append-nil, inl}
 use Rattle.lw_grammar.specs.declared.grammar.Grammar.{Grammar}
 use Rattle.lw_rpc.specs.declared.message.Message.{Message}
-use Rattle.lw_rpc.specs.declared.reply.Reply.{Reply}
-use Rattle.lw_machine.specs.Answers.{Answer, Standing, answer}
 use Rattle.lw_machine.specs.Building as building
-use Rattle.lw_machine.specs.Building.{BuildsToEnd}
 use Rattle.lw_machine.specs.Documents.{Documents, IsBuilt}
-use Rattle.lw_machine.specs.Sessions as session
-use Rattle.lw_machine.specs.Sessions.{Handles, with_documents}
-use Rattle.lw_session.specs.Lifecycle.{standing_of, answer_of}
-use Rattle.lw_session.specs.declared.lifecycle.Phase.{Phase}
+use Rattle.lw_conversation.specs.Answered as answer
+use Rattle.lw_conversation.specs.Answered.{Answered, IsCutShort}
+use Rattle.lw_conversation.specs.Gate.{gate}
+use Rattle.lw_conversation.specs.Sessions as session
+use Rattle.lw_conversation.specs.Sessions.{Handles}
+use Rattle.lw_conversation.specs.Standing.{Standing}
+use Rattle.lw_session.specs.Lifecycle.{passage_of}
 use Rattle.lw_session.specs.declared.lifecycle.Told.{Told}
 
-module _ (g : Grammar) (s : Standing) (message : Message) where
-  pub unbuilt : (a : Answer) → answer s message ≡ a → a.standing.initialized ≡ false → Handles g s message a.standing a.replies a.ended
-  unbuilt a is off = subst (λ (a : Answer). a.standing.initialized ≡ false → Handles g s message a.standing a.replies a.ended) is session.unbuilt off
+-- where memory is refused before anything has changed, what stands is what stood
+not_begun : (g : Grammar) (s : Standing) (m : Message) → IsCutShort g s m s
+not_begun g s m = record { changed = s.documents; changes = answer.none; content = λ address. refl; phase = inl refl; valid = λ valid. valid }
 
-  pub built : (a : Answer) (n : Documents) (published : List Reply) → answer s message ≡ a → a.standing.initialized ≡ true →
-      BuildsToEnd g a.standing.documents n published → Handles g s message (with_documents a.standing n) (a.replies ++ published) a.ended
-  built a n published is on builds =
-      subst (λ (a : Answer). a.standing.initialized ≡ true → BuildsToEnd g a.standing.documents n published →
-      Handles g s message (with_documents a.standing n) (a.replies ++ published) a.ended) is session.built on builds
+-- so it is at whatever error
+pub error_not_begun : {T E : Type 0} (r : Result T E) (g : Grammar) (s : Standing) (m : Message) → OnErr r (IsCutShort g s m s)
+error_not_begun (Ok x) g s m = tt
+error_not_begun (Err e) g s m = not_begun g s m
 
--- where all documents are validated and stay, there is nothing to build
-module _ (g : Grammar) (documents : Documents) (all : IsBuilt documents) (phase : Phase) (message : Message) where
+-- where all documents are validated there is nothing to build behind a message
+module _ (g : Grammar) (s : Standing) (all : IsBuilt s.documents) (message : Message) where
   abbrev Becomes : Told → Type 0
-  Becomes told = Handles g (standing_of documents phase) message (standing_of documents told.phase) told.replies told.ended
+  Becomes told = Handles g s message [] (record s { phase = told.phase }) told.replies told.ended
 
-  pub stays : (told : Told) → answer (standing_of documents phase) message ≡ answer_of documents told → Becomes told
-  stays told is = by told.phase.initialized refl
+  -- what does not change them
+  pub stays : (told : Told) → Answered g s message [] (record s { phase = told.phase }) told.replies told.ended → Becomes told
+  stays told answered = by told.phase.initialized refl
     where
       by : (on : Bool) → told.phase.initialized ≡ on → Becomes told
-      by false off = unbuilt g (standing_of documents phase) message (answer_of documents told) is off
+      by false off = session.unbuilt answered off
       by true on =
-          subst (λ replies. Handles g (standing_of documents phase) message (standing_of documents told.phase) replies told.ended) (append-nil told.replies)
-          (built g (standing_of documents phase) message (answer_of documents told) documents [] is on (building.done all))
+          subst (λ replies. Handles g s message [] (record s { phase = told.phase }) replies told.ended) (append-nil told.replies)
+          (session.built answered on (building.done all))
+
+  -- what stops at the gate
+  pub stops : (told : Told) → gate s.phase message ≡ passage_of told → Becomes told
+  stops told is = stays told (answer.stops is)

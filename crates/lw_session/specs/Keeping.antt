@@ -19,16 +19,16 @@ use Rattle.lw_session.specs.declared.opening.Next.{Next}
 
 -- an open document that is built: its text is the shown one, and this list was published last
 abbrev pub held_document : Held → Document
-held_document h = record { text = h.text; version = Some h.version; is_open = true; state = Validated; shown = Some h.text; published = Some h.list }
+held_document h = record { text = h.text; version = Some h.id.version; is_open = true; state = Validated; shown = Some h.text; published = Some h.list }
 
 -- the one document that is held, if any
 abbrev pub documents_of : Option Held → Documents
 documents_of None = empty
-documents_of (Some h) = insert empty h.address (held_document h)
+documents_of (Some h) = insert empty h.id.address (held_document h)
 
 -- a document at another address is held
 abbrev pub HoldsAnother : Option Held → List ℕ → Type 0
-HoldsAnother before address = IsSomeAnd before (λ h. h.address ≢ address)
+HoldsAnother before address = IsSomeAnd before (λ h. h.id.address ≢ address)
 
 -- the list that was published last, if any
 abbrev pub held_list : Option Held → Option (List Shown)
@@ -40,7 +40,7 @@ unlisted before h = record (held_document h) { state = IndexedReferences; publis
 
 -- its list is told, unless it is the one that was published last
 abbrev pub IsListTold : Phase → Option Held → Held → Told → Type 0
-IsListTold phase before h told = (lists : List Published) × Publishes h.address (unlisted before h) h.list lists × (told ≡ telling phase (map as_reply lists))
+IsListTold phase before h told = (lists : List Published) × Publishes h.id.address (unlisted before h) h.list lists × (told ≡ telling phase (map as_reply lists))
 
 -- the documents once one is put in the place of the one that is held, if any is put
 abbrev pub documents_after : Documents → Option Held → Documents

@@ -27,7 +27,7 @@ IsLive phase = (phase.initialized ≡ true) × (phase.shut_down ≡ false)
 
 -- the message that says this of a document
 abbrev pub opened_message : Opened → Message
-opened_message opened = DidOpen opened.address opened.version opened.text
+opened_message opened = DidOpen opened.id.address opened.id.version opened.text
 
 -- the step for a message: it stops at the gate, or it opens a document in a session that is live
 abbrev pub IsStep : Phase → Message → Step → Type 0

@@ -6,19 +6,25 @@ use lw_base::{Items, Name, NoMemory};
 use lw_text::{Shown, TextDoc};
 use std::alloc::Global;
 
+/// The address and the version of a document (Language Server Protocol 3.17,
+/// "VersionedTextDocumentIdentifier").
+#[derive(Drop)]
+pub(crate) struct Identifier {
+    pub address: Name,
+    pub version: i64,
+}
+
 /// What an editor says of a document that it opens.
 #[derive(Drop)]
 pub(crate) struct Opened {
-    pub address: Name,
-    pub version: i64,
+    pub id: Identifier,
     pub text: Name,
 }
 
 /// An open document, built, with the list that was published last.
 #[derive(Drop)]
 pub(crate) struct Held {
-    pub address: Name,
-    pub version: i64,
+    pub id: Identifier,
     pub text: TextDoc,
     pub list: Items<Shown>,
 }
@@ -28,7 +34,7 @@ pub(crate) fn holds_another(document: &Option<Held>, address: &Name) -> bool
     ensures { IsTrue result ↔ HoldsAnother document.now address.now }
 {
     match document {
-        Some(held) => held.address != *address,
+        Some(held) => held.id.address != *address,
         None => false,
     }
 }

@@ -5,7 +5,7 @@ ghost use Rattle.lw_rpc.specs.declared.message.Message.TheVariants as message_;
 ghost use Rattle.lw_rpc.specs.declared.reply.Reply.TheVariants as reply_;
 ghost use Rattle.lw_session.specs.Lifecycle.{IsStep, passage_of, telling};
 
-use crate::held::Opened;
+use crate::held::{Identifier, Opened};
 use lw_base::{Items, Name, NoMemory};
 use lw_conversation::{
     Ended, INVALID_PARAMS, INVALID_REQUEST, METHOD_NOT_FOUND, PARSE_ERROR, Phase,
@@ -54,11 +54,11 @@ pub(crate) fn decide(alloc: Global, phase: Phase, message: Message) -> Result<St
         )?)),
         Message::DidOpen { uri, version, text } => {
             if is_live(phase) {
-                Ok(Step::Opens(Opened {
+                let id = Identifier {
                     address: uri,
                     version,
-                    text,
-                }))
+                };
+                Ok(Step::Opens(Opened { id, text }))
             } else {
                 Ok(Step::Stops(keeps_silent(alloc, phase)))
             }

@@ -32,30 +32,21 @@ pub(crate) fn open(
     requires { IsLive phase }
     ensures { IfOk result (IsHandled language.now.grammar (record { documents = documents_of document.now; phase = phase }) (opened_message opened)) }
 {
-    let Opened {
-        address,
-        version,
-        text,
-    } = opened;
+    let Opened { id, text } = opened;
     let text = match TextDoc::new(alloc, text) {
         Ok(text) => text,
         Err(EditFault::TooLong(_)) => {
-            let told = log(alloc, phase, "text too long: ", &address)?;
+            let told = log(alloc, phase, "text too long: ", &id.address)?;
             return Ok(Next { told, put: None });
         }
         Err(_) => return Err(NoMemory),
     };
-    if holds_another(document, &address) {
-        let told = log(alloc, phase, "too many documents: ", &address)?;
+    if holds_another(document, &id.address) {
+        let told = log(alloc, phase, "too many documents: ", &id.address)?;
         return Ok(Next { told, put: None });
     }
     let list = diagnostics(alloc, language, &text)?;
-    let held = Held {
-        address,
-        version,
-        text,
-        list,
-    };
+    let held = Held { id, text, list };
     let told = publish(alloc, phase, document, &held)?;
     Ok(Next {
         told,
@@ -75,11 +66,11 @@ fn publish(
     if has_published(document, held.list.as_slice()) {
         return Ok(keeps_silent(alloc, phase));
     }
-    let address = held.address.copy(alloc)?;
+    let address = held.id.address.copy(alloc)?;
     let list = copied(alloc, held.list.as_slice())?;
     tells(
         alloc,
         phase,
-        Reply::Publish(address, Some(held.version), list),
+        Reply::Publish(address, Some(held.id.version), list),
     )
 }

@@ -1,4 +1,5 @@
 use Rattle.std.proofs.Common.{◌≡◌, ℕ, List, subst, ◌∙◌}
+use Rattle.std.proofs.lemmas.Result.{IfOk-weaker}
 use Rattle.lw_text.specs.declared.shown.Shown.{Shown}
 use Rattle.lw_scopes.specs.Faults as fault
 use Rattle.lw_scopes.specs.Faults.{IsShownAt}
@@ -13,3 +14,13 @@ returns-in_ok-message-in-Lexical c = rw c.in-Lexical.is (fault.lexical (shown_as
 
 pub returns-in_ok-message-in-End : goal.returns-in_ok-message-in-End
 returns-in_ok-message-in-End c = rw c.in-End.is (fault.end_ (shown_as _ _ _ _ _ _ _ c.in_ok-message-in-End.ensures c.shown_at-in-End.ensures))
+
+pub returns-in_ok-message-in-Syntax : goal.returns-in_ok-message-in-Syntax
+returns-in_ok-message-in-Syntax c =
+    let says : c.from_string.result ≡ fault.unexpected c.kind_text-kind.result.now = c.from_string.ensures ∙ c.in_ok-message-in-Syntax.ensures.ok in
+    rw c.in-Syntax.is
+    (fault.syntax_ c.kind_text-kind.result.now (c.args.language.now.texts, c.kind_text-kind.ensures.all, c.kind_text-kind.ensures.text)
+    (shown_as _ _ _ _ _ _ _ says c.shown_at-in-Syntax.ensures))
+
+pub returns-in-TooLarge : goal.returns-in-TooLarge
+returns-in-TooLarge c = rw c.in-TooLarge.is (IfOk-weaker c.too_large.result _ _ (λ shown is. rw is fault.too_large) c.too_large.ensures)
