@@ -8,20 +8,23 @@ use Rattle.lw_grammar.specs.declared.grammar.Grammar.{Grammar}
 use Rattle.lw_frame.specs.Frames.{bodies_of, frame_of}
 use Rattle.lw_frame.specs.Stream.{Stream, with_piece, next_body, next_answer, handed, after_next}
 use Rattle.lw_frame.specs.Wanted.{EndsWithin}
+use Rattle.lw_frame.specs.declared.limits.TheConstants.{LONGEST_SESSION}
 use Rattle.lw_io.specs.Whole.{WritesFront}
-use Rattle.lw_machine.specs.Answers.{Standing}
-use Rattle.lw_machine.specs.Sessions.{HandlesBody, framed}
-use Rattle.lw_machine.specs.declared.ended.Ended.{Ended}
+use Rattle.lw_conversation.specs.Standing.{Standing}
+use Rattle.lw_conversation.specs.Sessions.{HandlesBody, framed}
+use Rattle.lw_conversation.specs.declared.ended.Ended.{Ended}
 use Rattle.langbench.specs.declared.report.Verdict.{Verdict}
 use Rattle.langbench.specs.declared.report.Verdict.TheVariants.{Whole, Broken}
 use Rattle.langbench.specs.declared.stop.Stop.{Stop}
 use Rattle.langbench.specs.declared.stop.Stop.TheVariants as stop
 use Rattle.lw_lang.specs.Compiled.{HoldsGrammar, IsClear}
-use Rattle.langbench.specs.Run.{Files}
-use Rattle.langbench.specs.Stops.{HasCause, OutCounts, PatternCounts, SourceCounts, StoreCounts}
-use Rattle.langbench.specs.Serving.{WritesPart, Conversed, ServeWorks, most_taken}
+use Rattle.langbench.specs.Checking.{Files}
+use Rattle.langbench.specs.Stops.{Counts, TheSink, TheStore}
+use Rattle.langbench.specs.Run.{Work, HasCause}
+use Rattle.langbench.specs.Serving.{WritesPart, Conversed, OfGrammar, ServeComesTo}
 use Rattle.langbench.specs.Talking as talking
 use Rattle.langbench.specs.Talking.{IsUnderway, TakesPiece, LosesPiece, Responds, RespondsPartly, AnswersNext, RunsOut, in_frames}
+use Rattle.langbench.proofs.Grammars.{one_session}
 use Rattle.langbench.proofs.Talks.{in_frames-map}
 use Rattle.langbench.proofs.Turns.{WritesPart-behind, WritesPart-front, part_in_front, AfterTurn, none_behind, cut_off, lost_piece, ran_out, broke_off, turn}
 
@@ -44,21 +47,22 @@ same_fed (Some body) s = refl
 
 module _ (g : Grammar) (before now after old mid : Option (List ℕ)) (s : Stream) (standing : Standing) (way : IsUnderway g before now old mid s standing) where
   -- a read failed, or memory was refused behind it
-  pub lost : (found : Stop) → length s.fed < most_taken → LosesPiece now after s found → Conversed g before after old mid (Err found)
+  pub lost : (found : Stop) → length s.fed < LONGEST_SESSION → LosesPiece now after s found → Conversed g before after old mid (Err found)
   lost _ short (talking.unread keeps) = cut_off g before now old mid s standing way after keeps short
   lost _ short (talking.lost bytes consumed within) = lost_piece g before now old mid s standing way after bytes consumed within
 
   -- the bytes are over
-  pub over : (t : Stream) (n : ℕ) (r : Result Verdict Stop) → n ≡ 0 → TakesPiece now after s t n → RunsOut t.fed r → Conversed g before after old mid r
-  over t n r none took ends = by r (subst (λ st. RunsOut st.fed r) is.0 ends)
+  pub over : (t : Stream) (n : ℕ) (r : Result Verdict Stop) → n ≡ 0 → length s.fed < LONGEST_SESSION → TakesPiece now after s t n → RunsOut t.fed r →
+      Conversed g before after old mid r
+  over t n r none short took ends = by r (subst (λ st. RunsOut st.fed r) is.0 ends)
     where
       is : (t ≡ s) × IsAtEnd after × Keeps now after
       is = at_end_of n now after s t none took
 
       by : (r : Result Verdict Stop) → RunsOut s.fed r → Conversed g before after old mid r
       by (Ok Whole) ends = absurd ends
-      by (Ok Broken) ends = inr (ran_out g before now old mid s standing way after is.1 is.2 ends)
-      by (Err (stop.Frames found)) ends = broke_off g before now old mid s standing way after is.1 is.2 found ends
+      by (Ok Broken) ends = inr (ran_out g before now old mid s standing way after is.1 is.2 short ends)
+      by (Err (stop.Frames found)) ends = broke_off g before now old mid s standing way after is.1 is.2 short found ends
       by (Err stop.Words) ends = absurd ends
       by (Err (stop.Grammar found)) ends = absurd ends
       by (Err stop.Read) ends = absurd ends
@@ -73,14 +77,15 @@ module _ (g : Grammar) (before now after old mid : Option (List ℕ)) (s : Strea
       ap next_body is.0 ∙ none_behind (bodies_of s.fed) s.given way.all_given
 
   -- a turn, and how many bytes it took
-  module _ (new : Option (List ℕ)) (u : Stream) (n : ℕ) (some : n ≢ 0) (took : TakesPiece now after s u n) (next : Stream) (next_is : next ≡ after_next u) (t : Standing) (outcome : Result Ended Stop)
+  module _ (new : Option (List ℕ)) (u : Stream) (n : ℕ) (some : n ≢ 0) (fits : length s.fed + n ≤ LONGEST_SESSION)
+      (took : TakesPiece now after s u n) (next : Stream) (next_is : next ≡ after_next u) (t : Standing) (outcome : Result Ended Stop)
       (h : Grammar) (same : h ≡ g) (answers : AnswersNext h standing mid new (next_answer u) t outcome) where
     pub turned : AfterTurn g before after old new next t outcome
     turned =
         let is = piece_of n now after s u some took in
         let at = subst (λ st. AnswersNext g standing mid new (next_answer st) t outcome) is.1 (subst (λ k. AnswersNext k standing mid new (next_answer u) t outcome) same answers) in
         subst (λ st. AfterTurn g before after old new st t outcome) (ap after_next (sym is.1) ∙ sym next_is)
-        (turn g before now after old mid new s standing way is.0 is.3 t is.4 outcome at)
+        (turn g before now after old mid new s standing way is.0 is.3 (omega (arith, length-append s.fed is.0, is.2, fits)) t is.4 outcome at)
 
     pub taken_more : length next.fed ≡ length s.fed + n
     taken_more =
@@ -98,20 +103,16 @@ after_stop g before after old new s t (stop.Grammar found) none = absurd none
 after_stop g before after old new s t stop.Read none = absurd none
 after_stop g before after old new s t stop.Limit none = absurd none
 
--- the sink has not failed where nothing was answered
-pub out_of_loss : (now after : Option (List ℕ)) (s : Stream) (found : Stop) → LosesPiece now after s found → (before count : ℕ) → count ≡ before → OutCounts {T = Verdict} before count (Err found)
-out_of_loss now after s _ (talking.unread keeps) before count is = is
-out_of_loss now after s _ (talking.lost bytes consumed within) before count is = is
+-- the sink has not failed where nothing was answered, nor has the store
+pub sink_of_loss : (now after : Option (List ℕ)) (s : Stream) (found : Stop) → LosesPiece now after s found → (before count : ℕ) → count ≡ before →
+    Counts {T = Verdict} TheSink before count (Err found)
+sink_of_loss now after s _ (talking.unread keeps) before count is = is
+sink_of_loss now after s _ (talking.lost bytes consumed within) before count is = tt
 
--- the source has not failed behind a read
-pub source_of_stop : (g : Grammar) (before after old new : Option (List ℕ)) (s : Stream) (t : Standing) (found : Stop) → AfterTurn g before after old new s t (Err found) → (a b : ℕ) → b ≡ a → SourceCounts {T = Verdict} a b (Err found)
-source_of_stop g before after old new s t stop.Write some a b is = is
-source_of_stop g before after old new s t stop.Memory some a b is = is
-source_of_stop g before after old new s t (stop.Frames found) wrong a b is = is
-source_of_stop g before after old new s t stop.Words none a b is = absurd none
-source_of_stop g before after old new s t (stop.Grammar found) none a b is = absurd none
-source_of_stop g before after old new s t stop.Read none a b is = absurd none
-source_of_stop g before after old new s t stop.Limit none a b is = absurd none
+pub store_of_loss : (now after : Option (List ℕ)) (s : Stream) (found : Stop) → LosesPiece now after s found → (before count : ℕ) → count ≡ before →
+    Counts {T = Verdict} TheStore before count (Err found)
+store_of_loss now after s _ (talking.unread keeps) before count is = is
+store_of_loss now after s _ (talking.lost bytes consumed within) before count is = tt
 
 -- ---- what was written of the replies
 
@@ -159,12 +160,13 @@ on_err_of (Err e) P p = p
 
 -- ---- a body
 
-module _ (g : Grammar) (s t : Standing) (body : List ℕ) (texts : List (List ℕ)) (ended : Ended) (handles : HandlesBody g s body t texts ended) (old new : Option (List ℕ)) where
+module _ (g : Grammar) (s t : Standing) (body : List ℕ) (before now : ℕ) (texts : List (List ℕ)) (ended : Ended) (handles : HandlesBody g s body before now t texts ended)
+    (old new : Option (List ℕ)) where
   same_bytes : in_frames texts ≡ framed handles.replies
   same_bytes = ap in_frames handles.told ∙ in_frames-map handles.replies
 
   pub responds : Appends old new (in_frames texts) → Responds g s old new body t ended
-  responds written = record { replies = handles.replies; handles = handles.handles; written = subst (Appends old new) same_bytes written }
+  responds written = record { found = handles.found; replies = handles.replies; handles = handles.handles; written = subst (Appends old new) same_bytes written }
 
   pub responds_partly : WritesPart old new (in_frames texts) → RespondsPartly g s old new body
   responds_partly part = talking.part handles.handles (subst (WritesPart old new) same_bytes part)
@@ -172,64 +174,37 @@ module _ (g : Grammar) (s t : Standing) (body : List ℕ) (texts : List (List �
 -- ---- a session by the grammar of a file
 
 -- what a session of this grammar came to is what the work answered
-pub works_by : (files : Files) (path : List ℕ) (refused before after old new : Option (List ℕ)) (g : Grammar) → HoldsGrammar files path g → IsClear g → (r : Result Verdict Stop) →
-    Conversed g before after old new r → ServeWorks files path refused before after old new r
-works_by files path refused before after old new g holds clear (Ok Whole) fact = record { grammar = g; holds = holds; clear = clear; fact = fact }
-works_by files path refused before after old new g holds clear (Ok Broken) fact = record { grammar = g; holds = holds; clear = clear; fact = fact }
-works_by files path refused before after old new g holds clear (Err stop.Words) fact = absurd fact
-works_by files path refused before after old new g holds clear (Err (stop.Grammar found)) fact = absurd fact
-works_by files path refused before after old new g holds clear (Err stop.Read) fact = record { grammar = g; holds = holds; clear = clear; fact = fact }
-works_by files path refused before after old new g holds clear (Err stop.Write) fact = record { grammar = g; holds = holds; clear = clear; fact = fact }
-works_by files path refused before after old new g holds clear (Err stop.Memory) fact = inr (record { grammar = g; holds = holds; clear = clear; fact = fact })
-works_by files path refused before after old new g holds clear (Err (stop.Frames found)) fact = record { grammar = g; holds = holds; clear = clear; fact = fact }
-works_by files path refused before after old new g holds clear (Err stop.Limit) fact = record { grammar = g; holds = holds; clear = clear; fact = fact }
+module _ (files : Files) (path : List ℕ) (refused before after old new : Option (List ℕ)) (g : Grammar) (holds : HoldsGrammar files path g) (clear : IsClear g) where
+  of_this : {Fact : Grammar → Type 0} → Fact g → OfGrammar files path Fact
+  of_this fact = record { grammar = g; holds = holds; clear = clear; only = one_session g clear; fact = fact }
+
+  pub works_by : (r : Result Verdict Stop) → Conversed g before after old new r → ServeComesTo files path refused before after old new r
+  works_by (Ok Whole) fact = of_this fact
+  works_by (Ok Broken) fact = of_this fact
+  works_by (Err stop.Words) fact = absurd fact
+  works_by (Err (stop.Grammar found)) fact = absurd fact
+  works_by (Err stop.Read) fact = of_this fact
+  works_by (Err stop.Write) fact = of_this fact
+  works_by (Err stop.Memory) fact = inr (of_this fact)
+  works_by (Err (stop.Frames found)) fact = of_this fact
+  works_by (Err stop.Limit) fact = of_this fact
 
 -- the same, where the store tells
 pub works_told : (told : Option Files) (path : List ℕ) (refused before after old new : Option (List ℕ)) (g h : Grammar) → IfSome told (λ files. HoldsGrammar files path g) → IsClear g → (r : Result Verdict Stop) →
-    h ≡ g → Conversed h before after old new r → IfSome told (λ files. ServeWorks files path refused before after old new r)
+    h ≡ g → Conversed h before after old new r → IfSome told (λ files. ServeComesTo files path refused before after old new r)
 works_told None path refused before after old new g h holds clear r same fact = tt
 works_told (Some files) path refused before after old new g h holds clear r same fact =
     works_by files path refused before after old new g holds clear r (subst (λ k. Conversed k before after old new r) same fact)
 
--- a session has no fault of the grammar, and is begun by words
-pub no_cause_of : (g : Grammar) (before after old new : Option (List ℕ)) (files : Files) (path : List ℕ) (refused : Option (List ℕ)) (r : Result Verdict Stop) → Conversed g before after old new r → HasCause files path refused r
-no_cause_of g before after old new files path refused (Ok Whole) fact = tt
-no_cause_of g before after old new files path refused (Ok Broken) fact = tt
-no_cause_of g before after old new files path refused (Err stop.Words) fact = absurd fact
-no_cause_of g before after old new files path refused (Err (stop.Grammar found)) fact = absurd fact
-no_cause_of g before after old new files path refused (Err stop.Read) fact = tt
-no_cause_of g before after old new files path refused (Err stop.Write) fact = tt
-no_cause_of g before after old new files path refused (Err stop.Memory) fact = tt
-no_cause_of g before after old new files path refused (Err (stop.Frames found)) fact = tt
-no_cause_of g before after old new files path refused (Err stop.Limit) fact = tt
-
-pub cause_told : (told : Option Files) (g : Grammar) (before after old new : Option (List ℕ)) (path : List ℕ) (refused : Option (List ℕ)) (r : Result Verdict Stop) → Conversed g before after old new r →
-    IfSome told (λ files. HasCause files path refused r)
-cause_told None g before after old new path refused r fact = tt
-cause_told (Some files) g before after old new path refused r fact = no_cause_of g before after old new files path refused r fact
-
-pub not_words : (g : Grammar) (before after old new : Option (List ℕ)) (r : Result Verdict Stop) → Conversed g before after old new r → ¬ (r ≡ Err stop.Words)
-not_words g before after old new r fact is = subst (Conversed g before after old new) is fact
-
--- the store and the patterns have not failed in a session
-pub store_of_session : (g : Grammar) (before after old new : Option (List ℕ)) (r : Result Verdict Stop) → Conversed g before after old new r → (a b : ℕ) → b ≡ a → StoreCounts a b r
-store_of_session g before after old new (Ok Whole) fact a b is = is
-store_of_session g before after old new (Ok Broken) fact a b is = is
-store_of_session g before after old new (Err stop.Words) fact a b is = absurd fact
-store_of_session g before after old new (Err (stop.Grammar found)) fact a b is = absurd fact
-store_of_session g before after old new (Err stop.Read) fact a b is = is
-store_of_session g before after old new (Err stop.Write) fact a b is = is
-store_of_session g before after old new (Err stop.Memory) fact a b is = is
-store_of_session g before after old new (Err (stop.Frames found)) fact a b is = is
-store_of_session g before after old new (Err stop.Limit) fact a b is = is
-
-pub patterns_of_session : (g : Grammar) (before after old new : Option (List ℕ)) (r : Result Verdict Stop) → Conversed g before after old new r → (a b : ℕ) → b ≡ a → PatternCounts a b r
-patterns_of_session g before after old new (Ok Whole) fact a b is = is
-patterns_of_session g before after old new (Ok Broken) fact a b is = is
-patterns_of_session g before after old new (Err stop.Words) fact a b is = absurd fact
-patterns_of_session g before after old new (Err (stop.Grammar found)) fact a b is = absurd fact
-patterns_of_session g before after old new (Err stop.Read) fact a b is = is
-patterns_of_session g before after old new (Err stop.Write) fact a b is = is
-patterns_of_session g before after old new (Err stop.Memory) fact a b is = is
-patterns_of_session g before after old new (Err (stop.Frames found)) fact a b is = is
-patterns_of_session g before after old new (Err stop.Limit) fact a b is = is
+-- a session has no fault of the grammar
+pub no_cause_of : (g : Grammar) (before after old new : Option (List ℕ)) (words : List (List ℕ)) (w : Work) (path : List ℕ) (r : Result Verdict Stop) → Conversed g before after old new r →
+    HasCause words w path r
+no_cause_of g before after old new words w path (Ok Whole) fact = tt
+no_cause_of g before after old new words w path (Ok Broken) fact = tt
+no_cause_of g before after old new words w path (Err stop.Words) fact = absurd fact
+no_cause_of g before after old new words w path (Err (stop.Grammar found)) fact = absurd fact
+no_cause_of g before after old new words w path (Err stop.Read) fact = tt
+no_cause_of g before after old new words w path (Err stop.Write) fact = tt
+no_cause_of g before after old new words w path (Err stop.Memory) fact = tt
+no_cause_of g before after old new words w path (Err (stop.Frames found)) fact = tt
+no_cause_of g before after old new words w path (Err stop.Limit) fact = tt

@@ -6,12 +6,12 @@ use Rattle.lw_frame.specs.declared.fault.FrameFault.{FrameFault}
 use Rattle.lw_frame.proofs.Growing.{bodies_stay, fault_stays}
 use Rattle.lw_grammar.specs.declared.grammar.Grammar.{Grammar}
 use Rattle.lw_lang.specs.Compiled.{HoldsGrammar, IsClear}
-use Rattle.lw_machine.specs.Answers.{Standing, beginning}
-use Rattle.lw_machine.specs.Sessions as session
-use Rattle.lw_machine.specs.Sessions.{Serves, framed}
-use Rattle.lw_machine.specs.declared.ended.Ended.{Ended}
-use Rattle.lw_machine.specs.declared.ended.Ended.TheVariants.{No, Clean, Early}
-use Rattle.lw_machine.proofs.OneOutcome.{one_outcome}
+use Rattle.lw_conversation.specs.Standing.{Standing, beginning}
+use Rattle.lw_conversation.specs.Sessions as session
+use Rattle.lw_conversation.specs.Sessions.{Serves, framed}
+use Rattle.lw_conversation.specs.declared.ended.Ended.{Ended}
+use Rattle.lw_conversation.specs.declared.ended.Ended.TheVariants.{No, Clean, Early}
+use Rattle.lw_conversation.proofs.OneOutcome.{one_outcome}
 use Rattle.lw_rpc.specs.declared.reply.Reply.{Reply}
 use Rattle.langbench.specs.Run.{Files, Faults, NoneRose}
 use Rattle.langbench.specs.Serving as serving

@@ -7,7 +7,10 @@ use Rattle.lw_lang.specs.Compiled.{HoldsGrammar, HoldsText, IsClear}
 use Rattle.lw_lang.specs.Obstacles as obstacle
 use Rattle.lw_reading.specs.Laws.{HasNoEmptyKeyword}
 use Rattle.lw_reading.proofs.OneKinds.{filled_rules}
-use Rattle.langbench.specs.Run.{Files}
+use Rattle.lw_conversation.specs.Standing.{beginning}
+use Rattle.lw_conversation.proofs.OneOutcome.{one_outcome}
+use Rattle.langbench.specs.Checking.{Files}
+use Rattle.langbench.specs.Serving.{HasOneOutcome}
 
 module _ (files : Files) (path : List ℕ) (g : Grammar) (holds : HoldsGrammar files path g) where
   -- what the path holds is the text that says g
@@ -22,3 +25,7 @@ module _ (files : Files) (path : List ℕ) (g : Grammar) (holds : HoldsGrammar f
 
 pub filled : (g : Grammar) → IsClear g → HasNoEmptyKeyword g
 filled g clear = filled_rules g (λ rule within writes. clear.0 (obstacle.blank_keyword rule [] within writes (inl refl)))
+
+-- by such a grammar a session has one outcome
+pub one_session : (g : Grammar) → IsClear g → HasOneOutcome g
+one_session g clear bodies found t u p q e f serves also = one_outcome g (filled g clear) (beginning []) t u bodies found p q e f serves also

@@ -4,9 +4,9 @@ use Rattle.std.specs.Io.KnownBytes.{Keeps}
 use Rattle.lw_frame.specs.Frames.{bodies_of}
 use Rattle.lw_grammar.specs.declared.grammar.Grammar.{Grammar}
 use Rattle.lw_lang.specs.declared.fault.CompileFault.{CompileFault}
-use Rattle.lw_machine.specs.Sessions.{framed}
-use Rattle.lw_machine.specs.declared.ended.Ended.{Ended}
-use Rattle.lw_machine.specs.declared.ended.Ended.TheVariants.{No, Early}
+use Rattle.lw_conversation.specs.Sessions.{framed}
+use Rattle.lw_conversation.specs.declared.ended.Ended.{Ended}
+use Rattle.lw_conversation.specs.declared.ended.Ended.TheVariants.{No, Early}
 use Rattle.langbench.specs.declared.report.Verdict.{Verdict}
 use Rattle.langbench.specs.declared.report.Verdict.TheVariants.{Whole, Broken}
 use Rattle.langbench.specs.declared.stop.Stop.{Stop}

@@ -1,5 +1,5 @@
 -- What each turn of a session makes of what was taken and written.
-use Rattle.std.proofs.Common.{◌≡◌, inl, inr, ℕ, suc, ◌+◌, ◌<◌, List, [], ◌∷◌, ◌++◌, length, take, Bool, true, false, Option, Some, None, Result, Ok, Err, slice_get, refl, sym, ap, subst, ◌∙◌, append-nil, arith, length-append, take_all}
+use Rattle.std.proofs.Common.{◌≡◌, inl, inr, ℕ, suc, ◌+◌, ◌<◌, ◌≤◌, List, [], ◌∷◌, ◌++◌, length, take, Bool, true, false, Option, Some, None, Result, Ok, Err, slice_get, refl, sym, ap, subst, ◌∙◌, append-nil, arith, length-append, take_all}
 use Rattle.std.proofs.lemmas.List.{take-append-le}
 use Rattle.std.specs.Io.KnownBytes.{Appends, Consumes, IsAtEnd, Keeps}
 use Rattle.std.proofs.KnownBytes.{Appends-nil, Appends-trans, Appends-kept, Consumes-nil, Consumes-trans, Consumes-kept}
@@ -8,15 +8,17 @@ use Rattle.lw_io.specs.Whole.{WritesFront}
 use Rattle.lw_frame.specs.Frames.{bodies_of, fault_of, rest_of}
 use Rattle.lw_frame.specs.Stream.{Stream, start, with_piece, answer_next, next_body, next_answer, handed, after_next}
 use Rattle.lw_frame.specs.declared.fault.FrameFault.{FrameFault}
-use Rattle.lw_machine.specs.Answers.{Standing, beginning}
-use Rattle.lw_machine.specs.Sessions as session
-use Rattle.lw_machine.specs.Sessions.{Handles, Serves, framed}
-use Rattle.lw_machine.specs.declared.ended.Ended.{Ended}
-use Rattle.lw_machine.specs.declared.ended.Ended.TheVariants.{No, Clean, Early}
+use Rattle.lw_frame.specs.declared.limits.TheConstants.{LONGEST_SESSION}
+use Rattle.lw_io.specs.declared.store.Found.{Found}
+use Rattle.lw_conversation.specs.Standing.{Standing, beginning}
+use Rattle.lw_conversation.specs.Sessions as session
+use Rattle.lw_conversation.specs.Sessions.{Handles, Serves, framed}
+use Rattle.lw_conversation.specs.declared.ended.Ended.{Ended}
+use Rattle.lw_conversation.specs.declared.ended.Ended.TheVariants.{No, Clean, Early}
 use Rattle.lw_frame.specs.Wanted.{EndsWithin}
 use Rattle.langbench.specs.declared.stop.Stop.{Stop}
 use Rattle.langbench.specs.declared.stop.Stop.TheVariants as stop
-use Rattle.langbench.specs.Serving.{WritesPart, Talked, TalkedSome, Exited, RanOut, WasCutOff, WentWrong, WasTooLong, most_taken}
+use Rattle.langbench.specs.Serving.{WritesPart, Talked, TalkedSome, Exited, RanOut, WasCutOff, WentWrong, WasTooLong}
 use Rattle.langbench.specs.Talking as talking
 use Rattle.langbench.specs.Talking.{IsUnderway, TakesPiece, LosesPiece, Responds, RespondsPartly, AnswersNext}
 use Rattle.langbench.proofs.Talks.{framed-append, Serves-push}
@@ -69,38 +71,27 @@ last_of (b ∷ bodies) body n is =
     ap (slice_get (b ∷ bodies ++ body ∷ [])) same ∙ last_of bodies body (length bodies) refl
 
 module _ (g : Grammar) (before now old mid : Option (List ℕ)) (s : Stream) (standing : Standing) (way : IsUnderway g before now old mid s standing) where
-  talked : {taken : List ℕ} → taken ≡ s.fed → Talked g before now old mid taken No
-  talked {taken} is = record {
+  talked : Talked g before now old mid s.fed No
+  talked = record {
     standing = standing;
+    found = way.found;
     replies = way.replies;
-    consumed = subst (Consumes before now) (sym is) way.consumed;
-    serves = subst (λ bytes. Serves g beginning (bodies_of bytes) standing way.replies No) (sym is) way.serves;
+    consumed = way.consumed;
+    within = way.within;
+    serves = way.serves;
     written = way.written;
   }
 
-  -- all that was written so far is a part
-  pub some_so_far : TalkedSome g before now old mid
-  some_so_far = record {
-    taken = s.fed;
-    answered = bodies_of s.fed;
-    others = [];
-    standing = standing;
-    replies = way.replies;
-    ended = No;
-    consumed = way.consumed;
-    parts = sym (append-nil (bodies_of s.fed));
-    serves = way.serves;
-    written = WritesPart-all old mid (framed way.replies) way.written;
-  }
-
   -- a read failed
-  pub cut_off : (after : Option (List ℕ)) → Keeps now after → length s.fed < most_taken → WasCutOff g before after old mid
+  pub cut_off : (after : Option (List ℕ)) → Keeps now after → length s.fed < LONGEST_SESSION → WasCutOff g before after old mid
   cut_off after keeps short = (
     s.fed,
     record {
       standing = standing;
+      found = way.found;
       replies = way.replies;
       consumed = Consumes-kept before now after s.fed way.consumed keeps;
+      within = way.within;
       serves = way.serves;
       written = way.written;
     },
@@ -109,8 +100,8 @@ module _ (g : Grammar) (before now old mid : Option (List ℕ)) (s : Stream) (st
   )
 
   -- too many bytes
-  pub too_long : length s.fed ≡ most_taken → WasTooLong g before now old mid
-  too_long is = (s.fed, talked refl, is, way.sound)
+  pub too_long : length s.fed ≡ LONGEST_SESSION → WasTooLong g before now old mid
+  too_long is = (s.fed, talked, is, way.sound)
 
   -- memory was refused behind a read
   pub lost_piece : (after : Option (List ℕ)) (bytes : List ℕ) → Consumes now after bytes → EndsWithin s.fed bytes → TalkedSome g before after old mid
@@ -119,6 +110,7 @@ module _ (g : Grammar) (before now old mid : Option (List ℕ)) (s : Stream) (st
     answered = bodies_of s.fed;
     others = (behind within).0;
     standing = standing;
+    found = way.found;
     replies = way.replies;
     ended = No;
     consumed = Consumes-trans before now after s.fed bytes way.consumed consumed;
@@ -132,24 +124,27 @@ module _ (g : Grammar) (before now old mid : Option (List ℕ)) (s : Stream) (st
       behind (inr one) = (one.0 ∷ [], one.1)
 
   -- the source is at its end
-  module _ (after : Option (List ℕ)) (ended : IsAtEnd after) (keeps : Keeps now after) where
+  module _ (after : Option (List ℕ)) (ended : IsAtEnd after) (keeps : Keeps now after) (short : length s.fed < LONGEST_SESSION) where
     over : Talked g before after old mid s.fed No
     over = record {
       standing = standing;
+      found = way.found;
       replies = way.replies;
       consumed = Consumes-kept before now after s.fed way.consumed keeps;
+      within = way.within;
       serves = way.serves;
       written = way.written;
     }
 
     pub ran_out : fault_of s.fed true ≡ None → RanOut g before after old mid
-    ran_out none = (s.fed, over, ended, none)
+    ran_out none = (s.fed, over, ended, short, none)
 
     pub broke_off : (found : FrameFault) → fault_of s.fed true ≡ Some found → WentWrong g before after old mid found
-    broke_off found is = (s.fed, over, inr (ended, is))
+    broke_off found is = (s.fed, over, inr (ended, short, is))
 
   -- ---- a piece was taken
-  module _ (after : Option (List ℕ)) (bytes : List ℕ) (consumed_ : Consumes now after bytes) (within : EndsWithin s.fed bytes) where
+  module _ (after : Option (List ℕ)) (bytes : List ℕ) (consumed_ : Consumes now after bytes) (within : EndsWithin s.fed bytes)
+      (fits : length (s.fed ++ bytes) ≤ LONGEST_SESSION) where
     later : Stream
     later = with_piece s bytes
 
@@ -161,16 +156,18 @@ module _ (g : Grammar) (before now old mid : Option (List ℕ)) (s : Stream) (st
       pub none_next : next_body (with_piece s bytes) ≡ None
       none_next = ap (λ bodies. slice_get bodies s.given) same ∙ none_behind (bodies_of s.fed) s.given way.all_given
 
-      serves_all : Serves g beginning (bodies_of (s.fed ++ bytes)) standing way.replies No
-      serves_all = subst (λ bodies. Serves g beginning bodies standing way.replies No) (sym same) way.serves
+      serves_all : Serves g (beginning []) (bodies_of (s.fed ++ bytes)) way.found standing way.replies No
+      serves_all = subst (λ bodies. Serves g (beginning []) bodies way.found standing way.replies No) (sym same) way.serves
 
       -- and no fault: the session goes on
       goes_on : (new : Option (List ℕ)) → Keeps mid new → fault_of (s.fed ++ bytes) false ≡ None → IsUnderway g before after old new (with_piece s bytes) standing
       goes_on new keeps none = record {
+        found = way.found;
         replies = way.replies;
         going_on = way.going_on;
         all_given = way.all_given ∙ ap length (sym same);
         sound = none;
+        within = fits;
         consumed = consumed_all;
         serves = serves_all;
         written = Appends-kept old mid new (framed way.replies) way.written keeps;
@@ -182,8 +179,10 @@ module _ (g : Grammar) (before now old mid : Option (List ℕ)) (s : Stream) (st
         s.fed ++ bytes,
         record {
           standing = standing;
+          found = way.found;
           replies = way.replies;
           consumed = consumed_all;
+          within = fits;
           serves = serves_all;
           written = Appends-kept old mid new (framed way.replies) way.written keeps;
         },
@@ -196,15 +195,26 @@ module _ (g : Grammar) (before now old mid : Option (List ℕ)) (s : Stream) (st
       one_next = ap (λ bodies. slice_get bodies s.given) one ∙ last_of (bodies_of s.fed) body s.given way.all_given
 
       module _ (new : Option (List ℕ)) (t : Standing) (ended : Ended) (responds : Responds g standing mid new body t ended) where
-        served : Serves g beginning (bodies_of (s.fed ++ bytes)) t (way.replies ++ responds.replies) ended
-        served = subst (λ bodies. Serves g beginning bodies t (way.replies ++ responds.replies) ended) (sym one)
-            (Serves-push g beginning standing t (bodies_of s.fed) body way.replies responds.replies No ended refl way.serves responds.handles)
+        reads : List (List Found)
+        reads = way.found ++ responds.found ∷ []
+
+        served : Serves g (beginning []) (bodies_of (s.fed ++ bytes)) reads t (way.replies ++ responds.replies) ended
+        served = subst (λ bodies. Serves g (beginning []) bodies reads t (way.replies ++ responds.replies) ended) (sym one)
+            (Serves-push g (beginning []) standing t (bodies_of s.fed) body way.found responds.found way.replies responds.replies No ended refl way.serves responds.handles)
 
         written_all : Appends old new (framed (way.replies ++ responds.replies))
         written_all = subst (Appends old new) (sym (framed-append way.replies responds.replies)) (Appends-trans old mid new _ _ way.written responds.written)
 
         talked_all : Talked g before after old new (s.fed ++ bytes) ended
-        talked_all = record { standing = t; replies = way.replies ++ responds.replies; consumed = consumed_all; serves = served; written = written_all }
+        talked_all = record {
+          standing = t;
+          found = reads;
+          replies = way.replies ++ responds.replies;
+          consumed = consumed_all;
+          within = fits;
+          serves = served;
+          written = written_all;
+        }
 
         pub exited : rest_of (s.fed ++ bytes) ≡ [] → Exited g before after old new ended
         exited nothing = (
@@ -214,6 +224,7 @@ module _ (g : Grammar) (before now old mid : Option (List ℕ)) (s : Stream) (st
             earlier = bodies_of s.fed;
             last = body;
             standing = standing;
+            found = way.found;
             replies = way.replies;
             parts = one;
             serves = way.serves;
@@ -223,12 +234,14 @@ module _ (g : Grammar) (before now old mid : Option (List ℕ)) (s : Stream) (st
 
         pub goes_on_behind : ended ≡ No → fault_of (s.fed ++ bytes) false ≡ None → IsUnderway g before after old new (record (with_piece s bytes) { given = s.given + 1 }) t
         goes_on_behind no_end none = record {
+          found = reads;
           replies = way.replies ++ responds.replies;
           going_on = way.going_on;
           all_given = omega (arith, way.all_given, ap length one, length-append (bodies_of s.fed) (body ∷ []));
           sound = none;
+          within = fits;
           consumed = consumed_all;
-          serves = subst (λ e. Serves g beginning (bodies_of (s.fed ++ bytes)) t (way.replies ++ responds.replies) e) no_end served;
+          serves = subst (λ e. Serves g (beginning []) (bodies_of (s.fed ++ bytes)) reads t (way.replies ++ responds.replies) e) no_end served;
           written = written_all;
         }
 
@@ -239,6 +252,7 @@ module _ (g : Grammar) (before now old mid : Option (List ℕ)) (s : Stream) (st
         answered = bodies_of s.fed;
         others = body ∷ [];
         standing = standing;
+        found = way.found;
         replies = way.replies;
         ended = No;
         consumed = consumed_all;
@@ -246,16 +260,17 @@ module _ (g : Grammar) (before now old mid : Option (List ℕ)) (s : Stream) (st
         serves = way.serves;
         written = WritesPart-all old new (framed way.replies) (Appends-kept old mid new (framed way.replies) way.written keeps);
       }
-      wrote_part new (talking.part {t} {replies} {ended} handles part) = record {
+      wrote_part new (talking.part {found} {t} {replies} {ended} handles part) = record {
         taken = s.fed ++ bytes;
         answered = bodies_of s.fed ++ body ∷ [];
         others = [];
         standing = t;
+        found = way.found ++ found ∷ [];
         replies = way.replies ++ replies;
         ended = ended;
         consumed = consumed_all;
         parts = one ∙ sym (append-nil (bodies_of s.fed ++ body ∷ []));
-        serves = Serves-push g beginning standing t (bodies_of s.fed) body way.replies replies No ended refl way.serves handles;
+        serves = Serves-push g (beginning []) standing t (bodies_of s.fed) body way.found found way.replies replies No ended refl way.serves handles;
         written = subst (WritesPart old new) (sym (framed-append way.replies replies)) (WritesPart-behind old mid new (framed way.replies) (framed replies) way.written part);
       }
 
@@ -271,7 +286,7 @@ AfterTurn g before after old new s t (Err (stop.Frames found)) = WentWrong g bef
 AfterTurn g before after old new s t (Err _) = ⊥
 
 module _ (g : Grammar) (before now after old mid new : Option (List ℕ)) (s : Stream) (standing : Standing) (way : IsUnderway g before now old mid s standing)
-    (bytes : List ℕ) (consumed : Consumes now after bytes) where
+    (bytes : List ℕ) (consumed : Consumes now after bytes) (fits : length (s.fed ++ bytes) ≤ LONGEST_SESSION) where
   open_fault : (closed : Bool) → s.closed ≡ closed → closed ≡ false → fault_of (s.fed ++ bytes) s.closed ≡ fault_of (s.fed ++ bytes) false
   open_fault closed is false_ = ap (fault_of (s.fed ++ bytes)) (is ∙ false_)
 
@@ -280,18 +295,18 @@ module _ (g : Grammar) (before now after old mid new : Option (List ℕ)) (s : S
       (outcome : Result Ended Stop) → AnswersNext g standing mid new (answer_next None fault) t outcome → AfterTurn g before after old new (with_piece s bytes) t outcome
   without t same within None none outcome answers =
       subst (AfterTurn g before after old new (with_piece s bytes) t) (sym answers.0)
-      (subst (IsUnderway g before after old new (with_piece s bytes)) (sym answers.1) (goes_on g before now old mid s standing way after bytes consumed within same new answers.2 none))
+      (subst (IsUnderway g before after old new (with_piece s bytes)) (sym answers.1) (goes_on g before now old mid s standing way after bytes consumed within fits same new answers.2 none))
   without t same within (Some found) is outcome answers =
-      subst (AfterTurn g before after old new (with_piece s bytes) t) (sym answers.0) (went_wrong g before now old mid s standing way after bytes consumed within same new answers.2 found is)
+      subst (AfterTurn g before after old new (with_piece s bytes) t) (sym answers.0) (went_wrong g before now old mid s standing way after bytes consumed within fits same new answers.2 found is)
 
   -- one body
   with_one : (t : Standing) (within : EndsWithin s.fed bytes) (body : List ℕ) → bodies_of (s.fed ++ bytes) ≡ bodies_of s.fed ++ body ∷ [] → rest_of (s.fed ++ bytes) ≡ [] → fault_of (s.fed ++ bytes) false ≡ None →
       (outcome : Result Ended Stop) → AnswersNext g standing mid new (Ok (Some body)) t outcome → AfterTurn g before after old new (record (with_piece s bytes) { given = s.given + 1 }) t outcome
-  with_one t within body one nothing none (Ok No) responds = goes_on_behind g before now old mid s standing way after bytes consumed within body one new t No responds refl none
-  with_one t within body one nothing none (Ok Clean) responds = exited g before now old mid s standing way after bytes consumed within body one new t Clean responds nothing
-  with_one t within body one nothing none (Ok Early) responds = exited g before now old mid s standing way after bytes consumed within body one new t Early responds nothing
-  with_one t within body one nothing none (Err stop.Write) part = wrote_part g before now old mid s standing way after bytes consumed within body one new part
-  with_one t within body one nothing none (Err stop.Memory) part = wrote_part g before now old mid s standing way after bytes consumed within body one new part
+  with_one t within body one nothing none (Ok No) responds = goes_on_behind g before now old mid s standing way after bytes consumed within fits body one new t No responds refl none
+  with_one t within body one nothing none (Ok Clean) responds = exited g before now old mid s standing way after bytes consumed within fits body one new t Clean responds nothing
+  with_one t within body one nothing none (Ok Early) responds = exited g before now old mid s standing way after bytes consumed within fits body one new t Early responds nothing
+  with_one t within body one nothing none (Err stop.Write) part = wrote_part g before now old mid s standing way after bytes consumed within fits body one new part
+  with_one t within body one nothing none (Err stop.Memory) part = wrote_part g before now old mid s standing way after bytes consumed within fits body one new part
   with_one t within body one nothing none (Err stop.Words) part = part
   with_one t within body one nothing none (Err (stop.Grammar found)) part = part
   with_one t within body one nothing none (Err stop.Read) part = part
@@ -302,26 +317,28 @@ module _ (g : Grammar) (before now after old mid new : Option (List ℕ)) (s : S
   pub turn : (t : Standing) (within : EndsWithin s.fed bytes) (outcome : Result Ended Stop) → AnswersNext g standing mid new (next_answer (with_piece s bytes)) t outcome →
       AfterTurn g before after old new (after_next (with_piece s bytes)) t outcome
   turn t (inl same) outcome answers =
-      let none = none_next g before now old mid s standing way after bytes consumed (inl same) same in
+      let none = none_next g before now old mid s standing way after bytes consumed (inl same) fits fits same in
       let fault = open_fault s.closed refl way.going_on in
       let at : AnswersNext g standing mid new (answer_next None (fault_of (s.fed ++ bytes) false)) t outcome =
       subst (λ f. AnswersNext g standing mid new (answer_next None f) t outcome) fault (subst (λ o. AnswersNext g standing mid new (answer_next o (fault_of (s.fed ++ bytes) s.closed)) t outcome) none answers) in
       subst (λ o. AfterTurn g before after old new (handed o (with_piece s bytes)) t outcome) (sym none) (without t same (inl same) (fault_of (s.fed ++ bytes) false) refl outcome at)
   turn t (inr one) outcome answers =
-      let some = one_next g before now old mid s standing way after bytes consumed (inr one) one.0 one.1 in
+      let some = one_next g before now old mid s standing way after bytes consumed (inr one) fits one.0 one.1 in
       let at : AnswersNext g standing mid new (Ok (Some one.0)) t outcome =
       subst (λ o. AnswersNext g standing mid new (answer_next o (fault_of (s.fed ++ bytes) s.closed)) t outcome) some answers in
       subst (λ o. AfterTurn g before after old new (handed o (with_piece s bytes)) t outcome) (sym some) (with_one t (inr one) one.0 one.1 one.2 (one.3 false) outcome at)
 
 -- nothing was taken yet
-pub underway_start : (g : Grammar) (left written : Option (List ℕ)) (s : Stream) (standing : Standing) → s ≡ start → standing ≡ beginning → IsUnderway g left left written written s standing
+pub underway_start : (g : Grammar) (left written : Option (List ℕ)) (s : Stream) (standing : Standing) → s ≡ start → standing ≡ beginning [] → IsUnderway g left left written written s standing
 underway_start g left written s standing is begins =
     subst (λ st. IsUnderway g left left written written s st) (sym begins)
-    (subst (λ st. IsUnderway g left left written written st beginning) (sym is) (record {
+    (subst (λ st. IsUnderway g left left written written st (beginning [])) (sym is) (record {
+      found = [];
       replies = [];
       going_on = refl;
       all_given = refl;
       sound = refl;
+      within = omega arith;
       consumed = Consumes-nil left;
       serves = session.waits;
       written = Appends-nil written;

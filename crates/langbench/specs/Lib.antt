@@ -1,8 +1,9 @@
 pub mod Words
 pub mod Checked
 pub mod Reports
-pub mod Run
 pub mod Stops
-pub mod Notes
+pub mod Checking
 pub mod Serving
+pub mod Notes
 pub mod Talking
+pub mod Run

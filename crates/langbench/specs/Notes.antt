@@ -1,6 +1,6 @@
 -- The one line of why a run stopped, which is written beside what it prints. A place is told as compilers tell one, `PATH:LINE:COL: WHAT`,
 -- with line and column counted from 1 and columns in UTF-16 units (Language Server Protocol 3.17, "Position").
-use Rattle.std.specs.Prelude.{ℕ, ◌≡◌, ◌≤◌, ◌⊎◌, List, ◌++◌, codes, Option, Result, Ok, Err, IfSome}
+use Rattle.std.specs.Prelude.{ℕ, ◌≡◌, ◌⊎◌, List, ◌++◌, codes, Option, Result, Ok, Err, IfSome}
 use Rattle.std.specs.Io.KnownBytes.{Appends, Keeps}
 use Rattle.std.specs.Fmt.{decimal}
 use Rattle.lw_frame.specs.declared.fault.FrameFault.{FrameFault}
@@ -12,9 +12,7 @@ use Rattle.langbench.specs.declared.report.Verdict.{Verdict}
 use Rattle.langbench.specs.declared.stop.Stop.{Stop}
 use Rattle.langbench.specs.declared.stop.Stop.TheVariants as stop
 use Rattle.langbench.specs.Checked.{line, printed}
-use Rattle.langbench.specs.Run.{Files, Faults, GrammarFails}
 use Rattle.langbench.specs.Serving.{WritesPart}
-use Rattle.langbench.specs.Stops.{code_of}
 
 -- LINES
 
@@ -83,19 +81,6 @@ abbrev pub NotesOutcome : Option (List ℕ) → Result Verdict Stop → Option (
 NotesOutcome path (Ok verdict) old new = Keeps old new
 NotesOutcome path (Err found) old new = NotesStop path found old new
 
--- by the status, where the status alone settles it
-pub record NotesStatus (code : ℕ) (old new : Option (List ℕ)) : Type 0 where
-  pub done : code ≤ 1 → Keeps old new
-  pub usage : code ≡ 2 → Appends old new usage_line
-  pub unread : code ≡ 4 → Appends old new read_line
-  pub unwritten : code ≡ 5 → Appends old new write_line
-  pub limit : code ≡ 10 → Appends old new limit_line
-
--- by the fault of the grammar at this path, which ended the run with this status
-pub record NotesFault (files : Files) (path : List ℕ) (refused : Option (List ℕ)) (faults : Faults) (code : ℕ) (old new : Option (List ℕ)) : Type 0 where
-  pub fails : GrammarFails files path refused faults code
-  pub noted : Appends old new (fault_line path fails.found)
-
 -- WHATEVER FAILS
 
 -- a front of the line of a stop, which may be all of it, or nothing
@@ -105,7 +90,3 @@ NotesPart path found old new = Keeps old new ⊎ ((output : List ℕ) × IsStopL
 abbrev pub NotesOutcomePart : Option (List ℕ) → Result Verdict Stop → Option (List ℕ) → Option (List ℕ) → Type 0
 NotesOutcomePart path (Ok verdict) old new = Keeps old new
 NotesOutcomePart path (Err found) old new = NotesPart path found old new
-
--- by the status: a front of one line, which is that of a stop with this status, or there was no memory
-abbrev pub NotesOne : Option (List ℕ) → ℕ → Option (List ℕ) → Option (List ℕ) → Type 0
-NotesOne path code old new = Keeps old new ⊎ ((found : Stop) × ((code ≡ code_of found) ⊎ (code ≡ 7)) × NotesPart path found old new)

@@ -1,99 +1,86 @@
--- How a run ends, by what the store and the source held.
-use Rattle.std.specs.Prelude.{ℕ, ◌≡◌, ◌≢◌, ◌≤◌, ◌+◌, ◌⊎◌, List, Option, Some, length, take}
-use Rattle.std.specs.Io.KnownBytes.{Appends, Consumes, Keeps}
+-- How a run ends: what its work came to, and the status, the counts of faults and the note by which that is told.
+use Rattle.std.specs.Prelude.{ℕ, ◌≡◌, ◌≢◌, ◌⊎◌, List, Option, Some, None, Result, Ok, Err, IfSome, MatchOption}
+use Rattle.std.specs.Io.KnownBytes.{Keeps}
 use Rattle.lw_grammar.specs.declared.grammar.Grammar as plain
 use Rattle.lw_io.specs.Causes.{Rose}
-use Rattle.lw_io.specs.Whole.{TakesFewer, WritesFront}
-use Rattle.lw_base.specs.declared.limits.TheConstants.{LONGEST_DOCUMENT}
 use Rattle.lw_lang.specs.Compiled.{HoldsGrammar, IsClear, Causes}
-use Rattle.lw_lang.specs.declared.fault.CompileFault.{CompileFault}
-use Rattle.lw_lang.specs.declared.fault.CompileFault.TheVariants as fault
-use Rattle.langbench.specs.Checked.{Checked, ok_line}
+use Rattle.lw_rpc.specs.declared.reply.Reply.{Reply}
+use Rattle.langbench.specs.declared.report.Verdict.{Verdict}
+use Rattle.langbench.specs.declared.stop.Stop.{Stop}
+use Rattle.langbench.specs.declared.stop.Stop.TheVariants.{Words, Grammar}
+use Rattle.langbench.specs.Checking.{Files, CheckComesTo, CheckDone}
+use Rattle.langbench.specs.Notes.{NotesOutcome, NotesOutcomePart}
+use Rattle.langbench.specs.Serving.{ServeComesTo, ServeDone, IsSession}
+use Rattle.langbench.specs.Stops.{Object, TheSource, TheSink, TheStore, ThePatterns, Counts, EndsWith}
+use Rattle.langbench.specs.Words.{IsCheck, IsServe, IsNoCommand, NamesFile}
 
--- how many bytes of a document are read at most: one more than it may have
-abbrev pub most_read : ℕ
-most_read = LONGEST_DOCUMENT + 1
-
--- the document was read: all of what the source held, but no more than may be read
-abbrev pub ReadsDocument : List ℕ → Option (List ℕ) → Type 0
-ReadsDocument held after = Consumes (Some held) after (take most_read held)
-
--- some bytes were read, and no more than may be
-abbrev pub ReadsPart : Option (List ℕ) → Option (List ℕ) → Type 0
-ReadsPart before after = (bytes : List ℕ) × (length bytes ≤ most_read) × Consumes before after bytes
-
--- the files by path
-abbrev pub Files : Type 0
-Files = List (List ℕ × List ℕ)
-
--- the path holds a grammar that is built, and this and nothing else is what `check` prints for what the source held
-pub record Prints (files : Files) (path held output : List ℕ) : Type 0 where
-  pub grammar : plain.Grammar
-  pub holds : HoldsGrammar files path grammar
-  pub clear : IsClear grammar
-  pub printed : Checked grammar (take most_read held) output
-  pub only : (other : List ℕ) → Checked grammar (take most_read held) other → other ≡ output
-
--- what was written from before to after is a front of what is printed
-pub record WritesSome (files : Files) (path held : List ℕ) (old new : Option (List ℕ)) : Type 0 where
-  pub output : List ℕ
-  pub prints : Prints files path held output
-  pub front : WritesFront old new output
-
--- what was read and written where memory was refused: nothing is printed before all is read
-abbrev pub StopsShort : Files → List ℕ → List ℕ → Option (List ℕ) → Option (List ℕ) → Option (List ℕ) → Type 0
-StopsShort files path held after old new = (ReadsPart (Some held) after × Keeps old new) ⊎ (ReadsDocument held after × WritesSome files path held old new)
-
--- the status that each fault of a grammar ends with
-abbrev pub fault_code : CompileFault → ℕ
-fault_code (fault.Absent path) = 6
-fault_code (fault.NotUtf8 path) = 6
-fault_code (fault.TooLong path) = 6
-fault_code (fault.StoreFault path) = 6
-fault_code (fault.Unbuilt s at) = 3
-fault_code (fault.PatternRefused rule name at) = 3
-fault_code fault.NoMemory = 7
-
--- what was handed in failed, where the fault says so
-abbrev pub Failed : ℕ → ℕ → ℕ → ℕ → CompileFault → Type 0
-Failed store store' patterns patterns' (fault.StoreFault path) = Rose store store'
-Failed store store' patterns patterns' (fault.PatternRefused rule name at) = Rose patterns patterns'
-Failed store store' patterns patterns' _ = Unit {0}
-
--- the numbers that each object counts its faults by, before and after
+-- how often each object had failed, before the run and behind it
 pub record Faults : Type 0 where
   pub source : ℕ × ℕ
-  pub out : ℕ × ℕ
+  pub sink : ℕ × ℕ
   pub store : ℕ × ℕ
   pub patterns : ℕ × ℕ
 
--- none of the counts rose
-pub record NoneRose (faults : Faults) : Type 0 where
-  pub source : ¬ Rose faults.source.0 faults.source.1
-  pub out : ¬ Rose faults.out.0 faults.out.1
-  pub store : ¬ Rose faults.store.0 faults.store.1
-  pub patterns : ¬ Rose faults.patterns.0 faults.patterns.1
+abbrev pub count_of : Faults → Object → ℕ × ℕ
+count_of faults TheSource = faults.source
+count_of faults TheSink = faults.sink
+count_of faults TheStore = faults.store
+count_of faults ThePatterns = faults.patterns
 
--- the grammar has a fault that ends a run with this status
-pub record GrammarFails (files : Files) (path : List ℕ) (refused : Option (List ℕ)) (faults : Faults) (code : ℕ) : Type 0 where
-  pub found : CompileFault
-  pub status : fault_code found ≡ code
-  pub cause : Causes files path refused found
-  pub failed : Failed faults.store.0 faults.store.1 faults.patterns.0 faults.patterns.1 found
+-- What is seen of the work from outside: the files of the store; the bytes that the source had left, and those that were written, before the work and behind it; the
+-- text that the patterns have refused last; and the faults. What an object does not tell is None.
+pub record Work : Type 0 where
+  pub files : Option Files
+  pub left : Option (List ℕ) × Option (List ℕ)
+  pub written : Option (List ℕ) × Option (List ℕ)
+  pub refused : Option (List ℕ)
+  pub faults : Faults
 
--- How `check` of a path ends, by its status: 0 where the document is read whole, 1 where another line is printed, 3 and 6 at a
--- fault of the grammar, 4 where the source failed before all was read, 5 where the sink failed, 7 where memory was refused.
-module _ (files : Files) (path held : List ℕ) (refused after old new : Option (List ℕ)) (faults : Faults) where
-  pub data CheckEnds : ℕ → Type 0 where
-    whole : Prints files path held ok_line → ReadsDocument held after → Appends old new ok_line → CheckEnds 0
-    broken : (output : List ℕ) → Prints files path held output → output ≢ ok_line → ReadsDocument held after → Appends old new output → CheckEnds 1
-    grammar : (code : ℕ) → (code ≡ 3) ⊎ (code ≡ 6) → GrammarFails files path refused faults code → Keeps (Some held) after → Keeps old new → CheckEnds code
-    unread : Rose faults.source.0 faults.source.1 → TakesFewer (Some held) after most_read → Keeps old new → CheckEnds 4
-    unwritten : Rose faults.out.0 faults.out.1 → ReadsDocument held after → WritesSome files path held old new → CheckEnds 5
-    no_memory : StopsShort files path held after old new → CheckEnds 7
+-- none of the objects has failed
+abbrev pub NoneRose : Faults → Type 0
+NoneRose faults = (object : Object) → ¬ Rose (count_of faults object).0 (count_of faults object).1
 
--- a document of a grammar that is built is read to its end, and its line is written, where nothing fails and there is memory
-pub data CheckDone (g : plain.Grammar) (held : List ℕ) (old new : Option (List ℕ)) : ℕ → Type 0 where
-  whole : Checked g (take most_read held) ok_line → Appends old new ok_line → CheckDone g held old new 0
-  broken : (output : List ℕ) → Checked g (take most_read held) output → output ≢ ok_line → Appends old new output → CheckDone g held old new 1
-  no_memory : CheckDone g held old new 7
+module _ (words : List (List ℕ)) (w : Work) where
+  -- a fault of the grammar has its cause
+  abbrev pub HasCause : List ℕ → Result Verdict Stop → Type 0
+  HasCause path (Err (Grammar found)) = IfSome w.files (λ files. Causes files path w.refused found)
+  HasCause path _ = Unit {0}
+
+  -- what the work came to: a row for each command, and one for words that are none
+  pub record ComesTo (outcome : Result Verdict Stop) : Type 0 where
+    pub check : (path : List ℕ) → IsCheck words path → IfSome w.files (λ files. IfSome w.left.0 (λ held.
+        CheckComesTo files path held w.refused w.left.1 w.written.0 w.written.1 outcome))
+    pub serve : (path : List ℕ) → IsServe words path → IfSome w.files (λ files.
+        ServeComesTo files path w.refused w.left.0 w.left.1 w.written.0 w.written.1 outcome)
+    pub none : IsNoCommand words → (outcome ≡ Err Words) × Keeps w.left.0 w.left.1 × Keeps w.written.0 w.written.1
+    -- other commands do not stop for their words
+    pub words : outcome ≡ Err Words → IsNoCommand words
+    pub cause : (path : List ℕ) → NamesFile words path → HasCause path outcome
+    pub counts : (object : Object) → Counts object (count_of w.faults object).0 (count_of w.faults object).1 outcome
+
+  -- The notes before the run and behind it, and how often they had failed. The status is that of the outcome. Where the notes did not fail and there was memory,
+  -- the line of the outcome was noted, and whatever fails no more than a front of it.
+  pub record Ends (notes : Option (List ℕ) × Option (List ℕ)) (failures : ℕ × ℕ) (code : ℕ) : Type 0 where
+    pub outcome : Result Verdict Stop
+    pub comes_to : ComesTo outcome
+    pub status : EndsWith outcome code
+    pub path : Option (List ℕ)
+    pub named : MatchOption path (IsNoCommand words) (NamesFile words)
+    pub noted : code ≢ 7 → ¬ Rose failures.0 failures.1 → NotesOutcome path outcome notes.0 notes.1
+    pub noted_part : NotesOutcomePart path outcome notes.0 notes.1
+
+  -- where the grammar is built and nothing fails, the document is read and its line is written, or memory was refused
+  abbrev pub ChecksAll : ℕ → Type 0
+  ChecksAll code = (path : List ℕ) → IsCheck words path → IfSome w.files (λ files. IfSome w.left.0 (λ held. (g : plain.Grammar) → HoldsGrammar files path g → IsClear g →
+      NoneRose w.faults → CheckDone g held w.written.0 w.written.1 code))
+
+  -- and where what the source holds begins with a session that ends with `exit` behind `shutdown`, it is answered whole, or memory was refused
+  abbrev pub ServesAll : ℕ → Type 0
+  ServesAll code = (path : List ℕ) → IsServe words path → IfSome w.files (λ files. IfSome w.left.0 (λ held. (g : plain.Grammar) (replies : List Reply) →
+      HoldsGrammar files path g → IsClear g → IsSession g held replies → NoneRose w.faults → ServeDone replies w.written.0 w.written.1 code))
+
+  -- all that is claimed of a run
+  pub record Runs (notes : Option (List ℕ) × Option (List ℕ)) (failures : ℕ × ℕ) (code : ℕ) : Type 0 where
+    pub ends : Ends notes failures code
+    pub checks_all : ChecksAll code
+    pub serves_all : ServesAll code

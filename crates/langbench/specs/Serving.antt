@@ -1,38 +1,37 @@
--- How `serve` ends: the session over the bytes that were taken from the source, and what was written of its replies.
+-- What `serve` takes and writes, by its outcome: the session over the bytes that were taken from the source, and its replies.
 -- Language Server Protocol 3.17, "Base Protocol" and "Server lifecycle".
-use Rattle.std.specs.Prelude.{ℕ, ◌≡◌, ◌<◌, ◌≤◌, ◌^◌, ◌⊎◌, List, [], ◌∷◌, ◌++◌, length, take, true, false, Option, Some, None, Result, Ok, Err}
+use Rattle.std.specs.Prelude.{ℕ, ◌≡◌, ◌<◌, ◌≤◌, ◌⊎◌, List, [], ◌∷◌, ◌++◌, length, take, true, false, Option, Some, None, Result, Ok, Err}
 use Rattle.std.specs.Io.KnownBytes.{Appends, Consumes, IsAtEnd, Keeps}
 use Rattle.lw_grammar.specs.declared.grammar.Grammar as plain
 use Rattle.lw_frame.specs.Frames.{bodies_of, fault_of, rest_of}
 use Rattle.lw_frame.specs.declared.fault.FrameFault.{FrameFault}
-use Rattle.lw_io.specs.Causes.{Rose}
+use Rattle.lw_frame.specs.declared.limits.TheConstants.{LONGEST_SESSION}
+use Rattle.lw_io.specs.declared.store.Found.{Found}
 use Rattle.lw_lang.specs.Compiled.{HoldsGrammar, IsClear, Causes}
-use Rattle.lw_machine.specs.Answers.{Standing, beginning}
-use Rattle.lw_machine.specs.Sessions.{Serves, framed}
-use Rattle.lw_machine.specs.declared.ended.Ended.{Ended}
-use Rattle.lw_machine.specs.declared.ended.Ended.TheVariants.{No, Clean, Early}
 use Rattle.lw_rpc.specs.declared.reply.Reply.{Reply}
+use Rattle.lw_conversation.specs.Sessions.{Serves, framed}
+use Rattle.lw_conversation.specs.Standing.{Standing, beginning}
+use Rattle.lw_conversation.specs.declared.ended.Ended.{Ended}
+use Rattle.lw_conversation.specs.declared.ended.Ended.TheVariants.{No, Clean, Early}
 use Rattle.langbench.specs.declared.report.Verdict.{Verdict}
 use Rattle.langbench.specs.declared.report.Verdict.TheVariants.{Whole, Broken}
 use Rattle.langbench.specs.declared.stop.Stop.{Stop}
 use Rattle.langbench.specs.declared.stop.Stop.TheVariants as stop
-use Rattle.langbench.specs.Run.{Files, Faults, GrammarFails}
-
--- how many bytes of a session are taken at most
-abbrev pub most_taken : ℕ
-most_taken = 2 ^ 40
+use Rattle.langbench.specs.Checking.{Files}
 
 -- a front of the bytes was written, which may be all of them
 abbrev pub WritesPart : Option (List ℕ) → Option (List ℕ) → List ℕ → Type 0
 WritesPart old new bytes = (count : ℕ) × (count ≤ length bytes) × Appends old new (take count bytes)
 
 module _ (g : plain.Grammar) (before after old new : Option (List ℕ)) where
-  -- These bytes were taken from the source, and the replies to all their bodies were written, each in its frame.
+  -- These bytes were taken from the source, no more than may be, and the replies to all their bodies were written, each in its frame.
   pub record Talked (taken : List ℕ) (ended : Ended) : Type 0 where
     pub standing : Standing
+    pub found : List (List Found)
     pub replies : List Reply
     pub consumed : Consumes before after taken
-    pub serves : Serves g beginning (bodies_of taken) standing replies ended
+    pub within : length taken ≤ LONGEST_SESSION
+    pub serves : Serves g (beginning []) (bodies_of taken) found standing replies ended
     pub written : Appends old new (framed replies)
 
   -- Some bytes were taken from the source, and a part of the replies to the first of their bodies was written.
@@ -41,11 +40,12 @@ module _ (g : plain.Grammar) (before after old new : Option (List ℕ)) where
     pub answered : List (List ℕ)
     pub others : List (List ℕ)
     pub standing : Standing
+    pub found : List (List Found)
     pub replies : List Reply
     pub ended : Ended
     pub consumed : Consumes before after taken
     pub parts : bodies_of taken ≡ answered ++ others
-    pub serves : Serves g beginning answered standing replies ended
+    pub serves : Serves g (beginning []) answered found standing replies ended
     pub written : WritesPart old new (framed replies)
 
   -- the last of the bodies ended the session: those before it did not
@@ -53,29 +53,34 @@ module _ (g : plain.Grammar) (before after old new : Option (List ℕ)) where
     pub earlier : List (List ℕ)
     pub last : List ℕ
     pub standing : Standing
+    pub found : List (List Found)
     pub replies : List Reply
     pub parts : bodies_of taken ≡ earlier ++ last ∷ []
-    pub serves : Serves g beginning earlier standing replies No
+    pub serves : Serves g (beginning []) earlier found standing replies No
 
   -- the session is over, and nothing behind `exit` was taken
   abbrev pub Exited : Ended → Type 0
   Exited ended = (taken : List ℕ) × Talked taken ended × EndsAtLast taken × (rest_of taken ≡ [])
 
-  -- the bytes are over between two messages
+  -- the bytes are over between two messages, and there are fewer of them than may be taken
   abbrev pub RanOut : Type 0
-  RanOut = (taken : List ℕ) × Talked taken No × IsAtEnd after × (fault_of taken true ≡ None)
+  RanOut = (taken : List ℕ) × Talked taken No × IsAtEnd after × (length taken < LONGEST_SESSION) × (fault_of taken true ≡ None)
 
   -- a read failed before as many bytes as there may be were taken
   abbrev pub WasCutOff : Type 0
-  WasCutOff = (taken : List ℕ) × Talked taken No × (length taken < most_taken) × (fault_of taken false ≡ None)
+  WasCutOff = (taken : List ℕ) × Talked taken No × (length taken < LONGEST_SESSION) × (fault_of taken false ≡ None)
+
+  -- the bytes are over inside a message, and there are fewer of them than may be taken
+  abbrev pub BrokeOff : List ℕ → FrameFault → Type 0
+  BrokeOff taken found = IsAtEnd after × (length taken < LONGEST_SESSION) × (fault_of taken true ≡ Some found)
 
   -- the bytes have this fault, or they are over inside a message
   abbrev pub WentWrong : FrameFault → Type 0
-  WentWrong found = (taken : List ℕ) × Talked taken No × ((fault_of taken false ≡ Some found) ⊎ (IsAtEnd after × (fault_of taken true ≡ Some found)))
+  WentWrong found = (taken : List ℕ) × Talked taken No × ((fault_of taken false ≡ Some found) ⊎ BrokeOff taken found)
 
   -- as many bytes as there may be were taken
   abbrev pub WasTooLong : Type 0
-  WasTooLong = (taken : List ℕ) × Talked taken No × (length taken ≡ most_taken) × (fault_of taken false ≡ None)
+  WasTooLong = (taken : List ℕ) × Talked taken No × (length taken ≡ LONGEST_SESSION) × (fault_of taken false ≡ None)
 
   -- what a session came to
   abbrev pub Conversed : Result Verdict Stop → Type 0
@@ -89,32 +94,25 @@ module _ (g : plain.Grammar) (before after old new : Option (List ℕ)) where
   Conversed (Err (stop.Frames found)) = WentWrong found
   Conversed (Err stop.Limit) = WasTooLong
 
+-- by this grammar a session has one outcome, whatever bodies come: these are the only replies to them
+abbrev pub HasOneOutcome : plain.Grammar → Type 0
+HasOneOutcome g = (bodies : List (List ℕ)) (found : List (List Found)) (t u : Standing) (p q : List Reply) (e f : Ended) →
+    Serves g (beginning []) bodies found t p e → Serves g (beginning []) bodies found u q f → (t ≡ u) × (p ≡ q) × (e ≡ f)
+
 -- a fact of the grammar that the path holds, which is built
 pub record OfGrammar (files : Files) (path : List ℕ) (Fact : plain.Grammar → Type 0) : Type 0 where
   pub grammar : plain.Grammar
   pub holds : HoldsGrammar files path grammar
   pub clear : IsClear grammar
+  pub only : HasOneOutcome grammar
   pub fact : Fact grammar
 
 module _ (files : Files) (path : List ℕ) (refused before after old new : Option (List ℕ)) where
-  -- what the work answered, and why
-  abbrev pub ServeWorks : Result Verdict Stop → Type 0
-  ServeWorks (Err (stop.Grammar found)) = Causes files path refused found × Keeps before after × Keeps old new
-  ServeWorks (Err stop.Memory) = Keeps old new ⊎ OfGrammar files path (λ g. TalkedSome g before after old new)
-  ServeWorks outcome = OfGrammar files path (λ g. Conversed g before after old new outcome)
-
-  -- How `serve` of a path ends, by its status: 0 at `exit` after `shutdown`, 1 at `exit` without it and where the bytes are over between messages,
-  -- 3 and 6 at a fault of the grammar, 4 where the source failed, 5 where the sink failed, 7 where memory was refused, 8 at a fault of the frames, 10 where there are too many bytes.
-  pub data ServeEnds (faults : Faults) : ℕ → Type 0 where
-    clean : OfGrammar files path (λ g. Exited g before after old new Clean) → ServeEnds faults 0
-    early : OfGrammar files path (λ g. Exited g before after old new Early) → ServeEnds faults 1
-    over : OfGrammar files path (λ g. RanOut g before after old new) → ServeEnds faults 1
-    grammar : (code : ℕ) → (code ≡ 3) ⊎ (code ≡ 6) → GrammarFails files path refused faults code → Keeps before after → Keeps old new → ServeEnds faults code
-    unread : Rose faults.source.0 faults.source.1 → OfGrammar files path (λ g. WasCutOff g before after old new) → ServeEnds faults 4
-    unwritten : Rose faults.out.0 faults.out.1 → OfGrammar files path (λ g. TalkedSome g before after old new) → ServeEnds faults 5
-    no_memory : Keeps old new ⊎ OfGrammar files path (λ g. TalkedSome g before after old new) → ServeEnds faults 7
-    faulty : (found : FrameFault) → OfGrammar files path (λ g. WentWrong g before after old new found) → ServeEnds faults 8
-    limit : OfGrammar files path (λ g. WasTooLong g before after old new) → ServeEnds faults 10
+  -- what was taken and written, and the cause of a fault of the grammar
+  abbrev pub ServeComesTo : Result Verdict Stop → Type 0
+  ServeComesTo (Err (stop.Grammar found)) = Causes files path refused found × Keeps before after × Keeps old new
+  ServeComesTo (Err stop.Memory) = Keeps old new ⊎ OfGrammar files path (λ g. TalkedSome g before after old new)
+  ServeComesTo outcome = OfGrammar files path (λ g. Conversed g before after old new outcome)
 
 -- What the source holds begins with a session: frames up to an `exit` that comes after `shutdown`, fewer bytes of them than may be taken, and these are the
 -- replies to them.
@@ -122,9 +120,10 @@ pub record IsSession (g : plain.Grammar) (held : List ℕ) (replies : List Reply
   pub taken : List ℕ
   pub rest : List ℕ
   pub standing : Standing
+  pub found : List (List Found)
   pub parts : held ≡ taken ++ rest
-  pub short : length taken < most_taken
-  pub serves : Serves g beginning (bodies_of taken) standing replies Clean
+  pub short : length taken < LONGEST_SESSION
+  pub serves : Serves g (beginning []) (bodies_of taken) found standing replies Clean
 
 -- such a session is answered whole, where nothing fails and there is memory
 pub data ServeDone (replies : List Reply) (old new : Option (List ℕ)) : ℕ → Type 0 where

@@ -1,23 +1,52 @@
--- Why a run stops: the status of each stop, which counts rise, and what the work answers before it is turned into a status.
-use Rattle.std.specs.Prelude.{ℕ, ◌≡◌, ◌≢◌, ◌⊎◌, List, Option, Some, Result, Ok, Err}
-use Rattle.std.specs.Io.KnownBytes.{Appends, Keeps}
+-- Why a run stops, as a table: to each stop its status, and the object whose fault it tells.
+use Rattle.std.specs.Prelude.{ℕ, ◌≡◌, ◌⊎◌, Bool, true, false, Result, Ok, Err}
 use Rattle.lw_io.specs.Causes.{Faulted}
-use Rattle.lw_io.specs.Whole.{TakesFewer}
 use Rattle.lw_io.specs.declared.whole.ReadFault.{ReadFault}
 use Rattle.lw_io.specs.declared.whole.ReadFault.TheVariants as reading
 use Rattle.lw_io.specs.declared.whole.WriteFault.{WriteFault}
 use Rattle.lw_io.specs.declared.whole.WriteFault.TheVariants as writing
-use Rattle.lw_lang.specs.Compiled.{Causes}
 use Rattle.lw_lang.specs.declared.fault.CompileFault.{CompileFault}
 use Rattle.lw_lang.specs.declared.fault.CompileFault.TheVariants as fault
 use Rattle.langbench.specs.declared.report.Verdict.{Verdict}
 use Rattle.langbench.specs.declared.report.Verdict.TheVariants.{Whole, Broken}
 use Rattle.langbench.specs.declared.stop.Stop.{Stop}
 use Rattle.langbench.specs.declared.stop.Stop.TheVariants.{Words, Grammar, Read, Write, Memory, Frames, Limit}
-use Rattle.langbench.specs.Checked.{ok_line}
-use Rattle.langbench.specs.Run.{Files, Prints, ReadsDocument, ReadsPart, StopsShort, WritesSome, fault_code, most_read}
 
--- the status of each stop
+-- the objects that are handed to a run, and may fail
+pub data Object : Type 0 where
+  TheSource : Object
+  TheSink : Object
+  TheStore : Object
+  ThePatterns : Object
+
+-- Whose count of faults has risen where a run stops: nobody's, or that of one object. Where there was no memory nothing is said of the counts.
+pub data Blame : Type 0 where
+  Nobody : Blame
+  One : Object → Blame
+  Unsaid : Blame
+
+-- THE TABLE
+
+-- a fault of the grammar
+abbrev pub fault_code : CompileFault → ℕ
+fault_code (fault.Absent path) = 6
+fault_code (fault.NotUtf8 path) = 6
+fault_code (fault.TooLong path) = 6
+fault_code (fault.StoreFault path) = 6
+fault_code (fault.Unbuilt s at) = 3
+fault_code (fault.PatternRefused rule name at) = 3
+fault_code fault.NoMemory = 7
+
+abbrev pub fault_blame : CompileFault → Blame
+fault_blame (fault.Absent path) = Nobody
+fault_blame (fault.NotUtf8 path) = Nobody
+fault_blame (fault.TooLong path) = Nobody
+fault_blame (fault.StoreFault path) = One TheStore
+fault_blame (fault.Unbuilt s at) = Nobody
+fault_blame (fault.PatternRefused rule name at) = One ThePatterns
+fault_blame fault.NoMemory = Unsaid
+
+-- any stop
 abbrev pub code_of : Stop → ℕ
 code_of Words = 2
 code_of (Grammar found) = fault_code found
@@ -27,7 +56,16 @@ code_of Memory = 7
 code_of (Frames found) = 8
 code_of Limit = 10
 
--- why a run stops where a read, a write or the compiling of a grammar failed
+abbrev pub blame_of : Stop → Blame
+blame_of Words = Nobody
+blame_of (Grammar found) = fault_blame found
+blame_of Read = One TheSource
+blame_of Write = One TheSink
+blame_of Memory = Unsaid
+blame_of (Frames found) = Nobody
+blame_of Limit = Nobody
+
+-- the stop where a read, a write or the compiling of a grammar failed
 abbrev pub stop_of_read : ReadFault → Stop
 stop_of_read reading.Failed = Read
 stop_of_read reading.NoMemory = Memory
@@ -40,52 +78,33 @@ abbrev pub stop_of_fault : CompileFault → Stop
 stop_of_fault fault.NoMemory = Memory
 stop_of_fault found = Grammar found
 
--- the count of the source rises at `Read`, and stands still at every other answer
-abbrev pub SourceCounts : {T : Type 0} → ℕ → ℕ → Result T Stop → Type 0
-SourceCounts before now (Err Read) = Faulted before now
-SourceCounts before now _ = now ≡ before
+-- WHAT AN OUTCOME COMES TO
 
--- that of the sink at `Write`
-abbrev pub OutCounts : {T : Type 0} → ℕ → ℕ → Result T Stop → Type 0
-OutCounts before now (Err Write) = Faulted before now
-OutCounts before now _ = now ≡ before
-
--- that of the store at a grammar that it failed to read
-abbrev pub StoreCounts : {T : Type 0} → ℕ → ℕ → Result T Stop → Type 0
-StoreCounts before now (Err (Grammar (fault.StoreFault path))) = Faulted before now
-StoreCounts before now _ = now ≡ before
-
--- that of the patterns at a terminal whose pattern they refused
-abbrev pub PatternCounts : {T : Type 0} → ℕ → ℕ → Result T Stop → Type 0
-PatternCounts before now (Err (Grammar (fault.PatternRefused rule name at))) = Faulted before now
-PatternCounts before now _ = now ≡ before
-
--- what was read where the document was not, and why
-abbrev pub StopsReading : Option (List ℕ) → Option (List ℕ) → Stop → Type 0
-StopsReading before after Read = TakesFewer before after most_read
-StopsReading before after Memory = ReadsPart before after
-StopsReading before after _ = ⊥
-
-module _ (files : Files) (path held : List ℕ) (refused after old new : Option (List ℕ)) where
-  -- what was read and printed, and why it stopped
-  abbrev pub Works : Result Verdict Stop → Type 0
-  Works (Ok Whole) = Prints files path held ok_line × ReadsDocument held after × Appends old new ok_line
-  Works (Ok Broken) = (output : List ℕ) × Prints files path held output × (output ≢ ok_line) × ReadsDocument held after × Appends old new output
-  Works (Err Words) = ⊥
-  Works (Err (Grammar found)) = Causes files path refused found × Keeps (Some held) after × Keeps old new
-  Works (Err Read) = TakesFewer (Some held) after most_read × Keeps old new
-  Works (Err Write) = ReadsDocument held after × WritesSome files path held old new
-  Works (Err Memory) = StopsShort files path held after old new
-  Works (Err (Frames found)) = ⊥
-  Works (Err Limit) = ⊥
-
--- a fault of the grammar at this path has its cause
-abbrev pub HasCause : {T : Type 0} → Files → List ℕ → Option (List ℕ) → Result T Stop → Type 0
-HasCause files path refused (Err (Grammar found)) = Causes files path refused found
-HasCause files path refused _ = Unit {0}
-
--- the status that an answer ends with: for a stop its own, or 7 where there was no memory for the note
+-- the status that an outcome ends with: for a stop its own, or 7 where there was no memory for the note
 abbrev pub EndsWith : Result Verdict Stop → ℕ → Type 0
 EndsWith (Ok Whole) code = code ≡ 0
 EndsWith (Ok Broken) code = code ≡ 1
 EndsWith (Err stop) code = (code ≡ code_of stop) ⊎ (code ≡ 7)
+
+abbrev pub is_same : Object → Object → Bool
+is_same TheSource TheSource = true
+is_same TheSink TheSink = true
+is_same TheStore TheStore = true
+is_same ThePatterns ThePatterns = true
+is_same _ _ = false
+
+-- a count of faults rises by one, or stands still
+abbrev pub CountsIf : Bool → ℕ → ℕ → Type 0
+CountsIf true before now = Faulted before now
+CountsIf false before now = now ≡ before
+
+-- the count of an object, by whom a stop blames
+abbrev pub CountsAt : Object → Blame → ℕ → ℕ → Type 0
+CountsAt object Nobody before now = now ≡ before
+CountsAt object (One blamed) before now = CountsIf (is_same object blamed) before now
+CountsAt object Unsaid before now = Unit {0}
+
+-- the count of an object, by the outcome
+abbrev pub Counts : {T : Type 0} → Object → ℕ → ℕ → Result T Stop → Type 0
+Counts object before now (Ok x) = now ≡ before
+Counts object before now (Err stop) = CountsAt object (blame_of stop) before now

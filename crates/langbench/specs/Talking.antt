@@ -1,5 +1,5 @@
 -- A session that is under way: what its parts leave.
-use Rattle.std.specs.Prelude.{ℕ, ◌≡◌, ◌<◌, List, length, true, false, Option, Some, None, Result, Ok, Err}
+use Rattle.std.specs.Prelude.{ℕ, ◌≡◌, ◌<◌, ◌≤◌, List, [], length, true, false, Option, Some, None, Result, Ok, Err}
 use Rattle.std.specs.List.{flat_map}
 use Rattle.std.specs.Io.KnownBytes.{Appends, Consumes, IsAtEnd, Keeps}
 use Rattle.lw_grammar.specs.declared.grammar.Grammar as plain
@@ -7,10 +7,12 @@ use Rattle.lw_frame.specs.Frames.{bodies_of, fault_of, frame_of}
 use Rattle.lw_frame.specs.Stream.{Stream, with_piece}
 use Rattle.lw_frame.specs.Wanted.{EndsWithin}
 use Rattle.lw_frame.specs.declared.fault.FrameFault.{FrameFault}
-use Rattle.lw_machine.specs.Answers.{Standing, beginning}
-use Rattle.lw_machine.specs.Sessions.{Handles, Serves, framed}
-use Rattle.lw_machine.specs.declared.ended.Ended.{Ended}
-use Rattle.lw_machine.specs.declared.ended.Ended.TheVariants.{No}
+use Rattle.lw_frame.specs.declared.limits.TheConstants.{LONGEST_SESSION}
+use Rattle.lw_io.specs.declared.store.Found.{Found}
+use Rattle.lw_conversation.specs.Standing.{Standing, beginning}
+use Rattle.lw_conversation.specs.Sessions.{Handles, Serves, framed}
+use Rattle.lw_conversation.specs.declared.ended.Ended.{Ended}
+use Rattle.lw_conversation.specs.declared.ended.Ended.TheVariants.{No}
 use Rattle.lw_rpc.specs.Messages.{message_of}
 use Rattle.lw_rpc.specs.declared.reply.Reply.{Reply}
 use Rattle.langbench.specs.declared.report.Verdict.{Verdict}
@@ -23,14 +25,17 @@ use Rattle.langbench.specs.Serving.{WritesPart}
 abbrev pub in_frames : List (List ℕ) → List ℕ
 in_frames bodies = flat_map frame_of bodies
 
--- All that was taken was answered: the stream is open and without a fault, each of its bodies was handed out and answered, and all replies were written.
+-- All that was taken was answered, and that is no more than may be: the stream is open and without a fault, each of its bodies was handed out and answered, and all
+-- replies were written.
 pub record IsUnderway (g : plain.Grammar) (before now old new : Option (List ℕ)) (stream : Stream) (standing : Standing) : Type 0 where
+  pub found : List (List Found)
   pub replies : List Reply
   pub going_on : stream.closed ≡ false
   pub all_given : stream.given ≡ length (bodies_of stream.fed)
   pub sound : fault_of stream.fed false ≡ None
+  pub within : length stream.fed ≤ LONGEST_SESSION
   pub consumed : Consumes before now stream.fed
-  pub serves : Serves g beginning (bodies_of stream.fed) standing replies No
+  pub serves : Serves g (beginning []) (bodies_of stream.fed) found standing replies No
   pub written : Appends old new (framed replies)
 
 -- what was taken from the source and fed to the reader
@@ -46,14 +51,15 @@ pub data LosesPiece (before now : Option (List ℕ)) (s : Stream) : Stop → Typ
 module _ (g : plain.Grammar) (s : Standing) (old new : Option (List ℕ)) where
   -- a body was answered, and all replies to it were written
   pub record Responds (body : List ℕ) (t : Standing) (ended : Ended) : Type 0 where
+    pub found : List Found
     pub replies : List Reply
-    pub handles : Handles g s (message_of body) t replies ended
+    pub handles : Handles g s (message_of body) found t replies ended
     pub written : Appends old new (framed replies)
 
   -- a body was answered, and a part of the replies was written, or nothing was
   pub data RespondsPartly (body : List ℕ) : Type 0 where
     nothing : Keeps old new → RespondsPartly body
-    part : {t : Standing} {replies : List Reply} {ended : Ended} → Handles g s (message_of body) t replies ended → WritesPart old new (framed replies) → RespondsPartly body
+    part : {found : List Found} {t : Standing} {replies : List Reply} {ended : Ended} → Handles g s (message_of body) found t replies ended → WritesPart old new (framed replies) → RespondsPartly body
 
   -- what is done with what the reader hands out
   abbrev pub AnswersNext : Result (Option (List ℕ)) FrameFault → Standing → Result Ended Stop → Type 0

@@ -1,5 +1,5 @@
 -- The words of the command line.
-use Rattle.std.specs.Prelude.{ℕ, ◌≡◌, ◌≢◌, List, [], ◌∷◌, codes}
+use Rattle.std.specs.Prelude.{ℕ, ◌≡◌, ◌≢◌, ◌⊎◌, List, [], ◌∷◌, codes}
 use Rattle.langbench.specs.declared.words.Command.{Command}
 use Rattle.langbench.specs.declared.words.Command.TheVariants.{Check, Serve}
 
@@ -18,6 +18,10 @@ IsCheck words path = NamesGrammar (codes "check") words path
 -- `serve GRAMMAR`
 abbrev pub IsServe : List (List ℕ) → List ℕ → Type 0
 IsServe words path = NamesGrammar (codes "serve") words path
+
+-- the words are a command over the grammar in this file
+abbrev pub NamesFile : List (List ℕ) → List ℕ → Type 0
+NamesFile words path = IsCheck words path ⊎ IsServe words path
 
 -- no command
 abbrev pub IsNoCommand : List (List ℕ) → Type 0

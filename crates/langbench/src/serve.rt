@@ -4,7 +4,7 @@ ghost use Rattle.std.specs.Io.KnownBytes.{Appends};
 ghost use Rattle.lw_frame.specs.Frames.{bodies_of, fault_of};
 ghost use Rattle.lw_frame.specs.Stream.{after_next, next_answer, next_body};
 ghost use Rattle.lw_frame.specs.Wanted.{StaysWithin};
-ghost use Rattle.lw_machine.specs.Answers.{beginning};
+ghost use Rattle.lw_conversation.specs.Standing.{beginning};
 ghost use Rattle.langbench.specs.Serving.{Conversed, ServeWorks, WritesPart};
 ghost use Rattle.langbench.specs.Stops.{HasCause, SourceCounts, OutCounts, StoreCounts, PatternCounts};
 ghost use Rattle.langbench.specs.Talking.{AnswersNext, LosesPiece, Responds, RespondsPartly, RunsOut, TakesPiece, in_frames};
