@@ -24,14 +24,6 @@ at_whole (stage.Content missing) start header body at h = cc
 at_whole stage.Whole start header body at h = at
 at_whole (stage.Failed fault) start header body at h = cc
 
--- a whole message has bytes
-pub whole_has_bytes : (m : Incoming) → IsRead m → is_whole m.stage ≡ true → bytes_of m ≡ [] → ⊥
-whole_has_bytes m read h none = no_bytes m.start m.header.items m.body.items (at_whole m.stage m.start m.header.items m.body.items read h) none
-  where
-    no_bytes : (start : ℕ) (header body : List ℕ) → HeaderSays start header (whole (length header) (length body)) → header ++ body ≡ [] → ⊥
-    no_bytes start [] body says e = let said : unfinished ≡ whole 0 (length body) = says [] in cc
-    no_bytes start (b ∷ header) body says e = cc
-
 grown_bytes : (old new : Incoming) (piece : List ℕ) (used : ℕ) → Grows old new piece used → bytes_of old ++ piece ≡ bytes_of new ++ drop used piece
 grown_bytes old new piece used grows =
     ap (λ bs. bytes_of old ++ bs) (sym (take-append-drop used piece)) ∙ sym (append_assoc (bytes_of old) (take used piece) (drop used piece)) ∙ ap (λ bs. bs ++ drop used piece) (sym grows.bytes)
@@ -146,10 +138,3 @@ stands_more start bytes bodies used n old mid new rest stands is grows h start_i
       at = omega (arith, start_is, size, grows.start, stands.at);
       within = omega (arith, grows.within, ap length is, length-drop used bytes, stands.within);
     }
-
--- a whole message took bytes
-pub takes_some : (old new : Incoming) (piece : List ℕ) (used : ℕ) → Grows old new piece used → is_whole new.stage ≡ true → bytes_of old ≡ [] → 0 < used
-takes_some old new piece used grows h empty =
-    ⊎_elim (λ some. some) (λ none.
-    let zero_is : used ≡ 0 = omega arith in
-    absurd (whole_has_bytes new grows.read h (grows.bytes ∙ ap (λ bs. bs ++ take used piece) empty ∙ ap (λ n. take n piece) zero_is))) (cases_lt 0 used)

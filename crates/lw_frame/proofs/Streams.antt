@@ -70,16 +70,7 @@ at_failed (stage.Content missing) fault start header body at h = cc
 at_failed stage.Whole fault start header body at h = cc
 at_failed (stage.Failed other) fault start header body at h = let same : other ≡ fault = cc in (at.0, subst (λ f. HeaderSays start header (faulty f)) same at.1)
 
--- where a piece leaves a message that waits
-pub reads_waiting : (start : ℕ) (bytes : List ℕ) (bodies : List (List ℕ)) (m : Incoming) → ReadsMessages start bytes bodies m → failure m.stage ≡ None → WaitsFor start bytes bodies m
-reads_waiting start bytes bodies m r h = record {
-  goes_on = λ more. r.goes_on more ∙ ap (λ bs. with_bodies bodies (split m.start (bs ++ more))) (ap (λ bs. bytes_of m ++ bs) (r.none_dropped h) ∙ append-nil (bytes_of m));
-  read = r.read;
-  waiting = waits m.stage r.unfinished h;
-  end = r.end;
-}
-
--- and where it ends in a fault
+-- where a piece ends a stream in a fault
 pub reads_faulty : (start : ℕ) (bytes : List ℕ) (bodies : List (List ℕ)) (m empty_one : Incoming) (fault : FrameFault) → ReadsMessages start bytes bodies m → failure m.stage ≡ Some fault → bytes_of empty_one ≡ [] → EndsIn fault start bytes bodies empty_one
 reads_faulty start bytes bodies m empty_one fault r h none =
     let failed = at_failed m.stage fault m.start m.header.items m.body.items r.read h in
@@ -176,6 +167,6 @@ by_case (Some body) f s h k = h
 by_case None (Some fault) s h k = (h, k)
 by_case None None s h k = (h, k)
 
--- an answer_next, by its case
+-- an answer, by its case
 pub answers_by_case : (s : Stream) (r : Result (Option (List ℕ)) FrameFault) → r ≡ next_answer s → AnswersStream s r
 answers_by_case s r h = subst (AnswersStream s) (sym h) (by_case (next_body s) (fault_of s.fed s.closed) s refl refl)

@@ -25,6 +25,7 @@ mod field;
 mod history;
 mod incoming;
 mod laws;
+mod limits;
 mod reader;
 mod reading;
 mod stage;
@@ -34,9 +35,10 @@ mod write;
 pub use body::Body;
 pub use fault::FrameFault;
 pub use laws::streams_grow;
+pub use limits::{LONGEST_BODY, LONGEST_HEADER_PART, LONGEST_SESSION};
 pub use reader::FrameReader;
 pub use whole::{Frames, read_pieces};
-pub use write::frame;
+pub use write::{frame, header_part};
 
 #[cfg(test)]
 mod tests;

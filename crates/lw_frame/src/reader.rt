@@ -1,5 +1,6 @@
 // A stream that comes in pieces.
-ghost use Rattle.std.specs.Prelude.{◌≡◌, ◌<◌, ◌≤◌, ◌+◌, ◌^◌, length, OnOk, OnErr, false};
+ghost use Rattle.std.specs.Prelude.{◌≡◌, ◌<◌, ◌≤◌, ◌+◌, length, OnOk, OnErr, false};
+ghost use Rattle.lw_frame.specs.declared.limits.TheConstants.{LONGEST_SESSION};
 
 use crate::history::{Event, History};
 use crate::incoming::Incoming;
@@ -65,7 +66,7 @@ impl FrameReader {
     /// A session has at most 2^40 bytes.
     pub fn feed(&mut self, piece: &[u8]) -> Result<(), NoMemory>
         requires open { self.old.stream.closed ≡ false }
-        requires session { length self.old.stream.fed + length piece.now ≤ 2 ^ 40 }
+        requires session { length self.old.stream.fed + length piece.now ≤ LONGEST_SESSION }
         ensures ok { OnOk result (self.new.stream ≡ with_piece self.old.stream piece.now) }
         ensures err { OnErr result (self.new ≡ self.old) }
         ensures held { self.new.held ≡ needed self.new.stream }

@@ -6,19 +6,20 @@ use Rattle.lw_frame.specs.Kept.{IsKept}
 use Rattle.lw_frame.specs.Reading.{bytes_of}
 use Rattle.lw_frame.specs.Stream.{Reader, needed}
 use Rattle.lw_frame.specs.declared.fault.FrameFault.{FrameFault}
+use Rattle.lw_frame.specs.declared.limits.TheConstants.{LONGEST_SESSION}
 use Rattle.lw_frame.specs.declared.history.History.{History}
 use Rattle.lw_frame.proofs.Streams.{held_is_needed, left_more, read_within, fault_stays}
 use Rattle.lw_frame.proofs.reader.FrameReader.feed.Goals as goal
 
-within_session : (fault : Option FrameFault) (at fed piece : ℕ) → IfNone fault (at ≤ fed) → fed + piece ≤ 2 ^ 40 → IfNone fault (at + piece ≤ 2 ^ 40)
-within_session None at fed piece h k = omega arith
-within_session (Some fault) at fed piece h k = tt
+within_session : (fault : Option FrameFault) (at fed piece most : ℕ) → IfNone fault (at ≤ fed) → fed + piece ≤ most → IfNone fault (at + piece ≤ most)
+within_session None at fed piece most h k = omega arith
+within_session (Some fault) at fed piece most h k = tt
 
 pub feed_piece-requires-clause-session : goal.feed_piece-requires-clause-session
 feed_piece-requires-clause-session c =
     let a = c.self.inside in
     let same : a.history.fed ≡ c.args.self.now.stream.fed = ap (λ (r : Reader). r.stream.fed) c.self.view_is in
-    within_session a.fault (a.incoming.start + length (bytes_of a.incoming)) (length a.history.fed) (length c.args.piece.now)
+    within_session a.fault (a.incoming.start + length (bytes_of a.incoming)) (length a.history.fed) (length c.args.piece.now) LONGEST_SESSION
     (read_within a.fault a.history.fed (bodies_of a.history.fed) a.incoming c.self.invariant.rest) (omega (arith, ap length same, c.requires.session))
 
 pub invariant_of-self-2 : goal.invariant_of-self-2
