@@ -18,9 +18,8 @@ use Rattle.langbench.specs.declared.report.Verdict.TheVariants.{Whole, Broken}
 use Rattle.langbench.specs.declared.stop.Stop.{Stop}
 use Rattle.langbench.specs.declared.stop.Stop.TheVariants as stop
 use Rattle.lw_lang.specs.Compiled.{HoldsGrammar, IsClear}
-use Rattle.langbench.specs.Checking.{Files}
+use Rattle.langbench.specs.Checking.{Files, IsCaused}
 use Rattle.langbench.specs.Stops.{Counts, TheSink, TheStore}
-use Rattle.langbench.specs.Run.{Work, HasCause}
 use Rattle.langbench.specs.Serving.{WritesPart, Conversed, OfGrammar, ServeComesTo}
 use Rattle.langbench.specs.Talking as talking
 use Rattle.langbench.specs.Talking.{IsUnderway, TakesPiece, LosesPiece, Responds, RespondsPartly, AnswersNext, RunsOut, in_frames}
@@ -197,14 +196,14 @@ works_told (Some files) path refused before after old new g h holds clear r same
     works_by files path refused before after old new g holds clear r (subst (λ k. Conversed k before after old new r) same fact)
 
 -- a session has no fault of the grammar
-pub no_cause_of : (g : Grammar) (before after old new : Option (List ℕ)) (words : List (List ℕ)) (w : Work) (path : List ℕ) (r : Result Verdict Stop) → Conversed g before after old new r →
-    HasCause words w path r
-no_cause_of g before after old new words w path (Ok Whole) fact = tt
-no_cause_of g before after old new words w path (Ok Broken) fact = tt
-no_cause_of g before after old new words w path (Err stop.Words) fact = absurd fact
-no_cause_of g before after old new words w path (Err (stop.Grammar found)) fact = absurd fact
-no_cause_of g before after old new words w path (Err stop.Read) fact = tt
-no_cause_of g before after old new words w path (Err stop.Write) fact = tt
-no_cause_of g before after old new words w path (Err stop.Memory) fact = tt
-no_cause_of g before after old new words w path (Err (stop.Frames found)) fact = tt
-no_cause_of g before after old new words w path (Err stop.Limit) fact = tt
+pub no_cause_of : (g : Grammar) (before after old new : Option (List ℕ)) (told : Option Files) (path : List ℕ) (refused : Option (List ℕ)) (r : Result Verdict Stop) → Conversed g before after old new r →
+    IsCaused told path refused r
+no_cause_of g before after old new told path refused (Ok Whole) fact = tt
+no_cause_of g before after old new told path refused (Ok Broken) fact = tt
+no_cause_of g before after old new told path refused (Err stop.Words) fact = absurd fact
+no_cause_of g before after old new told path refused (Err (stop.Grammar found)) fact = absurd fact
+no_cause_of g before after old new told path refused (Err stop.Read) fact = tt
+no_cause_of g before after old new told path refused (Err stop.Write) fact = tt
+no_cause_of g before after old new told path refused (Err stop.Memory) fact = tt
+no_cause_of g before after old new told path refused (Err (stop.Frames found)) fact = tt
+no_cause_of g before after old new told path refused (Err stop.Limit) fact = tt

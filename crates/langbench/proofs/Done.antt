@@ -1,8 +1,9 @@
 -- A session that ends with `exit` after `shutdown` is answered whole.
-use Rattle.std.proofs.Common.{◌≡◌, ◌≢◌, ◌⊎◌, inl, inr, ℕ, List, [], ◌∷◌, ◌++◌, length, false, Option, Some, None, IfSome, refl, sym, ap, subst, ◌∙◌, append-nil, arith, length-append}
+use Rattle.std.proofs.Common.{◌≡◌, ◌≢◌, ◌⊎◌, inl, inr, ℕ, List, [], ◌∷◌, ◌++◌, length, false, Option, Some, None, Result, Ok, Err, IfSome, refl, sym, ap, subst, ◌∙◌, append-nil, arith, length-append}
 use Rattle.std.specs.Io.KnownBytes.{Appends, Consumes, IsAtEnd}
 use Rattle.lw_frame.specs.Frames.{bodies_of, fault_of}
 use Rattle.lw_frame.specs.declared.fault.FrameFault.{FrameFault}
+use Rattle.lw_frame.specs.declared.limits.TheConstants.{LONGEST_SESSION}
 use Rattle.lw_frame.proofs.Growing.{bodies_stay, fault_stays}
 use Rattle.lw_grammar.specs.declared.grammar.Grammar.{Grammar}
 use Rattle.lw_lang.specs.Compiled.{HoldsGrammar, IsClear}
@@ -11,12 +12,19 @@ use Rattle.lw_conversation.specs.Sessions as session
 use Rattle.lw_conversation.specs.Sessions.{Serves, framed}
 use Rattle.lw_conversation.specs.declared.ended.Ended.{Ended}
 use Rattle.lw_conversation.specs.declared.ended.Ended.TheVariants.{No, Clean, Early}
-use Rattle.lw_conversation.proofs.OneOutcome.{one_outcome}
+use Rattle.lw_conversation.proofs.OneOutcome.{one_session}
+use Rattle.lw_io.specs.declared.store.Found.{Found}
 use Rattle.lw_rpc.specs.declared.reply.Reply.{Reply}
-use Rattle.langbench.specs.Run.{Files, Faults, NoneRose}
+use Rattle.langbench.specs.declared.report.Verdict.{Verdict}
+use Rattle.langbench.specs.declared.report.Verdict.TheVariants.{Whole, Broken}
+use Rattle.langbench.specs.declared.stop.Stop.{Stop}
+use Rattle.langbench.specs.declared.stop.Stop.TheVariants as stop
+use Rattle.langbench.specs.Checking.{Files}
+use Rattle.langbench.specs.Run.{Faults, NoneRose, Work, Ends, ServesAll}
 use Rattle.langbench.specs.Serving as serving
-use Rattle.langbench.specs.Serving.{Talked, OfGrammar, ServeEnds, ServeDone, IsSession, WentWrong, most_taken}
-use Rattle.langbench.proofs.Ends.{no_failure}
+use Rattle.langbench.specs.Serving.{Talked, OfGrammar, ServeComesTo, ServeDone, IsSession, WentWrong}
+use Rattle.langbench.specs.Stops.{EndsWith, TheSource, TheSink}
+use Rattle.langbench.proofs.Ends.{CountsAll, if_told, only_memory}
 use Rattle.langbench.proofs.Grammars.{filled, same_grammar}
 
 -- of two fronts of a list one is a front of the other
@@ -33,55 +41,55 @@ fronts (x ∷ xs) (y ∷ ys) r s e =
     by (inr longer) head = let tail = longer.1 in let whole : x ∷ xs ≡ y ∷ ys ++ longer.0 = cc in inr (longer.0, whole, longer.2)
 
 -- what stands behind `exit` changes nothing
-Serves-more : (g : Grammar) (s t : Standing) (bodies others : List (List ℕ)) (replies : List Reply) (ended : Ended) → ended ≢ No → Serves g s bodies t replies ended →
-    Serves g s (bodies ++ others) t replies ended
-Serves-more g s t bodies others replies ended over session.waits = absurd (over refl)
-Serves-more g s t bodies others replies ended over (session.ends handles is) = session.ends handles is
-Serves-more g s t bodies others replies ended over (session.goes_on handles later) = session.goes_on handles (Serves-more g _ t _ others _ ended over later)
+Serves-more : (g : Grammar) (s t : Standing) (bodies others : List (List ℕ)) (found : List (List Found)) (replies : List Reply) (ended : Ended) → ended ≢ No →
+    Serves g s bodies found t replies ended → Serves g s (bodies ++ others) found t replies ended
+Serves-more g s t bodies others found replies ended over session.waits = absurd (over refl)
+Serves-more g s t bodies others found replies ended over (session.ends handles is) = session.ends handles is
+Serves-more g s t bodies others found replies ended over (session.goes_on handles later) = session.goes_on handles (Serves-more g _ t _ others _ _ ended over later)
 
 module _ (g : Grammar) (clear : IsClear g) (held : List ℕ) (replies : List Reply) (is : IsSession g held replies) where
   -- what bodies of more bytes than the session come to
-  longer : (taken : List ℕ) (more : List ℕ) → taken ≡ is.taken ++ more → (t : Standing) (others : List Reply) (ended : Ended) → Serves g beginning (bodies_of taken) t others ended →
+  longer : (taken : List ℕ) (more : List ℕ) → taken ≡ is.taken ++ more → (t : Standing) (reads : List (List Found)) (others : List Reply) (ended : Ended) → Serves g (beginning []) (bodies_of taken) reads t others ended →
       (replies ≡ others) × (Clean ≡ ended)
-  longer taken more same t others ended serves =
+  longer taken more same t reads others ended serves =
       let stay = bodies_stay is.taken more in
       let all : bodies_of taken ≡ bodies_of is.taken ++ stay.0 = ap bodies_of same ∙ stay.1 in
-      let one = one_outcome g (filled g clear) beginning is.standing t (bodies_of taken) replies others Clean ended
-      (subst (λ bodies. Serves g beginning bodies is.standing replies Clean) (sym all) (Serves-more g beginning is.standing (bodies_of is.taken) stay.0 replies Clean (λ e. cc) is.serves)) serves in
+      let one = one_session g (filled g clear) (beginning []) is.standing t (bodies_of taken) is.found reads replies others Clean ended
+      (subst (λ bodies. Serves g (beginning []) bodies is.found is.standing replies Clean) (sym all) (Serves-more g (beginning []) is.standing (bodies_of is.taken) stay.0 is.found replies Clean (λ e. cc) is.serves)) serves in
       (one.1, one.2)
 
   -- and of fewer, where they come to an end
-  shorter : (taken : List ℕ) (more : List ℕ) → is.taken ≡ taken ++ more → (t : Standing) (others : List Reply) (ended : Ended) → ended ≢ No → Serves g beginning (bodies_of taken) t others ended →
+  shorter : (taken : List ℕ) (more : List ℕ) → is.taken ≡ taken ++ more → (t : Standing) (reads : List (List Found)) (others : List Reply) (ended : Ended) → ended ≢ No → Serves g (beginning []) (bodies_of taken) reads t others ended →
       (replies ≡ others) × (Clean ≡ ended)
-  shorter taken more same t others ended over serves =
+  shorter taken more same t reads others ended over serves =
       let stay = bodies_stay taken more in
       let all : bodies_of is.taken ≡ bodies_of taken ++ stay.0 = ap bodies_of same ∙ stay.1 in
-      let one = one_outcome g (filled g clear) beginning is.standing t (bodies_of is.taken) replies others Clean ended is.serves
-      (subst (λ bodies. Serves g beginning bodies t others ended) (sym all) (Serves-more g beginning t (bodies_of taken) stay.0 others ended over serves)) in
+      let one = one_session g (filled g clear) (beginning []) is.standing t (bodies_of is.taken) is.found reads replies others Clean ended is.serves
+      (subst (λ bodies. Serves g (beginning []) bodies reads t others ended) (sym all) (Serves-more g (beginning []) t (bodies_of taken) stay.0 reads others ended over serves)) in
       (one.1, one.2)
 
   -- bytes that were taken, and what is left
-  module _ (taken left : List ℕ) (parts : held ≡ taken ++ left) (t : Standing) (others : List Reply) where
+  module _ (taken left : List ℕ) (parts : held ≡ taken ++ left) (t : Standing) (reads : List (List Found)) (others : List Reply) where
     both : is.taken ++ is.rest ≡ taken ++ left
     both = sym is.parts ∙ parts
 
-    pub same_end : (ended : Ended) → ended ≢ No → Serves g beginning (bodies_of taken) t others ended → (replies ≡ others) × (Clean ≡ ended)
+    pub same_end : (ended : Ended) → ended ≢ No → Serves g (beginning []) (bodies_of taken) reads t others ended → (replies ≡ others) × (Clean ≡ ended)
     same_end ended over serves = by (fronts is.taken taken is.rest left both)
       where
         by : ((m : List ℕ) × (taken ≡ is.taken ++ m)) ⊎ ((m : List ℕ) × (is.taken ≡ taken ++ m) × (left ≡ m ++ is.rest)) → (replies ≡ others) × (Clean ≡ ended)
-        by (inl more) = longer taken more.0 more.1 t others ended serves
-        by (inr more) = shorter taken more.0 more.1 t others ended over serves
+        by (inl more) = longer taken more.0 more.1 t reads others ended serves
+        by (inr more) = shorter taken more.0 more.1 t reads others ended over serves
 
     -- a session that goes on is shorter
-    pub goes_on : Serves g beginning (bodies_of taken) t others No → (m : List ℕ) × (is.taken ≡ taken ++ m) × (left ≡ m ++ is.rest)
+    pub goes_on : Serves g (beginning []) (bodies_of taken) reads t others No → (m : List ℕ) × (is.taken ≡ taken ++ m) × (left ≡ m ++ is.rest)
     goes_on serves = by (fronts is.taken taken is.rest left both)
       where
         by : ((m : List ℕ) × (taken ≡ is.taken ++ m)) ⊎ ((m : List ℕ) × (is.taken ≡ taken ++ m) × (left ≡ m ++ is.rest)) → (m : List ℕ) × (is.taken ≡ taken ++ m) × (left ≡ m ++ is.rest)
-        by (inl more) = absurd (let end = (longer taken more.0 more.1 t others No serves).1 in cc)
+        by (inl more) = absurd (let end = (longer taken more.0 more.1 t reads others No serves).1 in cc)
         by (inr more) = more
 
     -- so something is left, and there is no fault for good
-    pub not_over : Serves g beginning (bodies_of taken) t others No → left ≡ [] → ⊥
+    pub not_over : Serves g (beginning []) (bodies_of taken) reads t others No → left ≡ [] → ⊥
     not_over serves none = by (goes_on serves)
       where
         nothing : (m : List ℕ) → left ≡ m ++ is.rest → m ≡ []
@@ -91,20 +99,20 @@ module _ (g : Grammar) (clear : IsClear g) (held : List ℕ) (replies : List Rep
         by : (m : List ℕ) × (is.taken ≡ taken ++ m) × (left ≡ m ++ is.rest) → ⊥
         by more =
             let all : taken ≡ is.taken ++ [] = sym (append-nil is.taken ∙ more.1 ∙ ap (λ m. taken ++ m) (nothing more.0 more.2) ∙ append-nil taken) in
-            let end = (longer taken [] all t others No serves).1 in cc
+            let end = (longer taken [] all t reads others No serves).1 in cc
 
-    pub not_faulty : Serves g beginning (bodies_of taken) t others No → (found : FrameFault) → fault_of taken false ≡ Some found → ⊥
+    pub not_faulty : Serves g (beginning []) (bodies_of taken) reads t others No → (found : FrameFault) → fault_of taken false ≡ Some found → ⊥
     not_faulty serves found fault = by (goes_on serves)
       where
         by : (m : List ℕ) × (is.taken ≡ taken ++ m) × (left ≡ m ++ is.rest) → ⊥
         by more =
             let stays = fault_stays taken more.0 found fault in
             let all : bodies_of taken ≡ bodies_of is.taken = sym (ap bodies_of more.1 ∙ stays.0) in
-            let end = (one_outcome g (filled g clear) beginning is.standing t (bodies_of is.taken) replies others Clean No is.serves
-            (subst (λ bodies. Serves g beginning bodies t others No) all serves)).2 in
+            let end = (one_session g (filled g clear) (beginning []) is.standing t (bodies_of is.taken) is.found reads replies others Clean No is.serves
+            (subst (λ bodies. Serves g (beginning []) bodies reads t others No) all serves)).2 in
             cc
 
-    pub not_too_long : Serves g beginning (bodies_of taken) t others No → length taken ≡ most_taken → ⊥
+    pub not_too_long : Serves g (beginning []) (bodies_of taken) reads t others No → length taken ≡ LONGEST_SESSION → ⊥
     not_too_long serves long = by (goes_on serves)
       where
         by : (m : List ℕ) × (is.taken ≡ taken ++ m) × (left ≡ m ++ is.rest) → ⊥
@@ -128,50 +136,60 @@ module _ (files : Files) (path : List ℕ) (refused after old new : Option (List
     left = left_of held after taken talked.consumed
 
     end_is : ended ≢ No → (replies ≡ talked.replies) × (Clean ≡ ended)
-    end_is over = same_end g clear held replies is taken left.0 left.1 talked.standing talked.replies ended over talked.serves
+    end_is over = same_end g clear held replies is taken left.0 left.1 talked.standing talked.found talked.replies ended over talked.serves
 
     module _ (still : ended ≡ No) where
-      serves_on : Serves g beginning (bodies_of taken) talked.standing talked.replies No
-      serves_on = subst (λ e. Serves g beginning (bodies_of taken) talked.standing talked.replies e) still talked.serves
+      serves_on : Serves g (beginning []) (bodies_of taken) talked.found talked.standing talked.replies No
+      serves_on = subst (λ e. Serves g (beginning []) (bodies_of taken) talked.found talked.standing talked.replies e) still talked.serves
 
       not_at_end : IsAtEnd after → ⊥
-      not_at_end over = not_over g clear held replies is taken left.0 left.1 talked.standing talked.replies serves_on (at_end_of after left.0 left.2 over)
+      not_at_end over = not_over g clear held replies is taken left.0 left.1 talked.standing talked.found talked.replies serves_on (at_end_of after left.0 left.2 over)
 
       no_fault : (found : FrameFault) → fault_of taken false ≡ Some found → ⊥
-      no_fault = not_faulty g clear held replies is taken left.0 left.1 talked.standing talked.replies serves_on
+      no_fault = not_faulty g clear held replies is taken left.0 left.1 talked.standing talked.found talked.replies serves_on
 
-      not_long : length taken ≡ most_taken → ⊥
-      not_long = not_too_long g clear held replies is taken left.0 left.1 talked.standing talked.replies serves_on
+      not_long : length taken ≡ LONGEST_SESSION → ⊥
+      not_long = not_too_long g clear held replies is taken left.0 left.1 talked.standing talked.found talked.replies serves_on
+
+  clean : serving.Exited g (Some held) after old new Clean → ServeDone replies old new 0
+  clean fact = serving.clean (subst (λ rs. Appends old new (framed rs)) (sym (end_is fact.0 Clean fact.1 (λ e. cc)).0) fact.1.written)
+
+  broken : serving.Exited g (Some held) after old new Early ⊎ serving.RanOut g (Some held) after old new → ⊥
+  broken (inl fact) = let same = (end_is fact.0 Early fact.1 (λ e. cc)).1 in cc
+  broken (inr fact) = not_at_end fact.0 No fact.1 refl fact.2
 
   wrong : (found : FrameFault) → WentWrong g (Some held) after old new found → ⊥
   wrong found (taken, talked, inl fault) = no_fault taken No talked refl found fault
   wrong found (taken, talked, inr over) = not_at_end taken No talked refl over.0
 
-  pub done : {n : ℕ} → ServeEnds files path refused (Some held) after old new faults n → ServeDone replies old new n
-  done (serving.clean o) =
-      let fact = fact_of (λ g. serving.Exited g (Some held) after old new Clean) o in
-      let same = end_is fact.0 Clean fact.1 (λ e. cc) in
-      serving.clean (subst (λ rs. Appends old new (framed rs)) (sym same.0) fact.1.written)
-  done (serving.early o) =
-      let fact = fact_of (λ g. serving.Exited g (Some held) after old new Early) o in
-      absurd (let same = (end_is fact.0 Early fact.1 (λ e. cc)).1 in cc)
-  done (serving.over o) =
-      let fact = fact_of (λ g. serving.RanOut g (Some held) after old new) o in
-      absurd (not_at_end fact.0 No fact.1 refl fact.2)
-  done (serving.grammar code codes fails unread keeps) =
-      absurd (no_failure files path refused faults g holds clear none code codes fails)
-  done (serving.unread rose o) = absurd (none.source rose)
-  done (serving.unwritten rose o) = absurd (none.out rose)
-  done (serving.no_memory some) = serving.no_memory
-  done (serving.faulty found o) = absurd (wrong found (fact_of (λ g. WentWrong g (Some held) after old new found) o))
-  done (serving.limit o) =
-      let fact = fact_of (λ g. serving.WasTooLong g (Some held) after old new) o in
-      absurd (not_long fact.0 No fact.1 refl fact.2)
+  module _ (code : ℕ) where
+    at_code : {n : ℕ} → code ≡ n → ServeDone replies old new n → ServeDone replies old new code
+    at_code is done = subst (ServeDone replies old new) (sym is) done
 
--- the same, where the store and the source tell
-pub done_told : (told : Option Files) (path : List ℕ) (refused before after old new : Option (List ℕ)) (faults : Faults) (code : ℕ) →
-    IfSome told (λ files. ServeEnds files path refused before after old new faults code) →
-    IfSome told (λ files. IfSome before (λ held. (g : Grammar) (replies : List Reply) → HoldsGrammar files path g → IsClear g → IsSession g held replies → NoneRose faults → ServeDone replies old new code))
-done_told None path refused before after old new faults code ends = tt
-done_told (Some files) path refused None after old new faults code ends = tt
-done_told (Some files) path refused (Some held) after old new faults code ends = λ g replies holds clear is none. done files path refused after old new held faults g holds clear none replies is ends
+    pub session_done : (outcome : Result Verdict Stop) → EndsWith outcome code → ServeComesTo files path refused (Some held) after old new outcome → CountsAll faults outcome →
+        ServeDone replies old new code
+    session_done (Ok Whole) is came counts = at_code is (clean (fact_of (λ g. serving.Exited g (Some held) after old new Clean) came))
+    session_done (Ok Broken) is came counts =
+        absurd (broken (fact_of (λ g. serving.Exited g (Some held) after old new Early ⊎ serving.RanOut g (Some held) after old new) came))
+    session_done (Err e) (inr seven) came counts = at_code seven serving.no_memory
+    session_done (Err stop.Words) (inl is) came counts = absurd came.fact
+    session_done (Err (stop.Grammar found)) (inl is) came counts =
+        at_code (is ∙ only_memory files path refused faults g holds clear none found came.0 counts) serving.no_memory
+    session_done (Err stop.Read) (inl is) came counts = absurd (none TheSource (counts TheSource).rose)
+    session_done (Err stop.Write) (inl is) came counts = absurd (none TheSink (counts TheSink).rose)
+    session_done (Err stop.Memory) (inl is) came counts = at_code is serving.no_memory
+    session_done (Err (stop.Frames found)) (inl is) came counts = absurd (wrong found (fact_of (λ g. WentWrong g (Some held) after old new found) came))
+    session_done (Err stop.Limit) (inl is) came counts =
+        let fact = fact_of (λ g. serving.WasTooLong g (Some held) after old new) came in
+        absurd (not_long fact.0 No fact.1 refl fact.2)
+
+pub serves_all : (words : List (List ℕ)) (w : Work) (notes : Option (List ℕ) × Option (List ℕ)) (failures : ℕ × ℕ) (code : ℕ) → Ends words w notes failures code →
+    ServesAll words w code
+serves_all words w notes failures code ends path is = if_told w.files (λ files. by files w.left.0) (ends.comes_to.serve path is)
+  where
+    by : (files : Files) (before : Option (List ℕ)) → ServeComesTo files path w.refused before w.left.1 w.written.0 w.written.1 ends.outcome →
+        IfSome before (λ held. (g : Grammar) (replies : List Reply) → HoldsGrammar files path g → IsClear g → IsSession g held replies → NoneRose w.faults →
+        ServeDone replies w.written.0 w.written.1 code)
+    by files None came = tt
+    by files (Some held) came = λ g replies holds clear is none.
+        session_done files path w.refused w.left.1 w.written.0 w.written.1 held w.faults g holds clear none replies is code ends.outcome ends.status came ends.comes_to.counts

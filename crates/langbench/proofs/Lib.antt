@@ -2,10 +2,9 @@ pub mod ReportLemmas
 pub mod Grammars
 pub mod OneOutput
 pub mod Ends
+pub mod Commands
 pub mod Working
-pub mod Noting
 pub mod Talks
 pub mod Turns
-pub mod Served
 pub mod Done
 pub mod Conversing

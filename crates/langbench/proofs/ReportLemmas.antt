@@ -38,8 +38,8 @@ lines_are_not_ok first others same =
 pub not_text_is_not_ok : not_text_line ≢ ok_line
 not_text_is_not_ok same = let first : 116 ≡ 111 = ap (λ xs. get_or xs 0 0) same in omega (arith, first)
 
-pub too_large_is_not_ok : line (codes "1:1: error 7: Document is longer than 2097152 bytes.") ≢ ok_line
-too_large_is_not_ok same = let first : 49 ≡ 111 = ap (λ xs. get_or xs 0 0) same in omega (arith, first)
+pub line_is_not_ok : (shown : Shown) → diagnostic_line shown ≢ ok_line
+line_is_not_ok shown same = let none : has_colon ok_line ≡ true = ap has_colon (sym same) ∙ diagnostic_colon shown in cc
 
 -- a report that is not `ok`
 pub broken_report : (g : Grammar) (bytes output : List ℕ) (report : Report) → Checked g bytes output → output ≢ ok_line → string_bytes report.text ≡ output → report.verdict ≡ Broken →

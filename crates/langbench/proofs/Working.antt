@@ -1,7 +1,7 @@
 -- What reading a document and printing its report leave.
-use Rattle.std.proofs.Common.{◌≡◌, ◌⊎◌, inl, inr, ℕ, List, Option, Some, None, Result, Ok, Err, IfOk, OnOk, OnErr, IfSome, IsErrAnd, take, string_bytes, refl, sym, subst}
+use Rattle.std.proofs.Common.{◌≡◌, ◌⊎◌, inl, inr, ℕ, List, [], Option, Some, None, Result, Ok, Err, IfOk, OnOk, OnErr, IfSome, IsErrAnd, take, string_bytes, refl, sym, subst, arith}
 use Rattle.std.specs.Io.KnownBytes.{Appends, Consumes, Keeps}
-use Rattle.std.proofs.KnownBytes.{Keeps-refl}
+use Rattle.std.proofs.KnownBytes.{Keeps-refl, Consumes-kept, Consumes-nil}
 use Rattle.lw_grammar.specs.declared.grammar.Grammar.{Grammar}
 use Rattle.lw_io.specs.Whole.{WritesFront}
 use Rattle.lw_lang.specs.Compiled.{Causes, HoldsGrammar, IsClear}
@@ -14,9 +14,8 @@ use Rattle.langbench.specs.declared.stop.Stop.{Stop}
 use Rattle.langbench.specs.declared.stop.Stop.TheVariants as stop
 use Rattle.langbench.specs.Checked.{ok_line}
 use Rattle.langbench.specs.Reports.{IsReport, IsVerdict}
-use Rattle.langbench.specs.Run.{Files, Prints, ReadsDocument, WritesSome, most_read}
-use Rattle.langbench.specs.Stops.{StopsReading, Works, stop_of_fault}
-use Rattle.langbench.proofs.Ends.{reads_nothing}
+use Rattle.langbench.specs.Checking.{Files, Prints, ReadsDocument, ReadsPart, StopsReading, CheckComesTo, WritesSome, most_read}
+use Rattle.langbench.specs.Stops.{stop_of_fault}
 use Rattle.langbench.proofs.Grammars.{filled}
 use Rattle.langbench.proofs.OneOutput.{one_output}
 
@@ -25,15 +24,13 @@ stopped e = Err e
 
 -- ---- reading
 
--- all that may be read was
-pub document_read : (left after : Option (List ℕ)) (bytes : List ℕ) → IfSome left (λ held. bytes ≡ take most_read held) → Consumes left after bytes →
-    IfSome left (λ held. ReadsDocument held after)
-document_read None after bytes front consumed = tt
-document_read (Some held) after bytes front consumed = subst (Consumes (Some held) after) front consumed
+-- where nothing was taken a part was read
+reads_nothing : (before after : Option (List ℕ)) → Keeps before after → ReadsPart before after
+reads_nothing before after kept = ([], omega arith, Consumes-kept before before after [] (Consumes-nil before) kept)
 
 module _ (files : Files) (path held : List ℕ) (refused after old new : Option (List ℕ)) where
   -- where no grammar is built nothing is read
-  unbuilt : (found : CompileFault) → Causes files path refused found → Keeps (Some held) after → Keeps old new → Works files path held refused after old new (Err (stop_of_fault found))
+  unbuilt : (found : CompileFault) → Causes files path refused found → Keeps (Some held) after → Keeps old new → CheckComesTo files path held refused after old new (Err (stop_of_fault found))
   unbuilt (fault.Absent p) cause unread keeps = (cause, unread, keeps)
   unbuilt (fault.NotUtf8 p) cause unread keeps = (cause, unread, keeps)
   unbuilt (fault.TooLong p) cause unread keeps = (cause, unread, keeps)
@@ -43,7 +40,7 @@ module _ (files : Files) (path held : List ℕ) (refused after old new : Option 
   unbuilt fault.NoMemory cause unread keeps = inl (reads_nothing (Some held) after unread, keeps)
 
   -- where the document is not read nothing is printed
-  unread : (e : Stop) → StopsReading (Some held) after e → Keeps old new → Works files path held refused after old new (Err e)
+  unread : (e : Stop) → StopsReading (Some held) after e → Keeps old new → CheckComesTo files path held refused after old new (Err e)
   unread stop.Words stops keeps = absurd stops
   unread (stop.Grammar found) stops keeps = absurd stops
   unread stop.Read stops keeps = (stops, keeps)
@@ -54,20 +51,20 @@ module _ (files : Files) (path held : List ℕ) (refused after old new : Option 
 
 pub works_unbuilt : (told : Option Files) (left : Option (List ℕ)) (path : List ℕ) (refused old : Option (List ℕ)) (found : CompileFault) (r : Result Verdict Stop) →
     IfSome told (λ files. Causes files path refused found) → IsErrAnd r (λ e. e ≡ stop_of_fault found) →
-    IfSome told (λ files. IfSome left (λ held. Works files path held refused left old old r))
+    IfSome told (λ files. IfSome left (λ held. CheckComesTo files path held refused left old old r))
 works_unbuilt None left path refused old found r cause is = tt
 works_unbuilt (Some files) None path refused old found r cause is = tt
 works_unbuilt (Some files) (Some held) path refused old found (Ok verdict) cause is = absurd is
 works_unbuilt (Some files) (Some held) path refused old found (Err e) cause is =
-    subst (λ s. Works files path held refused (Some held) old old (Err s)) (sym is) (unbuilt files path held refused (Some held) old old found cause refl (Keeps-refl old))
+    subst (λ s. CheckComesTo files path held refused (Some held) old old (Err s)) (sym is) (unbuilt files path held refused (Some held) old old found cause refl (Keeps-refl old))
 
 pub works_unread : (told : Option Files) (left after : Option (List ℕ)) (path : List ℕ) (refused old : Option (List ℕ)) (e : Stop) (r : Result Verdict Stop) → StopsReading left after e →
-    IsErrAnd r (λ s. s ≡ e) → IfSome told (λ files. IfSome left (λ held. Works files path held refused after old old r))
+    IsErrAnd r (λ s. s ≡ e) → IfSome told (λ files. IfSome left (λ held. CheckComesTo files path held refused after old old r))
 works_unread None left after path refused old e r stops is = tt
 works_unread (Some files) None after path refused old e r stops is = tt
 works_unread (Some files) (Some held) after path refused old e (Ok verdict) stops is = absurd is
 works_unread (Some files) (Some held) after path refused old e (Err s) stops is =
-    subst (λ s. Works files path held refused after old old (Err s)) (sym is) (unread files path held refused after old old e stops (Keeps-refl old))
+    subst (λ s. CheckComesTo files path held refused after old old (Err s)) (sym is) (unread files path held refused after old old e stops (Keeps-refl old))
 
 -- ---- printing
 
@@ -83,7 +80,7 @@ module _ (files : Files) (path held : List ℕ) (refused after old new : Option 
   }
 
   told : (r : Result Verdict Stop) → IfOk r (λ v. v ≡ report.verdict) → OnOk r (Appends old new (string_bytes report.text)) → OnErr r ((r ≡ Err stop.Write) ⊎ (r ≡ Err stop.Memory)) →
-      OnErr r (WritesFront old new (string_bytes report.text)) → Works files path held refused after old new r
+      OnErr r (WritesFront old new (string_bytes report.text)) → CheckComesTo files path held refused after old new r
   told (Ok Whole) verdict whole fault front =
       let ok : string_bytes report.text ≡ ok_line = subst (IsVerdict (string_bytes report.text)) (sym verdict) is.verdict in
       (subst (Prints files path held) ok prints, read, subst (Appends old new) ok whole)
@@ -94,14 +91,14 @@ module _ (files : Files) (path held : List ℕ) (refused after old new : Option 
       some : WritesSome files path held old new
       some = record { output = string_bytes report.text; prints = prints; front = front }
 
-      by_fault : (stopped e ≡ stopped stop.Write) ⊎ (stopped e ≡ stopped stop.Memory) → Works files path held refused after old new (stopped e)
-      by_fault (inl write) = subst (Works files path held refused after old new) (sym write) (read, some)
-      by_fault (inr memory) = subst (Works files path held refused after old new) (sym memory) (inr (read, some))
+      by_fault : (stopped e ≡ stopped stop.Write) ⊎ (stopped e ≡ stopped stop.Memory) → CheckComesTo files path held refused after old new (stopped e)
+      by_fault (inl write) = subst (CheckComesTo files path held refused after old new) (sym write) (read, some)
+      by_fault (inr memory) = subst (CheckComesTo files path held refused after old new) (sym memory) (inr (read, some))
 
 pub works_after : (told_files : Option Files) (left after : Option (List ℕ)) (path : List ℕ) (refused old new : Option (List ℕ)) (g : Grammar) (report : Report) (r : Result Verdict Stop) →
     IfSome told_files (λ files. HoldsGrammar files path g) → IsClear g → IfSome left (λ held. IsReport g (take most_read held) report) → IfSome left (λ held. ReadsDocument held after) →
     IfOk r (λ v. v ≡ report.verdict) → OnOk r (Appends old new (string_bytes report.text)) → OnErr r ((r ≡ Err stop.Write) ⊎ (r ≡ Err stop.Memory)) →
-    OnErr r (WritesFront old new (string_bytes report.text)) → IfSome told_files (λ files. IfSome left (λ held. Works files path held refused after old new r))
+    OnErr r (WritesFront old new (string_bytes report.text)) → IfSome told_files (λ files. IfSome left (λ held. CheckComesTo files path held refused after old new r))
 works_after None left after path refused old new g report r holds clear is read verdict whole fault front = tt
 works_after (Some files) None after path refused old new g report r holds clear is read verdict whole fault front = tt
 works_after (Some files) (Some held) after path refused old new g report r holds clear is read verdict whole fault front =

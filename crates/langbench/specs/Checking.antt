@@ -1,5 +1,5 @@
 -- What `check` reads and prints, by its outcome.
-use Rattle.std.specs.Prelude.{ℕ, ◌≡◌, ◌≢◌, ◌≤◌, ◌+◌, ◌⊎◌, List, Option, Some, Result, Ok, Err, length, take}
+use Rattle.std.specs.Prelude.{ℕ, ◌≡◌, ◌≢◌, ◌≤◌, ◌+◌, ◌⊎◌, List, Option, Some, Result, Ok, Err, IfSome, length, take}
 use Rattle.std.specs.Io.KnownBytes.{Appends, Consumes, Keeps}
 use Rattle.lw_base.specs.declared.limits.TheConstants.{LONGEST_DOCUMENT}
 use Rattle.lw_grammar.specs.declared.grammar.Grammar as plain
@@ -32,6 +32,11 @@ abbrev pub StopsReading : Option (List ℕ) → Option (List ℕ) → Stop → T
 StopsReading before after Read = TakesFewer before after most_read
 StopsReading before after Memory = ReadsPart before after
 StopsReading before after _ = ⊥
+
+-- the cause of a fault of the grammar at this path, where the store tells
+abbrev pub IsCaused : Option Files → List ℕ → Option (List ℕ) → Result Verdict Stop → Type 0
+IsCaused told path refused (Err (Grammar found)) = IfSome told (λ files. Causes files path refused found)
+IsCaused told path refused _ = Unit {0}
 
 module _ (files : Files) (path held : List ℕ) where
   -- the path holds a grammar that is built, and this and nothing else is what `check` prints for what the source held

@@ -3,12 +3,12 @@ use Rattle.std.specs.Prelude.{ℕ, ◌≡◌, ◌≢◌, ◌⊎◌, List, Option
 use Rattle.std.specs.Io.KnownBytes.{Keeps}
 use Rattle.lw_grammar.specs.declared.grammar.Grammar as plain
 use Rattle.lw_io.specs.Causes.{Rose}
-use Rattle.lw_lang.specs.Compiled.{HoldsGrammar, IsClear, Causes}
+use Rattle.lw_lang.specs.Compiled.{HoldsGrammar, IsClear}
 use Rattle.lw_rpc.specs.declared.reply.Reply.{Reply}
 use Rattle.langbench.specs.declared.report.Verdict.{Verdict}
 use Rattle.langbench.specs.declared.stop.Stop.{Stop}
-use Rattle.langbench.specs.declared.stop.Stop.TheVariants.{Words, Grammar}
-use Rattle.langbench.specs.Checking.{Files, CheckComesTo, CheckDone}
+use Rattle.langbench.specs.declared.stop.Stop.TheVariants.{Words}
+use Rattle.langbench.specs.Checking.{Files, CheckComesTo, CheckDone, IsCaused}
 use Rattle.langbench.specs.Notes.{NotesOutcome, NotesOutcomePart}
 use Rattle.langbench.specs.Serving.{ServeComesTo, ServeDone, IsSession}
 use Rattle.langbench.specs.Stops.{Object, TheSource, TheSink, TheStore, ThePatterns, Counts, EndsWith}
@@ -41,11 +41,6 @@ abbrev pub NoneRose : Faults → Type 0
 NoneRose faults = (object : Object) → ¬ Rose (count_of faults object).0 (count_of faults object).1
 
 module _ (words : List (List ℕ)) (w : Work) where
-  -- a fault of the grammar has its cause
-  abbrev pub HasCause : List ℕ → Result Verdict Stop → Type 0
-  HasCause path (Err (Grammar found)) = IfSome w.files (λ files. Causes files path w.refused found)
-  HasCause path _ = Unit {0}
-
   -- what the work came to: a row for each command, and one for words that are none
   pub record ComesTo (outcome : Result Verdict Stop) : Type 0 where
     pub check : (path : List ℕ) → IsCheck words path → IfSome w.files (λ files. IfSome w.left.0 (λ held.
@@ -55,7 +50,7 @@ module _ (words : List (List ℕ)) (w : Work) where
     pub none : IsNoCommand words → (outcome ≡ Err Words) × Keeps w.left.0 w.left.1 × Keeps w.written.0 w.written.1
     -- other commands do not stop for their words
     pub words : outcome ≡ Err Words → IsNoCommand words
-    pub cause : (path : List ℕ) → NamesFile words path → HasCause path outcome
+    pub cause : (path : List ℕ) → NamesFile words path → IsCaused w.files path w.refused outcome
     pub counts : (object : Object) → Counts object (count_of w.faults object).0 (count_of w.faults object).1 outcome
 
   -- The notes before the run and behind it, and how often they had failed. The status is that of the outcome. Where the notes did not fail and there was memory,

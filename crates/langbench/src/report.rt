@@ -1,14 +1,15 @@
 // What `check` prints for a document.
 ghost use Rattle.std.specs.Prelude.{◌≡◌, ◌≤◌, ◌+◌, length, IfOk, string_bytes};
 ghost use Rattle.std.specs.List.{flat_map};
+ghost use Rattle.std.specs.Str.{IsUtf8};
 ghost use Rattle.langbench.specs.Checked.{diagnostic_line};
 ghost use Rattle.langbench.specs.Reports.{IsReport};
 
 use crate::place::printed;
 use lw_base::{LONGEST_DOCUMENT, Name, NoMemory};
-use lw_check::diagnostics;
+use lw_check::{diagnostics, too_large};
 use lw_lang::Language;
-use lw_text::Shown;
+use lw_text::{Shown, TextDoc};
 use std::alloc::Global;
 
 /// Whether a document is read whole.
@@ -41,26 +42,30 @@ impl Report {
 pub(crate) fn report_on(
     alloc: Global,
     language: &Language,
-    bytes: &[u8],
+    bytes: Vec<u8>,
 ) -> Result<Report, NoMemory>
-    requires { length bytes.now ≤ LONGEST_DOCUMENT + 1 }
-    ensures { IfOk result (IsReport language.now.grammar bytes.now) }
+    requires { length bytes.items ≤ LONGEST_DOCUMENT + 1 }
+    ensures { IfOk result (IsReport language.now.grammar bytes.items) }
 {
     if bytes.len() > LONGEST_DOCUMENT {
-        let line = "1:1: error 7: Document is longer than 2097152 bytes.\n";
-        return Ok(Report::broken(String::from_str(alloc, line)?));
+        let shown = too_large(alloc)?;
+        return Ok(Report::broken(diagnostic_line(alloc, &shown)?));
     }
-    match Name::from_bytes(alloc, bytes)? {
-        Some(text) => report_text(alloc, language, &text),
+    match Name::from_vec(bytes) {
+        Some(text) => report_text(alloc, language, text),
         None => Ok(Report::broken(String::from_str(alloc, "text is not UTF-8\n")?)),
     }
 }
 
-fn report_text(alloc: Global, language: &Language, text: &Name) -> Result<Report, NoMemory>
-    requires { length text.now ≤ LONGEST_DOCUMENT }
-    ensures { IfOk result (IsReport language.now.grammar text.now) }
+fn report_text(alloc: Global, language: &Language, text: Name) -> Result<Report, NoMemory>
+    requires short { length text ≤ LONGEST_DOCUMENT }
+    requires utf8 { IsUtf8 text }
+    ensures { IfOk result (IsReport language.now.grammar text) }
 {
-    let list = diagnostics(alloc, language, text)?;
+    let Ok(document) = TextDoc::new(alloc, text) else {
+        return Err(NoMemory);
+    };
+    let list = diagnostics(alloc, language, &document)?;
     if list.is_empty() {
         return Ok(Report {
             text: String::from_str(alloc, "ok\n")?,

@@ -1,27 +1,25 @@
 // The session of `serve`: bodies out of the source, replies into the sink.
-ghost use Rattle.std.specs.Prelude.{◌≡◌, ◌+◌, ◌<◌, ◌≤◌, ◌^◌, ◌⊎◌, IfOk, IfErr, IfSome, OnOk, OnErr, Err, None, false, length};
+ghost use Rattle.std.specs.Prelude.{◌≡◌, ◌+◌, ◌<◌, ◌≤◌, ◌⊎◌, IfOk, IfErr, IfSome, OnOk, OnErr, Err, None, false, length};
 ghost use Rattle.std.specs.Io.KnownBytes.{Appends};
-ghost use Rattle.lw_frame.specs.Frames.{bodies_of, fault_of};
+ghost use Rattle.lw_frame.specs.Frames.{bodies_of, fault_of, frame_of};
 ghost use Rattle.lw_frame.specs.Stream.{after_next, next_answer, next_body};
 ghost use Rattle.lw_frame.specs.Wanted.{StaysWithin};
 ghost use Rattle.lw_conversation.specs.Standing.{beginning};
-ghost use Rattle.langbench.specs.Serving.{Conversed, ServeWorks, WritesPart};
-ghost use Rattle.langbench.specs.Stops.{HasCause, SourceCounts, OutCounts, StoreCounts, PatternCounts};
+ghost use Rattle.langbench.specs.Checking.{IsCaused};
+ghost use Rattle.langbench.specs.Serving.{Conversed, ServeComesTo, WritesPart};
+ghost use Rattle.langbench.specs.Stops.{Counts, TheSource, TheSink, TheStore, ThePatterns};
 ghost use Rattle.langbench.specs.Talking.{AnswersNext, LosesPiece, Responds, RespondsPartly, RunsOut, TakesPiece, in_frames};
 
 use crate::desk::Desk;
 use crate::report::Verdict;
 use crate::stop::Stop;
 use lw_base::{Name, NoMemory, Steps};
-use lw_frame::{FrameReader, frame};
+use lw_frame::{FrameReader, LONGEST_SESSION, header_part};
 use lw_io::{Patterns, Read, Sink, Source, Store, write_all};
 use lw_lang::compile;
 use lw_session::{Ended, Mode, Session};
 use std::alloc::Global;
 use std::sync::ledger::Ledger;
-
-/// How many bytes of a session are taken at most.
-const MOST_TAKEN: u64 = 1 << 40;
 
 /// Reads the grammar, then answers the session of the source frame by frame, and leaves it on the desk.
 pub(crate) fn serve<S: Source, K: Sink, F: Store, P: Patterns, L: Ledger>(
@@ -35,13 +33,13 @@ pub(crate) fn serve<S: Source, K: Sink, F: Store, P: Patterns, L: Ledger>(
     steps: &mut Steps<L>,
 ) -> Result<Verdict, Stop>
     ensures works { IfSome (F.files store.old) (λ files.
-        ServeWorks files path.now (P.last_refused patterns.new) (S.left source.old) (S.left source.new) (K.written out.old) (K.written out.new) result) }
-    ensures cause { IfSome (F.files store.old) (λ files. HasCause files path.now (P.last_refused patterns.new) result) }
+        ServeComesTo files path.now (P.last_refused patterns.new) (S.left source.old) (S.left source.new) (K.written out.old) (K.written out.new) result) }
+    ensures cause { IsCaused (F.files store.old) path.now (P.last_refused patterns.new) result }
     ensures not_words { ¬ (result ≡ Err Stop.Words) }
-    ensures source { SourceCounts (S.count source.old) (S.count source.new) result }
-    ensures out { OutCounts (K.count out.old) (K.count out.new) result }
-    ensures store { StoreCounts (F.count store.old) (F.count store.new) result }
-    ensures patterns { PatternCounts (P.count patterns.old) (P.count patterns.new) result }
+    ensures source { Counts TheSource (S.count source.old) (S.count source.new) result }
+    ensures sink { Counts TheSink (K.count out.old) (K.count out.new) result }
+    ensures store { Counts TheStore (F.count store.old) (F.count store.new) result }
+    ensures patterns { Counts ThePatterns (P.count patterns.old) (P.count patterns.new) result }
 {
     let language = compile(alloc, path, 2, store, patterns)?;
     let mut session = Session::new(alloc, language, Mode::Full)?;
@@ -60,16 +58,16 @@ fn converse<S: Source, K: Sink, F: Store, L: Ledger>(
     store: &mut F,
     steps: &mut Steps<L>,
 ) -> Result<Verdict, Stop>
-    requires { session.old.standing ≡ beginning }
+    requires { session.old.standing ≡ beginning [] }
     ensures conversed { Conversed session.old.grammar (S.left source.old) (S.left source.new) (K.written out.old) (K.written out.new) result }
-    ensures source { SourceCounts (S.count source.old) (S.count source.new) result }
-    ensures out { OutCounts (K.count out.old) (K.count out.new) result }
-    ensures store { F.count store.new ≡ F.count store.old }
+    ensures source { Counts TheSource (S.count source.old) (S.count source.new) result }
+    ensures sink { Counts TheSink (K.count out.old) (K.count out.new) result }
+    ensures store { Counts TheStore (F.count store.old) (F.count store.new) result }
 {
     let mut reader = FrameReader::new(alloc);
     let mut taken = 0;
-    'taking: while taken < MOST_TAKEN {
-        match take_piece(source, &mut reader, MOST_TAKEN - taken) {
+    'taking: while taken < LONGEST_SESSION {
+        match take_piece(source, &mut reader, LONGEST_SESSION - taken) {
             Ok(0) => return run_out(&mut reader),
             Ok(count) => taken += count as u64,
             Err(stop) => return Err(stop),
@@ -89,11 +87,11 @@ fn converse<S: Source, K: Sink, F: Store, L: Ledger>(
 fn take_piece<S: Source>(source: &mut S, reader: &mut FrameReader, room: u64) -> Result<usize, Stop>
     requires open { reader.old.stream.closed ≡ false }
     requires room { 0 < room }
-    requires session { length reader.old.stream.fed + room ≤ 2 ^ 40 }
+    requires session { length reader.old.stream.fed + room ≤ LONGEST_SESSION }
     ensures taken { IfOk result (TakesPiece (S.left source.old) (S.left source.new) reader.old.stream reader.new.stream) }
     ensures within { IfOk result (λ count. count ≤ room) }
     ensures fault { IfErr result (LosesPiece (S.left source.old) (S.left source.new) reader.old.stream) }
-    ensures source { SourceCounts (S.count source.old) (S.count source.new) result }
+    ensures source { Counts TheSource (S.count source.old) (S.count source.new) result }
 {
     let mut buffer = [0u8; 8192];
     let most = reader.wanted().min(buffer.len()).min(room as usize);
@@ -108,12 +106,12 @@ fn take_into<S: Source>(
 ) -> Result<usize, Stop>
     requires some { 0 < length buffer.old }
     requires open { reader.old.stream.closed ≡ false }
-    requires session { length reader.old.stream.fed + length buffer.old ≤ 2 ^ 40 }
+    requires session { length reader.old.stream.fed + length buffer.old ≤ LONGEST_SESSION }
     requires within { StaysWithin reader.old.stream.fed (length buffer.old) }
     ensures taken { IfOk result (TakesPiece (S.left source.old) (S.left source.new) reader.old.stream reader.new.stream) }
     ensures within { IfOk result (λ count. count ≤ length buffer.old) }
     ensures fault { IfErr result (LosesPiece (S.left source.old) (S.left source.new) reader.old.stream) }
-    ensures source { SourceCounts (S.count source.old) (S.count source.new) result }
+    ensures source { Counts TheSource (S.count source.old) (S.count source.new) result }
 {
     match source.read(buffer) {
         Read::Got(count) => match reader.feed(&buffer[..count]) {
@@ -149,8 +147,8 @@ fn answer_next<K: Sink, F: Store, L: Ledger>(
     ensures answered { AnswersNext session.old.grammar session.old.standing (K.written out.old) (K.written out.new) (next_answer reader.old.stream) session.new.standing result }
     ensures stream { reader.new.stream ≡ after_next reader.old.stream }
     ensures grammar { session.new.grammar ≡ session.old.grammar }
-    ensures out { OutCounts (K.count out.old) (K.count out.new) result }
-    ensures store { F.count store.new ≡ F.count store.old }
+    ensures sink { Counts TheSink (K.count out.old) (K.count out.new) result }
+    ensures store { Counts TheStore (F.count store.old) (F.count store.new) result }
 {
     match reader.next() {
         Ok(Some(body)) => respond(alloc, session, body.bytes(), out, store, steps),
@@ -172,8 +170,8 @@ fn respond<K: Sink, F: Store, L: Ledger>(
     ensures part { OnErr result (RespondsPartly session.old.grammar session.old.standing (K.written out.old) (K.written out.new) body.now) }
     ensures fault { OnErr result ((result ≡ Err Stop.Write) ⊎ (result ≡ Err Stop.Memory)) }
     ensures grammar { session.new.grammar ≡ session.old.grammar }
-    ensures out { OutCounts (K.count out.old) (K.count out.new) result }
-    ensures store { F.count store.new ≡ F.count store.old }
+    ensures sink { Counts TheSink (K.count out.old) (K.count out.new) result }
+    ensures store { Counts TheStore (F.count store.old) (F.count store.new) result }
 {
     let handled = session.handle(body, store, steps)?;
     write_replies(alloc, out, handled.replies.as_slice())?;
@@ -184,11 +182,23 @@ fn write_replies<K: Sink>(alloc: Global, out: &mut K, replies: &[Name]) -> Resul
     ensures whole { OnOk result (Appends (K.written out.old) (K.written out.new) (in_frames replies.now)) }
     ensures part { OnErr result (WritesPart (K.written out.old) (K.written out.new) (in_frames replies.now)) }
     ensures fault { OnErr result ((result ≡ Err Stop.Write) ⊎ (result ≡ Err Stop.Memory)) }
-    ensures out { OutCounts (K.count out.old) (K.count out.new) result }
+    ensures sink { Counts TheSink (K.count out.old) (K.count out.new) result }
 {
     'replies: for reply in replies {
-        let framed = frame(alloc, reply)?;
-        write_all(out, framed.bytes())?;
+        write_reply(alloc, out, reply)?;
     }
+    Ok(())
+}
+
+// Writes the header part of a reply, and then the reply as it is.
+fn write_reply<K: Sink>(alloc: Global, out: &mut K, reply: &Name) -> Result<(), Stop>
+    ensures whole { OnOk result (Appends (K.written out.old) (K.written out.new) (frame_of reply.now)) }
+    ensures part { OnErr result (WritesPart (K.written out.old) (K.written out.new) (frame_of reply.now)) }
+    ensures fault { OnErr result ((result ≡ Err Stop.Write) ⊎ (result ≡ Err Stop.Memory)) }
+    ensures sink { Counts TheSink (K.count out.old) (K.count out.new) result }
+{
+    let header = header_part(alloc, reply.bytes().len())?;
+    write_all(out, header.bytes())?;
+    write_all(out, reply.bytes())?;
     Ok(())
 }

@@ -1,7 +1,6 @@
 // Why a run stops before its work is done.
 ghost use Rattle.std.specs.Prelude.{◌≡◌};
-ghost use Rattle.langbench.specs.Stops.{code_of, stop_of_read, stop_of_write, stop_of_fault};
-ghost use Rattle.langbench.specs.Run.{fault_code};
+ghost use Rattle.langbench.specs.Stops.{code_of, fault_code, stop_of_read, stop_of_write, stop_of_fault};
 ghost use Rattle.langbench.specs.declared.stop.Stop.TheVariants.{Memory as memory};
 
 use lw_base::NoMemory;

@@ -1,19 +1,14 @@
 // The top call: what the words name is done, and how it ended is told.
-ghost use Rattle.std.specs.Prelude.{◌≡◌, ◌≢◌, ◌⊎◌, ◌<◌, ◌≤◌, List, ℕ, IfOk, IfErr, IfSome, Err, OnOk, OnErr, Some, take, string_bytes};
+ghost use Rattle.std.specs.Prelude.{◌≡◌, ◌≢◌, ◌⊎◌, IfOk, IfErr, IfSome, Err, OnOk, OnErr, take, string_bytes};
 ghost use Rattle.std.specs.Option.{option_copied};
-ghost use Rattle.std.specs.Io.KnownBytes.{Appends, Keeps};
-ghost use Rattle.lw_grammar.specs.declared.grammar.Grammar as plain;
+ghost use Rattle.std.specs.Io.KnownBytes.{Appends};
 ghost use Rattle.lw_io.specs.Causes.{Rose};
 ghost use Rattle.lw_io.specs.Whole.{WritesFront};
-ghost use Rattle.lw_lang.specs.Compiled.{HoldsGrammar, IsClear};
-ghost use Rattle.lw_frame.specs.declared.fault.FrameFault.{FrameFault};
-ghost use Rattle.langbench.specs.Words.{IsCheck, IsServe, IsNoCommand};
-ghost use Rattle.langbench.specs.Serving.{IsSession, OfGrammar, WentWrong, ServeDone, ServeEnds, ServeWorks, WritesPart};
-ghost use Rattle.lw_rpc.specs.declared.reply.Reply.{Reply};
+ghost use Rattle.langbench.specs.Checking.{CheckComesTo, IsCaused, ReadsDocument, StopsReading, most_read};
+ghost use Rattle.langbench.specs.Notes.{NotesOutcome, NotesOutcomePart};
 ghost use Rattle.langbench.specs.Reports.{IsReport};
-ghost use Rattle.langbench.specs.Run.{CheckEnds, CheckDone, NoneRose, ReadsDocument, most_read};
-ghost use Rattle.langbench.specs.Notes.{NotesStatus, NotesFault, NotesOne, NotesOutcome, NotesOutcomePart, frame_line, usage_line};
-ghost use Rattle.langbench.specs.Stops.{EndsWith, StopsReading, Works, HasCause, SourceCounts, OutCounts, StoreCounts, PatternCounts};
+ghost use Rattle.langbench.specs.Run.{ComesTo, Runs};
+ghost use Rattle.langbench.specs.Stops.{Counts, EndsWith, TheSource, TheSink, TheStore, ThePatterns};
 
 use crate::desk::Desk;
 use crate::notes::note;
@@ -56,76 +51,18 @@ pub fn run<S: Source, K: Sink, N: Sink, F: Store, P: Patterns, L: Ledger>(
     steps: &mut Steps<L>,
 ) -> Status
     requires { desk.old ≡ Desk.Empty }
-
-    // What `check` does and how it ends, by what the store and the source held.
-    ensures ended { (path : List ℕ) → IsCheck words.now path → IfSome (F.files store.old) (λ files. IfSome (S.left source.old) (λ held.
-        CheckEnds files path held (P.last_refused patterns.new) (S.left source.new) (K.written out.old) (K.written out.new) (record {
-          source = (S.count source.old, S.count source.new);
-          out = (K.count out.old, K.count out.new);
-          store = (F.count store.old, F.count store.new);
-          patterns = (P.count patterns.old, P.count patterns.new);
-        }) result.code)) }
-
-    // Where the grammar is built and nothing fails, the document is read and its line is written, or memory was refused.
-    ensures done { (path : List ℕ) → IsCheck words.now path → IfSome (F.files store.old) (λ files. IfSome (S.left source.old) (λ held.
-        (g : plain.Grammar) → HoldsGrammar files path g → IsClear g → NoneRose (record {
-          source = (S.count source.old, S.count source.new);
-          out = (K.count out.old, K.count out.new);
-          store = (F.count store.old, F.count store.new);
-          patterns = (P.count patterns.old, P.count patterns.new);
-        }) → CheckDone g held (K.written out.old) (K.written out.new) result.code)) }
-
-    // What `serve` does and how it ends, by what the store holds and what the source gives.
-    ensures served { (path : List ℕ) → IsServe words.now path → IfSome (F.files store.old) (λ files.
-        ServeEnds files path (P.last_refused patterns.new) (S.left source.old) (S.left source.new) (K.written out.old) (K.written out.new) (record {
-          source = (S.count source.old, S.count source.new);
-          out = (K.count out.old, K.count out.new);
-          store = (F.count store.old, F.count store.new);
-          patterns = (P.count patterns.old, P.count patterns.new);
-        }) result.code) }
-
-    // Where what the source holds begins with a session that ends with `exit` behind `shutdown`, and nothing fails, it is answered whole, or memory was refused.
-    ensures serve_done { (path : List ℕ) → IsServe words.now path → IfSome (F.files store.old) (λ files. IfSome (S.left source.old) (λ held.
-        (g : plain.Grammar) (replies : List Reply) → HoldsGrammar files path g → IsClear g → IsSession g held replies → NoneRose (record {
-          source = (S.count source.old, S.count source.new);
-          out = (K.count out.old, K.count out.new);
-          store = (F.count store.old, F.count store.new);
-          patterns = (P.count patterns.old, P.count patterns.new);
-        }) → ServeDone replies (K.written out.old) (K.written out.new) result.code)) }
-
-    // Which words are refused, and that nothing is read or written then.
-    ensures words { result.code ≡ 2 → IsNoCommand words.now }
-    ensures other_words { IsNoCommand words.now → ((result.code ≡ 2) ⊎ (result.code ≡ 7)) × Keeps (S.left source.old) (S.left source.new) × Keeps (K.written out.old) (K.written out.new) }
-
-    // A fault is told only where its count rose, and where that grew, no other status but 7.
-    ensures read { result.code ≡ 4 → Rose (S.count source.old) (S.count source.new) }
-    ensures read_told { S.count source.old < S.count source.new → (result.code ≡ 4) ⊎ (result.code ≡ 7) }
-    ensures write { result.code ≡ 5 → Rose (K.count out.old) (K.count out.new) }
-    ensures write_told { K.count out.old < K.count out.new → (result.code ≡ 5) ⊎ (result.code ≡ 7) }
-    ensures store_told { F.count store.old < F.count store.new → (result.code ≡ 6) ⊎ (result.code ≡ 7) }
-    ensures patterns_told { P.count patterns.old < P.count patterns.new → (result.code ≡ 3) ⊎ (result.code ≡ 7) }
-    ensures status { result.code ≤ 10 }
-
-    // What is noted, where the notes did not fail and there was memory: nothing at 0 and 1, and else one line.
-    ensures noted { result.code ≢ 7 → ¬ Rose (N.count notes.old) (N.count notes.new)
-        → NotesStatus result.code (N.written notes.old) (N.written notes.new) }
-    ensures fault_noted { (result.code ≡ 3) ⊎ (result.code ≡ 6) → ¬ Rose (N.count notes.old) (N.count notes.new)
-        → (path : List ℕ) → IsCheck words.now path ⊎ IsServe words.now path → IfSome (F.files store.old) (λ files.
-        NotesFault files path (P.last_refused patterns.new) (record {
-          source = (S.count source.old, S.count source.new);
-          out = (K.count out.old, K.count out.new);
-          store = (F.count store.old, F.count store.new);
-          patterns = (P.count patterns.old, P.count patterns.new);
-        }) result.code (N.written notes.old) (N.written notes.new)) }
-    ensures frames_noted { result.code ≡ 8 → ¬ Rose (N.count notes.old) (N.count notes.new)
-        → (path : List ℕ) → IsServe words.now path → IfSome (F.files store.old) (λ files.
-        (found : FrameFault) × OfGrammar files path (λ g. WentWrong g (S.left source.old) (S.left source.new) (K.written out.old) (K.written out.new) found)
-        × Appends (N.written notes.old) (N.written notes.new) (frame_line found)) }
-
-    // Whatever fails, what is noted is a front of one line, which may be all of it: the line of the status, but where there was no memory.
-    ensures one_note { (path : List ℕ) → IsCheck words.now path ⊎ IsServe words.now path
-        → NotesOne (Some path) result.code (N.written notes.old) (N.written notes.new) }
-    ensures one_usage { IsNoCommand words.now → WritesPart (N.written notes.old) (N.written notes.new) usage_line }
+    ensures { Runs words.now (record {
+      files = F.files store.old;
+      left = (S.left source.old, S.left source.new);
+      written = (K.written out.old, K.written out.new);
+      refused = P.last_refused patterns.new;
+      faults = record {
+        source = (S.count source.old, S.count source.new);
+        sink = (K.count out.old, K.count out.new);
+        store = (F.count store.old, F.count store.new);
+        patterns = (P.count patterns.old, P.count patterns.new);
+      };
+    }) (N.written notes.old, N.written notes.new) (N.count notes.old, N.count notes.new) result.code }
 {
     let outcome = act(alloc, words, source, out, store, patterns, desk, steps);
     finish(alloc, notes, grammar_named(words), outcome)
@@ -157,6 +94,7 @@ fn finish<N: Sink>(
     }
 }
 
+// Does what the words name.
 fn act<S: Source, K: Sink, F: Store, P: Patterns, L: Ledger>(
     alloc: Global,
     words: &[Name],
@@ -167,18 +105,18 @@ fn act<S: Source, K: Sink, F: Store, P: Patterns, L: Ledger>(
     desk: &mut Desk,
     steps: &mut Steps<L>,
 ) -> Result<Verdict, Stop>
-    ensures works { (path : List ℕ) → IsCheck words.now path → IfSome (F.files store.old) (λ files. IfSome (S.left source.old) (λ held.
-        Works files path held (P.last_refused patterns.new) (S.left source.new) (K.written out.old) (K.written out.new) result)) }
-    ensures cause { (path : List ℕ) → IsCheck words.now path → IfSome (F.files store.old) (λ files. HasCause files path (P.last_refused patterns.new) result) }
-    ensures serves { (path : List ℕ) → IsServe words.now path → IfSome (F.files store.old) (λ files.
-        ServeWorks files path (P.last_refused patterns.new) (S.left source.old) (S.left source.new) (K.written out.old) (K.written out.new) result) }
-    ensures serve_cause { (path : List ℕ) → IsServe words.now path → IfSome (F.files store.old) (λ files. HasCause files path (P.last_refused patterns.new) result) }
-    ensures words { result ≡ Err Stop.Words → IsNoCommand words.now }
-    ensures other_words { IsNoCommand words.now → (result ≡ Err Stop.Words) × Keeps (S.left source.old) (S.left source.new) × Keeps (K.written out.old) (K.written out.new) }
-    ensures source { SourceCounts (S.count source.old) (S.count source.new) result }
-    ensures out { OutCounts (K.count out.old) (K.count out.new) result }
-    ensures store { StoreCounts (F.count store.old) (F.count store.new) result }
-    ensures patterns { PatternCounts (P.count patterns.old) (P.count patterns.new) result }
+    ensures { ComesTo words.now (record {
+      files = F.files store.old;
+      left = (S.left source.old, S.left source.new);
+      written = (K.written out.old, K.written out.new);
+      refused = P.last_refused patterns.new;
+      faults = record {
+        source = (S.count source.old, S.count source.new);
+        sink = (K.count out.old, K.count out.new);
+        store = (F.count store.old, F.count store.new);
+        patterns = (P.count patterns.old, P.count patterns.new);
+      };
+    }) result }
 {
     match command_of(words) {
         Some(Command::Check(path)) => check(alloc, path, source, out, store, patterns),
@@ -199,13 +137,13 @@ fn check<S: Source, K: Sink, F: Store, P: Patterns>(
     patterns: &mut P,
 ) -> Result<Verdict, Stop>
     ensures works { IfSome (F.files store.old) (λ files. IfSome (S.left source.old) (λ held.
-        Works files path.now held (P.last_refused patterns.new) (S.left source.new) (K.written out.old) (K.written out.new) result)) }
-    ensures cause { IfSome (F.files store.old) (λ files. HasCause files path.now (P.last_refused patterns.new) result) }
+        CheckComesTo files path.now held (P.last_refused patterns.new) (S.left source.new) (K.written out.old) (K.written out.new) result)) }
+    ensures cause { IsCaused (F.files store.old) path.now (P.last_refused patterns.new) result }
     ensures not_words { ¬ (result ≡ Err Stop.Words) }
-    ensures source { SourceCounts (S.count source.old) (S.count source.new) result }
-    ensures out { OutCounts (K.count out.old) (K.count out.new) result }
-    ensures store { StoreCounts (F.count store.old) (F.count store.new) result }
-    ensures patterns { PatternCounts (P.count patterns.old) (P.count patterns.new) result }
+    ensures source { Counts TheSource (S.count source.old) (S.count source.new) result }
+    ensures sink { Counts TheSink (K.count out.old) (K.count out.new) result }
+    ensures store { Counts TheStore (F.count store.old) (F.count store.new) result }
+    ensures patterns { Counts ThePatterns (P.count patterns.old) (P.count patterns.new) result }
 {
     let language = compile(alloc, path, 2, store, patterns)?;
     let report = reported(alloc, &language, source)?;
@@ -217,10 +155,10 @@ fn reported<S: Source>(alloc: Global, language: &Language, source: &mut S) -> Re
     ensures report { IfOk result (λ report. IfSome (S.left source.old) (λ held. IsReport language.now.grammar (take most_read held) report)) }
     ensures read { OnOk result (IfSome (S.left source.old) (λ held. ReadsDocument held (S.left source.new))) }
     ensures stopped { IfErr result (StopsReading (S.left source.old) (S.left source.new)) }
-    ensures source { SourceCounts (S.count source.old) (S.count source.new) result }
+    ensures source { Counts TheSource (S.count source.old) (S.count source.new) result }
 {
     let bytes = read_all(alloc, source, LONGEST_DOCUMENT + 1)?;
-    Ok(report_on(alloc, language, &bytes)?)
+    Ok(report_on(alloc, language, bytes)?)
 }
 
 // Prints a report.
@@ -229,7 +167,7 @@ fn print<K: Sink>(out: &mut K, report: &Report) -> Result<Verdict, Stop>
     ensures whole { OnOk result (Appends (K.written out.old) (K.written out.new) (string_bytes report.now.text)) }
     ensures fault { OnErr result ((result ≡ Err Stop.Write) ⊎ (result ≡ Err Stop.Memory)) }
     ensures front { OnErr result (WritesFront (K.written out.old) (K.written out.new) (string_bytes report.now.text)) }
-    ensures out { OutCounts (K.count out.old) (K.count out.new) result }
+    ensures sink { Counts TheSink (K.count out.old) (K.count out.new) result }
 {
     write_all(out, report.text.as_bytes())?;
     Ok(report.verdict)

@@ -1,6 +1,6 @@
 // The words of the command line.
-ghost use Rattle.std.specs.Prelude.{◌↔◌, ◌⊎◌, IsTrue, List, MatchOption, ℕ};
-ghost use Rattle.langbench.specs.Words.{IsCheck, IsCommand, IsNoCommand, IsOperand, IsServe, NamesGrammar};
+ghost use Rattle.std.specs.Prelude.{◌↔◌, IsTrue, List, MatchOption, ℕ};
+ghost use Rattle.langbench.specs.Words.{IsCommand, IsNoCommand, IsOperand, NamesFile, NamesGrammar};
 
 use lw_base::Name;
 
@@ -38,7 +38,7 @@ fn grammar_behind<'a>(words: &'a [Name], name: &str) -> Option<&'a Name>
 
 /// The path of the grammar that the words name.
 pub(crate) fn grammar_named(words: &[Name]) -> Option<&Name>
-    ensures { MatchOption result (IsNoCommand words.now) (λ path. IsCheck words.now path.now ⊎ IsServe words.now path.now) }
+    ensures { MatchOption result (IsNoCommand words.now) (λ path. NamesFile words.now path.now) }
 {
     match command_of(words) {
         Some(Command::Check(path)) => Some(path),

@@ -48,7 +48,7 @@ impl Name {
 
     /// A text of these bytes, which are taken over as they are, or None where they are not UTF-8.
     pub fn from_vec(bytes: Vec<u8>) -> Option<Name>
-        ensures { MatchOption result (¬ (IsUtf8 bytes.items)) (λ name. name ≡ bytes.items) }
+        ensures { MatchOption result (¬ (IsUtf8 bytes.items)) (λ name. (name ≡ bytes.items) × IsUtf8 name) }
     {
         match String::from_utf8(bytes) {
             Ok(text) => Some(Name { text }),

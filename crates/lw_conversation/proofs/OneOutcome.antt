@@ -82,3 +82,38 @@ module _ (g : Grammar) (filled : HasNoEmptyKeyword g) where
       let one = one_handled s (message_of b) h v w r l No No first second in
       let end = one_outcome v t u bs hs rs ls e f rest (subst (λ z. Serves g z bs hs u ls f) (sym one.0) more) in
       (end.0, ap₂ (λ x y. x ++ y) one.1 end.1, end.2)
+
+  -- ---- no message that is known reads the store
+  effect_reads : (m : Documents) (message : Message) (found : List Found) (n : Documents) (p : List Reply) → TakesEffect g m message found n p → found ≡ []
+  effect_reads m message found n p (opens does) = refl
+  effect_reads m message found n p (asks published reply builds replies) = refl
+
+  answered_reads : (s : Standing) (m : Message) (found : List Found) (t : Standing) (p : List Reply) (e : Ended) → Answered g s m found t p e → found ≡ []
+  answered_reads s m found t p e (stops is) = refl
+  answered_reads s m found t p e (passes {n = n} is effect) = effect_reads s.documents m found n p effect
+
+  handled_reads : (s : Standing) (m : Message) (found : List Found) (t : Standing) (p : List Reply) (e : Ended) → Handles g s m found t p e → found ≡ []
+  handled_reads s m found t p e (unbuilt does before) = answered_reads s m found t p e does
+  handled_reads s m found t p e (built {t = u} {replies = r} does since builds) = answered_reads s m found u r e does
+
+  one_message : (s : Standing) (m : Message) (found reads : List Found) (t u : Standing) (p q : List Reply) (e f : Ended) → Handles g s m found t p e →
+      Handles g s m reads u q f → (found ≡ reads) × AreOne t p e u q f
+  one_message s m found reads t u p q e f first second =
+      let same = handled_reads s m found t p e first ∙ sym (handled_reads s m reads u q f second) in
+      (same, one_handled s m found t u p q e f first (subst (λ x. Handles g s m x u q f) (sym same) second))
+
+  -- so what a session does is settled by its bodies
+  pub one_session : (s t u : Standing) (bodies : List (List ℕ)) (found reads : List (List Found)) (p q : List Reply) (e f : Ended) → Serves g s bodies found t p e →
+      Serves g s bodies reads u q f → AreOne t p e u q f
+  one_session s t u bodies found reads p q e f waits waits = (refl, refl, refl)
+  one_session s t u bodies found reads p q e f (ends {body = b} {found = h} first over) (ends {found = k} second done) =
+      (one_message s (message_of b) h k t u p q e f first second).1
+  one_session s t u bodies found reads p q e f (ends {body = b} {found = h} first over) (goes_on {t = w} {found = k} {first = r} second more) =
+      absurd (over (one_message s (message_of b) h k t w p r e No first second).1.2)
+  one_session s t u bodies found reads p q e f (goes_on {t = v} {body = b} {found = h} {first = r} first rest) (ends {found = k} second over) =
+      absurd (over (sym (one_message s (message_of b) h k v u r q No f first second).1.2))
+  one_session s t u bodies found reads p q e f (goes_on {t = v} {body = b} {others = bs} {found = h} {more = hs} {first = r} {replies = rs} first rest)
+      (goes_on {t = w} {found = k} {more = ks} {first = l} {replies = ls} second more) =
+      let one = (one_message s (message_of b) h k v w r l No No first second).1 in
+      let end = one_session v t u bs hs ks rs ls e f rest (subst (λ z. Serves g z bs ks u ls f) (sym one.0) more) in
+      (end.0, ap₂ (λ x y. x ++ y) one.1 end.1, end.2)

@@ -3,7 +3,7 @@
 use Rattle.std.specs.Prelude.{ℕ, ◌≡◌, ◌≢◌, List, [], ◌∷◌, ◌++◌, true, false, map}
 use Rattle.std.specs.List.{flat_map}
 use Rattle.lw_grammar.specs.declared.grammar.Grammar.{Grammar}
-use Rattle.lw_io.specs.Calls.{next_number}
+use Rattle.lw_io.specs.Causes.{next_number}
 use Rattle.lw_io.specs.declared.store.Found.{Found}
 use Rattle.lw_io.specs.declared.store.Found.TheVariants.{Failed}
 use Rattle.lw_rpc.specs.Messages.{message_of}
