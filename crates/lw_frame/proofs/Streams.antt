@@ -9,7 +9,7 @@ use Rattle.lw_frame.specs.Stage.{IsAt, HeaderSays}
 use Rattle.lw_frame.specs.Reading.{bytes_of, ReadsMessages, ReadsTo, WaitsFor, EndsIn, Continues, with_bodies, failure}
 use Rattle.lw_frame.proofs.Messages.{message_waiting, message_faulty, fault_waiting}
 use Rattle.lw_frame.proofs.Splits.{split_none}
-use Rattle.lw_frame.proofs.Readings.{continues_on, waits}
+use Rattle.lw_frame.proofs.Readings.{continues_on}
 use Rattle.lw_frame.specs.declared.fault.FrameFault.{FrameFault}
 use Rattle.lw_frame.specs.declared.incoming.Incoming.{Incoming}
 use Rattle.lw_frame.specs.declared.stage.Stage.{Stage}

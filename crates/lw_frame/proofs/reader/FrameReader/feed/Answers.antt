@@ -1,4 +1,4 @@
-use Rattle.std.proofs.Common.{◌≡◌, ◌∙◌, ◌+◌, ◌^◌, ◌≤◌, ◌++◌, [], ℕ, List, length, take, sym, ap, subst, arith, Option, None, Some, IfNone, append-nil, Bool, false}
+use Rattle.std.proofs.Common.{◌≡◌, ◌∙◌, ◌+◌, ◌≤◌, ◌++◌, [], ℕ, List, length, take, sym, ap, subst, arith, Option, None, Some, IfNone, append-nil, Bool, false}
 use Rattle.std.proofs.Math.Seq.{take-append_seam}
 use Rattle.std.specs.List.{concat}
 use Rattle.lw_frame.specs.Frames.{bodies_of, fault_of}
