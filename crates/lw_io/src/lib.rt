@@ -5,8 +5,9 @@
 //! and one over the real thing.
 //!
 //! Their model: a source is the bytes left, a sink the bytes written, a store its files, each where the
-//! object tells them (a real file or terminal tells nothing), and a maker of patterns the texts that are
-//! listed as refused and the text that it refused last. Beside that each object has a count of its faults, which it always tells.
+//! object tells them (a real file or terminal tells nothing), and a maker of patterns the texts that it
+//! was told to refuse and the text that it refused last. Beside that each object has a count of its faults,
+//! which it always tells.
 //!
 //! What they promise: a call that answers a fault raises the count by one, and every other call leaves it
 //! as it is; a fault changes nothing else. So a program that looks at the counts before and after can say
