@@ -1,5 +1,5 @@
 -- What a header part says, by its lines.
-use Rattle.std.proofs.Common.{◌≡◌, ◌∙◌, ◌<◌, ◌≤◌, ◌+◌, ◌-◌, ℕ, suc, List, [], ◌∷◌, ◌++◌, length, take, Bool, true, false, cond, not, ◌||◌, if◌then◌else◌, Option, Some, None, refl, sym, ap, arith, append_assoc, append-nil, length-append, leb, nat_le}
+use Rattle.std.proofs.Common.{◌≡◌, ◌∙◌, ◌<◌, ◌≤◌, ◌+◌, ◌-◌, ℕ, suc, List, [], ◌∷◌, ◌++◌, length, take, Bool, true, false, cond, not, if◌then◌else◌, Option, Some, None, refl, sym, ap, arith, append_assoc, append-nil, length-append, nat_le}
 use Rattle.std.proofs.Math.Seq.{take-append_seam, take-append-add}
 use Rattle.std.proofs.lemmas.List.{take_all}
 use Rattle.std.proofs.lemmas.List.Folds.{list_any-append}

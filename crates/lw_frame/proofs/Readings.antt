@@ -3,7 +3,7 @@ use Rattle.std.proofs.Common.{◌≡◌, ◌∙◌, ◌<◌, ◌≤◌, ◌+◌,
 use Rattle.std.proofs.Math.ListN.{drop_of_length-le}
 use Rattle.std.proofs.lemmas.Bool.{cases_lt}
 use Rattle.std.proofs.lemmas.List.{take-append-drop}
-use Rattle.lw_frame.specs.Header.{unfinished, whole}
+use Rattle.lw_frame.specs.Header.{whole}
 use Rattle.lw_frame.specs.Frames.{with_body, split, message}
 use Rattle.lw_frame.specs.Stage.{IsAt, HeaderSays}
 use Rattle.lw_frame.specs.Reading.{bytes_of, IsRead, Grows, ReadsMessages, Continues, with_bodies, is_whole, is_waiting, failure}

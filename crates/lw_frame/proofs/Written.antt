@@ -12,7 +12,7 @@ use Rattle.std.proofs.lemmas.List.{take_all}
 use Rattle.std.proofs.lemmas.List.Sums.{prefix_len-drop_no, suffix_len-take_no}
 use Rattle.std.proofs.lemmas.Bool.{le-leb, le-ltb}
 use Rattle.lw_frame.specs.Lines.{line_end, joined}
-use Rattle.lw_frame.specs.Header.{is_field, names_length, number, value, is_blank, without_blanks_before, without_blanks_after, unfinished, faulty, whole, ended, header_of, judged, good_so_far, before_bad, fields, has_end, length_of}
+use Rattle.lw_frame.specs.Header.{number, is_blank, without_blanks_before, without_blanks_after, unfinished, faulty, whole, ended, header_of, judged, good_so_far, before_bad, fields, has_end, length_of}
 use Rattle.lw_frame.specs.Field.{field_of, field_with}
 use Rattle.lw_frame.specs.Stage.{AreGood, HeaderSays, is_open}
 use Rattle.lw_frame.specs.declared.fault.FrameFault.TheVariants.{TooLong, BadHeader}
@@ -33,15 +33,6 @@ own = numerals_by_value _ tells_all_ascii_digits
 -- the field that gives the length n
 abbrev field_line : ℕ → List ℕ
 field_line n = codes "Content-Length: " ++ decimal n
-
-field_is : (n : ℕ) → is_field (field_line n) ≡ true
-field_is n = refl
-
-name_is : (n : ℕ) → names_length (field_line n) ≡ true
-name_is n = refl
-
-value_is : (n : ℕ) → value (field_line n) ≡ 32 ∷ decimal n
-value_is n = refl
 
 not_blank : (c : ℕ) → IsInRange 48 57 c → is_blank c ≡ false
 not_blank c h = grind (arith, nat_tests)

@@ -56,14 +56,14 @@ impl FrameReader {
             fault: None,
             closed: false,
             alloc,
-            history: History::new(),
+            history: History::after(&Event::Begun),
         }
     }
 
     /// Takes the next piece of the stream, which may be cut anywhere. Behind a fault it is dropped. Where
     /// memory is refused, the reader stays as it was.
     ///
-    /// A session has at most 2^40 bytes.
+    /// A session has at most 2^40 bytes ([`LONGEST_SESSION`](crate::LONGEST_SESSION)).
     pub fn feed(&mut self, piece: &[u8]) -> Result<(), NoMemory>
         requires open { self.old.stream.closed ≡ false }
         requires session { length self.old.stream.fed + length piece.now ≤ LONGEST_SESSION }
@@ -80,7 +80,7 @@ impl FrameReader {
             &mut self.incoming,
             piece,
         )?;
-        self.history = self.history.then(&Event::Fed(piece));
+        self.history = History::after(&Event::Fed(&self.history, piece));
         Ok(())
     }
 
@@ -129,7 +129,7 @@ impl FrameReader {
         ensures held { self.new.held ≡ needed self.new.stream }
     {
         if let Some(body) = self.finished.pop_front() {
-            self.history = self.history.then(&Event::Given);
+            self.history = History::after(&Event::Given(&self.history));
             return Ok(Some(body));
         }
         match fault_now(self.fault, &self.incoming, self.closed) {
