@@ -1,17 +1,19 @@
 -- What the parts of a session come to.
-use Rattle.std.proofs.Common.{◌≡◌, ◌≢◌, inr, ℕ, ◌+◌, ◌<◌, List, [], ◌∷◌, ◌++◌, length, take, drop, Option, Some, None, Result, Ok, Err, OnErr, IfSome, get_or, suc, refl, sym, ap, subst, ◌∙◌, append_assoc, append-nil, arith, length-append}
+use Rattle.std.proofs.Common.{◌≡◌, ◌≢◌, ◌⊎◌, inl, inr, ℕ, ◌+◌, ◌<◌, ◌≤◌, List, [], ◌∷◌, ◌++◌, length, take, drop, Option, Some, None, Result, Ok, Err, OnErr, IfSome, get_or, suc, refl, sym, ap, subst, ◌∙◌, append_assoc, append-nil, arith, length-append}
 use Rattle.std.specs.Io.KnownBytes.{Appends, Consumes, IsAtEnd, Keeps}
 use Rattle.std.proofs.KnownBytes.{Appends-trans}
 use Rattle.std.proofs.lemmas.List.{take-append-drop}
 use Rattle.std.proofs.Math.Seq.{take-suc, drop-cons}
 use Rattle.lw_grammar.specs.declared.grammar.Grammar.{Grammar}
-use Rattle.lw_frame.specs.Frames.{bodies_of, frame_of}
+use Rattle.lw_frame.specs.Frames.{bodies_of, frame_of, header_part_of}
 use Rattle.lw_frame.specs.Stream.{Stream, with_piece, next_body, next_answer, handed, after_next}
 use Rattle.lw_frame.specs.Wanted.{EndsWithin}
 use Rattle.lw_frame.specs.declared.limits.TheConstants.{LONGEST_SESSION}
 use Rattle.lw_io.specs.Whole.{WritesFront}
 use Rattle.lw_conversation.specs.Standing.{Standing}
-use Rattle.lw_conversation.specs.Sessions.{HandlesBody, framed}
+use Rattle.lw_rpc.specs.Messages.{message_of}
+use Rattle.lw_conversation.specs.Sessions.{HandlesBody, count_after, framed}
+use Rattle.lw_conversation.proofs.OneOutcome.{handled_reads}
 use Rattle.lw_conversation.specs.declared.ended.Ended.{Ended}
 use Rattle.langbench.specs.declared.report.Verdict.{Verdict}
 use Rattle.langbench.specs.declared.report.Verdict.TheVariants.{Whole, Broken}
@@ -25,7 +27,7 @@ use Rattle.langbench.specs.Talking as talking
 use Rattle.langbench.specs.Talking.{IsUnderway, TakesPiece, LosesPiece, Responds, RespondsPartly, AnswersNext, RunsOut, in_frames}
 use Rattle.langbench.proofs.Grammars.{one_session}
 use Rattle.langbench.proofs.Talks.{in_frames-map}
-use Rattle.langbench.proofs.Turns.{WritesPart-behind, WritesPart-front, part_in_front, AfterTurn, none_behind, cut_off, lost_piece, ran_out, broke_off, turn}
+use Rattle.langbench.proofs.Turns.{WritesPart-behind, WritesPart-front, WritesPart-some, part_in_front, AfterTurn, none_behind, cut_off, lost_piece, ran_out, broke_off, turn}
 
 -- ---- what was taken
 
@@ -137,20 +139,34 @@ module _ (old mid : Option (List ℕ)) (replies : List (List ℕ)) (i : ℕ) (wr
   pub part_so_far : WritesPart old mid (in_frames replies)
   part_so_far = subst (WritesPart old mid) (sym whole) (WritesPart-front old mid (in_frames (take i replies)) (in_frames (drop i replies)) written)
 
-  -- and a front of the next one
-  pub part_of_next : (new : Option (List ℕ)) (reply bytes : List ℕ) → i < length replies → reply ≡ get_or replies i reply → bytes ≡ frame_of reply → WritesFront mid new bytes → WritesPart old new (in_frames replies)
-  part_of_next new reply bytes inside at is front =
+  -- and a part of the next one
+  pub part_of_next : (new : Option (List ℕ)) (reply : List ℕ) → i < length replies → reply ≡ get_or replies i reply → WritesPart mid new (frame_of reply) → WritesPart old new (in_frames replies)
+  part_of_next new reply inside at part =
       subst (WritesPart old new) (sym whole)
       (WritesPart-behind old mid new (in_frames (take i replies)) (in_frames (drop i replies)) written
       (subst (WritesPart mid new) (sym (ap in_frames (drop_here replies i reply inside at)))
-      (part_in_front mid new (frame_of reply) (in_frames (drop (i + 1) replies)) (subst (WritesFront mid new) is front))))
+      (part_in_front mid new (frame_of reply) (in_frames (drop (i + 1) replies)) part)))
 
   -- and the next one
-  pub one_more : (new : Option (List ℕ)) (reply bytes : List ℕ) → i < length replies → reply ≡ get_or replies i reply → bytes ≡ frame_of reply → Appends mid new bytes → Appends old new (in_frames (take (i + 1) replies))
-  one_more new reply bytes inside at is front =
-      let more : in_frames (take (i + 1) replies) ≡ in_frames (take i replies) ++ bytes =
-      ap in_frames (take_here replies i reply inside at) ∙ in_frames-append (take i replies) (reply ∷ []) ∙ ap (λ b. in_frames (take i replies) ++ b) (append-nil (frame_of reply) ∙ sym is) in
-      subst (Appends old new) (sym more) (Appends-trans old mid new (in_frames (take i replies)) bytes written front)
+  pub one_more : (new : Option (List ℕ)) (reply : List ℕ) → i < length replies → reply ≡ get_or replies i reply → Appends mid new (frame_of reply) → Appends old new (in_frames (take (i + 1) replies))
+  one_more new reply inside at front =
+      let more : in_frames (take (i + 1) replies) ≡ in_frames (take i replies) ++ frame_of reply =
+      ap in_frames (take_here replies i reply inside at) ∙ in_frames-append (take i replies) (reply ∷ []) ∙ ap (λ b. in_frames (take i replies) ++ b) (append-nil (frame_of reply)) in
+      subst (Appends old new) (sym more) (Appends-trans old mid new (in_frames (take i replies)) (frame_of reply) written front)
+
+-- one reply is written as its header part and its bytes
+module _ (old mid new : Option (List ℕ)) (reply header text : List ℕ) (is_header : header ≡ header_part_of (length text)) (is_text : text ≡ reply) where
+  both_parts : header ++ text ≡ frame_of reply
+  both_parts = ap (λ h. h ++ text) is_header ∙ ap frame_of is_text
+
+  pub reply_written : Appends old mid header → Appends mid new text → Appends old new (frame_of reply)
+  reply_written first second = subst (Appends old new) both_parts (Appends-trans old mid new header text first second)
+
+  pub part_of_header : WritesFront old new header → WritesPart old new (frame_of reply)
+  part_of_header front = subst (WritesPart old new) both_parts (part_in_front old new header text (WritesPart-some old new header front))
+
+  pub part_of_text : Appends old mid header → WritesFront mid new text → WritesPart old new (frame_of reply)
+  part_of_text first front = subst (WritesPart old new) both_parts (WritesPart-behind old mid new header text first (WritesPart-some mid new text front))
 
 -- what holds anyway holds of an error
 pub on_err_of : {S E : Type 0} (r : Result S E) (P : Type 0) → P → OnErr r P
@@ -167,8 +183,18 @@ module _ (g : Grammar) (s t : Standing) (body : List ℕ) (before now : ℕ) (te
   pub responds : Appends old new (in_frames texts) → Responds g s old new body t ended
   responds written = record { found = handles.found; replies = handles.replies; handles = handles.handles; written = subst (Appends old new) same_bytes written }
 
+  -- the store was not read
+  pub store_stands : now ≡ before
+  store_stands = handles.counted ∙ ap (count_after before) (handled_reads g s (message_of body) handles.found t handles.replies ended handles.handles)
+
   pub responds_partly : WritesPart old new (in_frames texts) → RespondsPartly g s old new body
   responds_partly part = talking.part handles.handles (subst (WritesPart old new) same_bytes part)
+
+-- nor was it where a write failed behind it
+pub store_of_write : {T : Type 0} (r : Result T Stop) (before now : ℕ) → now ≡ before → OnErr r ((r ≡ Err stop.Write) ⊎ (r ≡ Err stop.Memory)) → Counts TheStore before now r
+store_of_write (Ok x) before now is fault = is
+store_of_write {T} (Err e) before now is (inl write) = subst (λ (r : Result T Stop). Counts TheStore before now r) (sym write) is
+store_of_write {T} (Err e) before now is (inr memory) = subst (λ (r : Result T Stop). Counts TheStore before now r) (sym memory) tt
 
 -- ---- a session by the grammar of a file
 

@@ -24,6 +24,14 @@ use Rattle.langbench.proofs.Grammars.{says_same, same_grammar, same_text}
 abbrev pub CountsAll : Faults → Result Verdict Stop → Type 0
 CountsAll faults outcome = (object : Object) → Counts object (count_of faults object).0 (count_of faults object).1 outcome
 
+pub count_all : (faults : Faults) (outcome : Result Verdict Stop) → Counts TheSource faults.source.0 faults.source.1 outcome →
+    Counts TheSink faults.sink.0 faults.sink.1 outcome → Counts TheStore faults.store.0 faults.store.1 outcome →
+    Counts ThePatterns faults.patterns.0 faults.patterns.1 outcome → CountsAll faults outcome
+count_all faults outcome source sink store patterns TheSource = source
+count_all faults outcome source sink store patterns TheSink = sink
+count_all faults outcome source sink store patterns TheStore = store
+count_all faults outcome source sink store patterns ThePatterns = patterns
+
 -- the first pattern that matches the empty text is one
 matches_empty : (g : Grammar) → FirstMatchesEmpty g → MatchesEmpty g
 matches_empty g (terminal, pattern, tried, matches) =

@@ -52,9 +52,9 @@ pub WritesPart-front : (old new : Option (List ℕ)) (xs ys : List ℕ) → Appe
 WritesPart-front old new xs ys written = WritesPart-behind old new new xs ys written (0, omega arith, Appends-nil new)
 
 -- a part of the first of two
-pub part_in_front : (old new : Option (List ℕ)) (xs ys : List ℕ) → WritesFront old new xs → WritesPart old new (xs ++ ys)
-part_in_front old new xs ys front =
-    (front.0, omega (arith, front.1, length-append xs ys), subst (Appends old new) (sym (take-append-le front.0 xs ys (omega (arith, front.1)))) front.2)
+pub part_in_front : (old new : Option (List ℕ)) (xs ys : List ℕ) → WritesPart old new xs → WritesPart old new (xs ++ ys)
+part_in_front old new xs ys part =
+    (part.0, omega (arith, part.1, length-append xs ys), subst (Appends old new) (sym (take-append-le part.0 xs ys part.1)) part.2)
 
 -- ---- what a reader hands out
 
@@ -195,7 +195,7 @@ module _ (g : Grammar) (before now old mid : Option (List ℕ)) (s : Stream) (st
       one_next = ap (λ bodies. slice_get bodies s.given) one ∙ last_of (bodies_of s.fed) body s.given way.all_given
 
       module _ (new : Option (List ℕ)) (t : Standing) (ended : Ended) (responds : Responds g standing mid new body t ended) where
-        reads : List (List Found)
+        abbrev reads : List (List Found)
         reads = way.found ++ responds.found ∷ []
 
         served : Serves g (beginning []) (bodies_of (s.fed ++ bytes)) reads t (way.replies ++ responds.replies) ended
@@ -317,7 +317,7 @@ module _ (g : Grammar) (before now after old mid new : Option (List ℕ)) (s : S
   pub turn : (t : Standing) (within : EndsWithin s.fed bytes) (outcome : Result Ended Stop) → AnswersNext g standing mid new (next_answer (with_piece s bytes)) t outcome →
       AfterTurn g before after old new (after_next (with_piece s bytes)) t outcome
   turn t (inl same) outcome answers =
-      let none = none_next g before now old mid s standing way after bytes consumed (inl same) fits fits same in
+      let none = none_next g before now old mid s standing way after bytes consumed (inl same) fits same in
       let fault = open_fault s.closed refl way.going_on in
       let at : AnswersNext g standing mid new (answer_next None (fault_of (s.fed ++ bytes) false)) t outcome =
       subst (λ f. AnswersNext g standing mid new (answer_next None f) t outcome) fault (subst (λ o. AnswersNext g standing mid new (answer_next o (fault_of (s.fed ++ bytes) s.closed)) t outcome) none answers) in

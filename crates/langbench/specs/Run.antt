@@ -48,8 +48,8 @@ module _ (words : List (List ℕ)) (w : Work) where
     pub serve : (path : List ℕ) → IsServe words path → IfSome w.files (λ files.
         ServeComesTo files path w.refused w.left.0 w.left.1 w.written.0 w.written.1 outcome)
     pub none : IsNoCommand words → (outcome ≡ Err Words) × Keeps w.left.0 w.left.1 × Keeps w.written.0 w.written.1
-    -- other commands do not stop for their words
-    pub words : outcome ≡ Err Words → IsNoCommand words
+    -- a command does not stop for its words
+    pub unnamed : outcome ≡ Err Words → IsNoCommand words
     pub cause : (path : List ℕ) → NamesFile words path → IsCaused w.files path w.refused outcome
     pub counts : (object : Object) → Counts object (count_of w.faults object).0 (count_of w.faults object).1 outcome
 

@@ -1,5 +1,5 @@
 // The session of `serve`: bodies out of the source, replies into the sink.
-ghost use Rattle.std.specs.Prelude.{◌≡◌, ◌+◌, ◌<◌, ◌≤◌, ◌⊎◌, IfOk, IfErr, IfSome, OnOk, OnErr, Err, None, false, length};
+ghost use Rattle.std.specs.Prelude.{◌≡◌, ◌+◌, ◌<◌, ◌≤◌, ◌⊎◌, IfOk, IfErr, IfSome, OnOk, OnErr, Err, None, [], false, length};
 ghost use Rattle.std.specs.Io.KnownBytes.{Appends};
 ghost use Rattle.lw_frame.specs.Frames.{bodies_of, fault_of, frame_of};
 ghost use Rattle.lw_frame.specs.Stream.{after_next, next_answer, next_body};

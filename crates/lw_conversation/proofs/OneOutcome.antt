@@ -35,6 +35,20 @@ one_opening m address version text n o p q (puts short room) (too_long long) = a
 one_opening m address version text n o p q (puts short room) (too_many also full) = never_both m address full room
 one_opening m address version text n o p q (puts short room) (puts also too) = (refl, refl)
 
+-- no message that is known reads the store
+module _ (g : Grammar) where
+  effect_reads : (m : Documents) (message : Message) (found : List Found) (n : Documents) (p : List Reply) → TakesEffect g m message found n p → found ≡ []
+  effect_reads m message found n p (opens does) = refl
+  effect_reads m message found n p (asks published reply builds replies) = refl
+
+  answered_reads : (s : Standing) (m : Message) (found : List Found) (t : Standing) (p : List Reply) (e : Ended) → Answered g s m found t p e → found ≡ []
+  answered_reads s m found t p e (stops is) = refl
+  answered_reads s m found t p e (passes {n = n} is effect) = effect_reads s.documents m found n p effect
+
+  pub handled_reads : (s : Standing) (m : Message) (found : List Found) (t : Standing) (p : List Reply) (e : Ended) → Handles g s m found t p e → found ≡ []
+  handled_reads s m found t p e (unbuilt does before) = answered_reads s m found t p e does
+  handled_reads s m found t p e (built {t = u} {replies = r} does since builds) = answered_reads s m found u r e does
+
 module _ (g : Grammar) (filled : HasNoEmptyKeyword g) where
   one_effect : (m : Documents) (message : Message) (found : List Found) (n o : Documents) (p q : List Reply) → TakesEffect g m message found n p →
       TakesEffect g m message found o q → (n ≡ o) × (p ≡ q)
@@ -83,23 +97,11 @@ module _ (g : Grammar) (filled : HasNoEmptyKeyword g) where
       let end = one_outcome v t u bs hs rs ls e f rest (subst (λ z. Serves g z bs hs u ls f) (sym one.0) more) in
       (end.0, ap₂ (λ x y. x ++ y) one.1 end.1, end.2)
 
-  -- ---- no message that is known reads the store
-  effect_reads : (m : Documents) (message : Message) (found : List Found) (n : Documents) (p : List Reply) → TakesEffect g m message found n p → found ≡ []
-  effect_reads m message found n p (opens does) = refl
-  effect_reads m message found n p (asks published reply builds replies) = refl
-
-  answered_reads : (s : Standing) (m : Message) (found : List Found) (t : Standing) (p : List Reply) (e : Ended) → Answered g s m found t p e → found ≡ []
-  answered_reads s m found t p e (stops is) = refl
-  answered_reads s m found t p e (passes {n = n} is effect) = effect_reads s.documents m found n p effect
-
-  handled_reads : (s : Standing) (m : Message) (found : List Found) (t : Standing) (p : List Reply) (e : Ended) → Handles g s m found t p e → found ≡ []
-  handled_reads s m found t p e (unbuilt does before) = answered_reads s m found t p e does
-  handled_reads s m found t p e (built {t = u} {replies = r} does since builds) = answered_reads s m found u r e does
-
+  -- ---- a session is settled by its bodies alone
   one_message : (s : Standing) (m : Message) (found reads : List Found) (t u : Standing) (p q : List Reply) (e f : Ended) → Handles g s m found t p e →
       Handles g s m reads u q f → (found ≡ reads) × AreOne t p e u q f
   one_message s m found reads t u p q e f first second =
-      let same = handled_reads s m found t p e first ∙ sym (handled_reads s m reads u q f second) in
+      let same = handled_reads g s m found t p e first ∙ sym (handled_reads g s m reads u q f second) in
       (same, one_handled s m found t u p q e f first (subst (λ x. Handles g s m x u q f) (sym same) second))
 
   -- so what a session does is settled by its bodies

@@ -1,6 +1,6 @@
 use Rattle.std.proofs.Common.{◌∙◌, inl, Ok, Err, length, refl, sym, ap, subst, arith}
 use Rattle.langbench.proofs.Turns.{AfterTurn, too_long, underway_start}
-use Rattle.langbench.proofs.Conversing.{lost, over, no_next, turned, taken_more, after_stop, out_of_loss}
+use Rattle.langbench.proofs.Conversing.{lost, over, no_next, turned, taken_more, after_stop, sink_of_loss, store_of_loss}
 use Rattle.langbench.proofs.serve.converse.Goals as goal
 
 pub taking-init : goal.taking-init
@@ -9,9 +9,8 @@ taking-init g c = record {
       c.new-reader.ensures.stream c.requires;
   grammar = refl;
   taken = sym (ap (λ s. length s.fed) c.new-reader.ensures.stream);
-  within = omega arith;
   source = refl;
-  out = refl;
+  sink = refl;
   store = refl;
 }
 
@@ -21,29 +20,32 @@ run_out-requires g c =
 
 pub returns-in-Ok-eq0-clause-conversed : goal.returns-in-Ok-eq0-clause-conversed
 returns-in-Ok-eq0-clause-conversed g c =
-    over _ _ _ (g.S.Source.left c.take_piece.new.source) _ _ _ _ c.taking.invariant.way c.take_piece.new.reader.stream c.in-Ok-eq0.field-0 c.run_out.result c.in-Ok-eq0.field-0-test c.in-Ok-eq0.ensures.taken
+    over _ _ _ (g.S.Source.left c.take_piece.new.source) _ _ _ _ c.taking.invariant.way c.take_piece.new.reader.stream c.in-Ok-eq0.field-0 c.run_out.result c.in-Ok-eq0.field-0-test
+    (omega (arith, c.taking-test.true, c.taking.invariant.taken)) c.in-Ok-eq0.ensures.taken
     c.run_out.ensures
 
 pub returns-in-Err-clause-conversed : goal.returns-in-Err-clause-conversed
 returns-in-Err-clause-conversed g c =
     lost _ _ _ _ _ _ _ _ c.taking.invariant.way c.in-Err.stop (omega (arith, c.taking-test.true, c.taking.invariant.taken)) c.in-Err.ensures.fault
 
-pub returns-in-Err-clause-out : goal.returns-in-Err-clause-out
-returns-in-Err-clause-out g c = out_of_loss _ _ _ c.in-Err.stop c.in-Err.ensures.fault _ _ c.taking.invariant.out
+pub returns-in-Err-clause-sink : goal.returns-in-Err-clause-sink
+returns-in-Err-clause-sink g c = sink_of_loss _ _ _ c.in-Err.stop c.in-Err.ensures.fault _ _ c.taking.invariant.sink
+
+pub returns-in-Err-clause-store : goal.returns-in-Err-clause-store
+returns-in-Err-clause-store g c = store_of_loss _ _ _ c.in-Err.stop c.in-Err.ensures.fault _ _ c.taking.invariant.store
 
 pub taking-preserved : goal.taking-preserved
 taking-preserved g c =
     let after = turned _ _ _ (g.S.Source.left c.take_piece.new.source) _ _ _ _ c.taking.invariant.way (g.K.Sink.written c.answer_next.new.out) c.take_piece.new.reader.stream c.in-Ok.count c.in-Ok.count-test.1
-    c.in-Ok.ensures.taken c.answer_next.new.reader.stream c.in-Ok-No.ensures.stream c.answer_next.new.session.standing (Ok c.in-Ok-No.field-0) c.taking.session.grammar c.taking.invariant.grammar c.in-Ok-No.ensures.answered in
+    (omega (arith, c.taking-test.true, c.in-Ok.ensures.within, c.taking.invariant.taken)) c.in-Ok.ensures.taken c.answer_next.new.reader.stream c.in-Ok-No.ensures.stream c.answer_next.new.session.standing (Ok c.in-Ok-No.field-0) c.taking.session.grammar c.taking.invariant.grammar c.in-Ok-No.ensures.answered in
     let more = taken_more _ _ _ (g.S.Source.left c.take_piece.new.source) _ _ _ _ c.taking.invariant.way (g.K.Sink.written c.answer_next.new.out) c.take_piece.new.reader.stream c.in-Ok.count c.in-Ok.count-test.1
-    c.in-Ok.ensures.taken c.answer_next.new.reader.stream c.in-Ok-No.ensures.stream c.answer_next.new.session.standing (Ok c.in-Ok-No.field-0) c.taking.session.grammar c.taking.invariant.grammar c.in-Ok-No.ensures.answered in
+    (omega (arith, c.taking-test.true, c.in-Ok.ensures.within, c.taking.invariant.taken)) c.in-Ok.ensures.taken c.answer_next.new.reader.stream c.in-Ok-No.ensures.stream c.answer_next.new.session.standing (Ok c.in-Ok-No.field-0) c.taking.session.grammar c.taking.invariant.grammar c.in-Ok-No.ensures.answered in
     record {
       way = subst (λ e. AfterTurn c.args.session.now.grammar (g.S.Source.left c.args.source.now) (g.S.Source.left c.take_piece.new.source) (g.K.Sink.written c.args.out.now) (g.K.Sink.written c.answer_next.new.out) c.answer_next.new.reader.stream c.answer_next.new.session.standing (Ok e)) c.in-Ok-No.field-0-is after;
       grammar = c.in-Ok-No.ensures.grammar ∙ c.taking.invariant.grammar;
       taken = omega (arith, more, c.taking.invariant.taken);
-      within = omega (arith, c.taking-test.true, c.in-Ok.ensures.within);
       source = c.in-Ok.ensures.source ∙ c.taking.invariant.source;
-      out = c.in-Ok-No.ensures.out ∙ c.taking.invariant.out;
+      sink = c.in-Ok-No.ensures.sink ∙ c.taking.invariant.sink;
       store = c.in-Ok-No.ensures.store ∙ c.taking.invariant.store;
     }
 
@@ -51,20 +53,20 @@ pub returns-in-Ok-Clean-clause-conversed : goal.returns-in-Ok-Clean-clause-conve
 returns-in-Ok-Clean-clause-conversed g c =
     subst (λ e. AfterTurn c.args.session.now.grammar (g.S.Source.left c.args.source.now) (g.S.Source.left c.take_piece.new.source) (g.K.Sink.written c.args.out.now) (g.K.Sink.written c.answer_next.new.out) c.answer_next.new.reader.stream c.answer_next.new.session.standing (Ok e)) c.in-Ok-Clean.field-0-is
     (turned _ _ _ (g.S.Source.left c.take_piece.new.source) _ _ _ _ c.taking.invariant.way (g.K.Sink.written c.answer_next.new.out) c.take_piece.new.reader.stream c.in-Ok.count c.in-Ok.count-test.1
-    c.in-Ok.ensures.taken c.answer_next.new.reader.stream c.in-Ok-Clean.ensures.stream c.answer_next.new.session.standing (Ok c.in-Ok-Clean.field-0) c.taking.session.grammar c.taking.invariant.grammar c.in-Ok-Clean.ensures.answered)
+    (omega (arith, c.taking-test.true, c.in-Ok.ensures.within, c.taking.invariant.taken)) c.in-Ok.ensures.taken c.answer_next.new.reader.stream c.in-Ok-Clean.ensures.stream c.answer_next.new.session.standing (Ok c.in-Ok-Clean.field-0) c.taking.session.grammar c.taking.invariant.grammar c.in-Ok-Clean.ensures.answered)
 
 pub returns-in-Ok-Early-clause-conversed : goal.returns-in-Ok-Early-clause-conversed
 returns-in-Ok-Early-clause-conversed g c =
     inl (subst (λ e. AfterTurn c.args.session.now.grammar (g.S.Source.left c.args.source.now) (g.S.Source.left c.take_piece.new.source) (g.K.Sink.written c.args.out.now) (g.K.Sink.written c.answer_next.new.out) c.answer_next.new.reader.stream c.answer_next.new.session.standing (Ok e)) c.in-Ok-Early.field-0-is
     (turned _ _ _ (g.S.Source.left c.take_piece.new.source) _ _ _ _ c.taking.invariant.way (g.K.Sink.written c.answer_next.new.out) c.take_piece.new.reader.stream c.in-Ok.count c.in-Ok.count-test.1
-    c.in-Ok.ensures.taken c.answer_next.new.reader.stream c.in-Ok-Early.ensures.stream c.answer_next.new.session.standing (Ok c.in-Ok-Early.field-0) c.taking.session.grammar c.taking.invariant.grammar c.in-Ok-Early.ensures.answered))
+    (omega (arith, c.taking-test.true, c.in-Ok.ensures.within, c.taking.invariant.taken)) c.in-Ok.ensures.taken c.answer_next.new.reader.stream c.in-Ok-Early.ensures.stream c.answer_next.new.session.standing (Ok c.in-Ok-Early.field-0) c.taking.session.grammar c.taking.invariant.grammar c.in-Ok-Early.ensures.answered))
 
 pub returns-in-Err-answer_next-clause-conversed : goal.returns-in-Err-answer_next-clause-conversed
 returns-in-Err-answer_next-clause-conversed g c =
     after_stop c.args.session.now.grammar (g.S.Source.left c.args.source.now) (g.S.Source.left c.take_piece.new.source) (g.K.Sink.written c.args.out.now) (g.K.Sink.written c.answer_next.new.out) c.answer_next.new.reader.stream c.answer_next.new.session.standing c.in-Err-answer_next.stop
     (turned _ _ _ (g.S.Source.left c.take_piece.new.source) _ _ _ _ c.taking.invariant.way (g.K.Sink.written c.answer_next.new.out) c.take_piece.new.reader.stream c.in-Ok.count c.in-Ok.count-test.1
-    c.in-Ok.ensures.taken c.answer_next.new.reader.stream c.in-Err-answer_next.ensures.stream c.answer_next.new.session.standing (Err c.in-Err-answer_next.stop) c.taking.session.grammar c.taking.invariant.grammar c.in-Err-answer_next.ensures.answered)
+    (omega (arith, c.taking-test.true, c.in-Ok.ensures.within, c.taking.invariant.taken)) c.in-Ok.ensures.taken c.answer_next.new.reader.stream c.in-Err-answer_next.ensures.stream c.answer_next.new.session.standing (Err c.in-Err-answer_next.stop) c.taking.session.grammar c.taking.invariant.grammar c.in-Err-answer_next.ensures.answered)
 
 pub returns-clause-conversed : goal.returns-clause-conversed
 returns-clause-conversed g c =
-    too_long _ _ _ _ _ _ _ c.taking.invariant.way (omega (arith, c.taking.invariant.taken, c.taking.invariant.within, c.taking-test.false))
+    too_long _ _ _ _ _ _ _ c.taking.invariant.way (omega (arith, c.taking.invariant.taken, c.taking.invariant.way.within, c.taking-test.false))

@@ -1,4 +1,5 @@
-use Rattle.std.proofs.Common.{◌-◌, ◌≡◌, ◌≤◌, ◌^◌, length}
+use Rattle.std.proofs.Common.{◌-◌, ◌≡◌, length}
+use Rattle.lw_frame.specs.declared.limits.TheConstants.{LONGEST_SESSION}
 use Rattle.langbench.specs.Talking.{IsUnderway}
 use Rattle.langbench.proofs.serve.converse.Given as goal
 
@@ -8,11 +9,10 @@ invariant-taking g l = record {
   way : IsUnderway l.fn.session.grammar (g.S.Source.left l.fn.source) (g.S.Source.left l.source) (g.K.Sink.written l.fn.out) (g.K.Sink.written l.out) l.reader.stream l.session.standing;
   grammar : l.session.grammar ≡ l.fn.session.grammar;
   taken : l.taken ≡ length l.reader.stream.fed;
-  within : l.taken ≤ 2 ^ 40;
   source : g.S.Source.count l.source ≡ g.S.Source.count l.fn.source;
-  out : g.K.Sink.count l.out ≡ g.K.Sink.count l.fn.out;
+  sink : g.K.Sink.count l.out ≡ g.K.Sink.count l.fn.out;
   store : g.F.Store.count l.store ≡ g.F.Store.count l.fn.store;
 }
 
 abbrev pub decreases-taking : goal.decreases-taking
-decreases-taking g l = 2 ^ 40 - l.taken
+decreases-taking g l = LONGEST_SESSION - l.taken

@@ -1,4 +1,4 @@
-use Rattle.langbench.proofs.Conversing.{works_told, cause_told}
+use Rattle.langbench.proofs.Conversing.{works_told, no_cause_of}
 use Rattle.langbench.proofs.serve.serve.Goals as goal
 
 pub returns-clause-works : goal.returns-clause-works
@@ -8,4 +8,4 @@ returns-clause-works g c =
 
 pub returns-clause-cause : goal.returns-clause-cause
 returns-clause-cause g c =
-    cause_told _ c.in_ok-session.session.grammar _ _ _ _ c.args.path.now _ c.converse-outcome.result c.converse-outcome.ensures.conversed
+    no_cause_of c.in_ok-session.session.grammar _ _ _ _ _ c.args.path.now _ c.converse-outcome.result c.converse-outcome.ensures.conversed
