@@ -27,7 +27,7 @@ use Rattle.langbench.specs.Talking as talking
 use Rattle.langbench.specs.Talking.{IsUnderway, TakesPiece, LosesPiece, Responds, RespondsPartly, AnswersNext, RunsOut, in_frames}
 use Rattle.langbench.proofs.Grammars.{one_session}
 use Rattle.langbench.proofs.Talks.{in_frames-map}
-use Rattle.langbench.proofs.Turns.{WritesPart-behind, WritesPart-front, WritesPart-some, part_in_front, AfterTurn, none_behind, cut_off, lost_piece, ran_out, broke_off, turn}
+use Rattle.langbench.proofs.Turns.{WritesPart-behind, WritesPart-some, part_in_front, AfterTurn, none_behind, cut_off, lost_piece, ran_out, broke_off, turn}
 
 -- ---- what was taken
 
@@ -134,10 +134,6 @@ in_frames-append (x ∷ xs) ys = ap (λ bytes. frame_of x ++ bytes) (in_frames-a
 module _ (old mid : Option (List ℕ)) (replies : List (List ℕ)) (i : ℕ) (written : Appends old mid (in_frames (take i replies))) where
   whole : in_frames replies ≡ in_frames (take i replies) ++ in_frames (drop i replies)
   whole = ap in_frames (sym (take-append-drop i replies)) ∙ in_frames-append (take i replies) (drop i replies)
-
-  -- so far
-  pub part_so_far : WritesPart old mid (in_frames replies)
-  part_so_far = subst (WritesPart old mid) (sym whole) (WritesPart-front old mid (in_frames (take i replies)) (in_frames (drop i replies)) written)
 
   -- and a part of the next one
   pub part_of_next : (new : Option (List ℕ)) (reply : List ℕ) → i < length replies → reply ≡ get_or replies i reply → WritesPart mid new (frame_of reply) → WritesPart old new (in_frames replies)

@@ -44,13 +44,6 @@ WritesPart-behind old mid new xs ys written part =
 pub WritesPart-some : (old new : Option (List ℕ)) (bytes : List ℕ) → WritesFront old new bytes → WritesPart old new bytes
 WritesPart-some old new bytes front = (front.0, (let few = front.1 in omega (arith, few)), front.2)
 
-pub WritesPart-none : (old new : Option (List ℕ)) (bytes : List ℕ) → Keeps old new → WritesPart old new bytes
-WritesPart-none old new bytes keeps = (0, omega arith, Appends-kept old old new [] (Appends-nil old) keeps)
-
--- all of one and nothing of the next
-pub WritesPart-front : (old new : Option (List ℕ)) (xs ys : List ℕ) → Appends old new xs → WritesPart old new (xs ++ ys)
-WritesPart-front old new xs ys written = WritesPart-behind old new new xs ys written (0, omega arith, Appends-nil new)
-
 -- a part of the first of two
 pub part_in_front : (old new : Option (List ℕ)) (xs ys : List ℕ) → WritesPart old new xs → WritesPart old new (xs ++ ys)
 part_in_front old new xs ys part =
@@ -145,9 +138,6 @@ module _ (g : Grammar) (before now old mid : Option (List ℕ)) (s : Stream) (st
   -- ---- a piece was taken
   module _ (after : Option (List ℕ)) (bytes : List ℕ) (consumed_ : Consumes now after bytes) (within : EndsWithin s.fed bytes)
       (fits : length (s.fed ++ bytes) ≤ LONGEST_SESSION) where
-    later : Stream
-    later = with_piece s bytes
-
     consumed_all : Consumes before after (s.fed ++ bytes)
     consumed_all = Consumes-trans before now after s.fed bytes way.consumed consumed_
 

@@ -1,6 +1,6 @@
 // `serve` over memory: sessions whole and in pieces, the frames that end them, and what stays in the source. The
 // bodies and their lengths are those of the Language Server Protocol 3.17.
-use crate::tests::{FLAT, Ran, run_over, setting_of};
+use crate::tests::{FLAT, Failing, NOTHING, Setting, ends_as, run_over, setting_of};
 use lw_base::NoMemory;
 use std::alloc::Global;
 use std::test::Fail;
@@ -47,35 +47,28 @@ fn session(alloc: Global) -> Result<Vec<u8>, NoMemory> {
     framed(alloc, &[INITIALIZE, OPEN, SHUTDOWN, EXIT])
 }
 
-// What a run of `serve` leaves that reads pieces of this size, 0 for whole, and in which the read and the write of these numbers
+// `serve` of the grammar, that reads pieces of these sizes, and in which the read and the write of these numbers
 // fail, 0 for none.
-fn served(
-    alloc: Global,
-    bytes: Vec<u8>,
-    size: u32,
-    failing_read: u64,
-    failing_write: u64,
-) -> Result<Ran, NoMemory> {
-    let mut setting = setting_of(alloc, "serve")?;
-    if size > 0 {
-        setting.pieces.resize(bytes.len(), size)?;
+fn serving(pieces: &[u32], read: u64, write: u64) -> Setting<'_> {
+    Setting {
+        pieces,
+        failing: Failing {
+            read,
+            write,
+            ..NOTHING
+        },
+        ..setting_of(&["serve", "f.langium"], Some(FLAT))
     }
-    setting.failing_reads.push(failing_read)?;
-    setting.failing_writes.push(failing_write)?;
-    run_over(alloc, setting, Some(FLAT), bytes)
-}
-
-// One session with this behind it.
-fn served_before(alloc: Global, size: u32, rest: &str) -> Result<Ran, NoMemory> {
-    let mut bytes = session(alloc)?;
-    bytes.extend_from_slice(rest.as_bytes())?;
-    served(alloc, bytes, size, 0, 0)
 }
 
 #[test]
 fn a_session_is_answered_however_it_is_cut(rt: HostRuntime) -> Result<(), Fail> {
-    for (size, rest) in [(0u32, ""), (1, ""), (7, "Content-Length: 2\r\n\r\n{}")] {
-        let ran = served_before(rt.alloc(), size, rest)?;
+    let alloc = rt.alloc();
+    for (size, rest) in [(1_000u32, ""), (1, ""), (7, "Content-Length: 2\r\n\r\n{}")] {
+        let mut bytes = session(alloc)?;
+        bytes.extend_from_slice(rest.as_bytes())?;
+        let pieces = vec![in alloc; size; bytes.len()]?;
+        let ran = run_over(alloc, &serving(&pieces, 0, 0), &bytes)?;
         assert_eq!(rt; ran.code, 0, "in pieces of {size}");
         assert_eq!(rt; ran.out.as_slice(), REPLIES.as_bytes());
         assert!(rt; ran.notes.is_empty());
@@ -87,49 +80,66 @@ fn a_session_is_answered_however_it_is_cut(rt: HostRuntime) -> Result<(), Fail> 
 
 #[test]
 fn sessions_end_with_their_status(rt: HostRuntime) -> Result<(), Fail> {
-    for (bytes, code, out, note) in [
-        (CUT, 8u8, "", "frame truncated: 3 bytes missing\n"),
-        ("", 1, "", ""),
-        (ONLY_EXIT, 1, "", ""),
+    for (bytes, code, note) in [
+        (CUT, 8u8, "frame truncated: 3 bytes missing\n"),
+        ("", 1, ""),
+        (ONLY_EXIT, 1, ""),
         (
             "Content-Length: 9x\r\n\r\n",
             8,
-            "",
             "frame header fault at byte 0\n",
         ),
-        ("A: b\r\n\r\n", 8, "", "frame without length at byte 0\n"),
+        ("A: b\r\n\r\n", 8, "frame without length at byte 0\n"),
         (
             "Content-Length: 16777217\r\n\r\n",
             8,
-            "",
             "frame of 16777217 bytes is too long\n",
         ),
     ] {
-        let ran = served(rt.alloc(), bytes.as_bytes().to_vec(rt.alloc())?, 0, 0, 0)?;
-        assert_eq!(rt; ran.code, code, "{note}");
-        assert_eq!(rt; ran.out.as_slice(), out.as_bytes());
-        assert_eq!(rt; ran.notes.as_slice(), note.as_bytes());
+        ends_as(
+            &rt,
+            rt.alloc(),
+            &serving(&[], 0, 0),
+            bytes.as_bytes(),
+            code,
+            "",
+            note,
+        )?;
     }
     Ok(())
 }
 
 #[test]
 fn failing_streams_end_a_session(rt: HostRuntime) -> Result<(), Fail> {
-    for (size, read, write, code, out, note) in [
-        (1u32, 3u64, 0u64, 4u8, "", "read failed\n"),
-        (0, 0, 2, 5, HELLO, "write failed\n"),
+    for (pieces, read, write, code, out, note) in [
+        ([1u32, 1].as_slice(), 3u64, 0u64, 4u8, "", "read failed\n"),
+        (
+            &[],
+            0,
+            2,
+            5,
+            "Content-Length: 261\r\n\r\n",
+            "write failed\n",
+        ),
+        (&[], 0, 3, 5, HELLO, "write failed\n"),
     ] {
-        let ran = served(rt.alloc(), session(rt.alloc())?, size, read, write)?;
-        assert_eq!(rt; ran.code, code, "{note}");
-        assert_eq!(rt; ran.out.as_slice(), out.as_bytes());
-        assert_eq!(rt; ran.notes.as_slice(), note.as_bytes());
+        let bytes = session(rt.alloc())?;
+        ends_as(
+            &rt,
+            rt.alloc(),
+            &serving(pieces, read, write),
+            &bytes,
+            code,
+            out,
+            note,
+        )?;
     }
     Ok(())
 }
 
 #[test]
 fn a_reply_is_written_before_the_next_read(rt: HostRuntime) -> Result<(), Fail> {
-    let ran = served(rt.alloc(), session(rt.alloc())?, 0, 0, 1)?;
+    let ran = run_over(rt.alloc(), &serving(&[], 0, 1), &session(rt.alloc())?)?;
     let rest = framed(rt.alloc(), &[OPEN, SHUTDOWN, EXIT])?;
     assert_eq!(rt; ran.code, 5);
     assert!(rt; ran.out.is_empty());
@@ -165,7 +175,7 @@ fn the_lifecycle_is_kept(rt: HostRuntime) -> Result<(), Fail> {
             "{\"error\":{\"code\":-32600,\"message\":\"invalid request\"},\"id\":3,\"jsonrpc\":\"2.0\"}",
         ],
     )?;
-    let ran = served(rt.alloc(), bytes, 0, 0, 0)?;
+    let ran = run_over(rt.alloc(), &serving(&[], 0, 0), &bytes)?;
     assert_eq!(rt; ran.code, 0);
     assert_eq!(rt; ran.out.as_slice(), replies.as_slice());
     Ok(())

@@ -4,9 +4,10 @@ ghost use Rattle.std.specs.Prelude.{◌≡◌, ◌<◌};
 use crate::desk::Desk;
 use crate::top::run;
 use lw_base::{Name, NoMemory, Steps};
-use lw_io::{MemPatterns, MemSink, MemSource, MemStore};
+use lw_io::{MemPatterns, MemSink, MemSource, MemStore, Sink, Wrote};
 use std::alloc::Global;
 use std::marker::Brand;
+use std::process::Abort;
 use std::sync::ledger::{Blank, Ledger};
 use std::test::Fail;
 
@@ -19,15 +20,46 @@ const FACES: &str = "grammar G entry A: 'x' v=E; hidden terminal WS: /\\s+/; ter
 
 const CHOICE: &str = "grammar F entry A: 'a' | 'b';";
 
-// What a run had, beside the grammar at its path and the document.
-#[derive(Drop)]
-pub(crate) struct Setting {
-    pub words: Vec<Name>,
-    pub pieces: Vec<u32>,
-    pub failing_reads: Vec<u64>,
-    pub failing_writes: Vec<u64>,
-    pub failing_notes: Vec<u64>,
-    pub refused: Vec<Name>,
+const UNPATTERNED: &str = "[_a-zA-Z][\\w_]*";
+
+const USAGE: &str =
+    "usage: langbench check|serve|replay|make GRAMMAR [--lookahead K] [FILE or N]\n";
+
+// The numbers of the calls that fail, 0 for none.
+#[derive(Clone, Copy)]
+pub(crate) struct Failing {
+    pub read: u64,
+    pub write: u64,
+    pub note: u64,
+    pub file: u64,
+}
+
+pub(crate) const NOTHING: Failing = Failing {
+    read: 0,
+    write: 0,
+    note: 0,
+    file: 0,
+};
+
+// What a run is handed beside the bytes of its source: its words, the grammar at its path, the sizes of the
+// pieces that are read, what fails, and the text that the patterns refuse.
+#[derive(Clone, Copy)]
+pub(crate) struct Setting<'a> {
+    pub words: &'a [&'a str],
+    pub grammar: Option<&'a str>,
+    pub pieces: &'a [u32],
+    pub failing: Failing,
+    pub refused: &'a str,
+}
+
+pub(crate) fn setting_of<'a>(words: &'a [&'a str], grammar: Option<&'a str>) -> Setting<'a> {
+    Setting {
+        words,
+        grammar,
+        pieces: &[],
+        failing: NOTHING,
+        refused: "none",
+    }
 }
 
 // What a run left: the bytes of the source that it did not take, too, and whether a session lies on the desk.
@@ -40,69 +72,58 @@ pub(crate) struct Ran {
     pub is_serving: bool,
 }
 
-pub(crate) fn setting_of(alloc: Global, command: &str) -> Result<Setting, NoMemory> {
-    let mut words = Vec::new(alloc);
-    words.push(Name::from_text(alloc, command)?)?;
-    words.push(Name::from_text(alloc, PATH)?)?;
-    Ok(Setting {
-        words,
-        pieces: Vec::new(alloc),
-        failing_reads: Vec::new(alloc),
-        failing_writes: Vec::new(alloc),
-        failing_notes: Vec::new(alloc),
-        refused: Vec::new(alloc),
-    })
+fn names(alloc: Global, words: &[&str]) -> Result<Vec<Name>, NoMemory> {
+    let mut names = Vec::new(alloc);
+    for word in words {
+        names.push(Name::from_text(alloc, word)?)?;
+    }
+    Ok(names)
 }
 
-pub(crate) fn run_over(
-    alloc: Global,
-    setting: Setting,
-    grammar: Option<&str>,
-    text: Vec<u8>,
-) -> Result<Ran, NoMemory> {
-    run_counted::<Brand>(alloc, Blank::new(1), setting, grammar, text)
+// The store that holds the grammar at its path.
+fn store_of(alloc: Global, setting: &Setting) -> Result<MemStore, NoMemory> {
+    let mut files = Vec::new(alloc);
+    if let Some(grammar) = setting.grammar {
+        let bytes = grammar.as_bytes().to_vec(alloc)?;
+        files.push((Name::from_text(alloc, PATH)?, bytes))?;
+    }
+    Ok(MemStore::new(files, vec![in alloc; setting.failing.file]?))
 }
 
-fn run_counted<L: Ledger>(
+pub(crate) fn run_over(alloc: Global, setting: &Setting, text: &[u8]) -> Result<Ran, NoMemory> {
+    let mut notes = MemSink::new(alloc, vec![in alloc; setting.failing.note]?);
+    let mut ran = run_counted::<MemSink, Brand>(alloc, Blank::new(1), setting, text, &mut notes)?;
+    ran.notes = notes.taken().to_vec(alloc)?;
+    Ok(ran)
+}
+
+fn run_counted<N: Sink, L: Ledger>(
     alloc: Global,
     blank: Blank,
-    setting: Setting,
-    grammar: Option<&str>,
-    text: Vec<u8>,
+    setting: &Setting,
+    text: &[u8],
+    notes: &mut N,
 ) -> Result<Ran, NoMemory>
     requires name { blank.name ≡ L.name }
     requires parts { blank.parts ≡ L.parts }
     requires some { 0 < blank.parts }
 {
-    let mut files = Vec::new(alloc);
-    if let Some(grammar) = grammar {
-        files.push((
-            Name::from_text(alloc, PATH)?,
-            grammar.as_bytes().to_vec(alloc)?,
-        ))?;
-    }
-    let Setting {
-        words,
-        pieces,
-        failing_reads,
-        failing_writes,
-        failing_notes,
-        refused,
-    } = setting;
     let (book, share) = blank.open::<L>();
     let mut steps = Steps::new(book, share);
-    let mut source = MemSource::new(text, pieces, failing_reads);
-    let mut out = MemSink::new(alloc, failing_writes);
-    let mut notes = MemSink::new(alloc, failing_notes);
-    let mut store = MemStore::new(files, Vec::new(alloc));
-    let mut patterns = MemPatterns::new(refused);
+    let words = names(alloc, setting.words)?;
+    let pieces = setting.pieces.to_vec(alloc)?;
+    let failing_reads = vec![in alloc; setting.failing.read]?;
+    let mut source = MemSource::new(text.to_vec(alloc)?, pieces, failing_reads);
+    let mut out = MemSink::new(alloc, vec![in alloc; setting.failing.write]?);
+    let mut store = store_of(alloc, setting)?;
+    let mut patterns = MemPatterns::new(names(alloc, &[setting.refused])?);
     let mut desk = Desk::Empty;
     let status = run(
         alloc,
         &words,
         &mut source,
         &mut out,
-        &mut notes,
+        notes,
         &mut store,
         &mut patterns,
         &mut desk,
@@ -111,84 +132,71 @@ fn run_counted<L: Ledger>(
     Ok(Ran {
         code: status.code,
         out: out.taken().to_vec(alloc)?,
-        notes: notes.taken().to_vec(alloc)?,
+        notes: Vec::new(alloc),
         left: source.left().to_vec(alloc)?,
         is_serving: matches!(desk, Desk::Serving(_)),
     })
 }
 
-fn checked(alloc: Global, grammar: &str, text: &[u8]) -> Result<Ran, NoMemory> {
-    run_over(
-        alloc,
-        setting_of(alloc, "check")?,
-        Some(grammar),
-        text.to_vec(alloc)?,
-    )
+// The run over this text ends with this status, and writes and notes this.
+pub(crate) fn ends_as(
+    rt: &impl Abort,
+    alloc: Global,
+    setting: &Setting,
+    text: &[u8],
+    code: u8,
+    out: &str,
+    note: &str,
+) -> Result<(), NoMemory> {
+    let ran = run_over(alloc, setting, text)?;
+    assert_eq!(rt; ran.code, code, "{out}{note}");
+    assert_eq!(rt; ran.out.as_slice(), out.as_bytes());
+    assert_eq!(rt; ran.notes.as_slice(), note.as_bytes());
+    Ok(())
 }
 
 // Each allocation of this run may be made to fail in turn.
 #[test]
 fn the_first_document_is_ok(rt: HostRuntime) -> Result<(), Fail> {
-    let ran = checked(rt.alloc(), FLAT, b"model m")?;
-    assert_eq!(rt; ran.code, 0);
-    assert_eq!(rt; ran.out.as_slice(), b"ok\n".as_slice());
+    let setting = setting_of(&["check", PATH], Some(FLAT));
+    ends_as(&rt, rt.alloc(), &setting, b"model m", 0, "ok\n", "")?;
     Ok(())
 }
 
 #[test]
 fn documents_have_their_lines(rt: HostRuntime) -> Result<(), Fail> {
-    let table = [
+    for (grammar, text, code, line) in [
         (FLAT, b"model m".as_slice(), 0, "ok\n"),
-        (FLAT, b"model model1".as_slice(), 0, "ok\n"),
+        (FLAT, b"model model1", 0, "ok\n"),
+        (FLAT, b"model", 1, "1:6: error 2: Unexpected end of text.\n"),
         (
             FLAT,
-            b"model".as_slice(),
-            1,
-            "1:6: error 2: Unexpected end of text.\n",
-        ),
-        (
-            FLAT,
-            b"model model".as_slice(),
+            b"model model",
             1,
             "1:7: error 2: Unexpected 'model'.\n",
         ),
-        (
-            FLAT,
-            b"model m x".as_slice(),
-            1,
-            "1:9: error 2: Unexpected ID.\n",
-        ),
+        (FLAT, b"model m x", 1, "1:9: error 2: Unexpected ID.\n"),
         (
             FLAT,
             "model €".as_bytes(),
             1,
             "1:7: error 1: Unexpected character.\n",
         ),
-        (FLAT, b"\xFF".as_slice(), 1, "text is not UTF-8\n"),
+        (FLAT, b"\xFF", 1, "text is not UTF-8\n"),
+        (FLAT, b"", 1, "1:1: error 2: Unexpected end of text.\n"),
         (
             FLAT,
-            b"".as_slice(),
-            1,
-            "1:1: error 2: Unexpected end of text.\n",
-        ),
-        (
-            FLAT,
-            b"model\r".as_slice(),
+            b"model\r",
             1,
             "2:1: error 2: Unexpected end of text.\n",
         ),
         (
             FLAT,
-            b"\r\n\n model m m".as_slice(),
+            b"\r\n\n model m m",
             1,
             "3:10: error 2: Unexpected ID.\n",
         ),
-        (
-            FLAT,
-            b"\0\0".as_slice(),
-            1,
-            "1:1: error 1: Unexpected character.\n",
-        ),
+        (FLAT, b"\0\0", 1, "1:1: error 1: Unexpected character.\n"),
         (FACES, "x 😀😀".as_bytes(), 0, "ok\n"),
         (
             FACES,
@@ -196,104 +204,164 @@ fn documents_have_their_lines(rt: HostRuntime) -> Result<(), Fail> {
             1,
             "1:6: error 2: Unexpected 'x'.\n",
         ),
-    ];
-    for (grammar, text, code, line) in table {
-        let ran = checked(rt.alloc(), grammar, text)?;
-        assert_eq!(rt; ran.code, code, "{line}");
-        assert_eq!(rt; ran.out.as_slice(), line.as_bytes());
-        assert!(rt; ran.notes.is_empty());
+    ] {
+        let setting = setting_of(&["check", PATH], Some(grammar));
+        ends_as(&rt, rt.alloc(), &setting, text, code, line, "")?;
     }
     Ok(())
 }
 
 #[test]
 fn the_longest_document_is_read(rt: HostRuntime) -> Result<(), Fail> {
-    let alloc = rt.alloc();
-    for (length, code, line) in [
-        (2_097_152usize, 0, "ok\n"),
-        (
-            2_097_153,
-            1,
-            "1:1: error 7: Document is longer than 2097152 bytes.\n",
-        ),
-    ] {
-        let mut text = b"model m".to_vec(alloc)?;
+    let setting = setting_of(&["check", PATH], Some(FLAT));
+    let too_large = "1:1: error 7: Document is longer than 2097152 bytes.\n";
+    for (length, code, line) in [(2_097_152usize, 0, "ok\n"), (2_097_153, 1, too_large)] {
+        let mut text = b"model m".to_vec(rt.alloc())?;
         text.resize(length, b' ')?;
-        let ran = run_over(alloc, setting_of(alloc, "check")?, Some(FLAT), text)?;
-        assert_eq!(rt; ran.code, code);
-        assert_eq!(rt; ran.out.as_slice(), line.as_bytes());
+        ends_as(&rt, rt.alloc(), &setting, &text, code, line, "")?;
     }
     Ok(())
 }
 
 #[test]
 fn runs_stop_with_a_note(rt: HostRuntime) -> Result<(), Fail> {
-    let alloc = rt.alloc();
-    let text = b"model m".as_slice();
-    let unbuilt = checked(alloc, CHOICE, text)?;
-    let absent = run_over(
-        alloc,
-        setting_of(alloc, "check")?,
-        None,
-        text.to_vec(alloc)?,
-    )?;
-
-    let mut unread = setting_of(alloc, "check")?;
-    unread.pieces = vec![in alloc; 3, 3]?;
-    unread.failing_reads = vec![in alloc; 3]?;
-    let unread = run_over(alloc, unread, Some(FLAT), text.to_vec(alloc)?)?;
-
-    let mut unwritten = setting_of(alloc, "check")?;
-    unwritten.failing_writes = vec![in alloc; 1]?;
-    let unwritten = run_over(alloc, unwritten, Some(FLAT), text.to_vec(alloc)?)?;
-
-    let mut wordless = setting_of(alloc, "check")?;
-    wordless.words = Vec::new(alloc);
-    let wordless = run_over(alloc, wordless, Some(FLAT), text.to_vec(alloc)?)?;
-
-    let mut refusing = setting_of(alloc, "check")?;
-    refusing
-        .refused
-        .push(Name::from_text(alloc, "[_a-zA-Z][\\w_]*")?)?;
-    let refusing = run_over(alloc, refusing, Some(FLAT), text.to_vec(alloc)?)?;
-
-    let usage = "usage: langbench check|serve|replay|make GRAMMAR [--lookahead K] [FILE or N]\n";
-    for (ran, code, note) in [
-        (unbuilt, 3, "f.langium:1:24: not built\n"),
-        (absent, 6, "f.langium: absent\n"),
-        (unread, 4, "read failed\n"),
-        (unwritten, 5, "write failed\n"),
-        (wordless, 2, usage),
+    let check = setting_of(&["check", PATH], Some(FLAT));
+    let unread = Setting {
+        pieces: &[3, 3],
+        failing: Failing { read: 3, ..NOTHING },
+        ..check
+    };
+    let unwritten = Setting {
+        failing: Failing {
+            write: 1,
+            ..NOTHING
+        },
+        ..check
+    };
+    let unstored = Setting {
+        failing: Failing { file: 1, ..NOTHING },
+        ..check
+    };
+    for (setting, code, out, note) in [
         (
-            refusing,
+            Setting {
+                grammar: Some(CHOICE),
+                ..check
+            },
             3,
+            "",
+            "f.langium:1:24: not built\n",
+        ),
+        (
+            Setting {
+                grammar: None,
+                ..check
+            },
+            6,
+            "",
+            "f.langium: absent\n",
+        ),
+        (unstored, 6, "", "f.langium: failed\n"),
+        (unread, 4, "", "read failed\n"),
+        (unwritten, 5, "", "write failed\n"),
+        (
+            Setting {
+                words: &[],
+                ..check
+            },
+            2,
+            "",
+            USAGE,
+        ),
+        (
+            Setting {
+                refused: UNPATTERNED,
+                ..check
+            },
+            3,
+            "",
             "f.langium:1:77: terminal ID: pattern refused\n",
         ),
+        // The grammar's file is read once.
+        (
+            Setting {
+                failing: Failing { file: 2, ..NOTHING },
+                ..check
+            },
+            0,
+            "ok\n",
+            "",
+        ),
+        // That a note fails changes neither the status nor what was written.
+        (
+            Setting {
+                grammar: None,
+                failing: Failing { note: 1, ..NOTHING },
+                ..check
+            },
+            6,
+            "",
+            "",
+        ),
+        (
+            Setting {
+                failing: Failing {
+                    write: 1,
+                    note: 1,
+                    ..NOTHING
+                },
+                ..check
+            },
+            5,
+            "",
+            "",
+        ),
+        (
+            Setting {
+                failing: Failing { note: 1, ..NOTHING },
+                ..check
+            },
+            0,
+            "ok\n",
+            "",
+        ),
     ] {
-        assert_eq!(rt; ran.code, code, "{note}");
-        assert_eq!(rt; ran.notes.as_slice(), note.as_bytes());
-        assert!(rt; ran.out.is_empty());
+        ends_as(&rt, rt.alloc(), &setting, b"model m", code, out, note)?;
     }
     Ok(())
 }
 
-// That a note fails changes neither the status nor what was written.
-#[test]
-fn a_note_that_fails_changes_nothing(rt: HostRuntime) -> Result<(), Fail> {
-    let alloc = rt.alloc();
-    for (grammar, failing_write, code, out) in [
-        (Some(CHOICE), 0u64, 3, ""),
-        (None, 0, 6, ""),
-        (Some(FLAT), 1, 5, ""),
-        (Some(FLAT), 0, 0, "ok\n"),
-    ] {
-        let mut setting = setting_of(alloc, "check")?;
-        setting.failing_writes.push(failing_write)?;
-        setting.failing_notes.push(1)?;
-        let ran = run_over(alloc, setting, grammar, b"model m".to_vec(alloc)?)?;
-        assert_eq!(rt; ran.code, code);
-        assert_eq!(rt; ran.out.as_slice(), out.as_bytes());
-        assert!(rt; ran.notes.is_empty());
+// Notes for which there is never memory.
+#[derive(Drop)]
+struct NoRoom {
+    calls: u64,
+}
+
+impl Sink for NoRoom {
+    ghost use Rattle.std.specs.Prelude.{None};
+
+    ghost written = { λ s. None };
+
+    ghost count = { λ s. 0 };
+
+    fn faults(&self) -> u64 {
+        0
     }
+
+    fn write(&mut self, bytes: &[u8]) -> Wrote {
+        self.calls = self.calls.saturating_add(1);
+        Wrote::NoMemory
+    }
+}
+
+// The status is 7 then, and no second note is tried.
+#[test]
+fn a_note_without_memory_is_the_last(rt: HostRuntime) -> Result<(), Fail> {
+    let alloc = rt.alloc();
+    let setting = setting_of(&["check", PATH], None);
+    let mut notes = NoRoom { calls: 0 };
+    let ran = run_counted::<NoRoom, Brand>(alloc, Blank::new(1), &setting, b"model m", &mut notes)?;
+    assert_eq!(rt; ran.code, 7);
+    assert_eq!(rt; notes.calls, 1);
     Ok(())
 }

@@ -12,7 +12,7 @@ use Rattle.lw_machine.specs.Events as event
 use Rattle.lw_machine.specs.Validity.{IsValid, AreCurrent}
 use Rattle.lw_machine.proofs.Validity.{begins_valid, stays_valid, end_is_valid, end_is_current}
 use Rattle.lw_conversation.specs.Standing.{Standing, beginning, with_texts}
-use Rattle.lw_conversation.specs.Opening.{Opens, too_long, too_many, puts}
+use Rattle.lw_conversation.specs.Opening.{OpensDocument, too_long, too_many, puts}
 use Rattle.lw_conversation.specs.Effects.{TakesEffect, opens, asks}
 use Rattle.lw_conversation.specs.Answered.{Answered, stops, passes}
 use Rattle.lw_conversation.specs.Sessions.{Handles, Serves, unbuilt, built, waits, ends, goes_on}
@@ -26,7 +26,7 @@ module _ (g : Grammar) where
   texts_valid m [] valid = valid
   texts_valid m (file ∷ files) valid = texts_valid (put m file.0 file.1 None false) files (put_valid m file.0 file.1 None false valid)
 
-  opening_valid : (m : Documents) (address : List ℕ) (version : ℤ) (text : List ℕ) (n : Documents) (replies : List Reply) → Opens m address version text n replies →
+  opening_valid : (m : Documents) (address : List ℕ) (version : ℤ) (text : List ℕ) (n : Documents) (replies : List Reply) → OpensDocument m address version text n replies →
       IsValid g m → IsValid g n
   opening_valid m address version text n replies (too_long long) valid = valid
   opening_valid m address version text n replies (too_many short full) valid = valid

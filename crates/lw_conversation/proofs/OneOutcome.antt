@@ -11,7 +11,7 @@ use Rattle.lw_machine.specs.Documents.{Documents}
 use Rattle.lw_machine.proofs.OneBuild.{one_build}
 use Rattle.lw_conversation.specs.Standing.{Standing, with_documents, with_phase}
 use Rattle.lw_conversation.specs.Gate.{Stops, Passes, gate}
-use Rattle.lw_conversation.specs.Opening.{HasRoom, IsFull, Opens, too_long, too_many, puts, most_documents}
+use Rattle.lw_conversation.specs.Opening.{HasRoom, IsFull, OpensDocument, too_long, too_many, puts, most_documents}
 use Rattle.lw_conversation.specs.Effects.{TakesEffect, opens, asks, as_reply}
 use Rattle.lw_conversation.specs.Answered.{Answered, stops, passes}
 use Rattle.lw_conversation.specs.Sessions.{Handles, Serves, unbuilt, built, waits, ends, goes_on}
@@ -23,8 +23,8 @@ never_both : {A : Type 0} (m : Documents) (address : List ℕ) → IsFull m addr
 never_both m address (absent, full) (inl held) = absurd (true≢false (sym held ∙ absent))
 never_both m address (absent, full) (inr room) = absurd (omega arith)
 
-one_opening : (m : Documents) (address : List ℕ) (version : ℤ) (text : List ℕ) (n o : Documents) (p q : List Reply) → Opens m address version text n p →
-    Opens m address version text o q → (n ≡ o) × (p ≡ q)
+one_opening : (m : Documents) (address : List ℕ) (version : ℤ) (text : List ℕ) (n o : Documents) (p q : List Reply) → OpensDocument m address version text n p →
+    OpensDocument m address version text o q → (n ≡ o) × (p ≡ q)
 one_opening m address version text n o p q (too_long long) (too_long also) = (refl, refl)
 one_opening m address version text n o p q (too_long long) (too_many short full) = absurd (omega arith)
 one_opening m address version text n o p q (too_long long) (puts short room) = absurd (omega arith)

@@ -11,7 +11,7 @@ use Rattle.lw_rpc.specs.declared.reply.Reply.TheVariants.{Publish}
 use Rattle.lw_machine.specs.Building.{BuildsToEnd}
 use Rattle.lw_machine.specs.Documents.{Documents}
 use Rattle.lw_machine.specs.declared.published.Published.{Published}
-use Rattle.lw_conversation.specs.Opening.{Opens}
+use Rattle.lw_conversation.specs.Opening.{OpensDocument}
 
 -- a list of diagnostics is told by a publication
 abbrev pub as_reply : Published → Reply
@@ -24,7 +24,7 @@ RepliesTo documents message reply = ⊥
 module _ (g : Grammar) where
   -- the documents before a message, the message, what the store answered, and the documents and the replies behind it
   pub data TakesEffect (m : Documents) : Message → List Found → Documents → List Reply → Type 0 where
-    opens : {address text : List ℕ} {version : ℤ} {n : Documents} {replies : List Reply} → Opens m address version text n replies →
+    opens : {address text : List ℕ} {version : ℤ} {n : Documents} {replies : List Reply} → OpensDocument m address version text n replies →
         TakesEffect m (DidOpen address version text) [] n replies
     -- a question: the build runs to its end before it, and the reply comes behind what that publishes
     asks : {message : Message} {n : Documents} (published : List Published) (reply : Reply) → BuildsToEnd g m n published → RepliesTo n message reply →

@@ -21,7 +21,7 @@ abbrev pub IsFull : Documents → List ℕ → Type 0
 IsFull m address = (contains_key m address ≡ false) × (most_documents ≤ len m)
 
 -- the documents and the replies once a document is opened
-pub data Opens (m : Documents) (address : List ℕ) (version : ℤ) (text : List ℕ) : Documents → List Reply → Type 0 where
-  too_long : LONGEST_TEXT < length text → Opens m address version text m (Log (codes "text too long: " ++ address) ∷ [])
-  too_many : length text ≤ LONGEST_TEXT → IsFull m address → Opens m address version text m (Log (codes "too many documents: " ++ address) ∷ [])
-  puts : length text ≤ LONGEST_TEXT → HasRoom m address → Opens m address version text (put m address text (Some version) true) []
+pub data OpensDocument (m : Documents) (address : List ℕ) (version : ℤ) (text : List ℕ) : Documents → List Reply → Type 0 where
+  too_long : LONGEST_TEXT < length text → OpensDocument m address version text m (Log (codes "text too long: " ++ address) ∷ [])
+  too_many : length text ≤ LONGEST_TEXT → IsFull m address → OpensDocument m address version text m (Log (codes "too many documents: " ++ address) ∷ [])
+  puts : length text ≤ LONGEST_TEXT → HasRoom m address → OpensDocument m address version text (put m address text (Some version) true) []

@@ -71,7 +71,7 @@ module _ (g : Grammar) (document : Option Held) (phase : Phase) (live : IsLive p
   abbrev IsLogged : List ℕ → Type 0
   IsLogged line = (told : Told) → told ≡ telling phase (Log line ∷ []) → Handles g s (opened_message opened) [] (record s { phase = told.phase }) told.replies told.ended
 
-  logged : (line : List ℕ) → opening.Opens (documents_of document) opened.id.address opened.id.version opened.text (documents_of document) (Log line ∷ []) → IsLogged line
+  logged : (line : List ℕ) → opening.OpensDocument (documents_of document) opened.id.address opened.id.version opened.text (documents_of document) (Log line ∷ []) → IsLogged line
   logged line opens told is =
       handling.stays g s (all_built document) (opened_message opened) told
       (subst (λ (t : Told). answer.Answered g s (opened_message opened) [] (record s { phase = t.phase }) t.replies t.ended) (sym is)
