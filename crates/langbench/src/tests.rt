@@ -52,6 +52,15 @@ pub(crate) struct Setting<'a> {
     pub refused: &'a str,
 }
 
+// A check of the flat language.
+const CHECK: Setting<'static> = Setting {
+    words: &["check", PATH],
+    grammar: Some(FLAT),
+    pieces: &[],
+    failing: NOTHING,
+    refused: "none",
+};
+
 pub(crate) fn setting_of<'a>(words: &'a [&'a str], grammar: Option<&'a str>) -> Setting<'a> {
     Setting {
         words,
@@ -225,7 +234,7 @@ fn the_longest_document_is_read(rt: HostRuntime) -> Result<(), Fail> {
 
 #[test]
 fn runs_stop_with_a_note(rt: HostRuntime) -> Result<(), Fail> {
-    let check = setting_of(&["check", PATH], Some(FLAT));
+    let check = CHECK;
     let unread = Setting {
         pieces: &[3, 3],
         failing: Failing { read: 3, ..NOTHING },
