@@ -1,13 +1,12 @@
 -- A grammar that was made ready, and its patterns.
-use Rattle.std.proofs.Common.{◌≡◌, ◌⊎◌, inl, inr, ℕ, List, [], ◌∷◌, ◌++◌, Some, All, Contains, map, option_map, refl, sym, ap, subst, ◌∙◌}
+use Rattle.std.proofs.Common.{◌≡◌, ℕ, List, [], ◌∷◌, ◌++◌, Some, All, Contains, map, option_map, refl, sym, ap, subst, ◌∙◌}
 use Rattle.std.specs.List.{AllZip}
 use Rattle.std.proofs.lemmas.List.Elements.{All-contains}
 use Rattle.lw_grammar.specs.declared.grammar.Grammar.{Grammar}
 use Rattle.lw_grammar.specs.declared.terminal.Terminal.{Terminal}
 use Rattle.lw_grammar.specs.declared.terminal.TermElement.{out-TermElement}
-use Rattle.lw_grammar.specs.Kept as keep
-use Rattle.lw_grammar.specs.Kept.{KeepsPassingFrom}
 use Rattle.lw_grammar.specs.Kinds.{Kinds, AreKinds, IsKindTerminal}
+use Rattle.lw_grammar.proofs.KeptLemmas.{kept_once, kept_from}
 use Rattle.lw_tokens.specs.Lexicon.{HasForm}
 use Rattle.lw_tokens.specs.Matching.{match_length}
 use Rattle.lw_tokens.specs.Patterns.{TerminalPattern, as_pattern, unescaped}
@@ -20,20 +19,8 @@ use Rattle.lw_grammar.specs.KindTexts.{texts_of, quoted}
 use Rattle.lw_lang.specs.Flat.{IsSource, IsFlat}
 use Rattle.lw_lang.specs.Prepared.{IsPrepared}
 use Rattle.lw_lang.specs.declared.flat.Flat.{Flat}
-use Rattle.lw_lang.proofs.Lists.{here, there, in_cons, zip_left}
-use Rattle.lw_lang.proofs.FlatKinds.{kept_once}
+use Rattle.lw_lang.proofs.Lists.{zip_left}
 use Rattle.lw_lang.proofs.FlatObstacles.{pattern_once}
-
--- what was kept was there
-module _ {X : Type 0} (passes : ℕ → Type 0) where
-  kept_from : {i : ℕ} {xs ys : List X} (x : X) → KeepsPassingFrom passes i xs ys → Contains ys x → Contains xs x
-  kept_from x keep.nothing h = h
-  kept_from x (keep.kept {x = y} {xs} {ys} p k) h = by (in_cons y ys h) (λ later. kept_from x k later)
-    where
-      by : (y ≡ x) ⊎ Contains ys x → (Contains ys x → Contains xs x) → Contains (y ∷ xs) x
-      by (inl is) rest = subst (Contains (y ∷ xs)) is (here y xs)
-      by (inr later) rest = there y xs (rest later)
-  kept_from x (keep.left_out {x = y} {xs} n k) h = there y xs (kept_from x k h)
 
 -- what a terminal is made from is its form, and has its name
 forms : (g : Grammar) (terminals : List Terminal) (sources : List TerminalSource) → AllZip (IsSource g) terminals sources → AllZip (HasForm g) terminals (map form_of sources)

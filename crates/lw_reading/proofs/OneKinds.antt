@@ -6,22 +6,13 @@ use Rattle.std.proofs.lemmas.List.Elements.{Contains-append_cases}
 use Rattle.std.proofs.lemmas.Slice.Eq.{bytes_eq-Decides}
 use Rattle.lw_grammar.specs.declared.grammar.Grammar.{Grammar}
 use Rattle.lw_grammar.specs.declared.rule.Rule.{Rule}
-use Rattle.lw_grammar.specs.Kept.{KeepsPassingFrom, KeepsPassing}
-use Rattle.lw_grammar.specs.Kept as keep
 use Rattle.lw_grammar.specs.Leaves.{keywords_in}
 use Rattle.lw_grammar.specs.Reached.{IsReached}
 use Rattle.lw_grammar.specs.Kinds.{Kinds, AreKinds, IsKindTerminal, first_uses}
+use Rattle.lw_grammar.proofs.KeptLemmas.{there, kept_once, kept_from}
 use Rattle.lw_tokens.specs.Keywords.{AreKeywords}
 use Rattle.lw_grammar.specs.KindTexts.{AreKindTexts, IsKindText, texts_of}
 use Rattle.lw_reading.specs.Laws.{HasNoEmptyKeyword, WritesNoEmptyKeyword}
-
--- which items are kept is settled
-kept_once : {X : Type 0} (passes : ℕ → Type 0) {i : ℕ} {xs ys zs : List X} → KeepsPassingFrom passes i xs ys → KeepsPassingFrom passes i xs zs → ys ≡ zs
-kept_once passes keep.nothing keep.nothing = refl
-kept_once passes (keep.kept {x} p k) (keep.kept q l) = ap (λ ys. x ∷ ys) (kept_once passes k l)
-kept_once passes (keep.kept p k) (keep.left_out q l) = absurd (q p)
-kept_once passes (keep.left_out p k) (keep.kept q l) = absurd (p q)
-kept_once passes (keep.left_out p k) (keep.left_out q l) = kept_once passes k l
 
 -- whether a text stands in a list
 abbrev stands_in : List ℕ → List (List ℕ) → Bool
@@ -66,9 +57,6 @@ apart seen (text ∷ texts) = by (stands_in text seen) (apart seen texts) (apart
     by false same new (suc i) (suc j) d below inside = new i j d (omega arith) (omega arith)
 
 -- ---- where a keyword kind comes from
-there : {X : Type 0} (y : X) (xs : List X) (x : X) → Contains xs x → Contains (y ∷ xs) x
-there y xs x (k, inside, is) = (suc k, omega arith, is)
-
 -- the first uses are some of the texts
 in_texts : (x : List ℕ) (seen texts : List (List ℕ)) → Contains (first_uses seen texts) x → Contains texts x
 in_texts x seen [] = λ has. has
@@ -79,13 +67,6 @@ in_texts x seen (text ∷ texts) = by (stands_in text seen) (in_texts x seen tex
     by true same new has = there text texts x (same has)
     by false same new (zero, inside, is) = (0, omega arith, is)
     by false same new (suc k, inside, is) = there text texts x (new (k, omega arith, is))
-
--- what is kept was there
-in_all : {X : Type 0} (passes : ℕ → Type 0) (y : X) {i : ℕ} {xs ys : List X} → KeepsPassingFrom passes i xs ys → Contains ys y → Contains xs y
-in_all passes y keep.nothing has = has
-in_all passes y (keep.kept {x = x} {xs = xs} p rest) (zero, inside, is) = (0, omega arith, is)
-in_all passes y (keep.kept {x = x} {xs = xs} p rest) (suc k, inside, is) = there x xs y (in_all passes y rest (k, omega arith, is))
-in_all passes y (keep.left_out {x = x} {xs = xs} p rest) has = there x xs y (in_all passes y rest has)
 
 in_one : {X Y : Type 0} (f : X → List Y) (xs : List X) (y : Y) → Contains (flat_map f xs) y → (x : X) × Contains xs x × Contains (f x) y
 in_one f [] y (k, inside, is) = absurd (omega arith)
@@ -103,7 +84,7 @@ module _ (g : Grammar) where
       let has : Contains of.keywords [] = (k, slice_get_within of.keywords k [] is, get_or_from_slice_get of.keywords k [] [] is) in
       let uses = in_texts [] [] (flat_map (λ (rule : Rule). keywords_in rule.body) are.rules) (subst (λ texts. Contains texts []) are.keywords has) in
       let found = in_one (λ (rule : Rule). keywords_in rule.body) are.rules [] uses in
-      filled found.0 (in_all (IsReached g) found.0 are.reached found.1) found.2
+      filled found.0 (kept_from (IsReached g) found.0 are.reached found.1) found.2
 
   -- a grammar has one list of kinds
   pub one_kinds : (a b : Kinds) → AreKinds g a → AreKinds g b → a ≡ b

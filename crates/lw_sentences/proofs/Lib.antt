@@ -1,3 +1,4 @@
+pub mod Joined
 pub mod Starting
 pub mod KeywordRows
 pub mod TwoWays

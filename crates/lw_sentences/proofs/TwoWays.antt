@@ -28,10 +28,11 @@ use Rattle.lw_grammar.specs.Kept as keep
 use Rattle.lw_grammar.specs.Kinds.{Kinds, AreKinds, IsKeywordKind, first_uses}
 use Rattle.lw_sentences.specs.Marks.{Mark, kinds_of}
 use Rattle.lw_sentences.specs.Marks as mark
-use Rattle.lw_sentences.specs.Yields.{Yields, Gives, RuleGives, GivesValue, GivesValueLayer}
+use Rattle.lw_sentences.specs.Yields.{Yields, Gives, RuleGives, ValueYields, ValueGives}
 use Rattle.lw_sentences.specs.Yields as y
 use Rattle.lw_sentences.specs.Sentences.{IsWhole, Starts}
-use Rattle.lw_sentences.proofs.KeywordRows.{kinds_join, keyword_once}
+use Rattle.lw_sentences.proofs.Joined.{kinds_join}
+use Rattle.lw_sentences.proofs.KeywordRows.{keyword_once}
 
 abbrev pub nowhere : Span
 nowhere = record { start = 0; end = 0 }
@@ -182,7 +183,7 @@ keyword_can : (word : List ℕ) (k : ℕ) → IsKeywordKind kinds word k → Yie
 keyword_can word k is = y.yields (subst (λ f. Gives E kinds f (mark.Token k ∷ [])) (sym (outs-Keyword word nowhere)) (y.keyword is))
 
 module _ (word : List ℕ) (k : ℕ) (is_kind : IsKeywordKind kinds word k) where
-  value_gives : {v w : Value0} {m : List Mark} → GivesValueLayer E kinds v (value_layer.Keyword word nowhere) w m → kinds_of m ≡ k ∷ []
+  value_gives : {v w : Value0} {m : List Mark} → ValueGives E kinds v (value_layer.Keyword word nowhere) w m → kinds_of m ≡ k ∷ []
   value_gives (y.keyword_value {k = l} at) = ap (λ n. n ∷ []) (once word k l is_kind at)
 
   assignment_gives : {m : List Mark} → Yields E kinds (assignment word) m → kinds_of m ≡ k ∷ []
@@ -191,7 +192,7 @@ module _ (word : List ℕ) (k : ℕ) (is_kind : IsKeywordKind kinds word k) wher
       inside : {m : List Mark} → Gives E kinds (layer.Assign word One (value.Keyword word nowhere) nowhere) m → kinds_of m ≡ k ∷ []
       inside (y.assigned {m} (y.reads {c} layered)) =
           kinds_join m (mark.End ∷ []) ∙ append-nil (kinds_of m)
-          ∙ value_gives (subst (λ f. GivesValueLayer E kinds (value.Keyword word nowhere) f c m) (value.outs-Keyword word nowhere) layered)
+          ∙ value_gives (subst (λ f. ValueGives E kinds (value.Keyword word nowhere) f c m) (value.outs-Keyword word nowhere) layered)
 
   pub way_gives : {m : List Mark} → Yields E kinds (way word) m → kinds_of m ≡ a ∷ k ∷ c ∷ []
   way_gives {m} (y.yields gives) = inside (subst (λ f. Gives E kinds f m) (outs-Group (way_parts word) nowhere) gives)
@@ -209,8 +210,8 @@ module _ (word : List ℕ) (k : ℕ) (is_kind : IsKeywordKind kinds word k) wher
   pub way_can : (m : List Mark) × Yields E kinds (way word) m × (kinds_of m ≡ a ∷ k ∷ c ∷ [])
   way_can =
       let word_value : Value0 = value.Keyword word nowhere in
-      let read : GivesValue E kinds word_value word_value (mark.Token k ∷ []) =
-      y.reads (subst (λ f. GivesValueLayer E kinds word_value f word_value (mark.Token k ∷ [])) (sym (value.outs-Keyword word nowhere)) (y.keyword_value is_kind)) in
+      let read : ValueYields E kinds word_value word_value (mark.Token k ∷ []) =
+      y.reads (subst (λ f. ValueGives E kinds word_value f word_value (mark.Token k ∷ [])) (sym (value.outs-Keyword word nowhere)) (y.keyword_value is_kind)) in
       let put : List Mark = mark.Put word One word_value ∷ (mark.Token k ∷ []) ++ mark.End ∷ [] in
       let second : Yields E kinds (assignment word) put =
       y.yields (subst (λ f. Gives E kinds f put) (sym (outs-Assign word One word_value nowhere)) (y.assigned read)) in
