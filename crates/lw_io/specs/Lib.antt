@@ -3,7 +3,6 @@ pub mod Source
 pub mod Sink
 pub mod Store
 pub mod Patterns
-pub mod Calls
 pub mod Pieces
 pub mod MemSource
 pub mod MemSink

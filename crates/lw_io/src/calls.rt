@@ -1,7 +1,6 @@
 // Calls that fail by their numbers, for the forms in memory.
 ghost use Rattle.std.specs.Prelude.{◌≡◌, ◌↔◌, IsTrue, Contains, MatchBool};
-ghost use Rattle.lw_io.specs.Calls.{next_number};
-ghost use Rattle.lw_io.specs.Causes.{Faulted};
+ghost use Rattle.lw_io.specs.Causes.{next_number, Faulted};
 
 /// The calls that there were, and the numbers of those that fail, counted from 1.
 #[derive(Drop)]

@@ -52,7 +52,7 @@ impl<R: Files + Drop> Store for FileStore<R> {
             Err(_) => return self.fail(),
         };
         match read_all(alloc, &mut StdSource::new(file), LONGEST_TEXT + 1) {
-            Ok(bytes) => content(alloc, &bytes),
+            Ok(bytes) => content(bytes),
             Err(ReadFault::Failed) => self.fail(),
             Err(ReadFault::NoMemory) => Found::NoMemory,
         }

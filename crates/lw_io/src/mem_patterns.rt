@@ -30,11 +30,13 @@ impl MemPatterns {
 }
 
 impl Patterns for MemPatterns {
-    ghost use Rattle.std.specs.Prelude.{◌≡◌, IfOk, Err, Contains};
+    ghost use Rattle.std.specs.Prelude.{◌≡◌, ◌⊎◌, IfOk, Err, Contains};
     ghost use Rattle.regex.specs.Patterns.{default_config};
     ghost use Rattle.regex.specs.Strings.{regex_source, regex_config, IsReadFromSource};
     ghost use Rattle.lw_io.specs.MemPatterns.{patterns_listed, patterns_last, patterns_faults};
-    ghost use Rattle.lw_io.specs.Patterns.{anchored, CountsMake, Remembers};
+    ghost use Rattle.lw_io.specs.Patterns.{anchored, CountsMake, RegexRefuses, Remembers};
+
+    ghost listed = { patterns_listed };
 
     ghost last_refused = { patterns_last };
 
@@ -52,10 +54,12 @@ impl Patterns for MemPatterns {
         ensures source { IfOk result (λ pattern. regex_source pattern ≡ anchored text) }
         ensures config { IfOk result (λ pattern. regex_config pattern ≡ default_config) }
         ensures read { IfOk result IsReadFromSource }
-        ensures refused { Remembers (patterns_last self.old) (patterns_last self.new) text result }
-        ensures cause { CountsMake (patterns_faults self.old) (patterns_faults self.new) result }
+        ensures why { result ≡ Err MakeFault.Refused
+            → Contains (patterns_listed self.old) text ⊎ RegexRefuses (anchored text) }
         ensures listed { Contains (patterns_listed self.old) text → result ≡ Err MakeFault.Refused }
         ensures same_list { patterns_listed self.new ≡ patterns_listed self.old }
+        ensures refused { Remembers (patterns_last self.old) (patterns_last self.new) text result }
+        ensures cause { CountsMake (patterns_faults self.old) (patterns_faults self.new) result }
     {
         let made = if self.listed.contains(&text) {
             Err(MakeFault::Refused)

@@ -38,7 +38,7 @@ impl MemSink {
 
 impl Sink for MemSink {
     ghost use Rattle.std.specs.Prelude.{◌≡◌, ◌<◌, ◌↔◌, ℕ, Some, length, Contains};
-    ghost use Rattle.lw_io.specs.Calls.{next_number};
+    ghost use Rattle.lw_io.specs.Causes.{next_number};
     ghost use Rattle.lw_io.specs.MemSink.{sink_taken, sink_failing, sink_calls, sink_faults};
     ghost use Rattle.lw_io.specs.Sink.{Takes, CountsWrite, TakesWhole};
 

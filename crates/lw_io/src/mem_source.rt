@@ -50,7 +50,7 @@ impl MemSource {
 
 impl Source for MemSource {
     ghost use Rattle.std.specs.Prelude.{◌≡◌, ◌<◌, ◌↔◌, Some, length, Contains};
-    ghost use Rattle.lw_io.specs.Calls.{next_number};
+    ghost use Rattle.lw_io.specs.Causes.{next_number};
     ghost use Rattle.lw_io.specs.MemSource.{source_left, source_failing, source_calls, source_faults, GivesPiece};
     ghost use Rattle.lw_io.specs.Source.{GivesBytes, CountsRead};
 
@@ -96,7 +96,7 @@ fn piece_size(pieces: &[u32], left: usize) -> usize
     }
 }
 
-// GivesBytes so many bytes of the piece, and returns the place of the next one.
+// Gives so many bytes of the piece, and returns the place of the next one.
 fn piece_after(pieces: &mut [u32], piece: usize, count: usize) -> usize
     requires { piece ≤ length pieces.old }
     ensures pieces { drop result pieces.new ≡ spec.pieces_after (drop piece pieces.old) count }

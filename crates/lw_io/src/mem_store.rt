@@ -38,7 +38,7 @@ impl MemStore {
 #[tactic(auto, using(crate::proofs::Faults::faults))]
 impl Store for MemStore {
     ghost use Rattle.std.specs.Prelude.{◌≡◌, ◌↔◌, Some, Contains};
-    ghost use Rattle.lw_io.specs.Calls.{next_number};
+    ghost use Rattle.lw_io.specs.Causes.{next_number};
     ghost use Rattle.lw_io.specs.MemStore.{store_files, store_failing, store_calls, store_faults};
     ghost use Rattle.lw_io.specs.Store.{AnswersFile, CountsFind, IsInLimit};
 
@@ -62,9 +62,12 @@ impl Store for MemStore {
         if self.calls.next_fails() {
             return Found::Failed;
         }
-        match bytes_at(&self.files, path) {
-            Some(bytes) => content(alloc, bytes),
-            None => Found::Absent,
+        let Some(bytes) = bytes_at(&self.files, path) else {
+            return Found::Absent;
+        };
+        match bytes.to_vec(alloc) {
+            Ok(bytes) => content(bytes),
+            Err(_) => Found::NoMemory,
         }
     }
 }

@@ -1,5 +1,5 @@
 // Patterns made by `regex`.
-ghost use Rattle.std.specs.Prelude.{◌≡◌, None};
+ghost use Rattle.std.specs.Prelude.{◌≡◌, [], None};
 
 use crate::refusals::{Refusals, compile};
 use crate::{MakeFault, Patterns};
@@ -26,6 +26,8 @@ impl RealPatterns {
 }
 
 impl Patterns for RealPatterns {
+    ghost listed = { λ _. [] };
+
     ghost last_refused = { λ p. p.refusals.last };
 
     ghost count = { λ p. p.refusals.count };

@@ -1,9 +1,9 @@
 // The making of a pattern, and the texts that were refused.
-ghost use Rattle.std.specs.Prelude.{◌≡◌, Some, IfOk, option_map};
+ghost use Rattle.std.specs.Prelude.{◌≡◌, ◌↔◌, Some, Err, IfOk, option_map};
 ghost use Rattle.regex.specs.Patterns.{default_config};
 ghost use Rattle.regex.specs.Strings.{regex_source, regex_config, IsReadFromSource};
 ghost use Rattle.lw_io.specs.Causes.{Faulted};
-ghost use Rattle.lw_io.specs.Patterns.{anchored};
+ghost use Rattle.lw_io.specs.Patterns.{anchored, RegexRefuses};
 
 use crate::MakeFault;
 use lw_base::Name;
@@ -53,18 +53,28 @@ impl Refusals {
     }
 }
 
+/// What an error of `regex` is to its caller.
+fn fault_of(error: Error) -> MakeFault
+    ensures { (result ≡ MakeFault.NoMemory) ↔ (error ≡ Error.OutOfMemory) }
+{
+    match error {
+        Error::OutOfMemory => MakeFault::NoMemory,
+        Error::Syntax(_) | Error::CompiledTooBig | Error::Internal => MakeFault::Refused,
+    }
+}
+
 /// The pattern `\A(?:text)`, where `regex` makes it.
 pub(crate) fn compile(alloc: Global, text: &Name) -> Result<Regex, MakeFault>
     ensures source { IfOk result (λ pattern. regex_source pattern ≡ anchored text.now) }
     ensures config { IfOk result (λ pattern. regex_config pattern ≡ default_config) }
     ensures read { IfOk result IsReadFromSource }
+    ensures refused { result ≡ Err MakeFault.Refused → RegexRefuses (anchored text.now) }
 {
     let Ok(source) = format!(in alloc; "\\A(?:{text})") else {
         return Err(MakeFault::NoMemory);
     };
     match Regex::new(alloc, source.as_str()) {
         Ok(pattern) => Ok(pattern),
-        Err(Error::OutOfMemory) => Err(MakeFault::NoMemory),
-        Err(_) => Err(MakeFault::Refused),
+        Err(error) => Err(fault_of(error)),
     }
 }

@@ -30,7 +30,8 @@ pub trait Store {
     /// How many reads have failed.
     ghost count: { Self → ℕ };
 
-    /// How many reads have failed. The count never falls.
+    /// How many reads have failed: a read that fails raises the count by one, and it stands still at
+    /// 2^64 - 1. It never falls.
     fn faults(&self) -> u64
         ensures { result ≡ count self.now };
 
