@@ -12,7 +12,7 @@ use Rattle.lw_tokens.specs.Matching.{match_length}
 use Rattle.lw_tokens.specs.Patterns.{TerminalPattern, as_pattern, unescaped}
 use Rattle.lw_terminals.specs.declared.source.TerminalSource.{TerminalSource}
 use Rattle.lw_terminals.specs.TokenKinds.{TokenKinds}
-use Rattle.lw_terminals.specs.Made.{token_kinds_of, form_of, IsUsable}
+use Rattle.lw_terminals.specs.Made.{token_kinds_of, form_of, IsUsable, AreUsable}
 use Rattle.lw_lang.specs.Shape.{HasShape, IsPlainTerminal}
 use Rattle.lw_lang.specs.Obstacles.{MatchesEmpty}
 use Rattle.lw_grammar.specs.KindTexts.{texts_of, quoted}
@@ -52,13 +52,13 @@ module _ (g : Grammar) (shape : HasShape g) (flat : Flat) (is : IsFlat g flat) w
       let written : option_map unescaped (as_pattern (out-TermElement terminal.body)) ≡ Some (unescaped plain.1) = ap (λ f. option_map unescaped (as_pattern f)) plain.3 in
       pattern_once g terminal (unescaped plain.1) written p tp ∙ sym (pattern_once g terminal (unescaped plain.1) written q tq)
 
-  pub none_empty : All IsUsable flat.terminals.items → MatchesEmpty g → ⊥
+  pub none_empty : AreUsable flat.terminals.items → MatchesEmpty g → ⊥
   none_empty usable empty =
       let has = empty.1 in
       let in' : Contains is.of.terminals has.2 = subst (λ ts. Contains ts has.2) (kinds_once has.0 has.1) has.3 in
       let z = zip_left (IsSource g) is.of.terminals flat.terminals.items has.2 is.terminals in' in
       let same : empty.0 ≡ z.0.pattern = one_pattern has.2 empty.0 z.0.pattern in' has.4 z.2.pattern in
-      (All-contains IsUsable flat.terminals.items z.0 usable z.1).not_empty (subst (λ p. match_length p [] ≡ Some 0) same empty.2)
+      (All-contains (λ s. IsUsable s.pattern) flat.terminals.items z.0 usable z.1).not_empty (subst (λ p. match_length p [] ≡ Some 0) same empty.2)
 
   -- what a language keeps of it
   pub is_prepared : (tokens : TokenKinds) → tokens ≡ token_kinds_of flat.keywords.items flat.terminals.items → IsPrepared g tokens flat.row.items

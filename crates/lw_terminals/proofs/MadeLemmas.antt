@@ -5,7 +5,7 @@ use Rattle.std.proofs.lemmas.List.{take_at, map-append}
 use Rattle.std.proofs.lemmas.Option.{slice_get-get_or}
 use Rattle.lw_terminals.specs.declared.source.TerminalSource.{TerminalSource}
 use Rattle.lw_terminals.specs.declared.fault.MakeTokensFault.{MakeTokensFault}
-use Rattle.lw_terminals.specs.Made.{IsUsable, IsReachedTerminal}
+use Rattle.lw_terminals.specs.Made.{IsUsable, AreUsable, IsTriedAt}
 
 seam : (done : List TerminalSource) (terminal : TerminalSource) (rest : List TerminalSource) →
     slice_get (done ++ terminal ∷ rest) (length done) ≡ Some terminal
@@ -14,11 +14,11 @@ seam done terminal rest =
     ∙ ap Some (get_or-append_seam done terminal rest terminal)
 
 -- the terminal behind those that are done
-pub reached : (all done : List TerminalSource) (terminal : TerminalSource) (rest : List TerminalSource) → done ++ terminal ∷ rest ≡ all → All IsUsable done →
-    IsReachedTerminal all (length done) terminal
-reached all done terminal rest parts usable = record {
+pub tried : (all done : List TerminalSource) (terminal : TerminalSource) (rest : List TerminalSource) → done ++ terminal ∷ rest ≡ all → AreUsable done →
+    IsTriedAt all (length done) terminal
+tried all done terminal rest parts usable = record {
   there = subst (λ (xs : List TerminalSource). slice_get xs (length done) ≡ Some terminal) parts (seam done terminal rest);
-  before = subst (All IsUsable) (sym (take_at done (terminal ∷ rest) (length done) refl) ∙ ap (take (length done)) parts) usable;
+  before = subst AreUsable (sym (take_at done (terminal ∷ rest) (length done) refl) ∙ ap (take (length done)) parts) usable;
 }
 
 same_fault : {T : Type 0} (a b : MakeTokensFault) → ◌≡◌ {A = Result T MakeTokensFault} (Err a) (Err b) → a ≡ b

@@ -5,7 +5,7 @@ use Rattle.std.specs.Vec.Iter.{into_iter_items}
 use Rattle.std.proofs.lemmas.Result.{err_from_is_err_and}
 use Rattle.lw_terminals.specs.Made.{form_of, IsUsable}
 use Rattle.lw_terminals.specs.declared.fault.MakeTokensFault.TheVariants.{Refused}
-use Rattle.lw_terminals.proofs.MadeLemmas.{reached, handed_on, one_more}
+use Rattle.lw_terminals.proofs.MadeLemmas.{tried, handed_on, one_more}
 use Rattle.lw_terminals.proofs.make.make_terminals.Goals as goal
 
 pub returns-in_err-terminal-clause-refused : goal.returns-in_err-terminal-clause-refused
@@ -20,7 +20,7 @@ returns-in_err-terminal-clause-refused g c = λ i e.
     let parts = ap (λ xs. done ++ xs) (sym c.in-Some.ensures.steps.0) ∙ inv.left in
     record {
       terminal = source;
-      reached = rw place (reached c.args.sources.items done source _ parts inv.usable);
+      tried = rw place (tried c.args.sources.items done source _ parts inv.usable);
       refused = refused.1;
     }
 
@@ -35,7 +35,7 @@ loop-source-preserved g c =
       left = append_assoc done (source ∷ []) (into_iter_items c.next.new.self) ∙ ap (λ xs. done ++ xs) (sym c.in-Some.ensures.steps.0) ∙ inv.left;
       terminals = one_more form_of [] c.loop-source.terminals.items c.push.new.self.items done source c.in_ok-terminal.terminal c.in_ok-push.ensures.items inv.terminals c.in_ok-terminal.ensures.made;
       texts = one_more (λ source. source.name) c.args.texts.now.items c.loop-source.texts.items c.push-in-loop-source.new.self.items done source source.name c.in_ok-push-2.ensures.items inv.texts refl;
-      usable = All-push IsUsable done source inv.usable (record { readable = c.in_ok-terminal.ensures.readable; not_empty = c.in_ok-terminal.ensures.not_empty });
+      usable = All-push (λ s. IsUsable s.pattern) done source inv.usable c.in_ok-terminal.ensures.usable;
       count = c.in_ok-terminal.ensures.count ∙ inv.count;
       last = c.in_ok-terminal.ensures.last ∙ inv.last;
     }

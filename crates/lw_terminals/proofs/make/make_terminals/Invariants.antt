@@ -1,6 +1,6 @@
 use Rattle.std.proofs.Common.{◌≡◌, ◌++◌, map, All}
 use Rattle.std.specs.Vec.Iter.{into_iter_items}
-use Rattle.lw_terminals.specs.Made.{form_of, IsUsable}
+use Rattle.lw_terminals.specs.Made.{form_of, AreUsable}
 use Rattle.lw_terminals.proofs.make.make_terminals.Given as goal
 
 abbrev pub invariant-loop-source : goal.invariant-loop-source
@@ -10,7 +10,7 @@ invariant-loop-source g l = record {
   left : l.yielded ++ into_iter_items l.source-iterator ≡ l.fn.sources.items;
   terminals : l.terminals.items ≡ map form_of l.yielded;
   texts : l.texts.items ≡ l.fn.texts.items ++ map (λ source. source.name) l.yielded;
-  usable : All IsUsable l.yielded;
+  usable : AreUsable l.yielded;
   count : g.P.Patterns.count l.patterns ≡ g.P.Patterns.count l.fn.patterns;
   last : g.P.Patterns.last_refused l.patterns ≡ g.P.Patterns.last_refused l.fn.patterns;
 }
