@@ -1,2 +1,4 @@
 pub mod FirstLemmas
 pub mod KeptLemmas
+pub mod KindLemmas
+pub mod LeafLemmas

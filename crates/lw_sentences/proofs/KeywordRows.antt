@@ -12,11 +12,7 @@ use Rattle.lw_sentences.specs.Marks.{Mark}
 use Rattle.lw_sentences.specs.Marks as mark
 use Rattle.lw_sentences.specs.Yields.{Yields, Gives, YieldsAll}
 use Rattle.lw_sentences.specs.Yields as y
-
--- words with the places where they stand
-abbrev pub keyword_row : List (List ℕ × Span) → List Element
-keyword_row [] = []
-keyword_row (w ∷ ws) = Keyword w.0 w.1 ∷ keyword_row ws
+use Rattle.lw_sentences.specs.Worked.{keyword_row}
 
 module _ (g : Grammar) (kinds : Kinds) where
   -- the keywords of a grammar differ, so a text has one kind
