@@ -6,7 +6,8 @@ use Rattle.lw_grammar.specs.declared.grammar.Grammar.{Grammar}
 use Rattle.lw_grammar.specs.declared.terminal.Terminal.{Terminal}
 use Rattle.lw_grammar.specs.declared.terminal.TermElement.{out-TermElement}
 use Rattle.lw_grammar.specs.Kinds.{Kinds, AreKinds, IsKindTerminal}
-use Rattle.lw_grammar.proofs.KeptLemmas.{kept_once, kept_from}
+use Rattle.lw_grammar.proofs.KeptLemmas.{kept_from}
+use Rattle.lw_grammar.proofs.KindLemmas.{one_kinds}
 use Rattle.lw_tokens.specs.Lexicon.{HasForm}
 use Rattle.lw_tokens.specs.Matching.{match_length}
 use Rattle.lw_tokens.specs.Patterns.{TerminalPattern, as_pattern, unescaped}
@@ -39,7 +40,7 @@ source_names g (t ∷ terminals) (s ∷ sources) all = let rest = source_names g
 module _ (g : Grammar) (shape : HasShape g) (flat : Flat) (is : IsFlat g flat) where
   -- the kinds are settled
   kinds_once : (other : Kinds) → AreKinds g other → other.terminals ≡ is.of.terminals
-  kinds_once other are = kept_once (IsKindTerminal g) are.terminals is.kinds.terminals
+  kinds_once other are = ap (λ (kinds : Kinds). kinds.terminals) (one_kinds g other is.of are is.kinds)
 
   -- a terminal that is a kind is one of the grammar's
   pub kind_there : (terminal : Terminal) → Contains is.of.terminals terminal → Contains g.terminals terminal

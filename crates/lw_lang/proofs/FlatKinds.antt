@@ -18,12 +18,12 @@ use Rattle.lw_grammar.specs.Kept.{KeepsPassingFrom, KeepsPassing}
 use Rattle.lw_grammar.specs.Kept as keep
 use Rattle.lw_grammar.specs.Kinds.{Kinds, first_uses, IsKindTerminal, AreKinds}
 use Rattle.lw_grammar.specs.Kinds as kind
-use Rattle.lw_grammar.proofs.KeptLemmas.{kept_once}
+use Rattle.lw_grammar.proofs.KindLemmas.{one_kinds}
 use Rattle.lw_lang.specs.Shape.{HasShape, IsPlainPart, IsPlainTerminal, parts_of}
 use Rattle.lw_lang.specs.Obstacles.{names}
 use Rattle.lw_lang.specs.FlatParts.{row_keywords, row_calls, is_kind}
 use Rattle.lw_lang.proofs.Lists.{in_one, at_place}
-use Rattle.lw_lang.proofs.FirstUses.{stands_in, same_text, Contains-first_uses, Contains-from_first_uses}
+use Rattle.lw_grammar.proofs.FirstUses.{stands_in, same_text, Contains-first_uses, Contains-from_first_uses}
 use Rattle.lw_lang.proofs.FlatLeaves.{called_name, name_called, keywords_in_parts}
 
 module _ {X : Type 0} (passes : ℕ → Type 0) where
@@ -148,9 +148,5 @@ module _ (g : Grammar) (rule : Rule) (shape : HasShape g) (only : g.rules ≡ ru
 
     -- there are no others
     pub kinds_settled : (of : Kinds) → AreKinds g of → (of.keywords ≡ (the_kinds g rule).keywords) × (of.terminals ≡ (the_kinds g rule).terminals)
-    kinds_settled of are = (
-      are.keywords
-          ∙ ap (λ rules. first_uses [] (flat_map (λ r. keywords_in r.body) rules)) (kept_once (IsReached g) are.reached reached_only)
-          ∙ sym its_keywords,
-      kept_once (IsKindTerminal g) are.terminals its_terminals,
-    )
+    kinds_settled of are =
+        let same = one_kinds g of (the_kinds g rule) are are_kinds in (ap (λ (kinds : Kinds). kinds.keywords) same, ap (λ (kinds : Kinds). kinds.terminals) same)

@@ -32,7 +32,7 @@ use Rattle.lw_lang.specs.Obstacles.{names}
 use Rattle.lw_lang.specs.Rows.{IsOnlyRow}
 use Rattle.lw_lang.specs.FlatParts.{layer_keyword, part_call, layer_call, value_call, IsPlainSource, is_kind, terminal_place, layer_kind, kind_of}
 use Rattle.lw_lang.proofs.Lists.{in_filter, place_of, at_place, zip_at, from_count}
-use Rattle.lw_lang.proofs.FirstUses.{same_text}
+use Rattle.lw_grammar.proofs.FirstUses.{same_text}
 use Rattle.lw_lang.proofs.FlatLeaves.{OneLeaf, one_leaf, leaf_of}
 use Rattle.lw_lang.proofs.FlatLeaves as leaf
 use Rattle.lw_lang.proofs.FlatKinds.{no_repeat, only_rule, its_rule, plain_parts, is_entry, one_of_name, not_the_rule, is_meant, called, the_kinds}

@@ -82,8 +82,8 @@ pub record IsOf (g : Grammar) (source : TerminalSource) : Type 0 where
   pub tried : IsTried g terminal source.pattern
 
 module _ (g : Grammar) (shape : HasShape g) (flat : Flat) (is : IsFlat g flat) where
-  pub tried : (i : ℕ) (source : TerminalSource) → made.IsTriedAt flat.terminals.items i source → IsOf g source
-  tried i source reached =
+  pub tried : (listed : List (List ℕ)) (i : ℕ) (source : TerminalSource) → made.IsTriedAt listed flat.terminals.items i source → IsOf g source
+  tried listed i source reached =
       let z = zip_at (IsSource g) is.of.terminals flat.terminals.items i source is.terminals reached.there in
       let p = place_of g.terminals (kind_there g shape flat is z.0 (at_place is.of.terminals i z.1)) in
       record {

@@ -54,28 +54,51 @@ fn made(
     Ok(TokenSet::make(alloc, keywords, terminals, patterns))
 }
 
+// The texts of the kinds that there are, of the first eight.
+fn kinds_shown(alloc: Global, set: &TokenSet) -> Result<String, NoMemory> {
+    let mut shown = String::new(alloc);
+    for kind in 0..8u16 {
+        if set.has_kind(KindId(kind)) {
+            shown.push_str(set.kind_text(KindId(kind)).text())?;
+            shown.push_str(" ")?;
+        }
+    }
+    Ok(shown)
+}
+
+// How many bytes each terminal matches at the start of the text, or `-`.
+fn matches_shown(alloc: Global, set: &TokenSet, text: &str) -> Result<String, NoMemory> {
+    let mut shown = String::new(alloc);
+    let mut matchers = set.matchers(alloc)?;
+    for matcher in matchers.iter_mut() {
+        shown.push_str(length_text(alloc, matcher.match_length(text))?.as_str())?;
+    }
+    Ok(shown)
+}
+
+fn length_text(alloc: Global, length: Option<usize>) -> Result<String, NoMemory> {
+    match length {
+        Some(bytes) => Ok(format!(in alloc; "{bytes} ")?),
+        None => Ok(String::from_str(alloc, "- ")?),
+    }
+}
+
 #[test]
-fn kinds_are_told_by_their_texts(rt: HostRuntime) -> Result<(), Fail> {
+fn a_set_has_its_kinds(rt: HostRuntime) -> Result<(), Fail> {
     let alloc = rt.alloc();
     let mut patterns = MemPatterns::new(Vec::new(alloc));
     let set = made(&rt, alloc, &["\\s+", "a\\d"], &mut patterns)?.expect(&rt, "the set is made");
-    for (kind, text) in [(0u16, "'as'"), (2, "'by'"), (3, "T"), (4, "T")] {
-        assert!(rt; set.has_kind(KindId(kind)));
-        assert_eq!(rt; set.kind_text(KindId(kind)).text(), text, "at {kind}");
-    }
-    assert!(rt; !set.has_kind(KindId(5)));
+    assert_eq!(rt; kinds_shown(alloc, &set)?.as_str(), "'as' 'at' 'by' T T ");
     assert!(rt; set.keywords_starting(b'a') == [0usize, 1].as_slice());
     assert!(rt; set.keywords_starting(b'c').is_empty());
-    let mut matchers = set.matchers(alloc)?;
-    assert!(rt; matchers.len() == 2);
-    assert!(rt; matchers[0].is_hidden());
-    for (text, bytes) in [
-        ("a1a2", Some(2)),
-        ("a\u{0661}", Some(3)),
-        ("1a2", None),
-        ("", None),
+    for (text, lengths) in [
+        ("a1a2", "- 2 "),
+        ("a\u{0661}", "- 3 "),
+        (" \ta1", "2 - "),
+        ("1a2", "- - "),
+        ("", "- - "),
     ] {
-        assert!(rt; matchers[1].match_length(text) == bytes);
+        assert_eq!(rt; matches_shown(alloc, &set, text)?.as_str(), lengths, "at {text}");
     }
     Ok(())
 }
@@ -86,6 +109,7 @@ fn the_first_pattern_that_does_not_serve_decides(rt: HostRuntime) -> Result<(), 
     let mut listed = Vec::new(alloc);
     listed.push(Name::from_text(alloc, "no")?)?;
     let mut patterns = MemPatterns::new(listed);
+    // The patterns in order, the fault, and how many were refused until then.
     for (sources, fault, count) in [
         (["a", "b*", "no"], MakeTokensFault::EmptyMatch(1), 0u64),
         (["a", "no", "b*"], MakeTokensFault::Refused(1), 1),
@@ -94,8 +118,7 @@ fn the_first_pattern_that_does_not_serve_decides(rt: HostRuntime) -> Result<(), 
         (["a", "b", "no"], MakeTokensFault::Refused(2), 3),
     ] {
         let answer = made(&rt, alloc, sources.as_slice(), &mut patterns)?;
-        assert!(rt; answer.err() == Some(fault));
-        assert!(rt; patterns.faults() == count);
+        assert!(rt; answer.err() == Some(fault) && patterns.faults() == count);
     }
     let last = patterns.refused().expect(&rt, "a text was refused");
     assert_eq!(rt; last.text(), "no");

@@ -19,7 +19,7 @@ returns-in-Ok-clause-clear g c =
 pub returns-in-Err-EmptyMatch-clause-fault : goal.returns-in-Err-EmptyMatch-clause-fault
 returns-in-Err-EmptyMatch-clause-fault g c =
     let at = c.in-Err-EmptyMatch.ensures.empty_match c.in-Err-EmptyMatch.field-0-0 (ap Err c.in-Err-EmptyMatch.field-0-is) in
-    let of = tried c.args.grammar c.requires.shape c.args.flat c.requires.flat c.in-Err-EmptyMatch.field-0-0 at.terminal at.tried in
+    let of = tried c.args.grammar c.requires.shape c.args.flat c.requires.flat _ c.in-Err-EmptyMatch.field-0-0 at.terminal at.tried in
     condition_causes c.args.grammar c.args.file.now _ c.unbuilt.result c.unbuilt.ensures (inr (of.terminal, at.terminal.pattern, of.tried, at.matches_empty))
 
 pub swap_remove-requires : goal.swap_remove-requires
@@ -33,7 +33,7 @@ swap_remove-requires g c =
 pub refused-requires-clause-named : goal.refused-requires-clause-named
 refused-requires-clause-named g c =
     let at = c.in-Err-Refused.ensures.refused c.in-Err-Refused.i (ap Err c.in-Err-Refused.field-0-is) in
-    let of = tried c.args.grammar c.requires.shape c.args.flat c.requires.flat c.in-Err-Refused.i at.terminal at.tried in
+    let of = tried c.args.grammar c.requires.shape c.args.flat c.requires.flat _ c.in-Err-Refused.i at.terminal at.tried in
     let name =
     name_at c.args.flat.terminals.items c.in_ok-names.names.items c.in-Err-Refused.i at.terminal c.swap_remove.result
     (c.in_ok-names.ensures ∙ ap (map (λ s. s.name)) c.deref.ensures.value) at.tried.there c.swap_remove.ensures.value in
@@ -45,7 +45,7 @@ refused-requires-clause-few g c = few c.args.grammar c.requires.shape c.requires
 pub returns-in-Err-Refused-clause-fault : goal.returns-in-Err-Refused-clause-fault
 returns-in-Err-Refused-clause-fault g c =
     let at = c.in-Err-Refused.ensures.refused c.in-Err-Refused.i (ap Err c.in-Err-Refused.field-0-is) in
-    let of = tried c.args.grammar c.requires.shape c.args.flat c.requires.flat c.in-Err-Refused.i at.terminal at.tried in
+    let of = tried c.args.grammar c.requires.shape c.args.flat c.requires.flat _ c.in-Err-Refused.i at.terminal at.tried in
     let name =
     name_at c.args.flat.terminals.items c.in_ok-names.names.items c.in-Err-Refused.i at.terminal c.swap_remove.result
     (c.in_ok-names.ensures ∙ ap (map (λ s. s.name)) c.deref.ensures.value) at.tried.there c.swap_remove.ensures.value in
