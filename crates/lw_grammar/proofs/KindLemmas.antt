@@ -1,5 +1,5 @@
 -- A grammar has one list of kinds, and so a kind one text.
-use Rattle.std.proofs.Common.{◌≡◌, ℕ, List, [], Some, slice_get, ap, ap₂, sym, ◌∙◌}
+use Rattle.std.proofs.Common.{◌≡◌, ℕ, List, [], slice_get, ap, ap₂, sym, ◌∙◌}
 use Rattle.std.specs.List.{flat_map}
 use Rattle.std.proofs.lemmas.Option.{same_Some}
 use Rattle.lw_grammar.specs.declared.grammar.Grammar.{Grammar}

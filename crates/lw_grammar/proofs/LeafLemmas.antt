@@ -5,12 +5,10 @@ use Rattle.lw_base.specs.declared.token.Span.{Span}
 use Rattle.lw_grammar.specs.declared.rule.Element.{Element, out-Element, fold_out-Element}
 use Rattle.lw_grammar.specs.declared.rule.Element.TheFolds.{map-Element}
 use Rattle.lw_grammar.specs.declared.rule.Element.TheVariants as element
-use Rattle.lw_grammar.specs.declared.rule.Element.TheOpen as layer
 use Rattle.lw_grammar.specs.declared.rule.Element.TheOpen.{Element-F}
 use Rattle.lw_grammar.specs.declared.rule.Value0.{Value0, out-Value0, fold_out-Value0}
 use Rattle.lw_grammar.specs.declared.rule.Value0.TheFolds.{map-Value0}
 use Rattle.lw_grammar.specs.declared.rule.Value0.TheVariants as value
-use Rattle.lw_grammar.specs.declared.rule.Value0.TheOpen as value_layer
 use Rattle.lw_grammar.specs.declared.rule.Value0.TheOpen.{Value0-F}
 use Rattle.lw_grammar.specs.declared.terminal.TermElement.{TermElement, fold_out-TermElement}
 use Rattle.lw_grammar.specs.declared.terminal.TermElement.TheFolds.{map-TermElement}
@@ -20,7 +18,7 @@ use Rattle.lw_grammar.specs.declared.rule.Action.{Action}
 use Rattle.lw_grammar.specs.Leaves.{Leaf, Keyword, Call, Assign, Act, leaves, layer_leaves, ValueLeaf, Literal, Calls, Cross, value_leaves, layer_values}
 use Rattle.lw_grammar.specs.Size.{element_size, layer_size, value_size, value_layer_size, term_size, term_layer_size}
 
-leaves_by : (e : Element) (f : Element-F Element) → out-Element e ≡ f → leaves e ≡ layer_leaves (map-Element Element (List Leaf) leaves f)
+pub leaves_by : (e : Element) (f : Element-F Element) → out-Element e ≡ f → leaves e ≡ layer_leaves (map-Element Element (List Leaf) leaves f)
 leaves_by e f is = fold_out-Element (List Leaf) layer_leaves e ∙ ap (λ f. layer_leaves (map-Element Element (List Leaf) leaves f)) is
 
 pub leaves-Keyword : (text : List ℕ) (s : Span) → leaves (element.Keyword text s) ≡ Keyword text s ∷ []
@@ -49,7 +47,7 @@ leaves-Many part s = leaves_by _ _ (element.outs-Many part s)
 
 pub ruleset leaf_equations = (leaves-Keyword, leaves-Call, leaves-Assign, leaves-Act, leaves-Group, leaves-Choice, leaves-Maybe, leaves-Many)
 
-values_by : (v : Value0) (f : Value0-F Value0) → out-Value0 v ≡ f → value_leaves v ≡ layer_values (map-Value0 Value0 (List ValueLeaf) value_leaves f)
+pub values_by : (v : Value0) (f : Value0-F Value0) → out-Value0 v ≡ f → value_leaves v ≡ layer_values (map-Value0 Value0 (List ValueLeaf) value_leaves f)
 values_by v f is = fold_out-Value0 (List ValueLeaf) layer_values v ∙ ap (λ f. layer_values (map-Value0 Value0 (List ValueLeaf) value_leaves f)) is
 
 pub values-Keyword : (text : List ℕ) (s : Span) → value_leaves (value.Keyword text s) ≡ Literal text s ∷ []
@@ -63,7 +61,7 @@ values-Cross wanted rule s = values_by _ _ (value.outs-Cross wanted rule s)
 
 pub ruleset value_equations = (values-Keyword, values-Call, values-Cross)
 
-size_by : (e : Element) (f : Element-F Element) → out-Element e ≡ f → element_size e ≡ layer_size (map-Element Element ℕ element_size f)
+pub size_by : (e : Element) (f : Element-F Element) → out-Element e ≡ f → element_size e ≡ layer_size (map-Element Element ℕ element_size f)
 size_by e f is = fold_out-Element ℕ layer_size e ∙ ap (λ f. layer_size (map-Element Element ℕ element_size f)) is
 
 pub size-Keyword : (text : List ℕ) (s : Span) → element_size (element.Keyword text s) ≡ 1
@@ -81,7 +79,7 @@ size-Group parts s = size_by _ _ (element.outs-Group parts s)
 pub size-Many : (part : Element) (s : Span) → element_size (element.Many part s) ≡ 1 + element_size part
 size-Many part s = size_by _ _ (element.outs-Many part s)
 
-size_of_value : (v : Value0) (f : Value0-F Value0) → out-Value0 v ≡ f → value_size v ≡ value_layer_size (map-Value0 Value0 ℕ value_size f)
+pub size_of_value : (v : Value0) (f : Value0-F Value0) → out-Value0 v ≡ f → value_size v ≡ value_layer_size (map-Value0 Value0 ℕ value_size f)
 size_of_value v f is = fold_out-Value0 ℕ value_layer_size v ∙ ap (λ f. value_layer_size (map-Value0 Value0 ℕ value_size f)) is
 
 pub size-value_Call : (name : List ℕ) (s : Span) → value_size (value.Call name s) ≡ 1

@@ -1,7 +1,6 @@
 -- The longest keyword among those that begin with the text's first byte, and how it goes on from one to the next.
 use Rattle.std.proofs.Common.{◌≡◌, ℕ, ◌+◌, ◌<◌, ◌≤◌, ◌&&◌, List, [], ◌∷◌, length, take, Option, Some, None, Bool, true, false, nat_lt, nat_eq, if◌then◌else◌, slice_get, MatchOption, All, IsUtf8, IsCharBoundary, ◌∙◌, sym, refl, subst, ap, arith, inl, inr}
 use Rattle.std.specs.List.{starts_with}
-use Rattle.std.specs.Str.{bytes_eq}
 use Rattle.std.proofs.lemmas.Bool.{cases_lt}
 use Rattle.std.proofs.lemmas.Bool.Decides.{nat_tests}
 use Rattle.std.proofs.lemmas.Option.{same_Some, slice_get_within, slice_get_read, get_or_from_slice_get}

@@ -51,20 +51,6 @@ fn sources_of(
     Ok(terminals)
 }
 
-fn set_of(
-    rt: &impl Abort,
-    alloc: Global,
-    words: &[&str],
-    sources: &[(&str, &str, bool)],
-) -> Result<TokenSet, NoMemory> {
-    let keywords = keywords_of(alloc, words)?;
-    let terminals = sources_of(alloc, sources)?;
-    assert!(rt; keywords.len() <= 100 && terminals.len() <= 100);
-    let mut patterns = MemPatterns::new(Vec::new(alloc));
-    let made = TokenSet::make(alloc, keywords, terminals, &mut patterns);
-    Ok(made.expect(rt, "the patterns are made"))
-}
-
 // Each token as its kind and span, with `h` where it is hidden.
 fn tokens_text(alloc: Global, tokens: &[Token]) -> Result<String, NoMemory> {
     let mut shown = String::new(alloc);
@@ -93,34 +79,41 @@ fn shown(rt: &impl Abort, alloc: Global, set: &TokenSet, text: &str) -> Result<S
     }
 }
 
+// Makes a set of these words and terminals, and cuts texts by it.
 fn check_cuts(
     rt: &impl Abort,
     alloc: Global,
-    set: &TokenSet,
+    words: &[&str],
+    sources: &[(&str, &str, bool)],
     cuts: &[(&str, &str)],
 ) -> Result<(), NoMemory> {
+    let keywords = keywords_of(alloc, words)?;
+    let terminals = sources_of(alloc, sources)?;
+    assert!(rt; keywords.len() <= 100 && terminals.len() <= 100);
+    let mut patterns = MemPatterns::new(Vec::new(alloc));
+    let made = TokenSet::make(alloc, keywords, terminals, &mut patterns);
+    let set = made.expect(rt, "the patterns are made");
     for (text, tokens) in cuts {
-        assert_eq!(rt; shown(rt, alloc, set, text)?.as_str(), *tokens, "at {text}");
+        assert_eq!(rt;
+            shown(rt, alloc, &set, text)?.as_str(),
+            *tokens,
+            "at {text}"
+        );
     }
     Ok(())
 }
 
 #[test]
 fn texts_are_cut_by_the_five_rules(rt: HostRuntime) -> Result<(), Fail> {
-    let alloc = rt.alloc();
     // Kinds 0 to 3 are the keywords, 4 to 8 the terminals.
-    let set = set_of(
-        &rt,
-        alloc,
-        &["model", "/", "ent", "entity"],
-        &[
-            ("WS", "\\s+", true),
-            ("COMMENT", "//[^\\n]*", true),
-            ("Q", "q", false),
-            ("ID", "[_a-zA-Z][\\w_]*", false),
-            ("INT", "[0-9]+", false),
-        ],
-    )?;
+    let words = ["model", "/", "ent", "entity"];
+    let sources = [
+        ("WS", "\\s+", true),
+        ("COMMENT", "//[^\\n]*", true),
+        ("Q", "q", false),
+        ("ID", "[_a-zA-Z][\\w_]*", false),
+        ("INT", "[0-9]+", false),
+    ];
     let cuts = [
         ("", ""),
         ("model m", "0:0..5 4h:5..6 7:6..7 "),
@@ -138,19 +131,21 @@ fn texts_are_cut_by_the_five_rules(rt: HostRuntime) -> Result<(), Fail> {
         ("ï", "none at 0..2"),
         ("m 😀 m", "none at 2..6"),
     ];
-    check_cuts(&rt, alloc, &set, cuts.as_slice())?;
-    Ok(())
-}
-
-#[test]
-fn a_match_at_a_later_place_is_none(rt: HostRuntime) -> Result<(), Fail> {
     let alloc = rt.alloc();
-    let set = set_of(&rt, alloc, &[], &[("ODD", "x)|(y", false)])?;
+    check_cuts(
+        &rt,
+        alloc,
+        words.as_slice(),
+        sources.as_slice(),
+        cuts.as_slice(),
+    )?;
+    // A match at a later place is none.
+    let odd = [("ODD", "x)|(y", false)];
     let cuts = [
         ("xyx", "0:0..1 0:1..2 0:2..3 "),
         ("zy", "none at 0..1"),
         ("yzx", "none at 1..2"),
     ];
-    check_cuts(&rt, alloc, &set, cuts.as_slice())?;
+    check_cuts(&rt, alloc, &[], odd.as_slice(), cuts.as_slice())?;
     Ok(())
 }

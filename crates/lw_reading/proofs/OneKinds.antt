@@ -1,23 +1,20 @@
 -- The keywords of a grammar can be told apart where none is empty, as where no rule writes an empty one.
-use Rattle.std.proofs.Common.{◌≡◌, ◌≢◌, ℕ, zero, suc, ◌<◌, Bool, true, false, ◌||◌, cond, List, [], ◌∷◌, length, get_or, slice_get, Some, AllPairs, bytes_eq, refl, sym, ap, ap₂, ◌∙◌, subst, arith, true≢false, Contains, ◌⊎◌, inl, inr}
-use Rattle.std.specs.List.{list_any, flat_map}
-use Rattle.std.proofs.lemmas.Option.{slice_get-get_or, slice_get_within, get_or_from_slice_get, same_Some}
+use Rattle.std.proofs.Common.{◌≡◌, ◌≢◌, ℕ, zero, suc, ◌<◌, Bool, true, false, ◌||◌, cond, List, [], ◌∷◌, length, get_or, Some, AllPairs, bytes_eq, refl, sym, ap, ◌∙◌, subst, arith, true≢false, Contains, ◌⊎◌, inl, inr}
+use Rattle.std.specs.List.{flat_map}
+use Rattle.std.proofs.lemmas.Option.{slice_get-get_or, slice_get_within, get_or_from_slice_get}
 use Rattle.std.proofs.lemmas.List.Elements.{Contains-append_cases}
+use Rattle.std.proofs.lemmas.Bool.Decides.{nat_tests}
 use Rattle.std.proofs.lemmas.Slice.Eq.{bytes_eq-Decides}
 use Rattle.lw_grammar.specs.declared.grammar.Grammar.{Grammar}
 use Rattle.lw_grammar.specs.declared.rule.Rule.{Rule}
 use Rattle.lw_grammar.specs.Leaves.{keywords_in}
 use Rattle.lw_grammar.specs.Reached.{IsReached}
-use Rattle.lw_grammar.specs.Kinds.{Kinds, AreKinds, IsKindTerminal, first_uses}
+use Rattle.lw_grammar.specs.Kinds.{Kinds, AreKinds, first_uses}
 use Rattle.lw_grammar.proofs.FirstUses.{stands_in, Contains-from_first_uses}
 use Rattle.lw_grammar.proofs.KeptLemmas.{there, kept_from}
 use Rattle.lw_tokens.specs.Keywords.{AreKeywords}
 pub use Rattle.lw_grammar.proofs.KindLemmas.{one_kind_text}
 use Rattle.lw_reading.specs.Laws.{HasNoEmptyKeyword, WritesNoEmptyKeyword}
-
-neither : (a b : Bool) → (a || b) ≡ false → (a ≡ false) × (b ≡ false)
-neither true b h = absurd (true≢false h)
-neither false b h = (refl, h)
 
 -- the first uses are none of those that were seen before
 abbrev AreUnseen : List (List ℕ) → List (List ℕ) → Type 0
@@ -31,7 +28,7 @@ unseen seen (text ∷ texts) = by (stands_in text seen) refl (unseen seen texts)
         AreUnseen seen (cond b (first_uses seen texts) (text ∷ first_uses (text ∷ seen) texts))
     by true is same new k d inside = same k d inside
     by false is same new zero d inside = is
-    by false is same new (suc k) d inside = (neither _ _ (new k d (omega arith))).1
+    by false is same new (suc k) d inside = let e = new k d (omega arith) in grind (arith, nat_tests, e)
 
 -- and no two of them are equal
 differ : (a b : List ℕ) → bytes_eq b a ≡ false → a ≢ b
@@ -45,7 +42,7 @@ apart seen (text ∷ texts) = by (stands_in text seen) (apart seen texts) (apart
         AllPairs (λ a b. a ≢ b) (cond b (first_uses seen texts) (text ∷ first_uses (text ∷ seen) texts))
     by true same new i j d below inside = same i j d below inside
     by false same new zero zero d below inside = absurd (omega arith)
-    by false same new zero (suc j) d below inside = differ _ _ (neither _ _ (unseen (text ∷ seen) texts j d (omega arith))).0
+    by false same new zero (suc j) d below inside = differ _ _ (let e = unseen (text ∷ seen) texts j d (omega arith) in grind (arith, nat_tests, e))
     by false same new (suc i) zero d below inside = absurd (omega arith)
     by false same new (suc i) (suc j) d below inside = new i j d (omega arith) (omega arith)
 

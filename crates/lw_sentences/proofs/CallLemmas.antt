@@ -1,9 +1,8 @@
 -- What a rule calls, from its leaves, and which types are below others where few pairs are.
-use Rattle.std.proofs.Common.{◌≡◌, ℕ, List, [], ◌∷◌, Some, None, Contains, refl, sym, subst}
+use Rattle.std.proofs.Common.{◌≡◌, ℕ, List, [], ◌∷◌, Some, None, Contains, refl, subst}
 use Rattle.lw_base.specs.declared.token.Span.{Span}
 use Rattle.lw_grammar.specs.declared.grammar.Grammar.{Grammar}
 use Rattle.lw_grammar.specs.declared.rule.Rule.{Rule}
-use Rattle.lw_grammar.specs.declared.rule.Value0.{Value0}
 use Rattle.lw_grammar.specs.declared.rule.Value0.TheVariants as value
 use Rattle.lw_grammar.specs.Leaves.{Leaf, leaves, value_leaves, ValueLeaf, Calls, Cross}
 use Rattle.lw_grammar.specs.Leaves as leaf
@@ -46,7 +45,7 @@ module _ (g : Grammar) where
       absurd (let is : Cross type_name None s ≡ Calls name t = the_item _ _ (subst (λ ls. Contains ls (Calls name t)) (values-Cross type_name None s) has) in cc)
   calls_by_name type_name name s (reached.crosses wanted t has) =
       absurd (let is : Cross type_name None s ≡ Cross wanted (Some name) t =
-          the_item _ _ (subst (λ ls. Contains ls (Cross wanted (Some name) t)) (values-Cross type_name None s) has) in cc)
+      the_item _ _ (subst (λ ls. Contains ls (Cross wanted (Some name) t)) (values-Cross type_name None s) has) in cc)
   calls_by_name type_name name s (reached.crosses_by_name wanted t has is_name) =
       let is : Cross type_name None s ≡ Cross wanted None t = the_item _ _ (subst (λ ls. Contains ls (Cross wanted None t)) (values-Cross type_name None s) has) in
       let wanted_is : wanted ≡ type_name = cc in subst (λ n. IsNameRule g n name) wanted_is is_name

@@ -1,5 +1,5 @@
 -- The grammar with a data type rule: which rules make nodes, what is reached, its kinds, and its types.
-use Rattle.std.proofs.Common.{◌≡◌, ◌≢◌, ℕ, zero, suc, ◌<◌, List, [], ◌∷◌, ◌++◌, Some, true, false, codes, slice_get, Contains, ◌⊎◌, inl, inr, refl, sym, ap, ◌∙◌, subst, arith, true≢false}
+use Rattle.std.proofs.Common.{◌≡◌, ◌≢◌, ℕ, zero, suc, ◌<◌, List, [], ◌∷◌, ◌++◌, Some, false, codes, slice_get, Contains, ◌⊎◌, inl, inr, refl, sym, ap, ◌∙◌, subst, arith, true≢false}
 use Rattle.std.proofs.lemmas.Option.{none-some, same_Some}
 use Rattle.lw_grammar.specs.declared.rule.Rule.{Rule}
 use Rattle.lw_grammar.specs.declared.rule.Op.TheVariants.{One}
@@ -174,7 +174,7 @@ root_keywords : keywords_in root_rule.body ≡ []
 root_keywords = simp (leaf_equations, value_equations)
 
 qname_keywords : keywords_in qname_rule.body ≡ codes "." ∷ []
-qname_keywords = simp (leaf_equations, value_equations)
+qname_keywords = simp leaf_equations
 
 marked_keywords : keywords_in marked_rule.body ≡ codes "x" ∷ []
 marked_keywords = simp (leaf_equations, value_equations)

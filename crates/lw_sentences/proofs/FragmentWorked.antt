@@ -1,5 +1,5 @@
 -- The grammar with a fragment: the fragment's leaves stand for its call, and it is looked into once.
-use Rattle.std.proofs.Common.{◌≡◌, ℕ, zero, suc, List, [], ◌∷◌, true, false, codes, Contains, refl, sym, subst, arith, true≢false}
+use Rattle.std.proofs.Common.{◌≡◌, ℕ, List, [], ◌∷◌, codes, Contains, refl, sym, subst, arith, true≢false}
 use Rattle.lw_grammar.specs.declared.rule.Op.TheVariants.{One}
 use Rattle.lw_grammar.specs.Named.{IsRule, declared_rule, declared_terminal}
 use Rattle.lw_grammar.specs.Leaves.{Leaf, leaves, HasLeaves, IsFragmentCall, Expands, nothing, kept, put_in, looped}

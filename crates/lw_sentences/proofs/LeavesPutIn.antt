@@ -1,5 +1,5 @@
 -- Fragments put in: a rule has one list of leaves, and where no rule is a fragment these are the leaves of its body.
-use Rattle.std.proofs.Common.{◌≡◌, ℕ, List, [], ◌∷◌, ◌++◌, true, false, Contains, refl, sym, ap, ap₂, ◌∙◌, subst, true≢false}
+use Rattle.std.proofs.Common.{◌≡◌, ℕ, List, [], ◌∷◌, ◌++◌, false, Contains, refl, sym, ap, ap₂, ◌∙◌, subst, true≢false}
 use Rattle.lw_grammar.specs.declared.grammar.Grammar.{Grammar}
 use Rattle.lw_grammar.specs.declared.rule.Rule.{Rule}
 use Rattle.lw_grammar.specs.Leaves.{Leaf, Keyword, Call, Assign, Act, leaves, IsFragmentCall, Expands, HasLeaves, nothing, kept, put_in, looped}

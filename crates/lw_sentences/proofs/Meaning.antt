@@ -1,5 +1,5 @@
 -- A name means one thing in its space.
-use Rattle.std.proofs.Common.{◌≡◌, ℕ, ◌<◌, List, Some, slice_get, Contains, inl, inr, arith}
+use Rattle.std.proofs.Common.{◌≡◌, ℕ, List, Some, slice_get, Contains, inl, inr, arith}
 use Rattle.std.proofs.lemmas.Option.{slice_get_within, get_or_from_slice_get}
 use Rattle.lw_grammar.specs.Named.{IsMeant, Declaration, StandsBefore}
 

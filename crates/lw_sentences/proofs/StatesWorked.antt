@@ -1,18 +1,17 @@
 -- The grammar of models with states: its names, leaves, types, name rule, calls and kinds.
-use Rattle.std.proofs.Common.{◌≡◌, ◌≢◌, ℕ, List, [], ◌∷◌, ◌++◌, Option, Some, None, true, false, codes, slice_get, Contains, refl, sym, ap, ◌∙◌, subst, arith, true≢false}
+use Rattle.std.proofs.Common.{◌≡◌, ℕ, List, [], ◌∷◌, ◌++◌, None, false, codes, slice_get, Contains, refl, sym, ap, ◌∙◌, subst, arith, true≢false}
 use Rattle.std.proofs.lemmas.List.{append-nil}
 use Rattle.std.proofs.lemmas.Option.{none-some}
 use Rattle.lw_grammar.specs.declared.rule.Rule.{Rule}
 use Rattle.lw_grammar.specs.declared.rule.Op.TheVariants.{One, Add}
-use Rattle.lw_grammar.specs.declared.rule.Value0.{Value0, out-Value0}
+use Rattle.lw_grammar.specs.declared.rule.Value0.{Value0}
 use Rattle.lw_grammar.specs.declared.rule.Value0.TheVariants as value
-use Rattle.lw_grammar.specs.declared.rule.Action.{Action}
 use Rattle.lw_grammar.specs.declared.terminal.Terminal.{Terminal}
 use Rattle.lw_grammar.specs.Named.{IsRule, IsTerminal, IsEntry, declared_rule, declared_terminal}
 use Rattle.lw_grammar.specs.Leaves.{Leaf, leaves, keywords_in, HasLeaves, value_leaves, Cross}
 use Rattle.lw_grammar.specs.Leaves as leaf
-use Rattle.lw_grammar.specs.Nodes.{MakesNodes, IsDataType, assigns}
-use Rattle.lw_grammar.specs.Subtypes.{IsDirectlyBelow, IsSubtype, HasType, extends, is_member, acts, calls, same}
+use Rattle.lw_grammar.specs.Nodes.{MakesNodes, assigns}
+use Rattle.lw_grammar.specs.Subtypes.{IsDeclared, by_interface, by_union, IsDirectlyBelow, IsSubtype, extends, is_member, acts, calls, same}
 use Rattle.lw_grammar.specs.NameRules.{IsNameRule, NamesNodesOf, FirstNames, IsCallOf, here, later}
 use Rattle.lw_grammar.specs.Reached.{ValueCalls, RuleCalls, IsReached}
 use Rattle.lw_grammar.specs.Reached as reached
@@ -70,6 +69,10 @@ module _ (next : Value0) where
   state_no_entry is = true≢false (sym is.does.0)
 
   -- ---- types
+  pub undeclared : (name : List ℕ) → ¬ IsDeclared (states_with next) name
+  undeclared name (by_interface i interface is) = none-some interface is.first.there
+  undeclared name (by_union u union is) = none-some union is.first.there
+
   pub no_fragments : Every (λ (rule : Rule). rule.is_fragment ≡ false) (states_with next).rules
   no_fragments = (refl, (refl, tt))
 
@@ -137,8 +140,7 @@ module _ (next : Value0) where
 
   pub only_name_rule : (called : List ℕ) → IsNameRule (states_with next) (codes "State") called → called ≡ codes "ID"
   only_name_rule called is =
-      every_at Only (states_with next).rules is.number is.rule
-      (
+      every_at Only (states_with next).rules is.number is.rule (
         λ name names. absurd (model_names_none name names),
         (
           λ name names.
@@ -165,16 +167,16 @@ module _ (next : Value0) where
       (subst (λ ls. Contains ls (leaf.Assign (codes "name") One id_call nowhere)) (sym of_state) (1, omega arith, refl))
       (reached.calls nowhere (rw values-Call (0, omega arith, refl)))
 
-  pub model_makes_nodes : MakesNodes (states_with next) model_rule
-  model_makes_nodes =
-      assigns (codes "name") One id_call nowhere (subst (λ ls. Contains ls (leaf.Assign (codes "name") One id_call nowhere)) (sym of_model) (1, omega arith, refl))
-
 -- with `[State:ID]` a state calls ID alone
 pub state_calls_alone : (name : List ℕ) → RuleCalls states_by_id (state_rule by_id) name → name ≡ codes "ID"
 state_calls_alone name is =
-    calls_only states_by_id (λ called. called ≡ codes "ID") (state_rule by_id) (state_leaves by_id) name (of_state by_id)
-    (tt, (λ n does. sym (calls_by_call states_by_id (codes "ID") n nowhere does),
-      (tt, (λ n does. sym (calls_by_cross states_by_id (codes "State") (codes "ID") n nowhere does), (tt, tt)))))
+    calls_only states_by_id (λ called. called ≡ codes "ID") (state_rule by_id) (state_leaves by_id) name (of_state by_id) (
+      tt,
+      (
+        λ n does. sym (calls_by_call states_by_id (codes "ID") n nowhere does),
+        (tt, (λ n does. sym (calls_by_cross states_by_id (codes "State") (codes "ID") n nowhere does), (tt, tt))),
+      ),
+    )
     is
 
 -- and `[State]` reads its text by ID, and by nothing else

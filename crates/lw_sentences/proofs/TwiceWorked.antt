@@ -1,7 +1,5 @@
 -- The grammar with an interface and a union of one name: the name means the one that stands first.
-use Rattle.std.proofs.Common.{◌≡◌, ◌≢◌, ℕ, ◌+◌, ◌<◌, List, [], ◌∷◌, Some, true, false, map, codes, Contains, inl, inr, refl, sym, ap, ◌∙◌, subst, arith}
-use Rattle.std.proofs.lemmas.Option.{same_Some}
-use Rattle.lw_base.specs.declared.token.Span.{Span}
+use Rattle.std.proofs.Common.{◌≡◌, ℕ, ◌<◌, List, [], ◌∷◌, map, codes, Contains, inl, inr, refl, sym, ap, ◌∙◌, subst, arith}
 use Rattle.lw_grammar.specs.declared.rule.Rule.{Rule}
 use Rattle.lw_grammar.specs.declared.declared_types.Interface.{Interface}
 use Rattle.lw_grammar.specs.declared.declared_types.UnionDef.{UnionDef}
@@ -9,7 +7,7 @@ use Rattle.lw_grammar.specs.Named.{IsInterface, IsUnion, StandsBefore, declared_
 use Rattle.lw_grammar.specs.Subtypes.{IsDirectlyBelow, IsSubtype, HasType, InfersType, IsDeclared}
 use Rattle.lw_grammar.specs.Subtypes as below
 use Rattle.lw_sentences.specs.Worked.{nowhere, named_interface, t_union, returning_rule, t_twice}
-use Rattle.lw_sentences.proofs.Every.{Every, every_of, every_at, differ, first_here, first_later}
+use Rattle.lw_sentences.proofs.Every.{every_of, every_at, differ, first_here, first_later}
 use Rattle.lw_sentences.proofs.CallLemmas.{below_itself}
 
 module _ (i u : ℕ) where
@@ -34,7 +32,7 @@ module _ (i u : ℕ) where
         by (inl earlier) = omega arith
         by (inr nearer) = omega (arith, nearer.1)
 
-    declared : IsDeclared (t_twice i u) (codes "T")
+    pub declared : IsDeclared (t_twice i u) (codes "T")
     declared = below.by_interface 1 (named_interface (codes "T") i) interface_meant
 
     -- what the rule returns is declared, so its action adds nothing

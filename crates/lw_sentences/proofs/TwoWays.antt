@@ -1,22 +1,15 @@
 -- The grammar of two ways that begin and end alike: its sentences are `a b c` and `a d c`, so that `a` begins one, and `a c` begins none,
 -- though `c` ends both ways.
-use Rattle.std.proofs.Common.{◌≡◌, ◌≢◌, ◌<◌, ℕ, zero, suc, slice_get, List, [], ◌∷◌, ◌++◌, map, Some, true, false, codes, lit<, All, AllPairs, Contains, ◌⊎◌, inl, inr, refl, sym, ap, ◌∙◌, subst, arith, true≢false}
-use Rattle.std.specs.List.{flat_map}
+use Rattle.std.proofs.Common.{◌≡◌, ◌≢◌, ◌<◌, ℕ, zero, suc, slice_get, List, [], ◌∷◌, ◌++◌, map, Some, codes, lit<, All, AllPairs, Contains, ◌⊎◌, inl, inr, refl, sym, ap, ◌∙◌, subst, arith, true≢false}
 use Rattle.std.proofs.lemmas.List.{append-nil}
 use Rattle.std.proofs.lemmas.List.Elements.{All-nil, All-cons, All-head, All-tail}
 use Rattle.std.proofs.lemmas.List.Kept.{AllPairs-cons}
 use Rattle.std.proofs.lemmas.Option.{none-some, same_Some}
-use Rattle.lw_base.specs.declared.token.Span.{Span}
-use Rattle.lw_grammar.specs.declared.grammar.Grammar.{Grammar}
 use Rattle.lw_grammar.specs.declared.rule.Rule.{Rule}
-use Rattle.lw_grammar.specs.declared.rule.RuleResult.TheVariants.{Own}
 use Rattle.lw_grammar.specs.declared.rule.Op.TheVariants.{One}
-use Rattle.lw_grammar.specs.declared.rule.Element.{Element, out-Element, fold_out-Element}
-use Rattle.lw_grammar.specs.declared.rule.Element.TheFolds.{map-Element}
-use Rattle.lw_grammar.specs.declared.rule.Element.TheVariants.{Keyword, Assign, Group, Choice, outs-Keyword, outs-Assign, outs-Group, outs-Choice}
+use Rattle.lw_grammar.specs.declared.rule.Element.TheVariants.{outs-Keyword, outs-Assign, outs-Group, outs-Choice}
 use Rattle.lw_grammar.specs.declared.rule.Element.TheOpen as layer
-use Rattle.lw_grammar.specs.declared.rule.Value0.{Value0, fold_out-Value0}
-use Rattle.lw_grammar.specs.declared.rule.Value0.TheFolds.{map-Value0}
+use Rattle.lw_grammar.specs.declared.rule.Value0.{Value0}
 use Rattle.lw_grammar.specs.declared.rule.Value0.TheVariants as value
 use Rattle.lw_grammar.specs.declared.rule.Value0.TheOpen as value_layer
 use Rattle.lw_grammar.specs.Leaves.{Leaf, leaves, layer_leaves, ValueLeaf, value_leaves, layer_values, keywords_in, keywords_of, literals_of}
@@ -26,7 +19,7 @@ use Rattle.lw_grammar.specs.Named.{IsEntry}
 use Rattle.lw_grammar.specs.Nodes.{MakesNodes, assigns}
 use Rattle.lw_grammar.specs.Reached as reached
 use Rattle.lw_grammar.specs.Kept as keep
-use Rattle.lw_grammar.specs.Kinds.{Kinds, AreKinds, IsKeywordKind, first_uses}
+use Rattle.lw_grammar.specs.Kinds.{AreKinds, IsKeywordKind, first_uses}
 use Rattle.lw_sentences.specs.Marks.{Mark, kinds_of}
 use Rattle.lw_sentences.specs.Marks as mark
 use Rattle.lw_sentences.specs.Yields.{Yields, Gives, RuleGives, ValueYields, ValueGives}

@@ -1,5 +1,5 @@
 -- Grammars that are written out, of which the laws say what the definitions mean. Places stand only where they tell something.
-use Rattle.std.specs.Prelude.{ℕ, ◌+◌, List, [], ◌∷◌, Option, Some, None, Bool, true, false, codes}
+use Rattle.std.specs.Prelude.{ℕ, ◌+◌, List, [], ◌∷◌, Some, None, Bool, true, false, codes}
 use Rattle.lw_base.specs.declared.token.Span.{Span}
 use Rattle.lw_grammar.specs.declared.grammar.Grammar.{Grammar}
 use Rattle.lw_grammar.specs.declared.rule.Rule.{Rule}
@@ -180,7 +180,7 @@ t_union start = record {
 
 abbrev pub returning_rule : Rule
 returning_rule = record (named_rule (codes "R") true false (Act (record { infers = false; type_name = codes "A"; put = None; span = nowhere }))) {
-  result = Returns (codes "T") nowhere
+  result = Returns (codes "T") nowhere;
 }
 
 abbrev pub t_twice : ℕ → ℕ → Grammar

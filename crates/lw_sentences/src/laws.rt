@@ -19,7 +19,7 @@ ghost use Rattle.lw_grammar.specs.Named.{IsRule, IsTerminal, IsInterface, IsUnio
 ghost use Rattle.lw_grammar.specs.Nodes.{MakesNodes, IsDataType};
 ghost use Rattle.lw_grammar.specs.Reached.{RuleCalls, ValueCalls, IsReached};
 ghost use Rattle.lw_grammar.specs.Size.{size};
-ghost use Rattle.lw_grammar.specs.Subtypes.{HasType, InfersType, IsSubtype};
+ghost use Rattle.lw_grammar.specs.Subtypes.{HasType, InfersType, IsDeclared, IsSubtype};
 ghost use Rattle.lw_sentences.specs.Marks.{Mark, Token};
 ghost use Rattle.lw_sentences.specs.Sentences.{IsWhole, Starts};
 ghost use Rattle.lw_sentences.specs.Worked.{nowhere, keyword_row, id_call, id_terminal, model_rule, state_rule, by_id, states_by_id, by_name, states_by_name, states_kinds, root_rule, qname_rule, marked_rule, dotted_grammar, dotted_kinds, with_fragment, named_fragment, fragment_grammar, named_interface, t_union, returning_rule, t_twice, two_ways, two_ways_kinds};
@@ -39,6 +39,11 @@ pub fn one_leaves()
     ensures { (g : Grammar) (rule : Rule) (a b : List Leaf) → HasLeaves g rule a → HasLeaves g rule b → a ≡ b }
 {}
 
+/// A grammar has one list of kinds.
+pub fn one_list_of_kinds()
+    ensures { (g : Grammar) (a b : Kinds) → AreKinds g a → AreKinds g b → a ≡ b }
+{}
+
 /// Of an interface and a union of one name the name means the one that stands first, and is what that one is.
 pub fn first_declaration()
     ensures interface { IsInterface (t_twice 35 45) (codes "T") 1 (named_interface (codes "T") 35) }
@@ -47,7 +52,8 @@ pub fn first_declaration()
     ensures union { IsUnion (t_twice 47 15) (codes "T") 0 (t_union 15) }
     ensures no_interface { (i : ℕ) (interface : Interface) → ¬ IsInterface (t_twice 47 15) (codes "T") i interface }
     ensures below { IsSubtype (t_twice 47 15) (codes "A") (codes "T") }
-    ensures declared { HasType (t_twice 35 45) returning_rule (codes "T") }
+    ensures declared { IsDeclared (t_twice 35 45) (codes "T") }
+    ensures returned { HasType (t_twice 35 45) returning_rule (codes "T") }
     ensures not_inferred { ¬ InfersType (t_twice 35 45) returning_rule (codes "T") }
 {}
 
@@ -62,6 +68,7 @@ pub fn names_of_states()
     ensures type_ { HasType states_by_id (state_rule by_id) (codes "State") }
     ensures other_type { ¬ HasType states_by_id (state_rule by_id) (codes "Model") }
     ensures inferred { InfersType states_by_id (state_rule by_id) (codes "State") }
+    ensures undeclared { ¬ IsDeclared states_by_id (codes "State") }
     ensures itself { IsSubtype states_by_id (codes "State") (codes "State") }
     ensures not_below { ¬ IsSubtype states_by_id (codes "State") (codes "Model") }
     ensures size { size states_by_id ≡ 23 }

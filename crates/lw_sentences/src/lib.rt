@@ -14,5 +14,7 @@
 mod laws;
 
 pub use laws::{
-    calls_of_states, data_type_rules, first_declaration, fragments_put_in, inferred_subtypes, keyword_rows, kinds_of_reached_rules, kinds_of_states, name_rule_of_states, names_of_states, one_leaves, one_meaning, starts_of_sentences,
+    calls_of_states, data_type_rules, first_declaration, fragments_put_in, inferred_subtypes,
+    keyword_rows, kinds_of_reached_rules, kinds_of_states, name_rule_of_states, names_of_states,
+    one_leaves, one_list_of_kinds, one_meaning, starts_of_sentences,
 };

@@ -1,5 +1,5 @@
 -- How far the terminals are gone through.
-use Rattle.std.proofs.Common.{◌≡◌, ℕ, List, [], ◌∷◌, ◌++◌, length, length-append, append_assoc, map, take, Some, Result, Err, slice_get, All, refl, sym, subst, ap, ◌∙◌, arith}
+use Rattle.std.proofs.Common.{◌≡◌, ℕ, List, [], ◌∷◌, ◌++◌, length, length-append, append_assoc, map, take, Some, Result, Err, slice_get, refl, sym, subst, ap, ◌∙◌, arith}
 use Rattle.std.proofs.Math.Seq.{get_or-append_seam}
 use Rattle.std.proofs.lemmas.List.{append-nil, take_at, map-append}
 use Rattle.std.proofs.lemmas.Option.{slice_get-get_or}

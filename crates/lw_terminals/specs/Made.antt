@@ -1,5 +1,5 @@
 -- What a set of tokens is made from, and why it is not made.
-use Rattle.std.specs.Prelude.{ℕ, ◌≡◌, ◌≢◌, List, [], ◌++◌, map, take, codes, All, Contains, Option, Some, IsSome, Result, Ok, Err, slice_get}
+use Rattle.std.specs.Prelude.{ℕ, ◌≡◌, ◌≢◌, List, [], ◌++◌, map, take, All, Contains, Option, Some, IsSome, Result, Ok, Err, slice_get}
 use Rattle.lw_grammar.specs.KindTexts.{quoted}
 use Rattle.lw_io.specs.Causes.{Faulted}
 use Rattle.lw_tokens.specs.Lexicon.{TerminalForm}

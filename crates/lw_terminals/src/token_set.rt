@@ -55,7 +55,7 @@ impl TokenSet {
         requires few { length keywords.items + length terminals.items ≤ 65535 }
         ensures made { IfOk result (λ set. set ≡ token_kinds_of keywords.items terminals.items) }
         ensures usable { OnOk result (AreUsable terminals.items) }
-    ensures unlisted { OnOk result (AreUnlisted (P.listed patterns.old) terminals.items) }
+        ensures unlisted { OnOk result (AreUnlisted (P.listed patterns.old) terminals.items) }
         ensures refused { (i : ℕ) → result ≡ Err (MakeTokensFault.Refused i)
             → IsRefusedAt (P.listed patterns.old) terminals.items (P.last_refused patterns.new) i }
         ensures empty_match { (i : ℕ) → result ≡ Err (MakeTokensFault.EmptyMatch i)

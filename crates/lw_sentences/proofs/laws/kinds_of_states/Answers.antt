@@ -1,5 +1,5 @@
 -- Each list is written out.
-use Rattle.std.proofs.Common.{codes, refl, sym}
+use Rattle.std.proofs.Common.{codes, refl}
 use Rattle.std.proofs.lemmas.Option.{same_Some}
 use Rattle.lw_sentences.proofs.Every.{differ}
 use Rattle.lw_sentences.proofs.StatesWorked.{state_keywords, its_kinds, id_kind, no_state_kind, model_text, no_seventh_text}

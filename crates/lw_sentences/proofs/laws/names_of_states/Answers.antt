@@ -3,7 +3,7 @@ use Rattle.std.proofs.Common.{codes, refl}
 use Rattle.lw_grammar.specs.Subtypes.{same}
 use Rattle.lw_sentences.specs.Worked.{by_id}
 use Rattle.lw_sentences.proofs.Every.{differ}
-use Rattle.lw_sentences.proofs.StatesWorked.{state_named, no_terminal_state, id_named, no_rule_id, model_entry, state_no_entry, below_same, its_size}
+use Rattle.lw_sentences.proofs.StatesWorked.{state_named, no_terminal_state, id_named, no_rule_id, model_entry, state_no_entry, undeclared, below_same, its_size}
 use Rattle.lw_sentences.proofs.laws.names_of_states.Goals as goal
 
 pub returns : goal.returns
@@ -17,6 +17,7 @@ returns c = record {
   type_ = (refl, refl);
   other_type = λ is. differ (codes "Model") (codes "State") refl is.1;
   inferred = ((refl, refl), tt);
+  undeclared = undeclared by_id (codes "State");
   itself = same;
   not_below = λ is. differ (codes "State") (codes "Model") refl (below_same by_id (codes "State") (codes "Model") is);
   size = its_size;

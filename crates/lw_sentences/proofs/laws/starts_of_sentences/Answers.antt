@@ -1,5 +1,4 @@
 -- There are two sentences.
-use Rattle.std.proofs.Common.{[]}
 use Rattle.lw_sentences.proofs.Starting.{Starts-front}
 use Rattle.lw_sentences.proofs.TwoWays.{are_kinds, second_way, a_starts, no_c_after_a, no_short_sentence}
 use Rattle.lw_sentences.proofs.laws.starts_of_sentences.Goals as goal

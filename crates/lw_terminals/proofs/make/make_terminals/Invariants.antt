@@ -1,4 +1,4 @@
-use Rattle.std.proofs.Common.{◌≡◌, ◌++◌, map, All}
+use Rattle.std.proofs.Common.{◌≡◌, ◌++◌, map}
 use Rattle.std.specs.Vec.Iter.{into_iter_items}
 use Rattle.lw_terminals.specs.Made.{form_of, AreUsable, AreUnlisted}
 use Rattle.lw_terminals.proofs.make.make_terminals.Given as goal
