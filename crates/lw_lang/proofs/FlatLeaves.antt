@@ -9,15 +9,13 @@ use Rattle.lw_grammar.specs.declared.grammar.Grammar.{Grammar}
 use Rattle.lw_grammar.specs.declared.rule.Rule.{Rule}
 use Rattle.lw_grammar.specs.declared.rule.Op.{Op}
 use Rattle.lw_grammar.specs.declared.rule.Op.TheVariants.{One}
-use Rattle.lw_grammar.specs.declared.rule.Element.{Element, out-Element, fold_out-Element}
-use Rattle.lw_grammar.specs.declared.rule.Element.TheFolds.{map-Element}
+use Rattle.lw_grammar.specs.declared.rule.Element.{Element, out-Element}
 use Rattle.lw_grammar.specs.declared.rule.Element.TheOpen as layer
 use Rattle.lw_grammar.specs.declared.rule.Element.TheOpen.{Element-F}
-use Rattle.lw_grammar.specs.declared.rule.Value0.{Value0, out-Value0, fold_out-Value0}
-use Rattle.lw_grammar.specs.declared.rule.Value0.TheFolds.{map-Value0}
+use Rattle.lw_grammar.specs.declared.rule.Value0.{Value0}
 use Rattle.lw_grammar.specs.declared.rule.Value0.TheOpen as value
 use Rattle.lw_grammar.specs.declared.rule.Value0.TheOpen.{Value0-F}
-use Rattle.lw_grammar.specs.Leaves.{Leaf, Keyword, Call, Assign, leaves, layer_leaves, ValueLeaf, Calls, Cross, value_leaves, layer_values, keywords_of, keywords_in, literals_of}
+use Rattle.lw_grammar.specs.Leaves.{Leaf, Keyword, Call, Assign, leaves, Calls, Cross, value_leaves, keywords_of, keywords_in, literals_of}
 use Rattle.lw_grammar.specs.Reached.{ValueCalls, RuleCalls}
 use Rattle.lw_grammar.specs.Reached as reached
 use Rattle.lw_grammar.proofs.LeafLemmas.{leaves_by, values_by}
