@@ -1,5 +1,5 @@
 -- Where bytes are cut into lines.
-use Rattle.std.proofs.Common.{◌≡◌, ◌∙◌, ◌≤◌, ◌+◌, ℕ, List, [], ◌∷◌, ◌++◌, length, take, drop, nat_eq, Bool, true, false, not, ◌&&◌, ◌||◌, if◌then◌else◌, refl, sym, ap, arith, subst, Option, append_assoc, length-append, ◌≢◌}
+use Rattle.std.proofs.Common.{◌≡◌, ◌∙◌, ◌≤◌, ◌+◌, ℕ, List, [], ◌∷◌, ◌++◌, length, take, drop, nat_eq, Bool, true, false, not, if◌then◌else◌, refl, sym, ap, arith, subst, Option, append_assoc, length-append, ◌≢◌}
 use Rattle.std.proofs.Math.Seq.{take-append_seam}
 use Rattle.std.proofs.lemmas.List.{drop-append-le}
 use Rattle.std.proofs.lemmas.Slice.Eq.{bytes_eq-Decides}
@@ -10,9 +10,7 @@ use Rattle.lw_frame.specs.Reading.{is_newline, IsThroughNewline}
 use Rattle.lw_frame.specs.declared.stage.Stage.{Stage}
 use Rattle.lw_frame.specs.declared.stage.Stage.TheVariants as stage
 use Rattle.lw_frame.specs.Lines.{line_end, cut_first, parts, front, lines, joined}
-
-pub both : (a b : Bool) → (a && b) ≡ true → (a ≡ true) × (b ≡ true)
-both a b h = grind (arith, nat_tests)
+use Rattle.std.proofs.lemmas.Bool.{and_parts, and_from, or_parts, not_from_false, false_from_ne_true}
 
 cut_one : (test : Bool) (part : List ℕ) (others : List (List ℕ)) → (first : List ℕ) × (rest : List (List ℕ)) × ((if test then [] ∷ drop 2 part ∷ others else part ∷ others) ≡ first ∷ rest)
 cut_one true part others = ([], drop 2 part ∷ others, refl)
@@ -34,7 +32,7 @@ uncut false part others h = refl
 pub parts-open : (bytes : List ℕ) → is_open bytes ≡ true → parts bytes ≡ bytes ∷ []
 parts-open [] h = refl
 parts-open (b ∷ bytes) h =
-    let test = both (not (starts_with nat_eq (b ∷ bytes) line_end)) (is_open bytes) h in
+    let test = and_parts (not (starts_with nat_eq (b ∷ bytes) line_end)) (is_open bytes) h in
     ap (λ qs. cut_first (onto_first b qs)) (parts-open bytes test.1) ∙ uncut (starts_with nat_eq (b ∷ bytes) line_end) (b ∷ bytes) [] test.0
 
 -- an open line, its end, and what follows
@@ -43,14 +41,14 @@ parts-line [] more h =
     let ps = parts-nonempty more in
     ap (λ qs. cut_first (onto_first 13 (cut_first (onto_first 10 qs)))) ps.2 ∙ ap (λ qs. [] ∷ qs) (sym ps.2)
 parts-line (b ∷ line) more h =
-    let test = both (not (starts_with nat_eq (b ∷ line) line_end)) (is_open line) h in
+    let test = and_parts (not (starts_with nat_eq (b ∷ line) line_end)) (is_open line) h in
     ap (λ qs. cut_first (onto_first b qs)) (parts-line line more test.1) ∙ uncut (starts_with nat_eq (b ∷ line) line_end) (b ∷ line) (parts more) test.0
 
 -- open lines, and what follows them
 pub parts-joined : (ls : List (List ℕ)) (more : List ℕ) → list_all is_open ls ≡ true → parts (joined ls ++ more) ≡ ls ++ parts more
 parts-joined [] more h = refl
 parts-joined (line ∷ ls) more h =
-    let test = both (is_open line) (list_all is_open ls) h in
+    let test = and_parts (is_open line) (list_all is_open ls) h in
     let grouped : (line ++ line_end) ++ joined ls ++ more ≡ line ++ (13 ∷ 10 ∷ (joined ls ++ more)) = append_assoc (line ++ line_end) (joined ls) more ∙ append_assoc line line_end (joined ls ++ more) in
     ap parts grouped ∙ parts-line line (joined ls ++ more) test.0 ∙ ap (λ qs. line ∷ qs) (parts-joined ls more test.1)
 
@@ -78,49 +76,39 @@ open_two a b bytes h = grind (arith, nat_tests)
 pub open_one : (a : ℕ) → not (starts_with nat_eq (a ∷ []) line_end) ≡ true
 open_one a = grind (arith, nat_tests)
 
-and_true : (a b : Bool) → a ≡ true → b ≡ true → (a && b) ≡ true
-and_true a b h k = grind (arith, nat_tests)
-
-or_false : (a b : Bool) → (a || b) ≡ false → (a ≡ false) × (b ≡ false)
-or_false a b h = grind (arith, nat_tests)
-
 -- bytes with no newline are open
 open_without_newline : (bytes : List ℕ) → list_any is_newline bytes ≡ false → is_open bytes ≡ true
 open_without_newline [] h = refl
-open_without_newline (a ∷ []) h = and_true _ _ (open_one a) refl
+open_without_newline (a ∷ []) h = and_from _ _ (open_one a) refl
 open_without_newline (a ∷ b ∷ bytes) h =
-    let rest = (or_false (is_newline a) (list_any is_newline (b ∷ bytes)) h).1 in
-    and_true _ _ (open_two a b bytes (or_false (is_newline b) (list_any is_newline bytes) rest).0) (open_without_newline (b ∷ bytes) rest)
+    let rest = (or_parts (is_newline a) (list_any is_newline (b ∷ bytes)) h).1 in
+    and_from _ _ (open_two a b bytes (or_parts (is_newline b) (list_any is_newline bytes) rest).0) (open_without_newline (b ∷ bytes) rest)
 
 -- and stay so behind open ones
 pub is_open-append : (bytes more : List ℕ) → is_open bytes ≡ true → list_any is_newline more ≡ false → is_open (bytes ++ more) ≡ true
 is_open-append [] more h k = open_without_newline more k
 is_open-append (a ∷ []) [] h k = h
 is_open-append (a ∷ []) (b ∷ more) h k =
-    and_true _ _ (open_two a b more (or_false (is_newline b) (list_any is_newline more) k).0) (open_without_newline (b ∷ more) k)
+    and_from _ _ (open_two a b more (or_parts (is_newline b) (list_any is_newline more) k).0) (open_without_newline (b ∷ more) k)
 is_open-append (a ∷ b ∷ bytes) more h k =
-    let test = both (not (starts_with nat_eq (a ∷ b ∷ bytes) line_end)) (is_open (b ∷ bytes)) h in
-    and_true _ _ test.0 (is_open-append (b ∷ bytes) more test.1 k)
+    let test = and_parts (not (starts_with nat_eq (a ∷ b ∷ bytes) line_end)) (is_open (b ∷ bytes)) h in
+    and_from _ _ test.0 (is_open-append (b ∷ bytes) more test.1 k)
 
 -- the front of open bytes is open
 pub is_open-front : (bytes more : List ℕ) → is_open (bytes ++ more) ≡ true → is_open bytes ≡ true
 is_open-front [] more h = refl
-is_open-front (a ∷ []) more h = and_true _ _ (open_one a) refl
+is_open-front (a ∷ []) more h = and_from _ _ (open_one a) refl
 is_open-front (a ∷ b ∷ bytes) more h =
-    let test = both (not (starts_with nat_eq (a ∷ b ∷ (bytes ++ more)) line_end)) (is_open (b ∷ (bytes ++ more))) h in
-    and_true _ _ test.0 (is_open-front (b ∷ bytes) more test.1)
-
-not_from : (t : Bool) → (t ≡ true → ⊥) → not t ≡ true
-not_from true h = absurd (h refl)
-not_from false h = refl
+    let test = and_parts (not (starts_with nat_eq (a ∷ b ∷ (bytes ++ more)) line_end)) (is_open (b ∷ (bytes ++ more))) h in
+    and_from _ _ test.0 (is_open-front (b ∷ bytes) more test.1)
 
 -- one more byte leaves them open, where no line end stands at the end
 is_open-push : (bytes : List ℕ) (b : ℕ) → is_open bytes ≡ true → ((before : List ℕ) → bytes ++ b ∷ [] ≢ before ++ line_end) → is_open (bytes ++ b ∷ []) ≡ true
-is_open-push [] b h k = and_true _ _ (open_one b) refl
-is_open-push (a ∷ []) b h k = and_true _ _ (not_from (starts_with nat_eq (a ∷ b ∷ []) line_end) (λ t. k [] (sym ((bytes_eq-Decides line_end (a ∷ b ∷ [])).0 t)))) (and_true _ _ (open_one b) refl)
+is_open-push [] b h k = and_from _ _ (open_one b) refl
+is_open-push (a ∷ []) b h k = and_from _ _ (not_from_false _ (false_from_ne_true _ (λ t. k [] (sym ((bytes_eq-Decides line_end (a ∷ b ∷ [])).0 t))))) (and_from _ _ (open_one b) refl)
 is_open-push (a ∷ c ∷ bytes) b h k =
-    let test = both (not (starts_with nat_eq (a ∷ c ∷ bytes) line_end)) (is_open (c ∷ bytes)) h in
-    and_true _ _ test.0 (is_open-push (c ∷ bytes) b test.1 (λ before e. k (a ∷ before) (ap (λ bs. a ∷ bs) e)))
+    let test = and_parts (not (starts_with nat_eq (a ∷ c ∷ bytes) line_end)) (is_open (c ∷ bytes)) h in
+    and_from _ _ test.0 (is_open-push (c ∷ bytes) b test.1 (λ before e. k (a ∷ before) (ap (λ bs. a ∷ bs) e)))
 
 same_front : (xs ys : List ℕ) (a b : ℕ) → xs ++ a ∷ [] ≡ ys ++ b ∷ [] → xs ≡ ys
 same_front xs ys a b e =

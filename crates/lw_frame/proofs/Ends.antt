@@ -7,19 +7,20 @@ use Rattle.std.proofs.lemmas.List.Folds.{list_any-append}
 use Rattle.std.proofs.lemmas.Slice.Eq.{bytes_eq-Decides}
 use Rattle.std.proofs.lemmas.Bool.Decides.{nat_tests}
 use Rattle.std.proofs.lemmas.List.{length-map}
-use Rattle.std.proofs.lemmas.Bool.{cases_lt}
+use Rattle.std.proofs.lemmas.Bool.{cases_lt, and_parts}
 use Rattle.std.specs.Str.{all_ascii_digits, str_eq_ignore_ascii_case, str_to_ascii_lowercase}
 use Rattle.std.specs.Str.Parse.{digits_value}
 use Rattle.std.specs.List.{starts_with, ends_with, onto_first, before_first, list_any, position_or_len, prefix_len, suffix_len}
 use Rattle.lw_frame.specs.Lines.{line_end, cut_first, parts, front, lines, joined, is_empty, last_part, current_line}
-use Rattle.lw_frame.specs.Header.{unfinished, faulty, whole, header_of, header_limit, body_limit, fields, has_end, near_lines, ended, judged, before_bad, good_so_far, length_of, names_length, length_in, is_colon, is_blank, name, value, without_blanks_before, without_blanks_after}
+use Rattle.lw_frame.specs.Header.{unfinished, faulty, whole, header_of, fields, has_end, near_lines, ended, judged, before_bad, good_so_far, length_of, names_length, length_in, is_colon, is_blank, name, value, without_blanks_before, without_blanks_after}
 use Rattle.lw_frame.specs.Stage.{IsAt, IsHeader, is_open}
 use Rattle.lw_frame.specs.Reading.{EndsBehind}
 use Rattle.lw_frame.specs.Wanted.{shortest_header, fewest_left}
-use Rattle.lw_frame.proofs.Cuts.{both, parts-nonempty, parts-open, parts-joined, lines-joined}
+use Rattle.lw_frame.proofs.Cuts.{parts-nonempty, parts-open, parts-joined, lines-joined}
 use Rattle.lw_frame.proofs.Headers.{keeps_first, before_empty, near}
 use Rattle.lw_frame.specs.declared.fault.FrameFault.TheVariants.{BadHeader, TooLong}
 use Rattle.lw_frame.specs.declared.stage.Stage.TheVariants as stage
+use Rattle.lw_frame.specs.declared.limits.TheConstants.{LONGEST_HEADER_PART, LONGEST_BODY}
 
 -- A CURRENT LINE, AND WHAT FOLLOWS IT
 
@@ -35,7 +36,7 @@ begins b (d ∷ bytes) h = let e : line_end ≡ b ∷ d ∷ [] = (bytes_eq-Decid
 -- what is open does not
 no_line_end : (b d : ℕ) (bytes : List ℕ) → is_open (b ∷ d ∷ bytes) ≡ true → b ≡ 13 → d ≡ 10 → ⊥
 no_line_end b d bytes h first second =
-    let test = (both (not (starts_with nat_eq (b ∷ d ∷ bytes) line_end)) (is_open (d ∷ bytes)) h).0 in
+    let test = (and_parts (not (starts_with nat_eq (b ∷ d ∷ bytes) line_end)) (is_open (d ∷ bytes)) h).0 in
     let bad : not (starts_with nat_eq (b ∷ d ∷ bytes) line_end) ≡ false = rw (first, second) refl in
     cc
 
@@ -61,7 +62,7 @@ first_part : (current more first : List ℕ) (others : List (List ℕ)) → is_o
 unfolding Holds
 first_part [] more first others h e = inl (first, refl)
 first_part (b ∷ current) more first others h e =
-    let test = both (not (starts_with nat_eq (b ∷ current) line_end)) (is_open current) h in
+    let test = and_parts (not (starts_with nat_eq (b ∷ current) line_end)) (is_open current) h in
     let ps = parts-nonempty (current ++ more) in
     let here : cut_first (onto_first b (ps.0 ∷ ps.1)) ≡ first ∷ others = sym (ap (λ qs. cut_first (onto_first b qs)) ps.2) ∙ e in
     part_step (starts_with nat_eq (b ∷ ps.0) line_end) b current ps.0 first ps.1 others refl h (first_part current more ps.0 ps.1 test.1 ps.2) here
@@ -130,7 +131,7 @@ pub record IsEnded (bytes : List ℕ) (size body : ℕ) : Type 0 where
 
 ended_is : (start size : ℕ) (given : Option ℕ) (n m : ℕ) → ended start size given ≡ whole n m → (n ≡ size) × (given ≡ Some m)
 ended_is start size None n m h = cc
-ended_is start size (Some body) n m h = long_is (nat_lt body_limit body) h
+ended_is start size (Some body) n m h = long_is (nat_lt LONGEST_BODY body) h
   where
     long_is : (b : Bool) → (if b then faulty (TooLong body) else whole size body) ≡ whole n m → (n ≡ size) × (Some body ≡ Some m)
     long_is true h = cc
@@ -145,7 +146,7 @@ is_ended start bytes n m h = judged_is (before_bad [] (fields bytes)) h
     good_is false false e h = cc
 
     judged_is : (o : Option (List (List ℕ))) → judged start o (good_so_far start bytes) ≡ whole n m → IsEnded bytes n m
-    judged_is None h = good_is (has_end bytes) (nat_le header_limit (length bytes)) refl h
+    judged_is None h = good_is (has_end bytes) (nat_le LONGEST_HEADER_PART (length bytes)) refl h
     judged_is (Some before) h = cc
 
 pub any_behind : (a b : Bool) → a ≡ false → (a || b) ≡ true → b ≡ true
@@ -153,13 +154,13 @@ any_behind true b h k = cc
 any_behind false b h k = k
 
 -- it goes behind its current line
-header_goes_on : (start : ℕ) (header : List ℕ) (line : ℕ) (given : Option ℕ) (piece : List ℕ) (n m : ℕ) → IsHeader header line given → is_open (drop line header) ≡ true → length header < header_limit
+header_goes_on : (start : ℕ) (header : List ℕ) (line : ℕ) (given : Option ℕ) (piece : List ℕ) (n m : ℕ) → IsHeader header line given → is_open (drop line header) ≡ true → length header < LONGEST_HEADER_PART
     → header_of start (header ++ piece) ≡ whole n m → length header + fewest_left (drop line header) ≤ n
 header_goes_on start header line given piece n m is uncut short said =
     let current : List ℕ = drop line header in
-    let more : List ℕ = take (header_limit - length header) piece in
+    let more : List ℕ = take (LONGEST_HEADER_PART - length header) piece in
     let told = is_ended start (header ++ piece) n m said in
-    let window : take header_limit (header ++ piece) ≡ joined is.before ++ (current ++ more) = near header piece (omega arith) ∙ ap (λ bs. bs ++ more) is.bytes ∙ append_assoc (joined is.before) current more in
+    let window : take LONGEST_HEADER_PART (header ++ piece) ≡ joined is.before ++ (current ++ more) = near header piece (omega arith) ∙ ap (λ bs. bs ++ more) is.bytes ∙ append_assoc (joined is.before) current more in
     let near_are : near_lines (header ++ piece) ≡ is.before ++ lines (current ++ more) = ap lines window ∙ lines-joined is.before (current ++ more) is.good.cut in
     let fields_are : fields (header ++ piece) ≡ is.before ++ before_first is_empty (lines (current ++ more)) = ap (before_first is_empty) near_are ∙ before_empty is.before (lines (current ++ more)) is.good.filled in
     let some : list_any is_empty (lines (current ++ more)) ≡ true =

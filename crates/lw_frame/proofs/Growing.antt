@@ -1,23 +1,24 @@
 -- What stays of a stream as it goes on: a header part that was judged stays judged so, and so does a message that is all there.
-use Rattle.std.proofs.Common.{◌≡◌, ◌∙◌, ◌<◌, ◌≤◌, ◌+◌, ◌-◌, ◌⊎◌, inl, inr, ⊎_elim, ℕ, zero, suc, List, [], ◌∷◌, ◌++◌, length, take, drop, nat_eq, nat_le, Bool, true, false, not, ◌&&◌, ◌||◌, if◌then◌else◌, Option, Some, None, refl, sym, ap, arith, subst, append_assoc, append-nil, length-append, length-take}
+use Rattle.std.proofs.Common.{◌≡◌, ◌∙◌, ◌<◌, ◌≤◌, ◌+◌, ◌-◌, ◌⊎◌, inl, inr, ⊎_elim, ℕ, zero, suc, List, [], ◌∷◌, ◌++◌, length, take, drop, nat_eq, nat_le, Bool, true, false, not, if◌then◌else◌, Option, Some, None, refl, sym, ap, arith, subst, append_assoc, append-nil, length-append, length-take}
 use Rattle.std.proofs.Math.Dec.{eqb-suc-zero}
 use Rattle.std.proofs.lemmas.List.{take_all, take-append-le, drop-append-le}
 use Rattle.std.proofs.lemmas.List.Folds.{list_any-append}
-use Rattle.std.proofs.lemmas.Bool.{cases_lt, le-leb}
+use Rattle.std.proofs.lemmas.Bool.{cases_lt, le-leb, and_parts, and_from, not_from_false, or_left, lt-leb}
 use Rattle.std.proofs.lemmas.Bool.Decides.{nat_tests}
 use Rattle.std.specs.List.{starts_with, list_all, list_any, before_first}
 use Rattle.lw_frame.specs.Lines.{line_end, lines, joined, is_empty}
-use Rattle.lw_frame.specs.Header.{Header, unfinished, faulty, whole, header_of, header_limit, near_lines, fields, has_end, before_bad, judged}
+use Rattle.lw_frame.specs.Header.{Header, unfinished, faulty, whole, header_of, near_lines, fields, has_end, before_bad, judged}
 use Rattle.lw_frame.specs.Frames.{first_bytes, message_parts, message, Split, with_body, split, rest_fault}
 use Rattle.lw_frame.specs.Stage.{is_open}
 use Rattle.lw_frame.specs.Reading.{Continues, with_bodies}
 use Rattle.lw_frame.specs.Growing.{KeepsBodies, KeepsFault}
-use Rattle.lw_frame.proofs.Cuts.{both, open_one, lines-joined, lines-open}
+use Rattle.lw_frame.proofs.Cuts.{open_one, lines-joined, lines-open}
 use Rattle.lw_frame.proofs.Headers.{keeps_first, before_empty, near, header_by_lines, before_bad-stop}
 use Rattle.lw_frame.proofs.Ends.{begins, any_behind, is_ended}
-use Rattle.lw_frame.proofs.Splits.{message_shorter, split_none, split_message}
+use Rattle.lw_frame.proofs.Splits.{first_if, message_shorter, split_none, split_message}
 use Rattle.lw_frame.specs.declared.fault.FrameFault.{FrameFault}
 use Rattle.lw_frame.specs.declared.fault.FrameFault.TheVariants.{BadHeader}
+use Rattle.lw_frame.specs.declared.limits.TheConstants.{LONGEST_HEADER_PART}
 
 -- LINES
 
@@ -26,12 +27,6 @@ record IsCut (bytes : List ℕ) (ls : List (List ℕ)) (tail : List ℕ) : Type 
   is : bytes ≡ joined ls ++ tail
   cut : list_all is_open ls ≡ true
   uncut : is_open tail ≡ true
-
-and_true : (a b : Bool) → a ≡ true → b ≡ true → (a && b) ≡ true
-and_true a b h k = grind (arith, nat_tests)
-
-not_false : (a : Bool) → a ≡ false → not a ≡ true
-not_false a h = ap not h
 
 -- a line end more
 cut_line : (b : ℕ) (bytes rest : List ℕ) (ls : List (List ℕ)) (tail : List ℕ) → b ≡ 13 → bytes ≡ 10 ∷ rest → IsCut bytes ls tail → (ms : List (List ℕ)) × (end : List ℕ) × IsCut (b ∷ bytes) ms end
@@ -44,7 +39,7 @@ cut_line b bytes rest [] (d ∷ tail) first second c =
       record {
         is = ap (λ n. n ∷ bytes) first ∙ ap (λ bs. 13 ∷ bs) second ∙ ap (λ bs. 13 ∷ 10 ∷ bs) (sym same);
         cut = refl;
-        uncut = (both (not (starts_with nat_eq (d ∷ tail) line_end)) (is_open tail) c.uncut).1;
+        uncut = (and_parts (not (starts_with nat_eq (d ∷ tail) line_end)) (is_open tail) c.uncut).1;
       },
     )
 cut_line b bytes rest ([] ∷ ls) tail first second c =
@@ -54,12 +49,12 @@ cut_line b bytes rest ((d ∷ l) ∷ ls) tail first second c =
     let left : List ℕ = ((l ++ line_end) ++ joined ls) ++ tail in
     let at : 10 ∷ rest ≡ d ∷ left = sym second ∙ c.is in
     let same : rest ≡ left = cc in
-    let tests = both (is_open (d ∷ l)) (list_all is_open ls) c.cut in (
+    let tests = and_parts (is_open (d ∷ l)) (list_all is_open ls) c.cut in (
       [] ∷ l ∷ ls,
       tail,
       record {
         is = ap (λ n. n ∷ bytes) first ∙ ap (λ bs. 13 ∷ bs) second ∙ ap (λ bs. 13 ∷ 10 ∷ bs) same;
-        cut = and_true _ _ (both (not (starts_with nat_eq (d ∷ l) line_end)) (is_open l) tests.0).1 tests.1;
+        cut = and_from _ _ (and_parts (not (starts_with nat_eq (d ∷ l) line_end)) (is_open l) tests.0).1 tests.1;
         uncut = c.uncut;
       },
     )
@@ -68,13 +63,13 @@ cut_line b bytes rest ((d ∷ l) ∷ ls) tail first second c =
 cut_byte : (b : ℕ) (bytes : List ℕ) (ls : List (List ℕ)) (tail : List ℕ) → starts_with nat_eq (b ∷ bytes) line_end ≡ false → IsCut bytes ls tail → (ms : List (List ℕ)) × (end : List ℕ) × IsCut (b ∷ bytes) ms end
 cut_byte b bytes [] tail none c =
     let test : starts_with nat_eq (b ∷ tail) line_end ≡ false = ap (λ bs. starts_with nat_eq (b ∷ bs) line_end) (sym c.is) ∙ none in
-    ([], b ∷ tail, record { is = ap (λ bs. b ∷ bs) c.is; cut = refl; uncut = and_true _ _ (not_false _ test) c.uncut })
+    ([], b ∷ tail, record { is = ap (λ bs. b ∷ bs) c.is; cut = refl; uncut = and_from _ _ (not_from_false _ test) c.uncut })
 cut_byte b bytes ([] ∷ ls) tail none c =
-    ((b ∷ []) ∷ ls, tail, record { is = ap (λ bs. b ∷ bs) c.is; cut = and_true _ _ (and_true _ _ (open_one b) refl) c.cut; uncut = c.uncut })
+    ((b ∷ []) ∷ ls, tail, record { is = ap (λ bs. b ∷ bs) c.is; cut = and_from _ _ (and_from _ _ (open_one b) refl) c.cut; uncut = c.uncut })
 cut_byte b bytes ((d ∷ l) ∷ ls) tail none c =
     let test : starts_with nat_eq (b ∷ d ∷ l) line_end ≡ false = ap (λ bs. starts_with nat_eq (b ∷ bs) line_end) (sym c.is) ∙ none in
-    let tests = both (is_open (d ∷ l)) (list_all is_open ls) c.cut in
-    ((b ∷ d ∷ l) ∷ ls, tail, record { is = ap (λ bs. b ∷ bs) c.is; cut = and_true _ _ (and_true _ _ (not_false _ test) tests.0) tests.1; uncut = c.uncut })
+    let tests = and_parts (is_open (d ∷ l)) (list_all is_open ls) c.cut in
+    ((b ∷ d ∷ l) ∷ ls, tail, record { is = ap (λ bs. b ∷ bs) c.is; cut = and_from _ _ (and_from _ _ (not_from_false _ test) tests.0) tests.1; uncut = c.uncut })
 
 cut_more : (test : Bool) (b : ℕ) (bytes : List ℕ) (ls : List (List ℕ)) (tail : List ℕ) → starts_with nat_eq (b ∷ bytes) line_end ≡ test → IsCut bytes ls tail → (ms : List (List ℕ)) × (end : List ℕ) × IsCut (b ∷ bytes) ms end
 cut_more true b bytes ls tail t c = let at = begins b bytes t in cut_line b bytes at.1.0 ls tail at.0 at.1.1 c
@@ -98,13 +93,13 @@ lines_stay bytes more =
 -- and so do those within the limit, behind which none come where the limit is reached
 near_stay : (bytes more : List ℕ) → (others : List (List ℕ)) × (near_lines (bytes ++ more) ≡ near_lines bytes ++ others)
 near_stay bytes more =
-    ⊎_elim (λ (short : length bytes < header_limit).
-    let rest : List ℕ = take (header_limit - length bytes) more in
-    let here : near_lines bytes ≡ lines bytes = ap lines (take_all header_limit bytes (omega arith)) in
+    ⊎_elim (λ (short : length bytes < LONGEST_HEADER_PART).
+    let rest : List ℕ = take (LONGEST_HEADER_PART - length bytes) more in
+    let here : near_lines bytes ≡ lines bytes = ap lines (take_all LONGEST_HEADER_PART bytes (omega arith)) in
     let stay = lines_stay bytes rest in
     (stay.0, ap lines (near bytes more (omega arith)) ∙ stay.1 ∙ ap (λ qs. qs ++ stay.0) (sym here)))
-    (λ (long : header_limit ≤ length bytes). ([], ap lines (take-append-le header_limit bytes more long) ∙ sym (append-nil (near_lines bytes))))
-    (cases_lt (length bytes) header_limit)
+    (λ (long : LONGEST_HEADER_PART ≤ length bytes). ([], ap lines (take-append-le LONGEST_HEADER_PART bytes more long) ∙ sym (append-nil (near_lines bytes))))
+    (cases_lt (length bytes) LONGEST_HEADER_PART)
 
 -- HEADER PARTS
 
@@ -117,15 +112,12 @@ first_empty ((b ∷ l) ∷ ls) others h =
     let some = any_behind (is_empty (b ∷ l)) (list_any is_empty ls) filled h in
     keeps_first (b ∷ l) (ls ++ others) [] filled ∙ ap (λ qs. (b ∷ l) ∷ qs) (first_empty ls others some) ∙ sym (keeps_first (b ∷ l) ls [] filled)
 
-or_true : (a b : Bool) → a ≡ true → (a || b) ≡ true
-or_true a b h = grind (arith, nat_tests)
-
 -- a header part that has ended
 stays_ended : (start : ℕ) (bytes more : List ℕ) → has_end bytes ≡ true → header_of start (bytes ++ more) ≡ header_of start bytes
 stays_ended start bytes more end =
     let stay = near_stay bytes more in
     let same : fields (bytes ++ more) ≡ fields bytes = ap (before_first is_empty) stay.1 ∙ first_empty (near_lines bytes) stay.0 end in
-    let still : has_end (bytes ++ more) ≡ true = ap (list_any is_empty) stay.1 ∙ list_any-append is_empty (near_lines bytes) stay.0 ∙ or_true _ _ end in
+    let still : has_end (bytes ++ more) ≡ true = ap (list_any is_empty) stay.1 ∙ list_any-append is_empty (near_lines bytes) stay.0 ∙ or_left _ _ end in
     header_by_lines start (bytes ++ more) (fields bytes) true same still ∙ sym (header_by_lines start bytes (fields bytes) true refl end)
 
 -- the fields of one that has not
@@ -140,30 +132,27 @@ stays_bad start bytes more bad end h =
     let later : fields (bytes ++ more) ≡ near_lines bytes ++ others = ap (before_first is_empty) stay.1 ∙ before_empty (near_lines bytes) stay.0 end in
     let still : before_bad [] (near_lines bytes ++ others) ≡ Some bad = before_bad-stop [] (near_lines bytes) others bad h in
     let said : Header = faulty (BadHeader (start + length (joined bad))) in
-    let now : header_of start bytes ≡ said = header_by_lines start bytes (near_lines bytes) false (fields_are bytes end) end ∙ ap (λ o. judged start o (if nat_le header_limit (length bytes) then faulty (BadHeader start) else unfinished)) h in
+    let now : header_of start bytes ≡ said = header_by_lines start bytes (near_lines bytes) false (fields_are bytes end) end ∙ ap (λ o. judged start o (if nat_le LONGEST_HEADER_PART (length bytes) then faulty (BadHeader start) else unfinished)) h in
     let then_is : header_of start (bytes ++ more) ≡ said =
     header_by_lines start (bytes ++ more) (near_lines bytes ++ others) (has_end (bytes ++ more)) later refl ∙ rw still refl in
     then_is ∙ sym now
 
 -- one at the limit
-stays_long : (start : ℕ) (bytes more : List ℕ) → has_end bytes ≡ false → header_limit ≤ length bytes → header_of start (bytes ++ more) ≡ header_of start bytes
+stays_long : (start : ℕ) (bytes more : List ℕ) → has_end bytes ≡ false → LONGEST_HEADER_PART ≤ length bytes → header_of start (bytes ++ more) ≡ header_of start bytes
 stays_long start bytes more end long =
-    let same : near_lines (bytes ++ more) ≡ near_lines bytes = ap lines (take-append-le header_limit bytes more long) in
-    let now : nat_le header_limit (length bytes) ≡ true = le-leb _ _ long in
-    let later : nat_le header_limit (length (bytes ++ more)) ≡ true = le-leb _ _ (omega (arith, length-append bytes more)) in
+    let same : near_lines (bytes ++ more) ≡ near_lines bytes = ap lines (take-append-le LONGEST_HEADER_PART bytes more long) in
+    let now : nat_le LONGEST_HEADER_PART (length bytes) ≡ true = le-leb _ _ long in
+    let later : nat_le LONGEST_HEADER_PART (length (bytes ++ more)) ≡ true = le-leb _ _ (omega (arith, length-append bytes more)) in
     header_by_lines start (bytes ++ more) (fields bytes) false (ap (before_first is_empty) same) (ap (list_any is_empty) same ∙ end)
     ∙ ap (λ b. judged start (before_bad [] (fields bytes)) (if b then faulty (BadHeader start) else unfinished)) (later ∙ sym now)
     ∙ sym (header_by_lines start bytes (fields bytes) false refl end)
 
-not_long : (a b : ℕ) → b < a → nat_le a b ≡ false
-not_long a b h = grind (arith, nat_tests)
-
 -- one of which nothing is said
-not_said : (start : ℕ) (bytes : List ℕ) → has_end bytes ≡ false → before_bad [] (near_lines bytes) ≡ None → length bytes < header_limit → header_of start bytes ≡ unfinished
+not_said : (start : ℕ) (bytes : List ℕ) → has_end bytes ≡ false → before_bad [] (near_lines bytes) ≡ None → length bytes < LONGEST_HEADER_PART → header_of start bytes ≡ unfinished
 not_said start bytes end good short =
     header_by_lines start bytes (near_lines bytes) false (fields_are bytes end) end
-    ∙ ap (λ o. judged start o (if nat_le header_limit (length bytes) then faulty (BadHeader start) else unfinished)) good
-    ∙ ap (λ b. if b then faulty (BadHeader start) else unfinished) (not_long header_limit (length bytes) short)
+    ∙ ap (λ o. judged start o (if nat_le LONGEST_HEADER_PART (length bytes) then faulty (BadHeader start) else unfinished)) good
+    ∙ ap (λ b. if b then faulty (BadHeader start) else unfinished) (lt-leb LONGEST_HEADER_PART (length bytes) short)
 
 -- what is said of a header part stays
 pub header_stays : (start : ℕ) (bytes more : List ℕ) → (header_of start bytes ≡ unfinished) ⊎ (header_of start (bytes ++ more) ≡ header_of start bytes)
@@ -171,7 +160,7 @@ header_stays start bytes more = by_end (has_end bytes) refl
   where
     by_good : (o : Option (List (List ℕ))) → has_end bytes ≡ false → before_bad [] (near_lines bytes) ≡ o → (header_of start bytes ≡ unfinished) ⊎ (header_of start (bytes ++ more) ≡ header_of start bytes)
     by_good None end good =
-        ⊎_elim (λ (short : length bytes < header_limit). inl (not_said start bytes end good short)) (λ (long : header_limit ≤ length bytes). inr (stays_long start bytes more end long)) (cases_lt (length bytes) header_limit)
+        ⊎_elim (λ (short : length bytes < LONGEST_HEADER_PART). inl (not_said start bytes end good short)) (λ (long : LONGEST_HEADER_PART ≤ length bytes). inr (stays_long start bytes more end long)) (cases_lt (length bytes) LONGEST_HEADER_PART)
     by_good (Some bad) end h = inr (stays_bad start bytes more bad end h)
 
     by_end : (b : Bool) → has_end bytes ≡ b → (header_of start bytes ≡ unfinished) ⊎ (header_of start (bytes ++ more) ≡ header_of start bytes)
@@ -192,18 +181,15 @@ joined_size ((b ∷ l) ∷ ls) h =
 whole_within : (start : ℕ) (bytes : List ℕ) (n m : ℕ) → header_of start bytes ≡ whole n m → n ≤ length bytes
 whole_within start bytes n m h =
     let told = is_ended start bytes n m h in
-    let window : List ℕ = take header_limit bytes in
+    let window : List ℕ = take LONGEST_HEADER_PART bytes in
     let c = cut_all window in
     let size : length (joined (near_lines bytes)) ≤ length window =
     omega (arith, ap length c.2.is, length-append (joined c.0) c.1, ap (λ qs. length (joined qs)) (lines_are window c.0 c.1 c.2)) in
-    omega (arith, told.size_is, joined_size (near_lines bytes) told.end, size, length-take header_limit bytes)
+    omega (arith, told.size_is, joined_size (near_lines bytes) told.end, size, length-take LONGEST_HEADER_PART bytes)
 
 -- MESSAGES
 
-abbrev found_by : Bool → ℕ → List ℕ → Option (List ℕ × List ℕ)
-found_by test n bytes = if test then Some (take n bytes, drop n bytes) else None
-
-first_stays : (test : Bool) (n : ℕ) (bytes more body others : List ℕ) → nat_le n (length bytes) ≡ test → found_by test n bytes ≡ Some (body, others) → first_bytes n (bytes ++ more) ≡ Some (body, others ++ more)
+first_stays : (test : Bool) (n : ℕ) (bytes more body others : List ℕ) → nat_le n (length bytes) ≡ test → first_if test n bytes ≡ Some (body, others) → first_bytes n (bytes ++ more) ≡ Some (body, others ++ more)
 first_stays true n bytes more body others t h =
     let here : List ℕ × List ℕ = (take n bytes, drop n bytes) in
     let there : List ℕ × List ℕ = (body, others) in

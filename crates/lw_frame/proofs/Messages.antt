@@ -1,5 +1,5 @@
 -- What a message of a known stage is to the stream.
-use Rattle.std.proofs.Common.{◌≡◌, ◌∙◌, ◌<◌, ◌+◌, ◌-◌, ℕ, List, ◌++◌, length, drop, Bool, true, false, not, ◌&&◌, if◌then◌else◌, Option, Some, None, refl, ap, arith, append_assoc, append-nil, length-append, nat_le, IsTrue}
+use Rattle.std.proofs.Common.{◌≡◌, ◌∙◌, ◌<◌, ◌+◌, ℕ, List, ◌++◌, length, drop, Bool, true, false, not, ◌&&◌, if◌then◌else◌, Option, Some, None, refl, ap, arith, append_assoc, append-nil, length-append, nat_le, IsTrue}
 use Rattle.std.proofs.Math.Seq.{drop-append_seam, take-append_seam}
 use Rattle.std.proofs.lemmas.Bool.{le-leb}
 use Rattle.std.proofs.lemmas.Bool.Decides.{nat_tests}
@@ -61,9 +61,3 @@ truncated_header start header body line given at =
     negated : (b : Bool) → (if true && not b then Some (Truncated 0) else None) ≡ (if b then None else Some (Truncated 0))
     negated true = refl
     negated false = refl
-
--- and inside a body
-pub truncated_body : (start : ℕ) (header body : List ℕ) (missing : ℕ) → IsAt (stage.Content missing) start header body → rest_fault (header_of start (header ++ body)) (header ++ body) true ≡ Some (Truncated missing)
-truncated_body start header body missing at =
-    let left : length body + missing - length (drop (length header) (header ++ body)) ≡ missing = ap (λ bs. length body + missing - length bs) (drop-append_seam header body) ∙ omega arith in
-    ap (λ h. rest_fault h (header ++ body) true) (header_closed start header body missing at) ∙ ap (λ n. Some (Truncated n)) left

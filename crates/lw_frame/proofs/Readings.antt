@@ -3,7 +3,7 @@ use Rattle.std.proofs.Common.{◌≡◌, ◌∙◌, ◌<◌, ◌≤◌, ◌+◌,
 use Rattle.std.proofs.Math.ListN.{drop_of_length-le}
 use Rattle.std.proofs.lemmas.Bool.{cases_lt}
 use Rattle.std.proofs.lemmas.List.{take-append-drop}
-use Rattle.lw_frame.specs.Header.{unfinished, whole}
+use Rattle.lw_frame.specs.Header.{whole}
 use Rattle.lw_frame.specs.Frames.{with_body, split, message}
 use Rattle.lw_frame.specs.Stage.{IsAt, HeaderSays}
 use Rattle.lw_frame.specs.Reading.{bytes_of, IsRead, Grows, ReadsMessages, Continues, with_bodies, is_whole, is_waiting, failure}
@@ -23,14 +23,6 @@ at_whole (stage.Header line given) start header body at h = cc
 at_whole (stage.Content missing) start header body at h = cc
 at_whole stage.Whole start header body at h = at
 at_whole (stage.Failed fault) start header body at h = cc
-
--- a whole message has bytes
-pub whole_has_bytes : (m : Incoming) → IsRead m → is_whole m.stage ≡ true → bytes_of m ≡ [] → ⊥
-whole_has_bytes m read h none = no_bytes m.start m.header.items m.body.items (at_whole m.stage m.start m.header.items m.body.items read h) none
-  where
-    no_bytes : (start : ℕ) (header body : List ℕ) → HeaderSays start header (whole (length header) (length body)) → header ++ body ≡ [] → ⊥
-    no_bytes start [] body says e = let said : unfinished ≡ whole 0 (length body) = says [] in cc
-    no_bytes start (b ∷ header) body says e = cc
 
 grown_bytes : (old new : Incoming) (piece : List ℕ) (used : ℕ) → Grows old new piece used → bytes_of old ++ piece ≡ bytes_of new ++ drop used piece
 grown_bytes old new piece used grows =
@@ -146,10 +138,3 @@ stands_more start bytes bodies used n old mid new rest stands is grows h start_i
       at = omega (arith, start_is, size, grows.start, stands.at);
       within = omega (arith, grows.within, ap length is, length-drop used bytes, stands.within);
     }
-
--- a whole message took bytes
-pub takes_some : (old new : Incoming) (piece : List ℕ) (used : ℕ) → Grows old new piece used → is_whole new.stage ≡ true → bytes_of old ≡ [] → 0 < used
-takes_some old new piece used grows h empty =
-    ⊎_elim (λ some. some) (λ none.
-    let zero_is : used ≡ 0 = omega arith in
-    absurd (whole_has_bytes new grows.read h (grows.bytes ∙ ap (λ bs. bs ++ take used piece) empty ∙ ap (λ n. take n piece) zero_is))) (cases_lt 0 used)

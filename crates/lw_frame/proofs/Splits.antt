@@ -1,14 +1,15 @@
 -- A stream cut into messages, however it goes on.
 use Rattle.std.proofs.Common.{◌≡◌, ◌∙◌, ◌<◌, ◌≤◌, ◌+◌, ◌-◌, ℕ, zero, suc, List, [], ◌∷◌, length, take, drop, Bool, true, false, if◌then◌else◌, Option, Some, None, refl, ap, arith, length-drop, nat_le, nat_lt}
 use Rattle.lw_frame.specs.Lines.{joined}
-use Rattle.lw_frame.specs.Header.{Header, unfinished, faulty, whole, header_of, judged, good_so_far, ended, fields, has_end, before_bad, length_of, body_limit, header_limit}
+use Rattle.lw_frame.specs.Header.{Header, unfinished, faulty, whole, header_of, judged, good_so_far, ended, fields, has_end, before_bad, length_of}
 use Rattle.lw_frame.specs.Frames.{message_parts, message, Split, with_body, split_behind, split_within, split}
 use Rattle.lw_frame.specs.declared.fault.FrameFault.TheVariants.{BadHeader, TooLong}
+use Rattle.lw_frame.specs.declared.limits.TheConstants.{LONGEST_HEADER_PART, LONGEST_BODY}
 
 -- a message has bytes
 whole_is : (start size : ℕ) (given : Option ℕ) (n m : ℕ) → ended start (size + 2) given ≡ whole n m → 0 < n
 whole_is start size None n m h = cc
-whole_is start size (Some body) n m h = long_is (nat_lt body_limit body) h
+whole_is start size (Some body) n m h = long_is (nat_lt LONGEST_BODY body) h
   where
     long_is : (b : Bool) → (if b then faulty (TooLong body) else whole (size + 2) body) ≡ whole n m → 0 < n
     long_is true h = cc
@@ -23,10 +24,14 @@ header_size start bytes n m h = judged_is (before_bad [] (fields bytes)) h
     good_is false false h = cc
 
     judged_is : (o : Option (List (List ℕ))) → judged start o (good_so_far start bytes) ≡ whole n m → 0 < n
-    judged_is None h = good_is (has_end bytes) (nat_le header_limit (length bytes)) h
+    judged_is None h = good_is (has_end bytes) (nat_le LONGEST_HEADER_PART (length bytes)) h
     judged_is (Some before) h = cc
 
-first_bytes_are : (n : ℕ) (bytes : List ℕ) (found : List ℕ × List ℕ) (test : Bool) → (if test then Some (take n bytes, drop n bytes) else None) ≡ Some found → found ≡ (take n bytes, drop n bytes)
+-- the first n bytes and the others, if the test says that there are so many
+abbrev pub first_if : Bool → ℕ → List ℕ → Option (List ℕ × List ℕ)
+first_if test n bytes = if test then Some (take n bytes, drop n bytes) else None
+
+first_bytes_are : (n : ℕ) (bytes : List ℕ) (found : List ℕ × List ℕ) (test : Bool) → first_if test n bytes ≡ Some found → found ≡ (take n bytes, drop n bytes)
 first_bytes_are n bytes found true h = cc
 first_bytes_are n bytes found false h = cc
 

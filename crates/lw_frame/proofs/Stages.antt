@@ -6,7 +6,7 @@ use Rattle.std.proofs.lemmas.List.Folds.{list_any-append, list_all-append, find-
 use Rattle.std.specs.List.{list_any}
 use Rattle.std.specs.Option.{option_or}
 use Rattle.lw_frame.specs.Lines.{line_end, joined, is_empty}
-use Rattle.lw_frame.specs.Header.{faulty, whole, header_limit, body_limit, is_good, is_field, names_length, length_in}
+use Rattle.lw_frame.specs.Header.{faulty, whole, is_good, is_field, names_length, length_in}
 use Rattle.lw_frame.specs.Field.{field_of, field_with}
 use Rattle.lw_frame.specs.Stage.{AreGood, HeaderSays, IsAt, is_open, stage_within, stage_behind, stage_after}
 use Rattle.lw_frame.proofs.Headers.{says_ended, says_bad, says_too_long, before_bad-push}
@@ -14,6 +14,8 @@ use Rattle.lw_frame.specs.declared.fault.FrameFault.TheVariants.{BadHeader, TooL
 use Rattle.lw_frame.specs.declared.field.Field.{Field}
 use Rattle.lw_frame.specs.declared.field.Field.TheVariants.{Length, Other, Bad}
 use Rattle.lw_frame.specs.declared.stage.Stage.TheVariants as stage
+use Rattle.lw_frame.specs.declared.limits.TheConstants.{LONGEST_HEADER_PART, LONGEST_BODY}
+use Rattle.std.proofs.lemmas.Bool.{and_from, or_from}
 
 -- what a line is, by its parts
 other_is : (field named : Bool) (n : Option ℕ) → (if not field then Bad else if named then field_with n else Other) ≡ Other → (field ≡ true) × (named ≡ false)
@@ -34,12 +36,6 @@ bad_is true true (Some n) again h = cc
 bad_is true false n again h = cc
 bad_is false named n again h = refl
 
-and_true : (a b : Bool) → a ≡ true → b ≡ true → (a && b) ≡ true
-and_true a b h k = grind (arith, nat_tests)
-
-or_is_false : (a b : Bool) → a ≡ false → b ≡ false → (a || b) ≡ false
-or_is_false a b h k = grind (arith, nat_tests)
-
 -- one more field that is another
 pub good-other : (ls : List (List ℕ)) (given : Option ℕ) (line : List ℕ) → AreGood ls given → is_open line ≡ true → is_empty line ≡ false → field_of line ≡ Other → AreGood (ls ++ line ∷ []) given
 good-other ls given line good uncut filled is =
@@ -48,8 +44,8 @@ good-other ls given line good uncut filled is =
     let none : find names_length (line ∷ []) ≡ None = ap (λ b. cond b (Some line) None) parts.1 in
     let same : find names_length (ls ++ line ∷ []) ≡ find names_length ls = find-append names_length ls (line ∷ []) ∙ ap (option_or (find names_length ls)) none ∙ or_none (find names_length ls) in
     record {
-      cut = list_all-append is_open ls (line ∷ []) ∙ and_true _ _ good.cut (and_true _ _ uncut refl);
-      filled = list_any-append is_empty ls (line ∷ []) ∙ or_is_false _ _ good.filled (or_is_false _ _ filled refl);
+      cut = list_all-append is_open ls (line ∷ []) ∙ and_from _ _ good.cut (and_from _ _ uncut refl);
+      filled = list_any-append is_empty ls (line ∷ []) ∙ or_from _ _ good.filled (or_from _ _ filled refl);
       good = before_bad-push [] ls line good.good ∙ ap (λ b. if b then None else Some ls) fits;
       gives = ap (option_and_then length_in) same ∙ good.gives;
       named = list_any-append names_length ls (line ∷ []) ∙ ap (λ b. list_any names_length ls || (b || false)) parts.1 ∙ or_no (list_any names_length ls) ∙ good.named;
@@ -72,8 +68,8 @@ good-length ls n line good uncut filled is =
     let here : find names_length (line ∷ []) ≡ Some line = ap (λ b. cond b (Some line) None) parts.1 in
     let same : find names_length (ls ++ line ∷ []) ≡ Some line = find-append names_length ls (line ∷ []) ∙ ap (λ o. option_or o (find names_length (line ∷ []))) absent ∙ here in
     record {
-      cut = list_all-append is_open ls (line ∷ []) ∙ and_true _ _ good.cut (and_true _ _ uncut refl);
-      filled = list_any-append is_empty ls (line ∷ []) ∙ or_is_false _ _ good.filled (or_is_false _ _ filled refl);
+      cut = list_all-append is_open ls (line ∷ []) ∙ and_from _ _ good.cut (and_from _ _ uncut refl);
+      filled = list_any-append is_empty ls (line ∷ []) ∙ or_from _ _ good.filled (or_from _ _ filled refl);
       good = before_bad-push [] ls line good.good ∙ ap (λ b. if b then None else Some ls) fits;
       gives = ap (option_and_then length_in) same ∙ parts.2;
       named = list_any-append names_length ls (line ∷ []) ∙ ap (λ b. list_any names_length ls || (b || false)) parts.1 ∙ or_yes (list_any names_length ls);
@@ -91,8 +87,8 @@ good-length ls n line good uncut filled is =
         not_found_step true l any o next h = cc
         not_found_step false l any o next h = next h
 
-within_step : (b : Bool) (start line : ℕ) (header : List ℕ) (given : Option ℕ) (before : List (List ℕ)) (tail : List ℕ) → b ≡ (length header == header_limit) → AreGood before given → header ≡ joined before ++ tail → line ≡ length (joined before)
-    → is_open tail ≡ true → length header ≤ header_limit → IsAt (if b then stage.Failed (BadHeader start) else stage.Header line given) start header []
+within_step : (b : Bool) (start line : ℕ) (header : List ℕ) (given : Option ℕ) (before : List (List ℕ)) (tail : List ℕ) → b ≡ (length header == LONGEST_HEADER_PART) → AreGood before given → header ≡ joined before ++ tail → line ≡ length (joined before)
+    → is_open tail ≡ true → length header ≤ LONGEST_HEADER_PART → IsAt (if b then stage.Failed (BadHeader start) else stage.Header line given) start header []
 within_step true start line header given before tail test good is line_is uncut h =
     (refl, says_too_long start header before given tail good is uncut (grind (arith, nat_tests)))
 within_step false start line header given before tail test good is line_is uncut h =
@@ -101,19 +97,19 @@ within_step false start line header given before tail test good is line_is uncut
 
 -- in a header part that has not ended
 pub at_within : (start line : ℕ) (header : List ℕ) (given : Option ℕ) (before : List (List ℕ)) (tail : List ℕ) → AreGood before given → header ≡ joined before ++ tail → line ≡ length (joined before)
-    → is_open tail ≡ true → length header ≤ header_limit → IsAt (stage_within start (length header) line given) start header []
-at_within start line header given before tail good is line_is uncut h = within_step (length header == header_limit) start line header given before tail refl good is line_is uncut h
+    → is_open tail ≡ true → length header ≤ LONGEST_HEADER_PART → IsAt (stage_within start (length header) line given) start header []
+at_within start line header given before tail good is line_is uncut h = within_step (length header == LONGEST_HEADER_PART) start line header given before tail refl good is line_is uncut h
 
-behind_step : (long none : Bool) (start n : ℕ) (header : List ℕ) → long ≡ nat_lt body_limit n → none ≡ (n == 0) → HeaderSays start header (if long then faulty (TooLong n) else whole (length header) n)
+behind_step : (long none : Bool) (start n : ℕ) (header : List ℕ) → long ≡ nat_lt LONGEST_BODY n → none ≡ (n == 0) → HeaderSays start header (if long then faulty (TooLong n) else whole (length header) n)
     → IsAt (if long then stage.Failed (TooLong n) else if none then stage.Whole else stage.Content n) start header []
 behind_step true none start n header e f says = (refl, says)
 behind_step false true start n header e f says = let zero_is : n ≡ 0 = grind (arith, nat_tests) in subst (λ m. HeaderSays start header (whole (length header) m)) zero_is says
 behind_step false false start n header e f says = (subst (λ m. HeaderSays start header (whole (length header) m)) (sym (zero-add n)) says, grind (arith, nat_tests))
 
 -- behind a header part that has ended
-pub at_behind : (start : ℕ) (header : List ℕ) (given : Option ℕ) (before : List (List ℕ)) → AreGood before given → header ≡ joined before ++ line_end → length header ≤ header_limit → IsAt (stage_behind start given) start header []
+pub at_behind : (start : ℕ) (header : List ℕ) (given : Option ℕ) (before : List (List ℕ)) → AreGood before given → header ≡ joined before ++ line_end → length header ≤ LONGEST_HEADER_PART → IsAt (stage_behind start given) start header []
 at_behind start header None before good is h = (refl, says_ended start header before None good is h)
-at_behind start header (Some n) before good is h = behind_step (nat_lt body_limit n) (n == 0) start n header refl refl (says_ended start header before (Some n) good is h)
+at_behind start header (Some n) before good is h = behind_step (nat_lt LONGEST_BODY n) (n == 0) start n header refl refl (says_ended start header before (Some n) good is h)
 
 joined-push : (ls : List (List ℕ)) (line : List ℕ) → joined (ls ++ line ∷ []) ≡ joined ls ++ line ++ line_end
 joined-push [] line = append-nil (line ++ line_end)
@@ -121,7 +117,7 @@ joined-push (l ∷ ls) line = ap (λ bs. (l ++ line_end) ++ bs) (joined-push ls 
 
 -- behind a line that is not empty
 pub at_after : (start line : ℕ) (header : List ℕ) (given : Option ℕ) (before : List (List ℕ)) (text : List ℕ) → AreGood before given → header ≡ joined before ++ text ++ line_end → line ≡ length (joined before)
-    → is_open text ≡ true → is_empty text ≡ false → length header ≤ header_limit → IsAt (stage_after start (length header) line (field_of text) given) start header []
+    → is_open text ≡ true → is_empty text ≡ false → length header ≤ LONGEST_HEADER_PART → IsAt (stage_after start (length header) line (field_of text) given) start header []
 at_after start line header given before text good is line_is uncut filled h = after_step (field_of text) refl given good
   where
     whole_line : header ≡ joined (before ++ text ∷ []) ++ []

@@ -6,12 +6,14 @@ use Rattle.lw_frame.specs.Header.{faulty, header_of}
 use Rattle.lw_frame.specs.Frames.{Split, split, message, rest_fault, bodies_of, fault_of, rest_of}
 use Rattle.lw_frame.specs.Stream.{Stream, unfinished, needed, next_body, next_answer, answer_next, AnswersStream}
 use Rattle.lw_frame.specs.Stage.{IsAt, HeaderSays}
-use Rattle.lw_frame.specs.Reading.{bytes_of, ReadsMessages, ReadsTo, WaitsFor, EndsIn, Continues, with_bodies, failure}
+use Rattle.lw_frame.specs.Kept.{IsKept}
+use Rattle.lw_frame.specs.Reading.{bytes_of, Feeds, ReadsMessages, ReadsTo, WaitsFor, EndsIn, Continues, with_bodies, failure}
 use Rattle.lw_frame.proofs.Messages.{message_waiting, message_faulty, fault_waiting}
 use Rattle.lw_frame.proofs.Splits.{split_none}
-use Rattle.lw_frame.proofs.Readings.{continues_on, waits}
+use Rattle.lw_frame.proofs.Readings.{continues_on}
 use Rattle.lw_frame.specs.declared.fault.FrameFault.{FrameFault}
 use Rattle.lw_frame.specs.declared.incoming.Incoming.{Incoming}
+use Rattle.lw_frame.specs.declared.reader.FrameReader.TheInside.{Inside}
 use Rattle.lw_frame.specs.declared.stage.Stage.{Stage}
 use Rattle.lw_frame.specs.declared.stage.Stage.TheVariants as stage
 
@@ -70,16 +72,7 @@ at_failed (stage.Content missing) fault start header body at h = cc
 at_failed stage.Whole fault start header body at h = cc
 at_failed (stage.Failed other) fault start header body at h = let same : other ≡ fault = cc in (at.0, subst (λ f. HeaderSays start header (faulty f)) same at.1)
 
--- where a piece leaves a message that waits
-pub reads_waiting : (start : ℕ) (bytes : List ℕ) (bodies : List (List ℕ)) (m : Incoming) → ReadsMessages start bytes bodies m → failure m.stage ≡ None → WaitsFor start bytes bodies m
-reads_waiting start bytes bodies m r h = record {
-  goes_on = λ more. r.goes_on more ∙ ap (λ bs. with_bodies bodies (split m.start (bs ++ more))) (ap (λ bs. bytes_of m ++ bs) (r.none_dropped h) ∙ append-nil (bytes_of m));
-  read = r.read;
-  waiting = waits m.stage r.unfinished h;
-  end = r.end;
-}
-
--- and where it ends in a fault
+-- where a piece ends a stream in a fault
 pub reads_faulty : (start : ℕ) (bytes : List ℕ) (bodies : List (List ℕ)) (m empty_one : Incoming) (fault : FrameFault) → ReadsMessages start bytes bodies m → failure m.stage ≡ Some fault → bytes_of empty_one ≡ [] → EndsIn fault start bytes bodies empty_one
 reads_faulty start bytes bodies m empty_one fault r h none =
     let failed = at_failed m.stage fault m.start m.header.items m.body.items r.read h in
@@ -142,14 +135,6 @@ bodies_same fault bytes piece m e =
     let is : bodies_of (bytes ++ piece) ≡ bodies_of bytes = e.bodies_are piece in
     (is, subst (λ bs. EndsIn fault 0 (bytes ++ piece) bs m) (sym is) all)
 
--- a known fault stays, however the stream goes on
-pub fault_stays : (known : Option FrameFault) (bytes more : List ℕ) (m : Incoming) → ReadsTo known 0 bytes (bodies_of bytes) m → (fault : FrameFault) → fault_of bytes false ≡ Some fault
-    → (bodies_of (bytes ++ more) ≡ bodies_of bytes) × ((closed : Bool) → fault_of (bytes ++ more) closed ≡ Some fault)
-fault_stays None bytes more m w fault h = let none = fault_to None bytes (bodies_of bytes) m w in cc
-fault_stays (Some known) bytes more m e fault h =
-    let same : known ≡ fault = let is = fault_to (Some known) bytes (bodies_of bytes) m e in cc in
-    (e.bodies_are more, λ closed. fault_for_good known bytes more (bodies_of bytes) m closed e ∙ ap Some same)
-
 -- a piece, behind a stream that waits or that ended in a fault
 pub feeds : (known now : Option FrameFault) (fed piece : List ℕ) (bodies : List (List ℕ)) (old new : Incoming) → known ≡ None → ReadsTo now old.start (bytes_of old ++ piece) bodies new → ReadsTo known 0 fed (bodies_of fed) old
     → (bodies_of (fed ++ piece) ≡ bodies_of fed ++ bodies) × ReadsTo now 0 (fed ++ piece) (bodies_of (fed ++ piece)) new
@@ -161,10 +146,13 @@ pub feeds_nothing : (known : Option FrameFault) (fed piece : List ℕ) (m : Inco
 feeds_nothing None fed piece m some w = cc
 feeds_nothing (Some fault) fed piece m some e = let same = bodies_same fault fed piece m e in (same.0 ∙ sym (append-nil (bodies_of fed)), same.1)
 
--- what is there to hand out, once further bodies are
-pub left_more : (given : ℕ) (was now more_bodies old new : List (List ℕ)) → old ≡ drop given was → given ≤ length was → new ≡ old ++ more_bodies → now ≡ was ++ more_bodies → (new ≡ drop given now) × (given ≤ length now)
-left_more given was now more_bodies old new e h f g =
-    (f ∙ ap (λ bs. bs ++ more_bodies) e ∙ sym (drop-append-le given was more_bodies h) ∙ ap (drop given) (sym g), omega (arith, ap length g, length-append was more_bodies))
+-- what is there to hand out, once a piece has finished further bodies
+pub left_more : (a : Inside) (piece : List ℕ) (now : Option FrameFault) (finished bodies : List (List ℕ)) (new : Incoming) → IsKept a → Feeds piece a.fault now a.incoming new bodies → finished ≡ a.finished.items ++ bodies
+    → (finished ≡ drop a.history.given (bodies_of (a.history.fed ++ piece))) × (a.history.given ≤ length (bodies_of (a.history.fed ++ piece)))
+left_more a piece now finished bodies new kept feeds is =
+    let was = bodies_of a.history.fed in
+    let now_are : bodies_of (a.history.fed ++ piece) ≡ was ++ bodies = feeds.bodies_are a.history.fed kept.rest in
+    (is ∙ ap (λ bs. bs ++ bodies) kept.finished ∙ sym (drop-append-le a.history.given was bodies kept.given) ∙ ap (drop a.history.given) (sym now_are), omega (arith, ap length now_are, length-append was bodies, kept.given))
 
 -- a stream is read to an offset within it
 pub read_within : (fault : Option FrameFault) (bytes : List ℕ) (bodies : List (List ℕ)) (m : Incoming) → ReadsTo fault 0 bytes bodies m → IfNone fault (m.start + length (bytes_of m) ≤ length bytes)
@@ -176,6 +164,6 @@ by_case (Some body) f s h k = h
 by_case None (Some fault) s h k = (h, k)
 by_case None None s h k = (h, k)
 
--- an answer_next, by its case
+-- an answer, by its case
 pub answers_by_case : (s : Stream) (r : Result (Option (List ℕ)) FrameFault) → r ≡ next_answer s → AnswersStream s r
 answers_by_case s r h = subst (AnswersStream s) (sym h) (by_case (next_body s) (fault_of s.fed s.closed) s refl refl)

@@ -1,5 +1,5 @@
 -- How far a message can be read on.
-use Rattle.std.proofs.Common.{◌≡◌, ◌∙◌, ◌<◌, ◌≤◌, ◌+◌, ◌-◌, max, ◌⊎◌, inl, inr, ⊎_elim, ℕ, List, [], ◌∷◌, ◌++◌, length, take, drop, Bool, true, false, if◌then◌else◌, Option, Some, None, refl, sym, ap, arith, append-nil, length-append, length-drop, nat_le}
+use Rattle.std.proofs.Common.{◌≡◌, ◌∙◌, ◌<◌, ◌≤◌, ◌+◌, ◌-◌, max, ◌⊎◌, inl, inr, ⊎_elim, ℕ, List, [], ◌∷◌, ◌++◌, length, take, drop, Bool, true, false, Option, Some, None, refl, sym, ap, arith, append-nil, length-append, length-drop, nat_le}
 use Rattle.std.proofs.Math.ListN.{drop_of_length-le}
 use Rattle.std.proofs.Math.Seq.{drop-append_seam}
 use Rattle.std.specs.List.{concat}
@@ -11,7 +11,7 @@ use Rattle.lw_frame.specs.Reading.{bytes_of, with_bodies, WaitsFor, EndsIn, Ends
 use Rattle.lw_frame.specs.Wanted.{EndsWithin, StaysWithin, LeavesNothing, bytes_left, wanted_of, shortest_header, fewest_left}
 use Rattle.lw_frame.proofs.Messages.{header_open, header_closed}
 use Rattle.lw_frame.proofs.Ends.{current_is}
-use Rattle.lw_frame.proofs.Splits.{split_none, split_message}
+use Rattle.lw_frame.proofs.Splits.{first_if, split_none, split_message}
 use Rattle.lw_frame.proofs.Streams.{split_waits}
 use Rattle.lw_frame.proofs.Handing.{got_none, got_within}
 use Rattle.lw_frame.specs.declared.fault.FrameFault.{FrameFault}
@@ -20,9 +20,6 @@ use Rattle.lw_frame.specs.declared.stage.Stage.{Stage}
 use Rattle.lw_frame.specs.declared.stage.Stage.TheVariants as stage
 
 -- a body with nothing behind it, or none
-abbrev first_if : Bool → ℕ → List ℕ → Option (List ℕ × List ℕ)
-first_if b m rest = if b then Some (take m rest, drop m rest) else None
-
 body_ends : (b : Bool) (m : ℕ) (rest : List ℕ) → length rest ≤ m → (first_if b m rest ≡ None) ⊎ ((body : List ℕ) × (first_if b m rest ≡ Some (body, [])))
 body_ends true m rest h = inr (take m rest, ap (λ bs. Some (take m rest, bs)) (drop_of_length-le rest h))
 body_ends false m rest h = inl refl

@@ -12,19 +12,20 @@ use Rattle.std.proofs.lemmas.List.{take_all}
 use Rattle.std.proofs.lemmas.List.Sums.{prefix_len-drop_no, suffix_len-take_no}
 use Rattle.std.proofs.lemmas.Bool.{le-leb, le-ltb}
 use Rattle.lw_frame.specs.Lines.{line_end, joined}
-use Rattle.lw_frame.specs.Header.{is_field, names_length, number, value, is_blank, without_blanks_before, without_blanks_after, header_limit, body_limit, unfinished, faulty, whole, ended, header_of, judged, good_so_far, before_bad, fields, has_end, length_of}
+use Rattle.lw_frame.specs.Header.{number, is_blank, without_blanks_before, without_blanks_after, unfinished, faulty, whole, ended, header_of, judged, good_so_far, before_bad, fields, has_end, length_of}
 use Rattle.lw_frame.specs.Field.{field_of, field_with}
 use Rattle.lw_frame.specs.Stage.{AreGood, HeaderSays, is_open}
 use Rattle.lw_frame.specs.declared.fault.FrameFault.TheVariants.{TooLong, BadHeader}
 use Rattle.lw_frame.specs.Reading.{is_newline}
 use Rattle.std.proofs.Math.Dec.{eqb-suc-zero}
-use Rattle.lw_frame.specs.Frames.{message, message_parts, Split, split_within, split_behind, bodies_of, fault_of, rest_fault, frame_of}
+use Rattle.lw_frame.specs.Frames.{message, message_parts, Split, split_within, split_behind, bodies_of, fault_of, rest_fault, header_part_of, frame_of}
 use Rattle.lw_frame.proofs.Messages.{message_whole}
 use Rattle.lw_frame.proofs.Splits.{split_message}
 use Rattle.lw_frame.proofs.Cuts.{is_open-append}
 use Rattle.lw_frame.proofs.Headers.{says_ended}
 use Rattle.lw_frame.proofs.Stages.{good-length}
 use Rattle.lw_frame.specs.declared.field.Field.TheVariants.{Length}
+use Rattle.lw_frame.specs.declared.limits.TheConstants.{LONGEST_HEADER_PART, LONGEST_BODY}
 
 own : IsNumeralModel (λ ds. all_ascii_digits ds ≡ true) (digits_value 10)
 own = numerals_by_value _ tells_all_ascii_digits
@@ -32,15 +33,6 @@ own = numerals_by_value _ tells_all_ascii_digits
 -- the field that gives the length n
 abbrev field_line : ℕ → List ℕ
 field_line n = codes "Content-Length: " ++ decimal n
-
-field_is : (n : ℕ) → is_field (field_line n) ≡ true
-field_is n = refl
-
-name_is : (n : ℕ) → names_length (field_line n) ≡ true
-name_is n = refl
-
-value_is : (n : ℕ) → value (field_line n) ≡ 32 ∷ decimal n
-value_is n = refl
 
 not_blank : (c : ℕ) → IsInRange 48 57 c → is_blank c ≡ false
 not_blank c h = grind (arith, nat_tests)
@@ -62,7 +54,7 @@ digits_bare ds some all =
     let before : without_blanks_before (32 ∷ ds) ≡ ds = ap (λ n. drop (1 + n) (32 ∷ ds)) first in
     ap without_blanks_after before ∙ ap (λ n. take (length ds - n) ds) last ∙ take_all (length ds - 0) ds (omega arith)
 
-number_is : (n : ℕ) → n ≤ body_limit → number (decimal n) ≡ Some n
+number_is : (n : ℕ) → n ≤ LONGEST_BODY → number (decimal n) ≡ Some n
 number_is n h =
     let small : n < 2 ^ 64 = omega arith in
     let some : nat_le 1 (length (decimal n)) ≡ true = le-leb _ _ (decimal_nonempty n small) in
@@ -72,7 +64,7 @@ number_is n h =
     rw (some, few, digits, is) refl
 
 -- the field gives the length
-field_gives : (n : ℕ) → n ≤ body_limit → field_of (field_line n) ≡ Length n
+field_gives : (n : ℕ) → n ≤ LONGEST_BODY → field_of (field_line n) ≡ Length n
 field_gives n h =
     let numeral = (decimal_is_IsNumeral n (omega arith)).0 in
     ap (λ t. field_with (number t)) (digits_bare (decimal n) numeral.0 numeral.1) ∙ ap field_with (number_is n h)
@@ -80,22 +72,18 @@ field_gives n h =
 nothing_good : AreGood [] None
 nothing_good = record { cut = refl; filled = refl; good = refl; gives = refl; named = refl }
 
-field_open : (n : ℕ) → n ≤ body_limit → is_open (field_line n) ≡ true
+field_open : (n : ℕ) → n ≤ LONGEST_BODY → is_open (field_line n) ≡ true
 field_open n h = is_open-append (codes "Content-Length: ") (decimal n) refl (none_in (decimal n) (decimal_is_IsNumeral n (omega arith)).0.1)
 
--- the header part of a message that is written
-abbrev header : ℕ → List ℕ
-header n = codes "Content-Length: " ++ decimal n ++ line_end ++ line_end
-
-header_says : (start n : ℕ) → n ≤ body_limit → HeaderSays start (header n) (whole (length (header n)) n)
+header_says : (start n : ℕ) → n ≤ LONGEST_BODY → HeaderSays start (header_part_of n) (whole (length (header_part_of n)) n)
 header_says start n h =
     let good : AreGood (field_line n ∷ []) (Some n) = good-length [] n (field_line n) nothing_good (field_open n h) (eqb-suc-zero _) (field_gives n h) in
-    let bytes_are : header n ≡ joined (field_line n ∷ []) ++ line_end = ap (λ bs. bs ++ line_end) (sym (append-nil (field_line n ++ line_end))) in
+    let bytes_are : header_part_of n ≡ joined (field_line n ∷ []) ++ line_end = ap (λ bs. bs ++ line_end) (sym (append-nil (field_line n ++ line_end))) in
     let digits = length-decimal-le 10 n (omega arith) (omega arith) (omega arith) in
-    let size : length (header n) ≤ header_limit =
+    let size : length (header_part_of n) ≤ LONGEST_HEADER_PART =
     omega (arith, length-append (codes "Content-Length: ") (decimal n), length-append (field_line n) line_end, length-append (field_line n ++ line_end) line_end) in
-    let fits : ended start (length (header n)) (Some n) ≡ whole (length (header n)) n = ap (λ b. if b then faulty (TooLong n) else whole (length (header n)) n) (le-ltb body_limit n h) in
-    λ more. says_ended start (header n) (field_line n ∷ []) (Some n) good bytes_are size more ∙ fits
+    let fits : ended start (length (header_part_of n)) (Some n) ≡ whole (length (header_part_of n)) n = ap (λ b. if b then faulty (TooLong n) else whole (length (header_part_of n)) n) (le-ltb LONGEST_BODY n h) in
+    λ more. says_ended start (header_part_of n) (field_line n ∷ []) (Some n) good bytes_are size more ∙ fits
 
 -- where a message begins changes the place of its faults, and nothing else
 message-start : (s t : ℕ) (bytes : List ℕ) → message s bytes ≡ message t bytes
@@ -114,7 +102,7 @@ message-start s t bytes = judged_alike (before_bad [] (fields bytes))
     good_alike false false size given = refl
 
     judged_alike : (o : Option (List (List ℕ))) → message_parts (judged s o (good_so_far s bytes)) bytes ≡ message_parts (judged t o (good_so_far t bytes)) bytes
-    judged_alike None = good_alike (has_end bytes) (nat_le header_limit (length bytes)) (length (joined (fields bytes)) + 2) (length_of (fields bytes))
+    judged_alike None = good_alike (has_end bytes) (nat_le LONGEST_HEADER_PART (length bytes)) (length (joined (fields bytes)) + 2) (length_of (fields bytes))
     judged_alike (Some before) = refl
 
 -- the bodies are the same, wherever the bytes begin
@@ -129,15 +117,15 @@ bodies_within (suc m) s t bytes =
     behind (Some found) same = ap (λ bs. found.0 ∷ bs) (same found.1 (t + (length bytes - length found.1)))
 
 -- a message that is written, and what follows it
-pub bodies-frame : (body rest : List ℕ) → length body ≤ body_limit → bodies_of (frame_of body ++ rest) ≡ body ∷ bodies_of rest
+pub bodies-frame : (body rest : List ℕ) → length body ≤ LONGEST_BODY → bodies_of (frame_of body ++ rest) ≡ body ∷ bodies_of rest
 bodies-frame body rest h =
-    let found : message 0 (frame_of body ++ rest) ≡ Some (body, rest) = message_whole 0 (header (length body)) body rest (header_says 0 (length body) h) in
+    let found : message 0 (frame_of body ++ rest) ≡ Some (body, rest) = message_whole 0 (header_part_of (length body)) body rest (header_says 0 (length body) h) in
     ap (λ (s : Split). s.bodies) (split_message 0 (frame_of body ++ rest) body rest found) ∙ ap (λ bs. body ∷ bs) (bodies_within (length rest) (0 + (length (frame_of body ++ rest) - length rest)) 0 rest)
 
 -- alone it has no fault
-pub fault-frame : (body : List ℕ) (closed : Bool) → length body ≤ body_limit → fault_of (frame_of body) closed ≡ None
+pub fault-frame : (body : List ℕ) (closed : Bool) → length body ≤ LONGEST_BODY → fault_of (frame_of body) closed ≡ None
 fault-frame body closed h =
-    let found : message 0 (frame_of body) ≡ Some (body, []) = ap (message 0) (sym (append-nil (frame_of body))) ∙ message_whole 0 (header (length body)) body [] (header_says 0 (length body) h) in
+    let found : message 0 (frame_of body) ≡ Some (body, []) = ap (message 0) (sym (append-nil (frame_of body))) ∙ message_whole 0 (header_part_of (length body)) body [] (header_says 0 (length body) h) in
     ap (λ (s : Split). rest_fault (header_of s.start s.rest) s.rest closed) (split_message 0 (frame_of body) body [] found) ∙ no_rest closed
   where
     no_rest : (closed : Bool) → rest_fault unfinished [] closed ≡ None

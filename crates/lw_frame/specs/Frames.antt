@@ -1,5 +1,5 @@
--- The messages of a stream of bytes. Language Server Protocol 3.17, Base Protocol: a message is a header part and then a message_parts part of as
--- many bytes as its `Content-Length` says. The message_parts part is the body.
+-- The messages of a stream of bytes. Language Server Protocol 3.17, Base Protocol: a message is a header part and then a content part of as
+-- many bytes as its `Content-Length` says. The content part is the body.
 use Rattle.std.specs.Prelude.{ℕ, zero, suc, ◌+◌, ◌-◌, List, [], ◌∷◌, ◌++◌, length, take, drop, nat_le, Bool, ◌&&◌, not, if◌then◌else◌, Option, Some, None, codes, decimal}
 use Rattle.lw_frame.specs.Lines.{is_empty, line_end}
 use Rattle.lw_frame.specs.Header.{Header, unfinished, faulty, whole, header_of}
@@ -65,6 +65,10 @@ frames bytes closed = record { bodies = bodies_of bytes; fault = fault_of bytes 
 abbrev pub rest_of : List ℕ → List ℕ
 rest_of bytes = (split 0 bytes).rest
 
+-- the header part of a message whose body has so many bytes, as it is written
+abbrev pub header_part_of : ℕ → List ℕ
+header_part_of size = codes "Content-Length: " ++ decimal size ++ line_end ++ line_end
+
 -- a message with this body, as it is written
 abbrev pub frame_of : List ℕ → List ℕ
-frame_of body = codes "Content-Length: " ++ decimal (length body) ++ line_end ++ line_end ++ body
+frame_of body = header_part_of (length body) ++ body

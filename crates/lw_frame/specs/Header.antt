@@ -8,13 +8,7 @@ use Rattle.std.specs.Str.Parse.{digits_value}
 use Rattle.lw_frame.specs.Lines.{lines, joined, is_empty}
 use Rattle.lw_frame.specs.declared.fault.FrameFault.{FrameFault}
 use Rattle.lw_frame.specs.declared.fault.FrameFault.TheVariants.{BadHeader, NoLength, TooLong}
-
--- the most bytes of a header part, and of a body
-abbrev pub header_limit : ℕ
-header_limit = 4096
-
-abbrev pub body_limit : ℕ
-body_limit = 16777216
+use Rattle.lw_frame.specs.declared.limits.TheConstants.{LONGEST_HEADER_PART, LONGEST_BODY}
 
 -- A FIELD
 
@@ -80,7 +74,7 @@ pub data Header : Type 0 where
 
 -- the lines that end within the limit
 abbrev pub near_lines : List ℕ → List (List ℕ)
-near_lines bytes = lines (take header_limit bytes)
+near_lines bytes = lines (take LONGEST_HEADER_PART bytes)
 
 -- those before the empty line, and whether there is an empty line
 abbrev pub fields : List ℕ → List (List ℕ)
@@ -92,13 +86,13 @@ has_end bytes = list_any is_empty (near_lines bytes)
 -- of a header part that begins at offset `start` and has ended
 abbrev pub ended : ℕ → ℕ → Option ℕ → Header
 ended start size None = faulty (NoLength start)
-ended start size (Some body) = if nat_lt body_limit body then faulty (TooLong body) else whole size body
+ended start size (Some body) = if nat_lt LONGEST_BODY body then faulty (TooLong body) else whole size body
 
 -- of one whose lines so far are good
 abbrev pub good_so_far : ℕ → List ℕ → Header
 good_so_far start bytes =
     if has_end bytes then ended start (length (joined (fields bytes)) + 2) (length_of (fields bytes))
-    else if nat_le header_limit (length bytes) then faulty (BadHeader start)
+    else if nat_le LONGEST_HEADER_PART (length bytes) then faulty (BadHeader start)
     else unfinished
 
 -- with the first line that is not good

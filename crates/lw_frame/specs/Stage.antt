@@ -2,12 +2,13 @@
 use Rattle.std.specs.Prelude.{◌≡◌, ℕ, ◌+◌, ◌<◌, List, [], ◌∷◌, ◌++◌, length, drop, nat_eq, nat_lt, ◌==◌, Bool, true, false, not, ◌&&◌, if◌then◌else◌, Option, Some, None, is_some}
 use Rattle.std.specs.List.{starts_with, list_all, list_any}
 use Rattle.lw_frame.specs.Lines.{line_end, joined, is_empty}
-use Rattle.lw_frame.specs.Header.{Header, faulty, whole, header_of, header_limit, body_limit, before_bad, length_of, names_length}
+use Rattle.lw_frame.specs.Header.{Header, faulty, whole, header_of, before_bad, length_of, names_length}
 use Rattle.lw_frame.specs.declared.fault.FrameFault.TheVariants.{BadHeader, NoLength, TooLong}
 use Rattle.lw_frame.specs.declared.field.Field.{Field}
 use Rattle.lw_frame.specs.declared.field.Field.TheVariants.{Length, Other, Bad}
 use Rattle.lw_frame.specs.declared.stage.Stage.{Stage}
 use Rattle.lw_frame.specs.declared.stage.Stage.TheVariants as stage
+use Rattle.lw_frame.specs.declared.limits.TheConstants.{LONGEST_HEADER_PART, LONGEST_BODY}
 
 -- no line end stands in the bytes
 abbrev pub is_open : List ℕ → Bool
@@ -35,19 +36,19 @@ HeaderSays start header said = (more : List ℕ) → header_of start (header ++ 
 
 -- the stage is that of a message with these bytes of its header part and its body
 abbrev pub IsAt : Stage → ℕ → List ℕ → List ℕ → Type 0
-IsAt (stage.Header line given) start header body = (body ≡ []) × IsHeader header line given × (is_open (drop line header) ≡ true) × (length header < header_limit)
+IsAt (stage.Header line given) start header body = (body ≡ []) × IsHeader header line given × (is_open (drop line header) ≡ true) × (length header < LONGEST_HEADER_PART)
 IsAt (stage.Content missing) start header body = HeaderSays start header (whole (length header) (length body + missing)) × (0 < missing)
 IsAt stage.Whole start header body = HeaderSays start header (whole (length header) (length body))
 IsAt (stage.Failed fault) start header body = (body ≡ []) × HeaderSays start header (faulty fault)
 
 -- in a header part of so many bytes that has not ended
 abbrev pub stage_within : ℕ → ℕ → ℕ → Option ℕ → Stage
-stage_within start size line given = if size == header_limit then stage.Failed (BadHeader start) else stage.Header line given
+stage_within start size line given = if size == LONGEST_HEADER_PART then stage.Failed (BadHeader start) else stage.Header line given
 
 -- behind a header part that has ended
 abbrev pub stage_behind : ℕ → Option ℕ → Stage
 stage_behind start None = stage.Failed (NoLength start)
-stage_behind start (Some n) = if nat_lt body_limit n then stage.Failed (TooLong n) else if n == 0 then stage.Whole else stage.Content n
+stage_behind start (Some n) = if nat_lt LONGEST_BODY n then stage.Failed (TooLong n) else if n == 0 then stage.Whole else stage.Content n
 
 -- behind a line that is not empty
 abbrev pub stage_after : ℕ → ℕ → ℕ → Field → Option ℕ → Stage

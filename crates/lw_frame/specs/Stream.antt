@@ -23,7 +23,7 @@ with_piece s piece = record s { fed = s.fed ++ piece }
 abbrev pub at_end : Stream → Stream
 at_end s = record s { closed = true }
 
--- the answer_next for the body that comes next, if there is one, and the fault
+-- what is answered where this body comes next, if one does, and this is the fault, if there is one
 abbrev pub answer_next : Option (List ℕ) → Option FrameFault → Result (Option (List ℕ)) FrameFault
 answer_next (Some body) fault = Ok (Some body)
 answer_next None (Some fault) = Err fault

@@ -16,28 +16,23 @@ impl Model for History {
     ghost also_owns = { λ _. ftrue };
 }
 
-/// One thing that happens to a reader.
+/// One thing that happens to a reader, with what happened before.
 #[derive(Clone, Copy, Drop)]
 pub(crate) enum Event<'a> {
+    /// It begins.
+    Begun,
     /// It is fed a piece.
-    Fed(&'a [u8]),
+    Fed(&'a History, &'a [u8]),
     /// It hands out a body.
-    Given,
+    Given(&'a History),
 }
 
 impl History {
-    ghost use Rattle.lw_frame.specs.Events.{no_history, after};
-
-    /// Nothing has happened.
-    pub(crate) fn new() -> History
-        ensures { result ≡ no_history }
-    {
-        History {}
-    }
+    ghost use Rattle.lw_frame.specs.Events.{history_after};
 
     /// What has happened once the event has.
-    pub(crate) fn then(&self, _event: &Event<'_>) -> History
-        ensures { result ≡ after self.now _event.now }
+    pub(crate) fn after(_event: &Event<'_>) -> History
+        ensures { result ≡ history_after _event.now }
     {
         History {}
     }

@@ -1,12 +1,13 @@
 // The message that is being read.
-ghost use Rattle.std.specs.Prelude.{◌≡◌, ◌≤◌, ◌<◌, ◌+◌, ◌^◌, ◌↔◌, ◌++◌, [], length, take, drop, IsTrue, IfOk, OnErr, OnOk, true, false, position};
+ghost use Rattle.std.specs.Prelude.{◌≡◌, ◌≤◌, ◌<◌, ◌+◌, ◌↔◌, ◌++◌, [], length, take, drop, IsTrue, IfOk, OnErr, OnOk, true, false, position};
 ghost use Rattle.lw_frame.specs.Frames.{rest_fault};
 ghost use Rattle.lw_frame.specs.Header.{header_of};
 ghost use Rattle.lw_frame.specs.Reading.{bytes_of, failure, is_newline, is_waiting, is_whole, Grows, IsMarkOf, IsRead, IsSame, IsThroughNewline, KeepsFront, EndsBehind, left_at};
 ghost use Rattle.lw_frame.specs.Wanted.{fewest_left};
+ghost use Rattle.lw_frame.specs.declared.limits.TheConstants.{LONGEST_SESSION};
 
-use crate::stage::{HEADER_LIMIT, Stage, stage_of};
-use crate::{Body, FrameFault};
+use crate::stage::{Stage, stage_of};
+use crate::{Body, FrameFault, LONGEST_HEADER_PART};
 use lw_base::NoMemory;
 use std::alloc::Global;
 
@@ -85,7 +86,7 @@ impl Incoming {
 
     /// The offset behind the bytes that are there.
     pub(crate) fn end(&self) -> u64
-        requires { self.now.start + length (bytes_of self.now) ≤ 2 ^ 40 }
+        requires { self.now.start + length (bytes_of self.now) ≤ LONGEST_SESSION }
         ensures { result ≡ self.now.start + length (bytes_of self.now) }
     {
         self.start + self.header.len() as u64 + self.body.len() as u64
@@ -180,13 +181,13 @@ impl Incoming {
         requires stage { self.old.stage ≡ Stage.Header line given }
         requires read { IsRead self.old }
         requires piece { 0 < length piece.now }
-        requires session { self.old.start ≤ 2 ^ 40 }
+        requires session { self.old.start ≤ LONGEST_SESSION }
         ensures some { IfOk result (λ used. 0 < used) }
         ensures ok { IfOk result (Grows self.old self.new piece.now) }
         ensures err { OnErr result (IsSame self.old self.new) }
         ensures front { KeepsFront self.old self.new }
     {
-        let room = HEADER_LIMIT - self.header.len();
+        let room = LONGEST_HEADER_PART - self.header.len();
         let near = through_newline(&piece[..room.min(piece.len())]);
         self.header.extend_from_slice(near)?;
         self.stage = stage_of(self.start, self.header.as_slice(), line, given);
@@ -219,7 +220,7 @@ impl Incoming {
     /// they are.
     pub(crate) fn advance(&mut self, piece: &[u8]) -> Result<usize, NoMemory>
         requires read { IsRead self.old }
-        requires session { self.old.start ≤ 2 ^ 40 }
+        requires session { self.old.start ≤ LONGEST_SESSION }
         ensures ok { IfOk result (Grows self.old self.new piece.now) }
         ensures all { IfOk result (λ used. used < length piece.now → is_waiting self.new.stage ≡ false) }
         ensures front { KeepsFront self.old self.new }

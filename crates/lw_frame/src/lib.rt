@@ -13,8 +13,12 @@
 //! and that the reader holds the bodies that were not handed out, the bytes of the message that is being
 //! read, and no more. It says how many bytes can be fed without going past the end of the message that is
 //! being read ([`FrameReader::wanted`], defined in `specs/Wanted.antt`), so that a server which takes no
-//! more from its source leaves there what is behind the message that it answers last. Each byte of a body is copied once, and once more where its buffer grows; no piece
-//! makes it look at earlier bytes of a body again.
+//! more from its source leaves there what is behind the message that it answers last. Each byte of a body
+//! is copied once, and once more where its buffer grows; no piece makes it look at earlier bytes of a body
+//! again.
+//!
+//! A message is written by [`frame`], or as its [`header_part`] with the body behind it. The limits of a
+//! stream are [`LONGEST_SESSION`], [`LONGEST_BODY`] and [`LONGEST_HEADER_PART`].
 //!
 //! Of the definitions themselves [`streams_grow`] says what stays as a stream goes on.
 #![tactic(auto)]
@@ -25,6 +29,7 @@ mod field;
 mod history;
 mod incoming;
 mod laws;
+mod limits;
 mod reader;
 mod reading;
 mod stage;
@@ -34,9 +39,10 @@ mod write;
 pub use body::Body;
 pub use fault::FrameFault;
 pub use laws::streams_grow;
+pub use limits::{LONGEST_BODY, LONGEST_HEADER_PART, LONGEST_SESSION};
 pub use reader::FrameReader;
 pub use whole::{Frames, read_pieces};
-pub use write::frame;
+pub use write::{frame, header_part};
 
 #[cfg(test)]
 mod tests;

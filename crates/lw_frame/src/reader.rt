@@ -1,5 +1,6 @@
 // A stream that comes in pieces.
-ghost use Rattle.std.specs.Prelude.{◌≡◌, ◌<◌, ◌≤◌, ◌+◌, ◌^◌, length, OnOk, OnErr, false};
+ghost use Rattle.std.specs.Prelude.{◌≡◌, ◌<◌, ◌≤◌, ◌+◌, length, OnOk, OnErr, false};
+ghost use Rattle.lw_frame.specs.declared.limits.TheConstants.{LONGEST_SESSION};
 
 use crate::history::{Event, History};
 use crate::incoming::Incoming;
@@ -55,17 +56,17 @@ impl FrameReader {
             fault: None,
             closed: false,
             alloc,
-            history: History::new(),
+            history: History::after(&Event::Begun),
         }
     }
 
     /// Takes the next piece of the stream, which may be cut anywhere. Behind a fault it is dropped. Where
     /// memory is refused, the reader stays as it was.
     ///
-    /// A session has at most 2^40 bytes.
+    /// A session has at most 2^40 bytes ([`LONGEST_SESSION`](crate::LONGEST_SESSION)).
     pub fn feed(&mut self, piece: &[u8]) -> Result<(), NoMemory>
         requires open { self.old.stream.closed ≡ false }
-        requires session { length self.old.stream.fed + length piece.now ≤ 2 ^ 40 }
+        requires session { length self.old.stream.fed + length piece.now ≤ LONGEST_SESSION }
         ensures ok { OnOk result (self.new.stream ≡ with_piece self.old.stream piece.now) }
         ensures err { OnErr result (self.new ≡ self.old) }
         ensures held { self.new.held ≡ needed self.new.stream }
@@ -79,7 +80,7 @@ impl FrameReader {
             &mut self.incoming,
             piece,
         )?;
-        self.history = self.history.then(&Event::Fed(piece));
+        self.history = History::after(&Event::Fed(&self.history, piece));
         Ok(())
     }
 
@@ -128,7 +129,7 @@ impl FrameReader {
         ensures held { self.new.held ≡ needed self.new.stream }
     {
         if let Some(body) = self.finished.pop_front() {
-            self.history = self.history.then(&Event::Given);
+            self.history = History::after(&Event::Given(&self.history));
             return Ok(Some(body));
         }
         match fault_now(self.fault, &self.incoming, self.closed) {

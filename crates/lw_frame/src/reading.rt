@@ -1,7 +1,8 @@
 // A stream read message by message.
-ghost use Rattle.std.specs.Prelude.{◌≡◌, ◌≤◌, ◌+◌, ◌^◌, ◌++◌, List, ℕ, length, IfOk, OnOk, OnErr, IfNone, IsTrue};
+ghost use Rattle.std.specs.Prelude.{◌≡◌, ◌≤◌, ◌+◌, ◌++◌, List, ℕ, length, IfOk, OnOk, OnErr, IfNone, IsTrue};
 ghost use Rattle.lw_frame.specs.Frames.{bodies_of, fault_of};
 ghost use Rattle.lw_frame.specs.Reading.{bytes_of, is_waiting, Feeds, IsRead, IsSame, KeepsFront, ReadsMessages, ReadsTo};
+ghost use Rattle.lw_frame.specs.declared.limits.TheConstants.{LONGEST_SESSION};
 
 use crate::incoming::Incoming;
 use crate::{Body, FrameFault};
@@ -13,7 +14,7 @@ use std::mem;
 /// The bodies of the messages at the head of bytes that begin at offset `start` of the stream, and
 /// the message behind them.
 fn messages(alloc: Global, start: u64, bytes: &[u8]) -> Result<(VecDeque<Body>, Incoming), NoMemory>
-    requires { start + length bytes.now ≤ 2 ^ 40 }
+    requires { start + length bytes.now ≤ LONGEST_SESSION }
     ensures { IfOk result (λ read. ReadsMessages start bytes.now read.0.items read.1) }
 {
     let mut bodies = VecDeque::new(alloc);
@@ -39,7 +40,7 @@ fn take(
     piece: &[u8],
 ) -> Result<(), NoMemory>
     requires read { IsRead incoming.old }
-    requires session { incoming.old.start + length (bytes_of incoming.old) + length piece.now ≤ 2 ^ 40 }
+    requires session { incoming.old.start + length (bytes_of incoming.old) + length piece.now ≤ LONGEST_SESSION }
     ensures ok { OnOk result ((bodies : List (List ℕ)) × (finished.new.items ≡ finished.old.items ++ bodies)
         × ReadsMessages incoming.old.start (bytes_of incoming.old ++ piece.now) bodies incoming.new) }
     ensures err { OnErr result (finished.new.items ≡ finished.old.items) }
@@ -64,7 +65,7 @@ fn read_piece(
     piece: &[u8],
 ) -> Result<Option<FrameFault>, NoMemory>
     requires read { IsRead incoming.old }
-    requires session { incoming.old.start + length (bytes_of incoming.old) + length piece.now ≤ 2 ^ 40 }
+    requires session { incoming.old.start + length (bytes_of incoming.old) + length piece.now ≤ LONGEST_SESSION }
     ensures ok { IfOk result (λ fault. (bodies : List (List ℕ)) × (finished.new.items ≡ finished.old.items ++ bodies)
         × ReadsTo fault incoming.old.start (bytes_of incoming.old ++ piece.now) bodies incoming.new) }
     ensures err { OnErr result (finished.new.items ≡ finished.old.items) }
@@ -96,7 +97,7 @@ pub(crate) fn feed_piece(
     piece: &[u8],
 ) -> Result<Option<FrameFault>, NoMemory>
     requires read { IfNone fault (IsRead incoming.old) }
-    requires session { IfNone fault (incoming.old.start + length (bytes_of incoming.old) + length piece.now ≤ 2 ^ 40) }
+    requires session { IfNone fault (incoming.old.start + length (bytes_of incoming.old) + length piece.now ≤ LONGEST_SESSION) }
     ensures ok { IfOk result (λ now. (bodies : List (List ℕ)) × (finished.new.items ≡ finished.old.items ++ bodies)
         × Feeds piece.now fault now incoming.old incoming.new bodies) }
     ensures err { OnErr result (finished.new.items ≡ finished.old.items) }

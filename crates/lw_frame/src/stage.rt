@@ -1,17 +1,11 @@
 // Where the message that is being read stands.
 ghost use Rattle.std.specs.Prelude.{◌≡◌, ◌≤◌, ◌<◌, ◌+◌, ◌^◌, [], length, drop};
 ghost use Rattle.lw_frame.specs.Field.{field_of};
-ghost use Rattle.lw_frame.specs.Header.{header_limit};
+ghost use Rattle.lw_frame.specs.declared.limits.TheConstants.{LONGEST_SESSION};
 ghost use Rattle.lw_frame.specs.Stage.{IsAt, IsGrown, IsHeader, stage_after, stage_behind, stage_within};
 
-use crate::FrameFault;
 use crate::field::{Field, field_in};
-
-/// The most bytes of a header part.
-pub(crate) const HEADER_LIMIT: usize = 4_096;
-
-/// The most bytes of a body.
-const BODY_LIMIT: u64 = 16_777_216;
+use crate::{FrameFault, LONGEST_BODY, LONGEST_HEADER_PART};
 
 /// How far a message has come.
 #[derive(Clone, Copy)]
@@ -36,7 +30,7 @@ fn after_header(start: u64, given: Option<u64>) -> Stage
             fault: FrameFault::NoLength(start),
         },
         Some(length) => {
-            if length > BODY_LIMIT {
+            if length > LONGEST_BODY {
                 Stage::Failed {
                     fault: FrameFault::TooLong(length),
                 }
@@ -53,7 +47,7 @@ fn after_header(start: u64, given: Option<u64>) -> Stage
 fn in_header(start: u64, size: usize, line: usize, given: Option<u64>) -> Stage
     ensures { result ≡ stage_within start size line given }
 {
-    if size == HEADER_LIMIT {
+    if size == LONGEST_HEADER_PART {
         Stage::Failed {
             fault: FrameFault::BadHeader(start),
         }
@@ -81,8 +75,8 @@ fn after_line(start: u64, size: usize, line: usize, text: &[u8], given: Option<u
 pub(crate) fn stage_of(start: u64, header: &[u8], line: usize, given: Option<u64>) -> Stage
     requires header { IsHeader header.now line given }
     requires grown { IsGrown (drop line header.now) }
-    requires limit { length header.now ≤ header_limit }
-    requires start { start ≤ 2 ^ 40 }
+    requires limit { length header.now ≤ LONGEST_HEADER_PART }
+    requires start { start ≤ LONGEST_SESSION }
     ensures { IsAt result start header.now [] }
 {
     match header[line..].strip_suffix(b"\r\n") {

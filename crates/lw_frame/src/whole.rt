@@ -1,7 +1,8 @@
 // A whole stream.
-ghost use Rattle.std.specs.Prelude.{◌≡◌, ◌≤◌, ◌^◌, ◌++◌, drop, length, IfOk, OnOk, true};
+ghost use Rattle.std.specs.Prelude.{◌≡◌, ◌≤◌, ◌++◌, drop, length, IfOk, OnOk, true};
 ghost use Rattle.lw_frame.specs.Frames.{bodies_of, fault_of, frames};
 ghost use Rattle.lw_frame.specs.Pieces.{stream_of};
+ghost use Rattle.lw_frame.specs.declared.limits.TheConstants.{LONGEST_SESSION};
 
 use crate::{Body, FrameFault, FrameReader};
 use lw_base::{Items, NoMemory};
@@ -38,9 +39,9 @@ pub(crate) fn drain(
 }
 
 /// The bodies and the fault of a stream that comes in these pieces and then ends. They are those of
-/// the bytes joined, so two ways to cut one stream give the same.
+/// the bytes joined, so two ways to cut one stream give the same. A stream has at most 2^40 bytes.
 pub fn read_pieces(alloc: Global, pieces: &[Vec<u8>]) -> Result<Frames, NoMemory>
-    requires { length (stream_of pieces.now) ≤ 2 ^ 40 }
+    requires { length (stream_of pieces.now) ≤ LONGEST_SESSION }
     ensures { IfOk result (λ read. read ≡ frames (stream_of pieces.now) true) }
 {
     let mut reader = FrameReader::new(alloc);

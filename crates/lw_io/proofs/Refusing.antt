@@ -1,5 +1,5 @@
 -- What an error of `regex` says of its text.
-use Rattle.std.proofs.Common.{◌≡◌, ◌≢◌, ℕ, List, refl}
+use Rattle.std.proofs.Common.{◌≢◌, ℕ, List, refl}
 use Rattle.regex.specs.declared.error.Error.{Error}
 use Rattle.regex.specs.declared.error.Error.TheVariants.{Syntax, CompiledTooBig, Internal, OutOfMemory}
 use Rattle.regex.specs.Failures.{IsRightKind}

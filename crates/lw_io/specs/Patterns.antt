@@ -1,5 +1,5 @@
 -- What a maker of patterns answers for a text, and what it does to the count of faults and to the text last refused.
-use Rattle.std.specs.Prelude.{◌≡◌, ◌≢◌, ℕ, List, [], ◌∷◌, ◌++◌, codes, Option, Some, Result, Ok, Err}
+use Rattle.std.specs.Prelude.{◌≡◌, ◌≢◌, ℕ, List, ◌++◌, codes, Option, Some, Result, Ok, Err}
 use Rattle.regex_syntax.specs.declared.error.ErrorKind.{ErrorKind}
 use Rattle.regex_syntax.specs.declared.error.ErrorKind.TheVariants.{OutOfMemory}
 use Rattle.regex.specs.Patterns.{default_config, Refuses}
@@ -14,9 +14,9 @@ anchored text = codes "\\A(?:" ++ text ++ codes ")"
 
 -- `regex` refuses the text under its default options, and not for want of memory
 pub data RegexRefuses (text : List ℕ) : Type 0 where
-  -- its grammar refuses the text for this cause
+  -- its grammar refuses the text, for this cause
   by_grammar : (cause : ErrorKind) → cause ≢ OutOfMemory → Refuses default_config text cause → RegexRefuses text
-  -- its grammar reads the text, as a pattern that is too big
+  -- its grammar reads a pattern in the text, and this is too big
   too_big : IsPattern default_config text → RegexRefuses text
 
 -- the count rises at `Refused`, and stands still at every other answer

@@ -5,13 +5,15 @@
 //! and one over the real thing.
 //!
 //! Their model: a source is the bytes left, a sink the bytes written, a store its files, each where the
-//! object tells them (a real file or terminal tells nothing), and a maker of patterns the text that it
-//! refused last. Beside that each object has a count of its faults, which it always tells.
+//! object tells them (a real file or terminal tells nothing), and a maker of patterns the texts that it
+//! was told to refuse and the text that it refused last. Beside that each object has a count of its faults,
+//! which it always tells.
 //!
-//! What they promise: a call answers a fault only where its count rose, and a call in which the count grew
-//! answers a fault; a fault changes nothing else. So a program that looks at the counts before and after
-//! can say whose fault it was. A count rose where it grew, or where it stands at its last value,
-//! 2^64 - 1. Want of memory is an answer of its own, and is counted nowhere.
+//! What they promise: a call that answers a fault raises the count by one, and every other call leaves it
+//! as it is; a fault changes nothing else. So a program that looks at the counts before and after can say
+//! whose fault it was. At its last value, 2^64 - 1, a count stands still, and is said to have risen. Want
+//! of memory is an answer of its own, and is counted nowhere. A pattern is refused only where it is listed,
+//! or where `regex` refuses it for another cause than memory.
 //!
 //! [`read_all`] and [`write_all`] read a source to its end and write all of a text.
 #![tactic(auto)]

@@ -54,7 +54,7 @@ impl Refusals {
 }
 
 /// What an error of `regex` is to its caller.
-fn fault_of(error: Error) -> MakeFault
+fn make_fault(error: Error) -> MakeFault
     ensures { (result ≡ MakeFault.NoMemory) ↔ (error ≡ Error.OutOfMemory) }
 {
     match error {
@@ -75,6 +75,6 @@ pub(crate) fn compile(alloc: Global, text: &Name) -> Result<Regex, MakeFault>
     };
     match Regex::new(alloc, source.as_str()) {
         Ok(pattern) => Ok(pattern),
-        Err(error) => Err(fault_of(error)),
+        Err(error) => Err(make_fault(error)),
     }
 }

@@ -5,15 +5,25 @@ use crate::{
     write_all,
 };
 use lw_base::Name;
-use std::alloc::Global;
+use std::alloc::{AllocError, Global};
 use std::test::Fail;
+
+fn source(
+    alloc: Global,
+    bytes: &[u8],
+    pieces: &[u32],
+    failing: &[u64],
+) -> Result<MemSource, AllocError> {
+    Ok(MemSource::new(
+        bytes.to_vec(alloc)?,
+        pieces.to_vec(alloc)?,
+        failing.to_vec(alloc)?,
+    ))
+}
 
 #[test]
 fn a_source_gives_pieces(rt: HostRuntime) -> Result<(), Fail> {
-    let alloc = rt.alloc();
-    let pieces = vec![in alloc; 2u32, 0, 5]?;
-    let bytes = b"abcdefghij".to_vec(alloc)?;
-    let mut source = MemSource::new(bytes, pieces, vec![in alloc; 3u64]?);
+    let mut source = source(rt.alloc(), b"abcdefghij", &[2, 0, 5], &[3])?;
     let mut buffer = [0u8; 3];
     for (answer, left) in [
         (Read::Got(2), "cdefghij"),
@@ -27,83 +37,98 @@ fn a_source_gives_pieces(rt: HostRuntime) -> Result<(), Fail> {
         assert_eq!(rt; source.read(&mut buffer), answer, "before {left}");
         assert_eq!(rt; source.left(), left.as_bytes());
     }
-    assert_eq!(rt; &buffer, b"ijf");
     assert_eq!(rt; source.faults(), 1);
     Ok(())
+}
+
+/// How many bytes are read, of at most so many.
+fn length_read<S: Source>(alloc: Global, source: &mut S, most: usize) -> Result<usize, ReadFault> {
+    Ok(read_all(alloc, source, most)?.len())
 }
 
 #[test]
 fn a_source_is_read_to_its_end_or_so_far(rt: HostRuntime) -> Result<(), Fail> {
     let alloc = rt.alloc();
-    let long = vec![in alloc; b'x'; 20_000]?;
-    let mut source = MemSource::new(long, vec![in alloc; 1u32, 9_000]?, vec![in alloc; 8u64]?);
-    let read = read_all(alloc, &mut source, 10_000)?;
-    assert_eq!(rt; read.len(), 10_000);
-    assert_eq!(rt; source.left().len(), 10_000);
-    assert_eq!(rt; read_all(alloc, &mut source, usize::MAX)?.len(), 10_000);
-    assert_eq!(rt; read_all(alloc, &mut source, 0)?.len(), 0);
-    assert!(rt; matches!(read_all(alloc, &mut source, 1), Err(ReadFault::Failed)));
-    assert_eq!(rt; source.faults(), 1);
+    let mut source = source(alloc, &[b'x'; 20_000], &[1, 9_000], &[8])?;
+    for (most, length, left) in [
+        (10_000, Ok(10_000), 10_000),
+        (usize::MAX, Ok(10_000), 0),
+        (0, Ok(0), 0),
+        (1, Err(ReadFault::Failed), 0),
+    ] {
+        assert_eq!(rt; length_read(alloc, &mut source, most), length);
+        assert_eq!(rt; source.left().len(), left);
+    }
     let mut reader = StdSource::new(b"of std".as_slice());
-    assert_eq!(rt;
-        read_all(alloc, &mut reader, 100)?.as_slice(),
-        b"of std".as_slice()
-    );
-    assert_eq!(rt; reader.faults(), 0);
+    assert_eq!(rt; length_read(alloc, &mut reader, 100), Ok(6));
+    assert_eq!(rt; (source.faults(), reader.faults()), (1, 0));
     Ok(())
 }
 
 #[test]
 fn a_sink_takes_all_but_at_its_faults(rt: HostRuntime) -> Result<(), Fail> {
-    let alloc = rt.alloc();
-    let mut sink = MemSink::new(alloc, vec![in alloc; 2u64]?);
-    assert_eq!(rt; write_all(&mut sink, b"ab".as_slice()), Ok(()));
-    assert_eq!(rt;
-        write_all(&mut sink, b"cd".as_slice()),
-        Err(WriteFault::Failed)
-    );
-    assert_eq!(rt; sink.write(b"ef".as_slice()), Wrote::Took(2));
+    let mut sink = MemSink::new(rt.alloc(), vec![in rt.alloc(); 2u64]?);
+    for (bytes, answer) in [
+        ("ab", Ok(())),
+        ("cd", Err(WriteFault::Failed)),
+        ("ef", Ok(())),
+    ] {
+        assert_eq!(rt;
+            write_all(&mut sink, bytes.as_bytes()),
+            answer,
+            "of {bytes}"
+        );
+    }
     assert_eq!(rt; sink.taken(), b"abef".as_slice());
-    assert_eq!(rt; sink.faults(), 1);
+    let mut room = [0u8; 3];
+    let mut full = StdSink::new(&mut room[..]);
+    for (bytes, answer) in [
+        ("ab", Wrote::Took(2)),
+        ("cd", Wrote::Took(1)),
+        ("d", Wrote::Failed),
+    ] {
+        assert_eq!(rt; full.write(bytes.as_bytes()), answer, "of {bytes}");
+    }
+    assert_eq!(rt; (sink.faults(), full.faults()), (1, 1));
     Ok(())
 }
 
-#[test]
-fn a_writer_that_takes_nothing_has_failed(rt: HostRuntime) {
-    let mut room = [0u8; 3];
-    let mut sink = StdSink::new(&mut room[..]);
-    assert_eq!(rt; sink.write(b"ab".as_slice()), Wrote::Took(2));
-    assert_eq!(rt; sink.write(b"cd".as_slice()), Wrote::Took(1));
-    assert_eq!(rt;
-        write_all(&mut sink, b"d".as_slice()),
-        Err(WriteFault::Failed)
-    );
-    assert_eq!(rt; sink.faults(), 1);
+/// Whether the store answers this text, or this word, for a path.
+fn answers<S: Store>(
+    alloc: Global,
+    store: &mut S,
+    path: &str,
+    answer: &Result<&str, Found>,
+) -> Result<bool, Fail> {
+    let found = store.read(alloc, &Name::from_text(alloc, path)?);
+    Ok(match (found, answer) {
+        (Found::Text(text), Ok(expected)) => text.text() == *expected,
+        (found, Err(expected)) => found == *expected,
+        _ => false,
+    })
 }
 
-fn name(alloc: Global, text: &str) -> Result<Name, Fail> {
-    Ok(Name::from_text(alloc, text)?)
+/// A store with these files, whose second read fails.
+fn store(alloc: Global, files: &[(&str, &[u8])]) -> Result<MemStore, Fail> {
+    let mut held = Vec::new(alloc);
+    for (path, bytes) in files {
+        held.push((Name::from_text(alloc, path)?, bytes.to_vec(alloc)?))?;
+    }
+    Ok(MemStore::new(held, vec![in alloc; 2u64]?))
 }
 
 #[test]
 fn a_store_has_the_last_file_of_a_path(rt: HostRuntime) -> Result<(), Fail> {
-    let alloc = rt.alloc();
-    let files = vec![in alloc;
-        (name(alloc, "a")?, b"first".to_vec(alloc)?),
-        (name(alloc, "b")?, b"\xC3(".to_vec(alloc)?),
-        (name(alloc, "a")?, b"last \xC3\xA9".to_vec(alloc)?),
-        (name(alloc, "long")?, vec![in alloc; b' '; 67_108_865]?),
-    ]?;
-    let mut store = MemStore::new(files, vec![in alloc; 2u64]?);
+    let files: [(&str, &[u8]); 3] = [("a", b"first"), ("b", b"\xC3("), ("a", b"last \xC3\xA9")];
+    let mut store = store(rt.alloc(), &files)?;
     for (path, answer) in [
-        ("a", Found::Text(name(alloc, "last é")?)),
-        ("a", Found::Failed),
-        ("b", Found::NotUtf8),
-        ("", Found::Absent),
-        ("long", Found::TooLong),
+        ("a", Ok("last é")),
+        ("a", Err(Found::Failed)),
+        ("b", Err(Found::NotUtf8)),
+        ("", Err(Found::Absent)),
     ] {
         assert!(rt;
-            store.read(alloc, &name(alloc, path)?) == answer,
+            answers(rt.alloc(), &mut store, path, &answer)?,
             "at {path}"
         );
     }
@@ -111,20 +136,36 @@ fn a_store_has_the_last_file_of_a_path(rt: HostRuntime) -> Result<(), Fail> {
     Ok(())
 }
 
+/// What a store answers for a file of so many bytes.
+fn found_of(alloc: Global, size: usize) -> Result<Found, Fail> {
+    let file = (Name::from_text(alloc, "")?, vec![in alloc; b' '; size]?);
+    let mut store = MemStore::new(vec![in alloc; file]?, Vec::new(alloc));
+    Ok(store.read(alloc, &Name::from_text(alloc, "")?))
+}
+
+#[test]
+fn a_text_has_a_limit(rt: HostRuntime) -> Result<(), Fail> {
+    let Found::Text(text) = found_of(rt.alloc(), 67_108_864)? else {
+        return Err(Fail::from("not the longest text"));
+    };
+    assert_eq!(rt; text.bytes().len(), 67_108_864);
+    assert!(rt; found_of(rt.alloc(), 67_108_865)? == Found::TooLong);
+    Ok(())
+}
+
 #[test]
 fn a_store_reads_the_files_of_the_system(rt: HostRuntime) -> Result<(), Fail> {
-    let alloc = rt.alloc();
     let mut store = FileStore::new(&rt);
     for (path, answer, faults) in [
-        ("/dev/null", Found::Text(name(alloc, "")?), 0),
-        ("/no/such/file", Found::Absent, 0),
-        ("/", Found::Failed, 1),
-        ("/proc/self/exe", Found::NotUtf8, 1),
-        ("/dev/zero", Found::TooLong, 1),
-        ("/dev/null/below", Found::Failed, 2),
+        ("/dev/null", Ok(""), 0),
+        ("/no/such/file", Err(Found::Absent), 0),
+        ("/", Err(Found::Failed), 1),
+        ("/proc/self/exe", Err(Found::NotUtf8), 1),
+        ("/dev/zero", Err(Found::TooLong), 1),
+        ("/dev/null/below", Err(Found::Failed), 2),
     ] {
         assert!(rt;
-            store.read(alloc, &name(alloc, path)?) == answer,
+            answers(rt.alloc(), &mut store, path, &answer)?,
             "at {path}"
         );
         assert_eq!(rt; store.faults(), faults, "after {path}");
@@ -132,44 +173,38 @@ fn a_store_reads_the_files_of_the_system(rt: HostRuntime) -> Result<(), Fail> {
     Ok(())
 }
 
-// What is refused in turn by this maker of patterns, and what it remembers.
-fn refusals<P: Patterns>(alloc: Global, patterns: &mut P) -> Result<Vec<(bool, u64)>, Fail> {
-    let mut seen = Vec::new(alloc);
-    for text in ["b+", "(", "x", "[0-9]{3}", "a)|(b"] {
-        let text = name(alloc, text)?;
-        let copy = text.copy(alloc)?;
-        let is_refused = match patterns.make(alloc, text) {
-            Ok(_) => false,
-            Err(MakeFault::Refused) => patterns.refused() == Some(&copy),
-            Err(MakeFault::NoMemory) => return Err(Fail::from("no memory")),
-        };
-        seen.push((is_refused, patterns.faults()))?;
+/// Whether this text is refused, and is the one that is remembered.
+fn refuses<P: Patterns>(alloc: Global, patterns: &mut P, text: &str) -> Result<bool, Fail> {
+    match patterns.make(alloc, Name::from_text(alloc, text)?) {
+        Ok(_) => Ok(false),
+        Err(MakeFault::Refused) => Ok(patterns.refused().is_some_and(|last| last.text() == text)),
+        Err(MakeFault::NoMemory) => Err(Fail::from("no memory")),
     }
-    Ok(seen)
 }
 
 #[test]
 fn patterns_are_made_or_refused(rt: HostRuntime) -> Result<(), Fail> {
     let alloc = rt.alloc();
     let mut real = RealPatterns::new();
-    let mut chosen = MemPatterns::new(vec![in alloc; name(alloc, "x")?, name(alloc, "y")?]?);
-    assert!(rt; real.refused().is_none() && chosen.refused().is_none());
-    let by_regex = [(false, 0u64), (true, 1), (false, 1), (false, 1), (false, 1)];
-    let by_choice = [(false, 0u64), (true, 1), (true, 2), (false, 2), (false, 2)];
-    assert_eq!(rt; refusals(alloc, &mut real)?.as_slice(), by_regex.as_slice());
-    assert_eq!(rt;
-        refusals(alloc, &mut chosen)?.as_slice(),
-        by_choice.as_slice()
-    );
-    assert!(rt; real.refused() == Some(&name(alloc, "(")?));
-    assert!(rt; chosen.refused() == Some(&name(alloc, "x")?));
+    let mut chosen = MemPatterns::new(vec![in alloc; Name::from_text(alloc, "x")?]?);
+    for (text, by_regex, by_choice) in [
+        ("b+", false, false),
+        ("(", true, true),
+        ("x", false, true),
+        ("(?:[a-c]?){4294967295}", true, true),
+        ("a)|(b", false, false),
+    ] {
+        assert_eq!(rt; refuses(alloc, &mut real, text)?, by_regex, "{text}");
+        assert_eq!(rt; refuses(alloc, &mut chosen, text)?, by_choice, "{text}");
+    }
+    assert_eq!(rt; (real.faults(), chosen.faults()), (2, 3));
     Ok(())
 }
 
 #[test]
 fn a_pattern_matches_at_the_start_alone(rt: HostRuntime) -> Result<(), Fail> {
     let alloc = rt.alloc();
-    let Ok(pattern) = RealPatterns::new().make(alloc, name(alloc, "b|bb+")?) else {
+    let Ok(pattern) = RealPatterns::new().make(alloc, Name::from_text(alloc, "b|bb+")?) else {
         return Err(Fail::from("refused"));
     };
     let mut matcher = pattern.matcher(alloc)?;

@@ -12,6 +12,6 @@ returns c = record {
   read = tt;
   refused = λ refused.
       let source_is : c.as_str.result.now ≡ anchored c.args.text.now = c.as_str.ensures.value ∙ c.in-Ok.ensures.ok in
-      let not_memory : c.in-Err.error ≢ OutOfMemory = λ is. let memory : c.fault_of.result ≡ NoMemory = c.fault_of.ensures.1 is in cc in
+      let not_memory : c.in-Err.error ≢ OutOfMemory = λ is. let memory : c.make_fault.result ≡ NoMemory = c.make_fault.ensures.1 is in cc in
       subst RegexRefuses source_is (refuses _ _ not_memory c.in-Err.ensures.no_internal c.in-Err.ensures.by_grammar c.in-Err.ensures.kind);
 }

@@ -12,7 +12,7 @@ pub returns-in-Some-clause-held : goal.returns-in-Some-clause-held
 returns-in-Some-clause-held c =
     let a = c.self.inside in
     let left : c.pop_front.new.self.items ≡ drop (a.history.given + 1) (bodies_of a.history.fed) = c.in-Some.ensures.rest ∙ ap (drop 1) c.self.invariant.finished ∙ drop-drop 1 a.history.given (bodies_of a.history.fed) in
-    subst (λ (h : History). concat c.pop_front.new.self.items ++ bytes_of a.incoming ≡ needed (record { fed = h.fed; closed = a.closed; given = h.given })) (sym c.then-self-inside.ensures)
+    subst (λ (h : History). concat c.pop_front.new.self.items ++ bytes_of a.incoming ≡ needed (record { fed = h.fed; closed = a.closed; given = h.given })) (sym c.after-self-inside.ensures)
     (held_is_needed c.pop_front.new.self.items a.incoming a.fault a.history.fed (a.history.given + 1) a.closed left c.self.invariant.rest)
 
 none_left : (bodies : List (List ℕ)) → length bodies ≡ 0 → bodies ≡ []
