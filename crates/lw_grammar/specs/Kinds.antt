@@ -1,6 +1,6 @@
 -- The kinds of tokens of a grammar, in their order: first the keywords of the rules that can be reached, in load order and
 -- then by the place of their first use, then the terminals that are hidden or that a reached rule calls, by load order and place.
-use Rattle.std.specs.Prelude.{ℕ, ◌≡◌, ◌+◌, ◌⊎◌, List, [], ◌∷◌, ◌++◌, Some, true, false, length, slice_get, bytes_eq, if◌then◌else◌}
+use Rattle.std.specs.Prelude.{ℕ, ◌≡◌, ◌+◌, List, [], ◌∷◌, Some, true, false, length, slice_get, bytes_eq, if◌then◌else◌}
 use Rattle.std.specs.List.{flat_map, list_any}
 use Rattle.lw_grammar.specs.declared.grammar.Grammar.{Grammar}
 use Rattle.lw_grammar.specs.declared.rule.Rule.{Rule}
@@ -37,9 +37,14 @@ module _ (g : Grammar) where
 abbrev pub IsKeywordKind : Kinds → List ℕ → ℕ → Type 0
 IsKeywordKind kinds text k = slice_get kinds.keywords k ≡ Some text
 
--- the number of the kind that the terminal of this name has: terminals come after the keywords
-abbrev pub IsTerminalKind : Kinds → List ℕ → ℕ → Type 0
-IsTerminalKind kinds name k = (i : ℕ) × (terminal : Terminal) × IsFirst (λ t. t.name ≡ name) kinds.terminals i terminal × (k ≡ length kinds.keywords + i)
+-- the number of the kind of the terminal that a name means: terminals come after the keywords
+pub record IsTerminalKind (g : Grammar) (kinds : Kinds) (name : List ℕ) (k : ℕ) : Type 0 where
+  pub place : ℕ
+  pub terminal : Terminal
+  pub meant : IsTerminal g name place terminal
+  pub number : ℕ
+  pub kept : IsFirst (λ other. other ≡ terminal) kinds.terminals number terminal
+  pub behind : k ≡ length kinds.keywords + number
 
 -- how many kinds there are
 abbrev pub kind_count : Kinds → ℕ

@@ -1,6 +1,6 @@
 -- The leaves of a body: its keywords, calls, assignments and actions, in the order of the text.
 -- Held against the Langium documentation, "Grammar language": the parts of a parser rule.
-use Rattle.std.specs.Prelude.{ℕ, ◌≡◌, List, [], ◌∷◌, ◌++◌, Option, Some, None, true, Contains, codes}
+use Rattle.std.specs.Prelude.{ℕ, ◌≡◌, List, [], ◌∷◌, ◌++◌, Option, true, Contains}
 use Rattle.std.specs.List.{flat_map}
 use Rattle.lw_base.specs.declared.token.Span.{Span}
 use Rattle.lw_grammar.specs.declared.grammar.Grammar.{Grammar}

@@ -1,10 +1,8 @@
 -- The rule that a cross-reference `[Type]` reads its text by, where it writes none: the one called in the first `name=` of
 -- the first rule whose type is the wanted one or below it and whose body, fragments put in, assigns `name` by a call.
 -- Held against the Langium documentation, "Grammar language: cross-references".
-use Rattle.std.specs.Prelude.{ℕ, ◌≡◌, List, [], ◌∷◌, codes}
-use Rattle.lw_base.specs.declared.token.Span.{Span}
+use Rattle.std.specs.Prelude.{ℕ, ◌≡◌, List, ◌∷◌, codes}
 use Rattle.lw_grammar.specs.declared.grammar.Grammar.{Grammar}
-use Rattle.lw_grammar.specs.declared.rule.Op.{Op}
 use Rattle.lw_grammar.specs.declared.rule.Op.TheVariants.{One}
 use Rattle.lw_grammar.specs.declared.rule.Value0.{Value0, out-Value0}
 use Rattle.lw_grammar.specs.declared.rule.Value0.TheOpen as value
@@ -14,13 +12,14 @@ use Rattle.lw_grammar.specs.Named.{IsFirst}
 use Rattle.lw_grammar.specs.Leaves.{Leaf, Assign, HasLeaves}
 use Rattle.lw_grammar.specs.Subtypes.{HasType, IsSubtype}
 
-abbrev pub CallsBy : Value0-F Value0 → List ℕ → Type 0
-CallsBy (value.Call name s) called = called ≡ name
-CallsBy _ called = ⊥
+-- the value is a call of this name
+abbrev pub IsCallOf : Value0-F Value0 → List ℕ → Type 0
+IsCallOf (value.Call name s) called = called ≡ name
+IsCallOf _ called = ⊥
 
 -- the leaf is `name=` and a call of this name; other assignments of `name` are passed over
 abbrev pub Names : Leaf → List ℕ → Type 0
-Names (Assign p op v s) called = (p ≡ codes "name") × (op ≡ One) × CallsBy (out-Value0 v) called
+Names (Assign p op v s) called = (p ≡ codes "name") × (op ≡ One) × IsCallOf (out-Value0 v) called
 Names _ called = ⊥
 
 pub data FirstNames : List Leaf → List ℕ → Type 0 where

@@ -1,6 +1,6 @@
 -- Which rules make nodes, and which are data type rules, whose value is a text.
 -- Held against the Langium documentation, "Grammar language": data type rules.
-use Rattle.std.specs.Prelude.{ℕ, ◌≡◌, List, true, false, Contains}
+use Rattle.std.specs.Prelude.{ℕ, ◌≡◌, List, false, Contains}
 use Rattle.lw_base.specs.declared.token.Span.{Span}
 use Rattle.lw_grammar.specs.declared.grammar.Grammar.{Grammar}
 use Rattle.lw_grammar.specs.declared.rule.Op.{Op}
@@ -8,7 +8,7 @@ use Rattle.lw_grammar.specs.declared.rule.Value0.{Value0}
 use Rattle.lw_grammar.specs.declared.rule.Action.{Action}
 use Rattle.lw_grammar.specs.declared.rule.Rule.{Rule}
 use Rattle.lw_grammar.specs.Named.{IsRule}
-use Rattle.lw_grammar.specs.Leaves.{Leaf, Assign, Act, Call, leaves}
+use Rattle.lw_grammar.specs.Leaves.{Assign, Act, Call, leaves}
 
 module _ (g : Grammar) where
   -- the least set of rules that have an assignment or an action, or call a rule of the set without assigning it

@@ -1,12 +1,12 @@
 -- The rules that can be reached from the entry rule.
-use Rattle.std.specs.Prelude.{ℕ, ◌≡◌, List, Option, Some, None, Contains, slice_get}
+use Rattle.std.specs.Prelude.{ℕ, ◌≡◌, List, Some, None, Contains, slice_get}
 use Rattle.lw_base.specs.declared.token.Span.{Span}
 use Rattle.lw_grammar.specs.declared.grammar.Grammar.{Grammar}
 use Rattle.lw_grammar.specs.declared.rule.Op.{Op}
 use Rattle.lw_grammar.specs.declared.rule.Value0.{Value0}
 use Rattle.lw_grammar.specs.declared.rule.Rule.{Rule}
 use Rattle.lw_grammar.specs.Named.{IsRule, IsEntry}
-use Rattle.lw_grammar.specs.Leaves.{Leaf, Call, Assign, leaves, ValueLeaf, Calls, Cross, value_leaves}
+use Rattle.lw_grammar.specs.Leaves.{Call, Assign, leaves, Calls, Cross, value_leaves}
 use Rattle.lw_grammar.specs.NameRules.{IsNameRule}
 
 module _ (g : Grammar) where

@@ -1,6 +1,6 @@
 -- The size of a grammar: how many imports, rules, elements, values, actions, terminals, terminal elements, interfaces,
 -- attributes, unions and members it has, at every depth.
-use Rattle.std.specs.Prelude.{ℕ, ◌+◌, List, length, sum, sum_by}
+use Rattle.std.specs.Prelude.{ℕ, ◌+◌, length, sum, sum_by}
 use Rattle.lw_grammar.specs.declared.grammar.Grammar.{Grammar}
 use Rattle.lw_grammar.specs.declared.rule.Element.{Element, fold-Element}
 use Rattle.lw_grammar.specs.declared.rule.Element.TheOpen as layer

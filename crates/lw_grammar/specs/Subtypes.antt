@@ -1,6 +1,6 @@
 -- The subtype relation of a grammar's types, which are named.
 -- Held against the Langium documentation, "Semantic model: type inference and declared types".
-use Rattle.std.specs.Prelude.{ℕ, ◌≡◌, List, true, false, map, Contains}
+use Rattle.std.specs.Prelude.{ℕ, ◌≡◌, List, false, map, Contains}
 use Rattle.lw_base.specs.declared.token.Span.{Span}
 use Rattle.lw_grammar.specs.declared.grammar.Grammar.{Grammar}
 use Rattle.lw_grammar.specs.declared.rule.Rule.{Rule}

@@ -1,39 +1,27 @@
 -- A grammar that was made ready, and its patterns.
-use Rattle.std.proofs.Common.{◌≡◌, ◌⊎◌, inl, inr, ℕ, List, [], ◌∷◌, ◌++◌, Some, All, Contains, map, option_map, refl, sym, ap, subst, ◌∙◌}
+use Rattle.std.proofs.Common.{◌≡◌, ℕ, List, [], ◌∷◌, ◌++◌, Some, Contains, map, option_map, refl, sym, ap, subst, ◌∙◌}
 use Rattle.std.specs.List.{AllZip}
 use Rattle.std.proofs.lemmas.List.Elements.{All-contains}
 use Rattle.lw_grammar.specs.declared.grammar.Grammar.{Grammar}
 use Rattle.lw_grammar.specs.declared.terminal.Terminal.{Terminal}
 use Rattle.lw_grammar.specs.declared.terminal.TermElement.{out-TermElement}
-use Rattle.lw_grammar.specs.Kept as keep
-use Rattle.lw_grammar.specs.Kept.{KeepsPassingFrom}
 use Rattle.lw_grammar.specs.Kinds.{Kinds, AreKinds, IsKindTerminal}
+use Rattle.lw_grammar.proofs.KeptLemmas.{kept_from}
+use Rattle.lw_grammar.proofs.KindLemmas.{one_kinds}
 use Rattle.lw_tokens.specs.Lexicon.{HasForm}
 use Rattle.lw_tokens.specs.Matching.{match_length}
 use Rattle.lw_tokens.specs.Patterns.{TerminalPattern, as_pattern, unescaped}
 use Rattle.lw_terminals.specs.declared.source.TerminalSource.{TerminalSource}
 use Rattle.lw_terminals.specs.TokenKinds.{TokenKinds}
-use Rattle.lw_terminals.specs.Made.{token_kinds_of, form_of, IsUsable}
+use Rattle.lw_terminals.specs.Made.{token_kinds_of, form_of, IsUsable, AreUsable}
 use Rattle.lw_lang.specs.Shape.{HasShape, IsPlainTerminal}
 use Rattle.lw_lang.specs.Obstacles.{MatchesEmpty}
 use Rattle.lw_grammar.specs.KindTexts.{texts_of, quoted}
 use Rattle.lw_lang.specs.Flat.{IsSource, IsFlat}
 use Rattle.lw_lang.specs.Prepared.{IsPrepared}
 use Rattle.lw_lang.specs.declared.flat.Flat.{Flat}
-use Rattle.lw_lang.proofs.Lists.{here, there, in_cons, zip_left}
-use Rattle.lw_lang.proofs.FlatKinds.{kept_once}
+use Rattle.lw_lang.proofs.Lists.{zip_left}
 use Rattle.lw_lang.proofs.FlatObstacles.{pattern_once}
-
--- what was kept was there
-module _ {X : Type 0} (passes : ℕ → Type 0) where
-  kept_from : {i : ℕ} {xs ys : List X} (x : X) → KeepsPassingFrom passes i xs ys → Contains ys x → Contains xs x
-  kept_from x keep.nothing h = h
-  kept_from x (keep.kept {x = y} {xs} {ys} p k) h = by (in_cons y ys h) (λ later. kept_from x k later)
-    where
-      by : (y ≡ x) ⊎ Contains ys x → (Contains ys x → Contains xs x) → Contains (y ∷ xs) x
-      by (inl is) rest = subst (Contains (y ∷ xs)) is (here y xs)
-      by (inr later) rest = there y xs (rest later)
-  kept_from x (keep.left_out {x = y} {xs} n k) h = there y xs (kept_from x k h)
 
 -- what a terminal is made from is its form, and has its name
 forms : (g : Grammar) (terminals : List Terminal) (sources : List TerminalSource) → AllZip (IsSource g) terminals sources → AllZip (HasForm g) terminals (map form_of sources)
@@ -52,7 +40,7 @@ source_names g (t ∷ terminals) (s ∷ sources) all = let rest = source_names g
 module _ (g : Grammar) (shape : HasShape g) (flat : Flat) (is : IsFlat g flat) where
   -- the kinds are settled
   kinds_once : (other : Kinds) → AreKinds g other → other.terminals ≡ is.of.terminals
-  kinds_once other are = kept_once (IsKindTerminal g) are.terminals is.kinds.terminals
+  kinds_once other are = ap (λ (kinds : Kinds). kinds.terminals) (one_kinds g other is.of are is.kinds)
 
   -- a terminal that is a kind is one of the grammar's
   pub kind_there : (terminal : Terminal) → Contains is.of.terminals terminal → Contains g.terminals terminal
@@ -65,13 +53,13 @@ module _ (g : Grammar) (shape : HasShape g) (flat : Flat) (is : IsFlat g flat) w
       let written : option_map unescaped (as_pattern (out-TermElement terminal.body)) ≡ Some (unescaped plain.1) = ap (λ f. option_map unescaped (as_pattern f)) plain.3 in
       pattern_once g terminal (unescaped plain.1) written p tp ∙ sym (pattern_once g terminal (unescaped plain.1) written q tq)
 
-  pub none_empty : All IsUsable flat.terminals.items → MatchesEmpty g → ⊥
+  pub none_empty : AreUsable flat.terminals.items → MatchesEmpty g → ⊥
   none_empty usable empty =
       let has = empty.1 in
       let in' : Contains is.of.terminals has.2 = subst (λ ts. Contains ts has.2) (kinds_once has.0 has.1) has.3 in
       let z = zip_left (IsSource g) is.of.terminals flat.terminals.items has.2 is.terminals in' in
       let same : empty.0 ≡ z.0.pattern = one_pattern has.2 empty.0 z.0.pattern in' has.4 z.2.pattern in
-      (All-contains IsUsable flat.terminals.items z.0 usable z.1).not_empty (subst (λ p. match_length p [] ≡ Some 0) same empty.2)
+      (All-contains (λ s. IsUsable s.pattern) flat.terminals.items z.0 usable z.1).not_empty (subst (λ p. match_length p [] ≡ Some 0) same empty.2)
 
   -- what a language keeps of it
   pub is_prepared : (tokens : TokenKinds) → tokens ≡ token_kinds_of flat.keywords.items flat.terminals.items → IsPrepared g tokens flat.row.items

@@ -1,6 +1,6 @@
 -- The kinds of a grammar whose one rule is a row: the texts of its keywords, each at its first use, and the terminals that are
 -- hidden or called. There are no others.
-use Rattle.std.proofs.Common.{◌≡◌, ◌≢◌, ℕ, zero, suc, ◌+◌, ◌<◌, List, [], ◌∷◌, ◌++◌, Bool, true, false, ◌||◌, cond, Some, slice_get, map, filter, option_map, All, AllPairs, refl, sym, ap, ◌∙◌, subst, arith, true≢false, add-zero, zero-add}
+use Rattle.std.proofs.Common.{◌≡◌, ◌≢◌, ℕ, zero, suc, ◌+◌, ◌<◌, List, [], ◌∷◌, ◌++◌, Bool, true, false, ◌||◌, cond, Some, slice_get, map, filter, option_map, All, AllPairs, Contains, refl, sym, ap, ◌∙◌, subst, arith, true≢false, add-zero, zero-add}
 use Rattle.std.specs.List.{flat_map}
 use Rattle.std.specs.Cmp.Lexicographic.{nat_list_eq_equiv}
 use Rattle.std.proofs.lemmas.List.{append-nil}
@@ -18,22 +18,15 @@ use Rattle.lw_grammar.specs.Kept.{KeepsPassingFrom, KeepsPassing}
 use Rattle.lw_grammar.specs.Kept as keep
 use Rattle.lw_grammar.specs.Kinds.{Kinds, first_uses, IsKindTerminal, AreKinds}
 use Rattle.lw_grammar.specs.Kinds as kind
+use Rattle.lw_grammar.proofs.KindLemmas.{one_kinds}
 use Rattle.lw_lang.specs.Shape.{HasShape, IsPlainPart, IsPlainTerminal, parts_of}
 use Rattle.lw_lang.specs.Obstacles.{names}
 use Rattle.lw_lang.specs.FlatParts.{row_keywords, row_calls, is_kind}
-use Rattle.lw_lang.proofs.Lists.{at_place}
-use Rattle.lw_lang.proofs.FirstUses.{stands_in, same_text, Contains-first_uses, Contains-from_first_uses}
+use Rattle.lw_lang.proofs.Lists.{in_one, at_place}
+use Rattle.lw_grammar.proofs.FirstUses.{stands_in, same_text, Contains-first_uses, Contains-from_first_uses}
 use Rattle.lw_lang.proofs.FlatLeaves.{called_name, name_called, keywords_in_parts}
 
 module _ {X : Type 0} (passes : ℕ → Type 0) where
-  -- which items are kept is settled
-  pub kept_once : {i : ℕ} {xs ys zs : List X} → KeepsPassingFrom passes i xs ys → KeepsPassingFrom passes i xs zs → ys ≡ zs
-  kept_once keep.nothing keep.nothing = refl
-  kept_once (keep.kept {x} p k) (keep.kept q l) = ap (λ ys. x ∷ ys) (kept_once k l)
-  kept_once (keep.kept p k) (keep.left_out q l) = absurd (q p)
-  kept_once (keep.left_out p k) (keep.kept q l) = absurd (p q)
-  kept_once (keep.left_out p k) (keep.left_out q l) = kept_once k l
-
   -- a test that passes at the places that pass keeps them
   pub keeps_filter : (test : X → Bool) (i : ℕ) (xs : List X) → ((j : ℕ) (x : X) → slice_get xs j ≡ Some x → test x ≡ true → passes (i + j)) →
       ((j : ℕ) (x : X) → slice_get xs j ≡ Some x → test x ≡ false → ¬ passes (i + j)) → KeepsPassingFrom passes i xs (filter test xs)
@@ -105,8 +98,12 @@ module _ (g : Grammar) (rule : Rule) (shape : HasShape g) (only : g.rules ≡ ru
     not_the_rule t terminal at same =
         no_repeat (names g) 0 (suc t) terminal.name differ (omega arith) (ap (λ ns. slice_get ns 0) all_names ∙ ap Some same) (named_at t terminal at)
 
-    pub is_first : (t : ℕ) (terminal : Terminal) → slice_get g.terminals t ≡ Some terminal → IsTerminal g terminal.name t terminal
-    is_first t terminal at = record { there = at; does = refl; none_before = λ j y below at_j same. one_of_name j t y terminal below at_j at same }
+    pub is_meant : (t : ℕ) (terminal : Terminal) → slice_get g.terminals t ≡ Some terminal → IsTerminal g terminal.name t terminal
+    is_meant t terminal at = record {
+      first = record { there = at; does = refl; none_before = λ j y below at_j same. one_of_name j t y terminal below at_j at same };
+      sooner = λ other has same.
+          absurd (not_the_rule t terminal at (ap (λ r. r.name) (in_one rule (subst (λ rules. Contains rules other) only has)) ∙ same));
+    }
 
     whole : (t : ℕ) (terminal : Terminal) → slice_get g.terminals t ≡ Some terminal → terminal.is_fragment ≡ false
     whole t terminal at = (All-contains IsPlainTerminal g.terminals terminal shape.terminals (at_place g.terminals t at)).0
@@ -118,7 +115,7 @@ module _ (g : Grammar) (rule : Rule) (shape : HasShape g) (only : g.rules ≡ ru
         by true is s stands _ = kind.hidden terminal at (whole t terminal at) is
         by false is true stands _ =
             let name = Contains-from_first_uses (row_calls (parts_of rule.body)) terminal.name (Contains-from_any same_text terminal.name (called rule) stands) in
-            kind.called terminal terminal.name 0 rule (is_first t terminal at) (whole t terminal at) (reached.entry rule is_entry) at_zero
+            kind.called terminal terminal.name 0 rule (is_meant t terminal at) (whole t terminal at) (reached.entry rule is_entry) at_zero
             (name_called rule.body plain_parts g rule refl terminal.name name)
         by false is false stands none = absurd (true≢false (sym none))
 
@@ -127,7 +124,7 @@ module _ (g : Grammar) (rule : Rule) (shape : HasShape g) (only : g.rules ≡ ru
         let same : other ≡ terminal = same_Some other terminal (sym at_t ∙ at) in
         true≢false (sym (ap (λ h. h || stands_in terminal.name (called rule)) (ap (λ x. x.is_hidden) (sym same) ∙ hidden)) ∙ fails)
     fails_kind t terminal at fails (kind.called other name r caller is _ _ at_r names_it) =
-        let same : terminal.name ≡ name = ap (λ x. x.name) (same_Some terminal other (sym at ∙ is.there)) ∙ is.does in
+        let same : terminal.name ≡ name = ap (λ x. x.name) (same_Some terminal other (sym at ∙ is.first.there)) ∙ is.first.does in
         let its_body : caller.body ≡ rule.body = ap (λ x. x.body) (sym (only_rule g.rules rule caller r only at_r).1) in
         let listed = Contains-first_uses (row_calls (parts_of rule.body)) name (called_name rule.body plain_parts g caller its_body name names_it) in
         let stands : stands_in terminal.name (called rule) ≡ true = ap (λ n. stands_in n (called rule)) same ∙ list_any-from_Contains nat_list_eq_equiv name (called rule) listed in
@@ -151,9 +148,5 @@ module _ (g : Grammar) (rule : Rule) (shape : HasShape g) (only : g.rules ≡ ru
 
     -- there are no others
     pub kinds_settled : (of : Kinds) → AreKinds g of → (of.keywords ≡ (the_kinds g rule).keywords) × (of.terminals ≡ (the_kinds g rule).terminals)
-    kinds_settled of are = (
-      are.keywords
-          ∙ ap (λ rules. first_uses [] (flat_map (λ r. keywords_in r.body) rules)) (kept_once (IsReached g) are.reached reached_only)
-          ∙ sym its_keywords,
-      kept_once (IsKindTerminal g) are.terminals its_terminals,
-    )
+    kinds_settled of are =
+        let same = one_kinds g of (the_kinds g rule) are are_kinds in (ap (λ (kinds : Kinds). kinds.keywords) same, ap (λ (kinds : Kinds). kinds.terminals) same)

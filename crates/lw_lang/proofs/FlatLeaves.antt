@@ -9,26 +9,19 @@ use Rattle.lw_grammar.specs.declared.grammar.Grammar.{Grammar}
 use Rattle.lw_grammar.specs.declared.rule.Rule.{Rule}
 use Rattle.lw_grammar.specs.declared.rule.Op.{Op}
 use Rattle.lw_grammar.specs.declared.rule.Op.TheVariants.{One}
-use Rattle.lw_grammar.specs.declared.rule.Element.{Element, out-Element, fold_out-Element}
-use Rattle.lw_grammar.specs.declared.rule.Element.TheFolds.{map-Element}
+use Rattle.lw_grammar.specs.declared.rule.Element.{Element, out-Element}
 use Rattle.lw_grammar.specs.declared.rule.Element.TheOpen as layer
 use Rattle.lw_grammar.specs.declared.rule.Element.TheOpen.{Element-F}
-use Rattle.lw_grammar.specs.declared.rule.Value0.{Value0, out-Value0, fold_out-Value0}
-use Rattle.lw_grammar.specs.declared.rule.Value0.TheFolds.{map-Value0}
+use Rattle.lw_grammar.specs.declared.rule.Value0.{Value0}
 use Rattle.lw_grammar.specs.declared.rule.Value0.TheOpen as value
 use Rattle.lw_grammar.specs.declared.rule.Value0.TheOpen.{Value0-F}
-use Rattle.lw_grammar.specs.Leaves.{Leaf, Keyword, Call, Assign, leaves, layer_leaves, ValueLeaf, Calls, Cross, value_leaves, layer_values, keywords_of, keywords_in, literals_of}
+use Rattle.lw_grammar.specs.Leaves.{Leaf, Keyword, Call, Assign, leaves, Calls, Cross, value_leaves, keywords_of, keywords_in, literals_of}
 use Rattle.lw_grammar.specs.Reached.{ValueCalls, RuleCalls}
 use Rattle.lw_grammar.specs.Reached as reached
+use Rattle.lw_grammar.proofs.LeafLemmas.{leaves_by, values_by}
 use Rattle.lw_lang.specs.Shape.{IsPlainPart, parts_of, layer_parts, keyword, assignment}
 use Rattle.lw_lang.specs.FlatParts.{part_keyword, layer_keyword, part_call, layer_call, value_call, row_keywords as texts_of, row_calls}
 use Rattle.lw_lang.proofs.Lists.{in_one, here, in_flat_map, flat_map_has, in_filter_map, filter_map_has}
-
-leaves_layer : (e : Element) (f : Element-F Element) → out-Element e ≡ f → leaves e ≡ layer_leaves (map-Element Element (List Leaf) leaves f)
-leaves_layer e f is = fold_out-Element (List Leaf) layer_leaves e ∙ ap (λ f. layer_leaves (map-Element Element (List Leaf) leaves f)) is
-
-values_layer : (v : Value0) (f : Value0-F Value0) → out-Value0 v ≡ f → value_leaves v ≡ layer_values (map-Value0 Value0 (List ValueLeaf) value_leaves f)
-values_layer v f is = fold_out-Value0 (List ValueLeaf) layer_values v ∙ ap (λ f. layer_values (map-Value0 Value0 (List ValueLeaf) value_leaves f)) is
 
 -- a part has one leaf: its text, or the call that it assigns
 pub data OneLeaf (part : Element) : Type 0 where
@@ -37,9 +30,9 @@ pub data OneLeaf (part : Element) : Type 0 where
       part_keyword part ≡ None → part_call part ≡ Some name → OneLeaf part
 
 pub one_leaf : (part : Element) → IsPlainPart part → OneLeaf part
-one_leaf part (keyword word s is) = text word s (leaves_layer part (layer.Keyword word s) is) (ap layer_keyword is) (ap layer_call is)
+one_leaf part (keyword word s is) = text word s (leaves_by part (layer.Keyword word s) is) (ap layer_keyword is) (ap layer_call is)
 one_leaf part (assignment p v name s t is called) =
-    call p v name s t (leaves_layer part (layer.Assign p One v s) is) (values_layer v (value.Call name t) called) (ap layer_keyword is)
+    call p v name s t (leaves_by part (layer.Assign p One v s) is) (values_by v (value.Call name t) called) (ap layer_keyword is)
     (ap layer_call is ∙ ap value_call called)
 
 joined_leaves : (parts : List Element) → flat_map (λ ls. ls) (map leaves parts) ≡ flat_map leaves parts
@@ -47,7 +40,7 @@ joined_leaves [] = refl
 joined_leaves (part ∷ parts) = ap (λ ls. leaves part ++ ls) (joined_leaves parts)
 
 body_leaves : (f : Element-F Element) (body : Element) → out-Element body ≡ f → leaves body ≡ flat_map leaves (layer_parts f body)
-body_leaves (layer.Group parts s) body is = leaves_layer body (layer.Group parts s) is ∙ joined_leaves parts
+body_leaves (layer.Group parts s) body is = leaves_by body (layer.Group parts s) is ∙ joined_leaves parts
 body_leaves f body is = sym (append-nil (leaves body))
 
 pub leaves_of_parts : (body : Element) → leaves body ≡ flat_map leaves (parts_of body)

@@ -25,7 +25,7 @@ use Rattle.lw_lang.specs.Obstacles as obstacle
 use Rattle.lw_lang.specs.FlatParts.{part_keyword, part_call, row_keywords, row_calls, is_kind, IsPlainSource, terminal_place, layer_kind, kind_of, HasSoundNames, HasUnsoundNames, AreWithinLimits, PassesLimit}
 use Rattle.lw_lang.specs.FlatParts as flat
 use Rattle.lw_lang.proofs.Lists.{here, in_one, in_filter, filter_has, filter_map_has, in_filter_map, counted, from_count, has_position, at_place, zip_left, zip_right, zip_length}
-use Rattle.lw_lang.proofs.FirstUses.{stands_in, Contains-first_uses, Contains-from_first_uses}
+use Rattle.lw_grammar.proofs.FirstUses.{stands_in, Contains-first_uses, Contains-from_first_uses}
 use Rattle.lw_lang.proofs.FlatLeaves.{OneLeaf, one_leaf, leaf_of, assigned, called_name, name_called, keywords_in_parts}
 use Rattle.lw_lang.proofs.FlatLeaves as leaf
 use Rattle.lw_lang.proofs.FlatKinds.{no_repeat, plain_parts, called, the_kinds, are_kinds, kinds_settled}

@@ -16,32 +16,26 @@ use Rattle.lw_grammar.specs.declared.rule.Element.TheOpen.{Element-F}
 use Rattle.lw_grammar.specs.declared.rule.Value0.{Value0, out-Value0}
 use Rattle.lw_grammar.specs.declared.rule.Value0.TheOpen as value
 use Rattle.lw_grammar.specs.declared.terminal.Terminal.{Terminal}
+use Rattle.lw_grammar.specs.Named.{IsTerminal}
 use Rattle.lw_grammar.specs.Nodes.{MakesNodes, assigns}
 use Rattle.lw_grammar.specs.Kinds.{Kinds, IsKeywordKind, IsTerminalKind}
+use Rattle.lw_grammar.proofs.FirstLemmas.{one_terminal_kind}
 use Rattle.lw_sentences.specs.Marks.{Mark, kinds_of}
 use Rattle.lw_sentences.specs.Marks as mark
-use Rattle.lw_sentences.specs.Yields.{Yields, Gives, YieldsAll, Calls, RuleGives, GivesValue, GivesValueLayer}
+use Rattle.lw_sentences.specs.Yields.{Yields, Gives, YieldsAll, Calls, RuleGives, ValueYields, ValueGives}
 use Rattle.lw_sentences.specs.Yields as y
 use Rattle.lw_sentences.specs.Sentences.{IsWhole}
+use Rattle.lw_sentences.proofs.Joined.{kinds_join}
 use Rattle.lw_terminals.specs.declared.source.TerminalSource.{TerminalSource}
 use Rattle.lw_lang.specs.Shape.{HasShape, IsPlainPart, parts_of, layer_parts, keyword, assignment}
 use Rattle.lw_lang.specs.Obstacles.{names}
 use Rattle.lw_lang.specs.Rows.{IsOnlyRow}
 use Rattle.lw_lang.specs.FlatParts.{layer_keyword, part_call, layer_call, value_call, IsPlainSource, is_kind, terminal_place, layer_kind, kind_of}
 use Rattle.lw_lang.proofs.Lists.{in_filter, place_of, at_place, zip_at, from_count}
-use Rattle.lw_lang.proofs.FirstUses.{same_text}
+use Rattle.lw_grammar.proofs.FirstUses.{same_text}
 use Rattle.lw_lang.proofs.FlatLeaves.{OneLeaf, one_leaf, leaf_of}
 use Rattle.lw_lang.proofs.FlatLeaves as leaf
-use Rattle.lw_lang.proofs.FlatKinds.{no_repeat, only_rule, its_rule, plain_parts, is_entry, one_of_name, not_the_rule, called, the_kinds}
-
-kinds_join : (m n : List Mark) → kinds_of (m ++ n) ≡ kinds_of m ++ kinds_of n
-kinds_join [] n = refl
-kinds_join (mark.Token k ∷ m) n = ap (λ ks. k ∷ ks) (kinds_join m n)
-kinds_join (mark.Open r ∷ m) n = kinds_join m n
-kinds_join (mark.Shut ∷ m) n = kinds_join m n
-kinds_join (mark.Put p op v ∷ m) n = kinds_join m n
-kinds_join (mark.End ∷ m) n = kinds_join m n
-kinds_join (mark.Act a ∷ m) n = kinds_join m n
+use Rattle.lw_lang.proofs.FlatKinds.{no_repeat, only_rule, its_rule, plain_parts, is_entry, one_of_name, not_the_rule, is_meant, called, the_kinds}
 
 -- two items in their order
 abbrev InOrder : {X : Type 0} → List X → X → X → Type 0
@@ -130,31 +124,34 @@ module _ (g : Grammar) (rule : Rule) (shape : HasShape g) (only : g.rules ≡ ru
           let found = position-Some (λ t. not t.hidden && bytes_eq t.name name) terminals i d place in
           at i (get_or terminals i d) (slice_get-get_or terminals i d found.0) found.1 (same_Some (length of.keywords + i) k is)
 
-  call_kind : (name : List ℕ) (k : ℕ) → IsCalled name k → IsTerminalKind of name k
-  call_kind name k means = (
-    means.place,
-    means.terminal,
-    record {
-      there = means.there;
-      does = means.named;
-      none_before = λ j other below at_j same. kind_once j means.place other means.terminal below at_j means.there (same ∙ sym means.named);
-    },
-    means.number,
-  )
+  -- its place among the terminals of the grammar
+  stands_at : (name : List ℕ) (k : ℕ) (means : IsCalled name k) → (p : ℕ) × (slice_get g.terminals p ≡ Some means.terminal)
+  stands_at name k means =
+      place_of g.terminals (in_filter (is_kind (called rule)) g.terminals means.terminal (at_place of.terminals means.place means.there)).0
 
-  call_once : (name : List ℕ) (k l : ℕ) → IsTerminalKind of name k → IsTerminalKind of name l → k ≡ l
-  call_once name k l (i, x, first, is) (j, other, second, is') =
-      is ∙ ap (λ n. length of.keywords + n)
-      (same_place i j (λ below. second.none_before i x below first.there first.does) (λ below. first.none_before j other below second.there second.does))
-      ∙ sym is'
+  call_kind : (name : List ℕ) (k : ℕ) → IsCalled name k → IsTerminalKind g of name k
+  call_kind name k means =
+      let stands = stands_at name k means in
+      record {
+        place = stands.0;
+        terminal = means.terminal;
+        meant = subst (λ n. IsTerminal g n stands.0 means.terminal) means.named (is_meant g rule shape only differ stands.0 means.terminal stands.1);
+        number = means.place;
+        kept = record {
+          there = means.there;
+          does = refl;
+          none_before = λ j other below at_j same. kind_once j means.place other means.terminal below at_j means.there (ap (λ t. t.name) same);
+        };
+        behind = means.number;
+      }
 
   -- a call gives one token, of that kind
   call_gives : (name : List ℕ) (k : ℕ) → IsCalled name k → (m : List Mark) → Calls g of name m → kinds_of m ≡ k ∷ []
-  call_gives name k means m (y.terminal {k = l} is) = ap (λ n. n ∷ []) (call_once name l k is (call_kind name k means))
+  call_gives name k means m (y.terminal {k = l} is) = ap (λ n. n ∷ []) (one_terminal_kind g of name l k is (call_kind name k means))
   call_gives name k means m (y.rule_ r other is _) =
-      let place = place_of g.terminals (in_filter (is_kind (called rule)) g.terminals means.terminal (at_place of.terminals means.place means.there)).0 in
-      absurd (not_the_rule g rule shape only differ place.0 means.terminal place.1
-      (ap (λ x. x.name) (only_rule g.rules rule other r only is.there).1 ∙ is.does ∙ sym means.named))
+      let stands = stands_at name k means in
+      absurd (not_the_rule g rule shape only differ stands.0 means.terminal stands.1
+      (ap (λ x. x.name) (only_rule g.rules rule other r only is.first.there).1 ∙ is.first.does ∙ sym means.named))
 
   -- what a keyword reads is its text, and what an assignment reads is a call
   word_reads : (part : Element) (text : List ℕ) (s : Span) → out-Element part ≡ layer.Keyword text s → (k : ℕ) → Reads1 part k →
@@ -176,11 +173,11 @@ module _ (g : Grammar) (rule : Rule) (shape : HasShape g) (only : g.rules ≡ ru
       inside (y.keyword {k = l} at) = ap (λ n. n ∷ []) (word_once text l k at (word_kind text k (word_reads part text s is k reads)))
   part_gives part (assignment p v name s t is calls) k reads m (y.yields gives) = inside (subst (λ f. Gives g of f m) is gives)
     where
-      in_value : {w c : Value0} {m : List Mark} → GivesValueLayer g of w (value.Call name t) c m → kinds_of m ≡ k ∷ []
+      in_value : {w c : Value0} {m : List Mark} → ValueGives g of w (value.Call name t) c m → kinds_of m ≡ k ∷ []
       in_value (y.call_value {m} made) = call_gives name k (call_reads part p v name s t is calls k reads) m made
 
-      read : {c : Value0} {m : List Mark} → GivesValue g of v c m → kinds_of m ≡ k ∷ []
-      read {c} {m} (y.reads layered) = in_value (subst (λ f. GivesValueLayer g of v f c m) calls layered)
+      read : {c : Value0} {m : List Mark} → ValueYields g of v c m → kinds_of m ≡ k ∷ []
+      read {c} {m} (y.reads layered) = in_value (subst (λ f. ValueGives g of v f c m) calls layered)
 
       inside : {m : List Mark} → Gives g of (layer.Assign p One v s) m → kinds_of m ≡ k ∷ []
       inside (y.assigned {m} values) = kinds_join m (mark.End ∷ []) ∙ append-nil (kinds_of m) ∙ read values
@@ -195,8 +192,8 @@ module _ (g : Grammar) (rule : Rule) (shape : HasShape g) (only : g.rules ≡ ru
   part_can part (assignment p v name s t is calls) k reads =
       let m = mark.Put p One v ∷ (mark.Token k ∷ []) ++ mark.End ∷ [] in
       let made : Calls g of name (mark.Token k ∷ []) = y.terminal (call_kind name k (call_reads part p v name s t is calls k reads)) in
-      let values : GivesValue g of v v (mark.Token k ∷ []) =
-      y.reads (subst (λ f. GivesValueLayer g of v f v (mark.Token k ∷ [])) (sym calls) (y.call_value made)) in
+      let values : ValueYields g of v v (mark.Token k ∷ []) =
+      y.reads (subst (λ f. ValueGives g of v f v (mark.Token k ∷ [])) (sym calls) (y.call_value made)) in
       (m, y.yields (subst (λ f. Gives g of f m) (sym is) (y.assigned values)), refl)
 
   abbrev Tied : Element → KindId → Type 0

@@ -4,18 +4,16 @@ use Rattle.std.proofs.lemmas.List.Elements.{All-head, All-tail}
 use Rattle.std.proofs.lemmas.List.Sums.{sum_by-cons}
 use Rattle.lw_grammar.specs.declared.grammar.Grammar.{Grammar}
 use Rattle.lw_grammar.specs.declared.rule.Rule.{Rule}
-use Rattle.lw_grammar.specs.declared.rule.Element.{Element, out-Element, fold_out-Element}
-use Rattle.lw_grammar.specs.declared.rule.Element.TheFolds.{map-Element}
+use Rattle.lw_grammar.specs.declared.rule.Element.{Element, out-Element}
 use Rattle.lw_grammar.specs.declared.rule.Element.TheOpen.{Element-F, Keyword, Assign, Group}
 use Rattle.lw_grammar.specs.declared.rule.Op.TheVariants.{One}
-use Rattle.lw_grammar.specs.declared.rule.Value0.{Value0, out-Value0, fold_out-Value0}
-use Rattle.lw_grammar.specs.declared.rule.Value0.TheFolds.{map-Value0}
 use Rattle.lw_grammar.specs.declared.rule.Value0.TheOpen as value
 use Rattle.lw_grammar.specs.declared.rule.Value0.TheOpen.{Value0-F}
 use Rattle.lw_grammar.specs.declared.terminal.Terminal.{Terminal}
 use Rattle.lw_grammar.specs.declared.terminal.TermElement.{TermElement, fold_out-TermElement}
 use Rattle.lw_grammar.specs.declared.terminal.TermElement.TheFolds.{map-TermElement}
-use Rattle.lw_grammar.specs.Size.{size, element_size, layer_size, value_size, value_layer_size, term_size, term_layer_size}
+use Rattle.lw_grammar.specs.Size.{size, element_size, term_size, term_layer_size}
+use Rattle.lw_grammar.proofs.LeafLemmas.{size_by, size_of_value}
 use Rattle.lw_lang.specs.Shape.{HasShape, IsPlainPart, IsPlainTerminal, parts_of, layer_parts, keyword, assignment}
 use Rattle.lw_lang.specs.FlatParts.{is_group, layer_is_group, part_call, layer_call, value_call}
 
@@ -25,16 +23,10 @@ bit b = cond b 1 0
 abbrev calls : Element → Bool
 calls part = is_some (part_call part)
 
-size_layer : (e : Element) (f : Element-F Element) → out-Element e ≡ f → element_size e ≡ layer_size (map-Element Element ℕ element_size f)
-size_layer e f is = fold_out-Element ℕ layer_size e ∙ ap (λ f. layer_size (map-Element Element ℕ element_size f)) is
-
-value_size_layer : (v : Value0) (f : Value0-F Value0) → out-Value0 v ≡ f → value_size v ≡ value_layer_size (map-Value0 Value0 ℕ value_size f)
-value_size_layer v f is = fold_out-Value0 ℕ value_layer_size v ∙ ap (λ f. value_layer_size (map-Value0 Value0 ℕ value_size f)) is
-
 part_size : (part : Element) → IsPlainPart part → element_size part ≡ 1 + bit (calls part)
-part_size part (keyword text s is) = size_layer part (Keyword text s) is ∙ ap (λ f. 1 + bit (is_some (layer_call f))) (sym is)
+part_size part (keyword text s is) = size_by part (Keyword text s) is ∙ ap (λ f. 1 + bit (is_some (layer_call f))) (sym is)
 part_size part (assignment p v name s t is called) =
-    size_layer part (Assign p One v s) is ∙ ap (λ n. 1 + n) (value_size_layer v (value.Call name t) called)
+    size_by part (Assign p One v s) is ∙ ap (λ n. 1 + n) (size_of_value v (value.Call name t) called)
     ∙ ap (λ f. 1 + bit (is_some (value_call f))) (sym called) ∙ ap (λ f. 1 + bit (is_some (layer_call f))) (sym is)
 
 calls_cons : (part : Element) (parts : List Element) → count_by calls (part ∷ parts) ≡ bit (calls part) + count_by calls parts
@@ -62,7 +54,7 @@ one_part body plain = part_size body plain ∙ joined (bit (calls body)) _ (call
 body_size : (f : Element-F Element) (body : Element) → out-Element body ≡ f → All IsPlainPart (layer_parts f body) →
     element_size body ≡ bit (layer_is_group f) + length (layer_parts f body) + count_by calls (layer_parts f body)
 body_size (Group parts s) body is plain =
-    size_layer body (Group parts s) is ∙ ap (λ n. 1 + n) (parts_size parts plain) ∙ sym (add_assoc 1 (length parts) (count_by calls parts))
+    size_by body (Group parts s) is ∙ ap (λ n. 1 + n) (parts_size parts plain) ∙ sym (add_assoc 1 (length parts) (count_by calls parts))
 body_size f body is plain = one_part body (All-head IsPlainPart body [] plain)
 
 terminals_size : (terminals : List Terminal) → All IsPlainTerminal terminals → sum_by (λ t. 1 + term_size t.body) terminals ≡ 2 * length terminals

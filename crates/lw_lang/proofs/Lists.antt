@@ -1,5 +1,5 @@
 -- Which items lists have: of joined, filtered and mapped lists, by a count and a first place, and of two lists that are tied item by item.
-use Rattle.std.proofs.Common.{◌≡◌, ℕ, zero, suc, ◌+◌, ◌<◌, List, [], ◌∷◌, ◌++◌, Bool, true, false, cond, not, Option, Some, None, length, slice_get, map, filter, count_by, position, Contains, ◌⊎◌, inl, inr, refl, sym, ap, ◌∙◌, subst, arith, true≢false}
+use Rattle.std.proofs.Common.{◌≡◌, ℕ, zero, suc, ◌+◌, ◌<◌, List, [], ◌∷◌, ◌++◌, Bool, true, false, cond, not, Option, Some, None, length, slice_get, filter, count_by, position, Contains, ◌⊎◌, inl, inr, refl, sym, ap, ◌∙◌, subst, arith, true≢false}
 use Rattle.std.specs.List.{flat_map, filter_map, cons_option, AllZip, position_or_len}
 use Rattle.std.proofs.lemmas.List.Elements.{Contains-append_left, Contains-append_right, Contains-append_cases}
 use Rattle.std.proofs.lemmas.List.Sums.{sum_by-cons}
@@ -102,22 +102,6 @@ module _ {X : Type 0} where
       by (inr later) false is rest = rest later
 
 module _ {X Y : Type 0} where
-  pub in_map : (f : X → Y) (xs : List X) (y : Y) → Contains (map f xs) y → (x : X) × Contains xs x × (f x ≡ y)
-  in_map f [] y h = absurd (in_nothing h)
-  in_map f (x ∷ xs) y h = by (in_cons (f x) (map f xs) h) (in_map f xs y)
-    where
-      by : (f x ≡ y) ⊎ Contains (map f xs) y → (Contains (map f xs) y → (z : X) × Contains xs z × (f z ≡ y)) → (z : X) × Contains (x ∷ xs) z × (f z ≡ y)
-      by (inl is) rest = (x, here x xs, is)
-      by (inr later) rest = let r = rest later in (r.0, there x xs r.1, r.2)
-
-  pub map_has : (f : X → Y) (xs : List X) (x : X) → Contains xs x → Contains (map f xs) (f x)
-  map_has f [] x h = absurd (in_nothing h)
-  map_has f (z ∷ xs) x h = by (in_cons z xs h) (map_has f xs x)
-    where
-      by : (z ≡ x) ⊎ Contains xs x → (Contains xs x → Contains (map f xs) (f x)) → Contains (f z ∷ map f xs) (f x)
-      by (inl is) rest = subst (λ w. Contains (f z ∷ map f xs) (f w)) is (here (f z) (map f xs))
-      by (inr later) rest = there (f z) (map f xs) (rest later)
-
   pub in_flat_map : (f : X → List Y) (xs : List X) (y : Y) → Contains (flat_map f xs) y → (x : X) × Contains xs x × Contains (f x) y
   in_flat_map f [] y h = absurd (in_nothing h)
   in_flat_map f (x ∷ xs) y h = by (Contains-append_cases (f x) (flat_map f xs) y h) (in_flat_map f xs y)

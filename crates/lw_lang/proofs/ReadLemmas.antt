@@ -1,5 +1,5 @@
 -- What a language reads, by what it keeps.
-use Rattle.std.proofs.Common.{◌≡◌, ℕ, ◌+◌, ◌<◌, ◌≤◌, List, [], ◌∷◌, ◌++◌, length, map, arith, refl, sym, subst, ap, ◌∙◌, length-append, length-drop, drop, encode_utf8}
+use Rattle.std.proofs.Common.{◌≡◌, ℕ, ◌+◌, ◌<◌, ◌≤◌, List, [], ◌∷◌, length, map, arith, refl, subst, ap, ◌∙◌, length-append, length-drop, drop, encode_utf8}
 use Rattle.std.proofs.lemmas.List.{length-map}
 use Rattle.lw_base.specs.declared.token.Span.{Span}
 use Rattle.lw_base.specs.declared.token.Token.{Token}
@@ -14,7 +14,7 @@ use Rattle.lw_base.specs.declared.limits.TheConstants.{LONGEST_DOCUMENT}
 use Rattle.lw_reading.specs.Reading.{Reads}
 use Rattle.lw_reading.specs.Reading as reading
 use Rattle.lw_lang.specs.Rows.{ReadsRow}
-use Rattle.lw_grammar.specs.KindTexts.{texts_of, quoted}
+use Rattle.lw_grammar.specs.KindTexts.{texts_of}
 use Rattle.lw_lang.specs.Language.{LanguageView, IfBroken, IsNamed, IsIssueWithin, IsSpanWithin}
 use Rattle.lw_lang.specs.Ready.{seen_as, IsLanguageReady}
 use Rattle.lw_lang.specs.declared.language.Language.TheInside.{Inside}

@@ -13,13 +13,13 @@ use Rattle.lw_gramread.specs.Places.{IsPlace}
 use Rattle.lw_text.specs.Position.{IsPosition}
 use Rattle.lw_text.specs.declared.place.Pos.{Pos}
 use Rattle.lw_terminals.specs.declared.source.TerminalSource.{TerminalSource}
-use Rattle.lw_terminals.specs.Made.{IsUsable}
+use Rattle.lw_terminals.specs.Made.{AreUsable, IsUsable}
 use Rattle.lw_terminals.specs.Made as made
 use Rattle.lw_lang.specs.Shape.{HasShape}
 use Rattle.lw_lang.specs.Small as small
 use Rattle.lw_lang.specs.Small.{IsSmallTerminal, AreSmallTerminals, IsSmall}
 use Rattle.lw_lang.specs.Obstacles.{HasObstacle, names, same_names, too_large}
-use Rattle.lw_lang.specs.Refused.{HasGoodPattern, IsTried, IsToldBy}
+use Rattle.lw_lang.specs.Refused.{HasUsablePattern, IsTried, IsToldBy}
 use Rattle.lw_lang.specs.Compiled.{StandsIn}
 use Rattle.lw_lang.specs.Flat.{IsSource, IsFlat}
 use Rattle.lw_lang.specs.declared.flat.Flat.{Flat}
@@ -64,15 +64,14 @@ module _ (file : List ℕ) where
 
 -- ---- the terminal whose pattern is tried
 
-good_before : (g : Grammar) (n : ℕ) (terminals : List Terminal) (sources : List TerminalSource) → AllZip (IsSource g) terminals sources → All IsUsable (take n sources) →
-    All (HasGoodPattern g) (take n terminals)
-good_before g zero terminals sources all usable = All-nil (HasGoodPattern g)
-good_before g (suc n) [] sources all usable = All-nil (HasGoodPattern g)
-good_before g (suc n) (t ∷ terminals) [] all usable = absurd all
-good_before g (suc n) (t ∷ terminals) (s ∷ sources) all usable =
-    let first = All-head IsUsable s (take n sources) usable in
-    All-cons (HasGoodPattern g) t (take n terminals) (s.pattern, all.0.pattern, record { readable = first.readable; not_empty = first.not_empty })
-    (good_before g n terminals sources all.1 (All-tail IsUsable s (take n sources) usable))
+usable_before : (g : Grammar) (n : ℕ) (terminals : List Terminal) (sources : List TerminalSource) → AllZip (IsSource g) terminals sources → AreUsable (take n sources) →
+    All (HasUsablePattern g) (take n terminals)
+usable_before g zero terminals sources all usable = All-nil (HasUsablePattern g)
+usable_before g (suc n) [] sources all usable = All-nil (HasUsablePattern g)
+usable_before g (suc n) (t ∷ terminals) [] all usable = absurd all
+usable_before g (suc n) (t ∷ terminals) (s ∷ sources) all usable =
+    All-cons (HasUsablePattern g) t (take n terminals) (s.pattern, all.0.pattern, All-head (λ s. IsUsable s.pattern) s (take n sources) usable)
+    (usable_before g n terminals sources all.1 (All-tail (λ s. IsUsable s.pattern) s (take n sources) usable))
 
 -- the terminal that a source was made from, which is tried where its source is reached
 pub record IsOf (g : Grammar) (source : TerminalSource) : Type 0 where
@@ -83,8 +82,8 @@ pub record IsOf (g : Grammar) (source : TerminalSource) : Type 0 where
   pub tried : IsTried g terminal source.pattern
 
 module _ (g : Grammar) (shape : HasShape g) (flat : Flat) (is : IsFlat g flat) where
-  pub tried : (i : ℕ) (source : TerminalSource) → made.IsReachedTerminal flat.terminals.items i source → IsOf g source
-  tried i source reached =
+  pub tried : (listed : List (List ℕ)) (i : ℕ) (source : TerminalSource) → made.IsTriedAt listed flat.terminals.items i source → IsOf g source
+  tried listed i source reached =
       let z = zip_at (IsSource g) is.of.terminals flat.terminals.items i source is.terminals reached.there in
       let p = place_of g.terminals (kind_there g shape flat is z.0 (at_place is.of.terminals i z.1)) in
       record {
@@ -98,7 +97,7 @@ module _ (g : Grammar) (shape : HasShape g) (flat : Flat) (is : IsFlat g flat) w
           number = i;
           there = z.1;
           written = z.2.pattern;
-          before = good_before g i is.of.terminals flat.terminals.items is.terminals reached.before;
+          before = usable_before g i is.of.terminals flat.terminals.items is.terminals reached.before;
         };
       }
 

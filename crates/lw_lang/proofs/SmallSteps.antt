@@ -34,10 +34,6 @@ pub handed_on : {A : Type 0} (r : Result A SmallFault) (fault : SmallFault) (P Q
 handed_on (Ok value) fault P Q e h more = tt
 handed_on (Err other) fault P Q e h more = place_weaker other P Q more (subst (λ (f : SmallFault). IfPlace f P) (sym e) h)
 
--- at the front of what is left stands such a token
-abbrev Front : (FileToken → Type 0) → List FileToken → List FileToken → Type 0
-Front P left rest = (t : FileToken) × (left ≡ t ∷ rest) × P t
-
 module _ (text : List ℕ) where
   -- no token leads on from this state at the front of what is left
   pub stops_here : (q : State) (left : List FileToken) → q ≢ AtTerminal →

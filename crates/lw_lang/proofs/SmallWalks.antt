@@ -134,15 +134,12 @@ module _ (text : List ℕ) where
   abbrev FromHidden : List FileToken → Type 0
   FromHidden = Then (λ t. IsReserved text t (codes "terminal")) FromTerminal
 
-  abbrev Closed : List FileToken → Type 0
-  Closed = Then (λ t. t.kind ≡ Symbol Semicolon) Terminals
-
   -- parts, and what is behind them
   abbrev Parts : List FileToken → Type 0
-  Parts ts = (us vs : List FileToken) × (parts : List Element) × (ts ≡ us ++ vs) × AreParts text us parts × Closed vs
+  Parts ts = (us vs : List FileToken) × (parts : List Element) × (ts ≡ us ++ vs) × AreParts text us parts × FromPattern vs
 
   abbrev Behind : List FileToken → Type 0
-  Behind ts = Closed ts ⊎ Parts ts
+  Behind ts = FromPattern ts ⊎ Parts ts
 
   abbrev Remains : State → List FileToken → Type 0
   Remains Start ts = (path : List ℕ) × (g : Grammar) × IsSmall text path ts g

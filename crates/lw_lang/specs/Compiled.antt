@@ -104,3 +104,8 @@ CountsStore before now _ = now ≡ before
 abbrev pub CountsPatterns : {T : Type 0} → ℕ → ℕ → Result T CompileFault → Type 0
 CountsPatterns before now (Err (PatternRefused rule name at)) = Faulted before now
 CountsPatterns before now _ = now ≡ before
+
+-- the text that the patterns refused last stays what it was at every answer but `PatternRefused`
+abbrev pub KeepsPatterns : {T : Type 0} → Option (List ℕ) → Option (List ℕ) → Result T CompileFault → Type 0
+KeepsPatterns before now (Err (PatternRefused rule name at)) = Unit {0}
+KeepsPatterns before now _ = now ≡ before

@@ -1,37 +1,32 @@
 -- Which terminal decides where a pattern is refused or matches the empty text, and how a refused one is told. Patterns are made in
--- the order of kinds after all other conditions were looked at, and the first that does not serve decides.
-use Rattle.std.specs.Prelude.{ℕ, ◌≡◌, ◌≢◌, ◌+◌, List, [], Option, Some, IsSome, length, take, slice_get, All}
+-- the order of kinds after all other conditions were looked at, and the first that is refused or matches the empty text decides.
+use Rattle.std.specs.Prelude.{ℕ, ◌≡◌, ◌+◌, List, [], Option, Some, length, take, slice_get, All}
 use Rattle.lw_base.specs.declared.numbers.RuleId.{RuleId}
 use Rattle.lw_grammar.specs.declared.grammar.Grammar.{Grammar}
 use Rattle.lw_grammar.specs.declared.terminal.Terminal.{Terminal}
 use Rattle.lw_grammar.specs.Kinds.{Kinds, AreKinds}
 use Rattle.lw_text.specs.Position.{IsPosition}
 use Rattle.lw_text.specs.declared.place.Pos.{Pos}
-use Rattle.lw_io.specs.Patterns.{anchored}
-use Rattle.lw_tokens.specs.Matching.{pattern_of, match_length}
+use Rattle.lw_tokens.specs.Matching.{match_length}
 use Rattle.lw_tokens.specs.Patterns.{TerminalPattern}
+use Rattle.lw_terminals.specs.Made.{IsUsable}
 use Rattle.lw_lang.specs.Obstacles.{HasObstacle}
 
--- a pattern that is one of `regex`, and does not match the empty text
-pub record IsGoodPattern (pattern : List ℕ) : Type 0 where
-  pub readable : IsSome (pattern_of (anchored pattern))
-  pub not_empty : match_length pattern [] ≢ Some 0
-
 module _ (g : Grammar) where
-  -- the terminal has a pattern that serves
-  abbrev pub HasGoodPattern : Terminal → Type 0
-  HasGoodPattern terminal = (pattern : List ℕ) × TerminalPattern g terminal pattern × IsGoodPattern pattern
+  -- the terminal's pattern can be read, and does not match the empty text
+  abbrev pub HasUsablePattern : Terminal → Type 0
+  HasUsablePattern terminal = (pattern : List ℕ) × TerminalPattern g terminal pattern × IsUsable pattern
 
-  -- the terminal is a kind with this pattern, and those before it in the order of kinds have patterns that serve
+  -- the terminal is a kind with this pattern, and those before it in the order of kinds have usable patterns
   pub record IsTried (terminal : Terminal) (pattern : List ℕ) : Type 0 where
     pub kinds : Kinds
     pub are : AreKinds g kinds
     pub number : ℕ
     pub there : slice_get kinds.terminals number ≡ Some terminal
     pub written : TerminalPattern g terminal pattern
-    pub before : All HasGoodPattern (take number kinds.terminals)
+    pub before : All HasUsablePattern (take number kinds.terminals)
 
-  -- the first pattern that does not serve matches the empty text
+  -- the first pattern that is refused or matches the empty text matches the empty text
   abbrev pub FirstMatchesEmpty : Type 0
   FirstMatchesEmpty = (terminal : Terminal) × (pattern : List ℕ) × IsTried terminal pattern × (match_length pattern [] ≡ Some 0)
 

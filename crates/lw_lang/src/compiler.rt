@@ -1,7 +1,7 @@
 // From a grammar file to a language.
 ghost use Rattle.std.specs.Prelude.{◌≡◌, ◌+◌, ◌≤◌, ◌<◌, length, slice_get, IfOk, IfErr, IfSome, All, Any, bytes_eq, map, position};
 ghost use Rattle.lw_base.specs.declared.limits.TheConstants.{LONGEST_TEXT};
-ghost use Rattle.lw_lang.specs.Compiled.{SaysOnly, HoldsGrammar, IsClear, Causes, FileCauses, GrammarCauses, NothingSaid, IsUnbuiltAt, StandsIn, IsPatternFault, CountsStore, CountsPatterns};
+ghost use Rattle.lw_lang.specs.Compiled.{SaysOnly, HoldsGrammar, IsClear, Causes, FileCauses, GrammarCauses, NothingSaid, IsUnbuiltAt, StandsIn, IsPatternFault, CountsStore, CountsPatterns, KeepsPatterns};
 ghost use Rattle.lw_lang.specs.Obstacles.{HasObstacle};
 ghost use Rattle.lw_lang.specs.Flat.{IsFlat, IsReady};
 ghost use Rattle.lw_grammar.specs.KindTexts.{AreKindTexts};
@@ -44,6 +44,7 @@ pub fn compile<F: Store, P: Patterns>(
     ensures fault { IfErr result (λ fault. IfSome (F.files store.old) (λ files. Causes files root.now (P.last_refused patterns.new) fault)) }
     ensures store { CountsStore (F.count store.old) (F.count store.new) result }
     ensures patterns { CountsPatterns (P.count patterns.old) (P.count patterns.new) result }
+    ensures last { KeepsPatterns (P.last_refused patterns.old) (P.last_refused patterns.new) result }
     ensures files { F.files store.new ≡ F.files store.old }
 {
     let path = root.copy(alloc)?;
@@ -70,6 +71,7 @@ fn compile_file<P: Patterns>(
     ensures texts { IfOk result (λ language. AreKindTexts language.grammar language.texts) }
     ensures fault { IfErr result (FileCauses root.now file.now (P.last_refused patterns.new)) }
     ensures patterns { CountsPatterns (P.count patterns.old) (P.count patterns.new) result }
+    ensures last { KeepsPatterns (P.last_refused patterns.old) (P.last_refused patterns.new) result }
 {
     let grammar = grammar_of(alloc, root, file)?;
     build(alloc, file, grammar, patterns)
@@ -116,6 +118,7 @@ fn build<P: Patterns>(
     ensures texts { IfOk result (λ language. AreKindTexts language.grammar language.texts) }
     ensures fault { IfErr result (GrammarCauses grammar file.now (P.last_refused patterns.new)) }
     ensures patterns { CountsPatterns (P.count patterns.old) (P.count patterns.new) result }
+    ensures last { KeepsPatterns (P.last_refused patterns.old) (P.last_refused patterns.new) result }
 {
     match make_flat(alloc, &grammar) {
         Ok(flat) => language_of(alloc, file, grammar, flat, patterns),
@@ -143,6 +146,7 @@ fn language_of<P: Patterns>(
     ensures texts { IfOk result (λ language. AreKindTexts language.grammar language.texts) }
     ensures fault { IfErr result (GrammarCauses grammar file.now (P.last_refused patterns.new)) }
     ensures patterns { CountsPatterns (P.count patterns.old) (P.count patterns.new) result }
+    ensures last { KeepsPatterns (P.last_refused patterns.old) (P.last_refused patterns.new) result }
 {
     let Flat {
         keywords,

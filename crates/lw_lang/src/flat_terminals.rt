@@ -82,8 +82,7 @@ fn regex(body: &TermElement) -> Option<&Name>
 fn unescaped(alloc: Global, pattern: &Name) -> Result<Name, NoMemory>
     ensures { IfOk result (λ text. text ≡ unescaped pattern.now) }
 {
-    let bytes = unescaped_bytes(alloc, pattern.bytes())?;
-    match Name::from_bytes(alloc, &bytes)? {
+    match Name::from_vec(unescaped_bytes(alloc, pattern.bytes())?) {
         Some(text) => Ok(text),
         None => unreachable!(),
     }

@@ -1,7 +1,6 @@
 -- The longest keyword among those that begin with the text's first byte, and how it goes on from one to the next.
 use Rattle.std.proofs.Common.{◌≡◌, ℕ, ◌+◌, ◌<◌, ◌≤◌, ◌&&◌, List, [], ◌∷◌, length, take, Option, Some, None, Bool, true, false, nat_lt, nat_eq, if◌then◌else◌, slice_get, MatchOption, All, IsUtf8, IsCharBoundary, ◌∙◌, sym, refl, subst, ap, arith, inl, inr}
 use Rattle.std.specs.List.{starts_with}
-use Rattle.std.specs.Str.{bytes_eq}
 use Rattle.std.proofs.lemmas.Bool.{cases_lt}
 use Rattle.std.proofs.lemmas.Bool.Decides.{nat_tests}
 use Rattle.std.proofs.lemmas.Option.{same_Some, slice_get_within, slice_get_read, get_or_from_slice_get}
@@ -88,16 +87,13 @@ module _ (i : ℕ) (places : List ℕ) (keywords : List (List ℕ)) (text : List
       by_cases true false e f = left best before (λ _. f)
       by_cases false b e f = left best before (λ g. absurd (let x : true ≡ false = sym g ∙ e in cc))
 
-same_text : (xs ys : List ℕ) → bytes_eq xs ys ≡ true → xs ≡ ys
-same_text xs ys e = grind (arith, e, bytes_eq-Decides xs ys)
-
 -- a keyword that is not empty and that the text begins with, begins with the text's first byte
 starts_at : (keywords : List (List ℕ)) (text : List ℕ) (first j : ℕ) (other : List ℕ) → slice_get text 0 ≡ Some first → slice_get keywords j ≡ Some other →
     0 < length other → Begins text other → StartsAt keywords first j
 starts_at keywords [] first j other is e some b = absurd cc
 starts_at keywords (t ∷ text) first j [] is e some b = absurd (omega (arith, some))
 starts_at keywords (t ∷ text) first j (o ∷ os) is e some b =
-    let same : o ∷ os ≡ t ∷ take (length os) text = same_text (o ∷ os) (t ∷ take (length os) text) b in
+    let same : o ∷ os ≡ t ∷ take (length os) text = (bytes_eq-Decides (o ∷ os) (t ∷ take (length os) text)).0 b in
     let head : o ≡ first = cc in (os, e ∙ ap (λ x. Some (x ∷ os)) head)
 
 module _ (keywords : List (List ℕ)) (filled : All (λ word. 0 < length word) keywords) where
@@ -108,7 +104,7 @@ module _ (keywords : List (List ℕ)) (filled : All (λ word. 0 < length word) k
   -- the empty text begins with no keyword
   pub none_at_end : (text : List ℕ) → slice_get text 0 ≡ None → HasNone keywords text
   none_at_end [] is j [] e b = absurd (omega (arith, is_filled j [] e))
-  none_at_end [] is j (o ∷ os) e b = absurd (let same : o ∷ os ≡ [] = same_text (o ∷ os) [] b in cc)
+  none_at_end [] is j (o ∷ os) e b = absurd (let same : o ∷ os ≡ [] = (bytes_eq-Decides (o ∷ os) []).0 b in cc)
   none_at_end (t ∷ text) is j other e b = absurd cc
 
   -- the longest at the places of the keywords that begin with the text's first byte is the longest of all
@@ -137,6 +133,6 @@ module _ (keywords : List (List ℕ)) (filled : All (λ word. 0 < length word) k
 pub boundary-begins : (text keyword : List ℕ) → IsUtf8 text → IsUtf8 keyword → Begins text keyword → length keyword ≤ length text →
     IsCharBoundary text (length keyword)
 boundary-begins text keyword u v b le =
-    IsCharBoundary-from_take text (length keyword) u le (subst IsUtf8 (same_text keyword (take (length keyword) text) b) v)
+    IsCharBoundary-from_take text (length keyword) u le (subst IsUtf8 ((bytes_eq-Decides keyword (take (length keyword) text)).0 b) v)
 
 pub ruleset seams = (boundary-begins)

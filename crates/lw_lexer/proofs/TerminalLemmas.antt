@@ -9,7 +9,7 @@ use Rattle.lw_tokens.specs.NextToken.{IsNextToken, IsLongest, HasNone, IsFirstOv
 use Rattle.lw_tokens.specs.NextToken as token
 use Rattle.lw_lexer.specs.declared.next.Next.{Next}
 use Rattle.lw_lexer.specs.Place.{next_of}
-use Rattle.lw_lexer.specs.Longer.{over, length_or_zero, found_keyword}
+use Rattle.lw_lexer.specs.Longer.{over, length_or_zero, keyword_next}
 
 le_of_over : (n : ℕ) (o : Option ℕ) (m : ℕ) → over n o ≡ None → o ≡ Some m → m ≤ n
 le_of_over n None m e f = absurd cc
@@ -45,13 +45,13 @@ terminal_is_next lexicon text (Some k) i m form longest first there = longer_ter
 
 -- where none does, the longest keyword is
 pub keyword_is_next : (lexicon : Lexicon) (text : List ℕ) (found : Option (ℕ × ℕ)) → IsLongestKeyword lexicon text found →
-    NoneOver (length_or_zero found) (lengths lexicon.terminals text) → IsNextToken lexicon text (option_map found_keyword found)
+    NoneOver (length_or_zero found) (lengths lexicon.terminals text) → IsNextToken lexicon text (option_map keyword_next found)
 keyword_is_next lexicon text None none others = no_token none others
 keyword_is_next lexicon text (Some k) longest others = keyword longest others
 
 -- the same of the code's token
-pub has_bytes : (next : Option Next) (found : Option (ℕ × ℕ)) → option_map next_of next ≡ option_map found_keyword found → IfSome found (λ k. 0 < k.1) →
+pub has_bytes : (next : Option Next) (found : Option (ℕ × ℕ)) → option_map next_of next ≡ option_map keyword_next found → IfSome found (λ k. 0 < k.1) →
     IfSome next (λ n. 0 < n.bytes)
 has_bytes None found e h = tt
 has_bytes (Some next) None e h = absurd cc
-has_bytes (Some next) (Some (k, n)) e h = let same : next_of next ≡ found_keyword (k, n) = cc in let bytes : next.bytes ≡ n = ap (λ (t : token.Next). t.bytes) same in rw bytes h
+has_bytes (Some next) (Some (k, n)) e h = let same : next_of next ≡ keyword_next (k, n) = cc in let bytes : next.bytes ≡ n = ap (λ (t : token.Next). t.bytes) same in rw bytes h

@@ -24,5 +24,5 @@ length_or_zero None = 0
 length_or_zero (Some (k, n)) = n
 
 -- a keyword, by its place and length, as a token
-abbrev pub found_keyword : ℕ × ℕ → Next
-found_keyword (k, n) = record { kind = k; bytes = n; hidden = false }
+abbrev pub keyword_next : ℕ × ℕ → Next
+keyword_next (k, n) = record { kind = k; bytes = n; hidden = false }

@@ -1,7 +1,7 @@
 // The token at the start of a text.
 ghost use Rattle.std.specs.Prelude.{◌≡◌, ◌<◌, IfSome, IsCharBoundary, option_map};
 ghost use Rattle.lw_tokens.specs.NextToken.{IsNextToken};
-ghost use Rattle.lw_lexer.specs.Longer.{length_or_zero, found_keyword};
+ghost use Rattle.lw_lexer.specs.Longer.{length_or_zero, keyword_next};
 ghost use Rattle.lw_lexer.specs.Place.{next_of};
 
 use crate::keyword::longest_keyword;
@@ -36,14 +36,14 @@ pub(crate) fn next_token(
             bytes,
             hidden: matchers[i].is_hidden(),
         }),
-        None => found_keyword(&keyword),
+        None => keyword_next(&keyword),
     }
 }
 
 // The longest keyword as a token.
-fn found_keyword(keyword: &Option<(usize, usize)>) -> Option<Next>
+fn keyword_next(keyword: &Option<(usize, usize)>) -> Option<Next>
     requires { IfSome keyword.now (λ found. found.0 < 65536) }
-    ensures { option_map next_of result ≡ option_map found_keyword keyword.now }
+    ensures { option_map next_of result ≡ option_map keyword_next keyword.now }
 {
     match keyword {
         Some((k, bytes)) => Some(Next {

@@ -32,42 +32,30 @@ fn keywords_of(alloc: Global, words: &[&str]) -> Result<Vec<Name>, NoMemory>
     Ok(keywords)
 }
 
-fn set_of(
-    rt: &impl Abort,
-    alloc: Global,
-    words: &[&str],
-    sources: &[(&str, &str, bool)],
-) -> Result<TokenSet, NoMemory> {
-    let keywords = keywords_of(alloc, words)?;
-    let mut terminals = Vec::new(alloc);
-    for (name, pattern, hidden) in sources {
-        terminals.push(TerminalSource {
-            name: Name::from_text(alloc, name)?,
-            pattern: Name::from_text(alloc, pattern)?,
-            hidden: *hidden,
-        })?;
-    }
-    assert!(rt; keywords.len() <= 100 && terminals.len() <= 100);
-    let mut patterns = MemPatterns::new(Vec::new(alloc));
-    let made = TokenSet::make(alloc, keywords, terminals, &mut patterns);
-    Ok(made.expect(rt, "the patterns are made"))
+fn source_of(alloc: Global, source: &(&str, &str, bool)) -> Result<TerminalSource, NoMemory> {
+    Ok(TerminalSource {
+        name: Name::from_text(alloc, source.0)?,
+        pattern: Name::from_text(alloc, source.1)?,
+        hidden: source.2,
+    })
 }
 
-// Each token as its kind and span, with `h` where it is hidden; or the fault.
-fn shown(rt: &impl Abort, alloc: Global, set: &TokenSet, text: &str) -> Result<String, NoMemory> {
-    let text = Name::from_text(alloc, text)?;
-    assert!(rt; text.text().len() <= 1000);
+fn sources_of(
+    alloc: Global,
+    sources: &[(&str, &str, bool)],
+) -> Result<Vec<TerminalSource>, NoMemory> {
+    let mut terminals = Vec::new(alloc);
+    for source in sources {
+        terminals.push(source_of(alloc, source)?)?;
+    }
+    Ok(terminals)
+}
+
+// Each token as its kind and span, with `h` where it is hidden.
+fn tokens_text(alloc: Global, tokens: &[Token]) -> Result<String, NoMemory> {
     let mut shown = String::new(alloc);
-    match lex(alloc, set, &text) {
-        Ok(tokens) => {
-            for token in &tokens {
-                shown.push_str(token_text(alloc, token)?.as_str())?;
-            }
-        }
-        Err(LexFault::NoToken(s)) => {
-            shown.push_str(format!(in alloc; "none at {}..{}", s.start, s.end)?.as_str())?;
-        }
-        Err(LexFault::NoMemory) => return Err(NoMemory),
+    for token in tokens {
+        shown.push_str(token_text(alloc, token)?.as_str())?;
     }
     Ok(shown)
 }
@@ -80,23 +68,53 @@ fn token_text(alloc: Global, token: &Token) -> Result<String, NoMemory> {
     )?)
 }
 
+// The tokens of the text, or the fault.
+fn shown(rt: &impl Abort, alloc: Global, set: &TokenSet, text: &str) -> Result<String, NoMemory> {
+    let text = Name::from_text(alloc, text)?;
+    assert!(rt; text.text().len() <= 1000);
+    match lex(alloc, set, &text) {
+        Ok(tokens) => tokens_text(alloc, tokens.as_slice()),
+        Err(LexFault::NoToken(s)) => Ok(format!(in alloc; "none at {}..{}", s.start, s.end)?),
+        Err(LexFault::NoMemory) => Err(NoMemory),
+    }
+}
+
+// Makes a set of these words and terminals, and cuts texts by it.
+fn check_cuts(
+    rt: &impl Abort,
+    alloc: Global,
+    words: &[&str],
+    sources: &[(&str, &str, bool)],
+    cuts: &[(&str, &str)],
+) -> Result<(), NoMemory> {
+    let keywords = keywords_of(alloc, words)?;
+    let terminals = sources_of(alloc, sources)?;
+    assert!(rt; keywords.len() <= 100 && terminals.len() <= 100);
+    let mut patterns = MemPatterns::new(Vec::new(alloc));
+    let made = TokenSet::make(alloc, keywords, terminals, &mut patterns);
+    let set = made.expect(rt, "the patterns are made");
+    for (text, tokens) in cuts {
+        assert_eq!(rt;
+            shown(rt, alloc, &set, text)?.as_str(),
+            *tokens,
+            "at {text}"
+        );
+    }
+    Ok(())
+}
+
 #[test]
 fn texts_are_cut_by_the_five_rules(rt: HostRuntime) -> Result<(), Fail> {
-    let alloc = rt.alloc();
     // Kinds 0 to 3 are the keywords, 4 to 8 the terminals.
-    let set = set_of(
-        &rt,
-        alloc,
-        &["model", "/", "ent", "entity"],
-        &[
-            ("WS", "\\s+", true),
-            ("COMMENT", "//[^\\n]*", true),
-            ("Q", "q", false),
-            ("ID", "[_a-zA-Z][\\w_]*", false),
-            ("INT", "[0-9]+", false),
-        ],
-    )?;
-    for (text, tokens) in [
+    let words = ["model", "/", "ent", "entity"];
+    let sources = [
+        ("WS", "\\s+", true),
+        ("COMMENT", "//[^\\n]*", true),
+        ("Q", "q", false),
+        ("ID", "[_a-zA-Z][\\w_]*", false),
+        ("INT", "[0-9]+", false),
+    ];
+    let cuts = [
         ("", ""),
         ("model m", "0:0..5 4h:5..6 7:6..7 "),
         // The longer terminal takes the place of the keyword.
@@ -112,30 +130,22 @@ fn texts_are_cut_by_the_five_rules(rt: HostRuntime) -> Result<(), Fail> {
         ("m é", "none at 2..4"),
         ("ï", "none at 0..2"),
         ("m 😀 m", "none at 2..6"),
-    ] {
-        assert_eq!(rt;
-            shown(&rt, alloc, &set, text)?.as_str(),
-            tokens,
-            "at {text}"
-        );
-    }
-    Ok(())
-}
-
-#[test]
-fn a_match_at_a_later_place_is_none(rt: HostRuntime) -> Result<(), Fail> {
+    ];
     let alloc = rt.alloc();
-    let set = set_of(&rt, alloc, &[], &[("ODD", "x)|(y", false)])?;
-    for (text, tokens) in [
+    check_cuts(
+        &rt,
+        alloc,
+        words.as_slice(),
+        sources.as_slice(),
+        cuts.as_slice(),
+    )?;
+    // A match at a later place is none.
+    let odd = [("ODD", "x)|(y", false)];
+    let cuts = [
         ("xyx", "0:0..1 0:1..2 0:2..3 "),
         ("zy", "none at 0..1"),
         ("yzx", "none at 1..2"),
-    ] {
-        assert_eq!(rt;
-            shown(&rt, alloc, &set, text)?.as_str(),
-            tokens,
-            "at {text}"
-        );
-    }
+    ];
+    check_cuts(&rt, alloc, &[], odd.as_slice(), cuts.as_slice())?;
     Ok(())
 }

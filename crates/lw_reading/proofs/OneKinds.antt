@@ -1,39 +1,20 @@
--- A grammar has one list of kinds, and its keywords can be told apart where none is empty, as where no rule writes an empty one.
-use Rattle.std.proofs.Common.{◌≡◌, ◌≢◌, ℕ, zero, suc, ◌<◌, Bool, true, false, ◌||◌, cond, List, [], ◌∷◌, length, get_or, slice_get, Some, AllPairs, bytes_eq, refl, sym, ap, ap₂, ◌∙◌, subst, arith, true≢false, Contains, ◌⊎◌, inl, inr}
-use Rattle.std.specs.List.{list_any, flat_map}
-use Rattle.std.proofs.lemmas.Option.{slice_get-get_or, slice_get_within, get_or_from_slice_get, same_Some}
+-- The keywords of a grammar can be told apart where none is empty, as where no rule writes an empty one.
+use Rattle.std.proofs.Common.{◌≡◌, ◌≢◌, ℕ, zero, suc, ◌<◌, Bool, true, false, ◌||◌, cond, List, [], ◌∷◌, length, get_or, Some, AllPairs, bytes_eq, refl, sym, ap, ◌∙◌, subst, arith, true≢false, Contains, ◌⊎◌, inl, inr}
+use Rattle.std.specs.List.{flat_map}
+use Rattle.std.proofs.lemmas.Option.{slice_get-get_or, slice_get_within, get_or_from_slice_get}
 use Rattle.std.proofs.lemmas.List.Elements.{Contains-append_cases}
+use Rattle.std.proofs.lemmas.Bool.Decides.{nat_tests}
 use Rattle.std.proofs.lemmas.Slice.Eq.{bytes_eq-Decides}
 use Rattle.lw_grammar.specs.declared.grammar.Grammar.{Grammar}
 use Rattle.lw_grammar.specs.declared.rule.Rule.{Rule}
-use Rattle.lw_grammar.specs.Kept.{KeepsPassingFrom, KeepsPassing}
-use Rattle.lw_grammar.specs.Kept as keep
 use Rattle.lw_grammar.specs.Leaves.{keywords_in}
 use Rattle.lw_grammar.specs.Reached.{IsReached}
-use Rattle.lw_grammar.specs.Kinds.{Kinds, AreKinds, IsKindTerminal, first_uses}
+use Rattle.lw_grammar.specs.Kinds.{Kinds, AreKinds, first_uses}
+use Rattle.lw_grammar.proofs.FirstUses.{stands_in, Contains-from_first_uses}
+use Rattle.lw_grammar.proofs.KeptLemmas.{there, kept_from}
 use Rattle.lw_tokens.specs.Keywords.{AreKeywords}
-use Rattle.lw_grammar.specs.KindTexts.{AreKindTexts, IsKindText, texts_of}
+pub use Rattle.lw_grammar.proofs.KindLemmas.{one_kind_text}
 use Rattle.lw_reading.specs.Laws.{HasNoEmptyKeyword, WritesNoEmptyKeyword}
-
--- which items are kept is settled
-kept_once : {X : Type 0} (passes : ℕ → Type 0) {i : ℕ} {xs ys zs : List X} → KeepsPassingFrom passes i xs ys → KeepsPassingFrom passes i xs zs → ys ≡ zs
-kept_once passes keep.nothing keep.nothing = refl
-kept_once passes (keep.kept {x} p k) (keep.kept q l) = ap (λ ys. x ∷ ys) (kept_once passes k l)
-kept_once passes (keep.kept p k) (keep.left_out q l) = absurd (q p)
-kept_once passes (keep.left_out p k) (keep.kept q l) = absurd (p q)
-kept_once passes (keep.left_out p k) (keep.left_out q l) = kept_once passes k l
-
--- whether a text stands in a list
-abbrev stands_in : List ℕ → List (List ℕ) → Bool
-stands_in text texts = list_any (bytes_eq text) texts
-
-later : (a b : Bool) → (a || b) ≡ false → b ≡ false
-later true b h = absurd (true≢false h)
-later false b h = h
-
-sooner : (a b : Bool) → (a || b) ≡ false → a ≡ false
-sooner true b h = h
-sooner false b h = refl
 
 -- the first uses are none of those that were seen before
 abbrev AreUnseen : List (List ℕ) → List (List ℕ) → Type 0
@@ -47,7 +28,7 @@ unseen seen (text ∷ texts) = by (stands_in text seen) refl (unseen seen texts)
         AreUnseen seen (cond b (first_uses seen texts) (text ∷ first_uses (text ∷ seen) texts))
     by true is same new k d inside = same k d inside
     by false is same new zero d inside = is
-    by false is same new (suc k) d inside = later _ _ (new k d (omega arith))
+    by false is same new (suc k) d inside = let e = new k d (omega arith) in grind (arith, nat_tests, e)
 
 -- and no two of them are equal
 differ : (a b : List ℕ) → bytes_eq b a ≡ false → a ≢ b
@@ -61,32 +42,11 @@ apart seen (text ∷ texts) = by (stands_in text seen) (apart seen texts) (apart
         AllPairs (λ a b. a ≢ b) (cond b (first_uses seen texts) (text ∷ first_uses (text ∷ seen) texts))
     by true same new i j d below inside = same i j d below inside
     by false same new zero zero d below inside = absurd (omega arith)
-    by false same new zero (suc j) d below inside = differ _ _ (sooner _ _ (unseen (text ∷ seen) texts j d (omega arith)))
+    by false same new zero (suc j) d below inside = differ _ _ (let e = unseen (text ∷ seen) texts j d (omega arith) in grind (arith, nat_tests, e))
     by false same new (suc i) zero d below inside = absurd (omega arith)
     by false same new (suc i) (suc j) d below inside = new i j d (omega arith) (omega arith)
 
 -- ---- where a keyword kind comes from
-there : {X : Type 0} (y : X) (xs : List X) (x : X) → Contains xs x → Contains (y ∷ xs) x
-there y xs x (k, inside, is) = (suc k, omega arith, is)
-
--- the first uses are some of the texts
-in_texts : (x : List ℕ) (seen texts : List (List ℕ)) → Contains (first_uses seen texts) x → Contains texts x
-in_texts x seen [] = λ has. has
-in_texts x seen (text ∷ texts) = by (stands_in text seen) (in_texts x seen texts) (in_texts x (text ∷ seen) texts)
-  where
-    by : (b : Bool) → (Contains (first_uses seen texts) x → Contains texts x) → (Contains (first_uses (text ∷ seen) texts) x → Contains texts x) →
-        Contains (cond b (first_uses seen texts) (text ∷ first_uses (text ∷ seen) texts)) x → Contains (text ∷ texts) x
-    by true same new has = there text texts x (same has)
-    by false same new (zero, inside, is) = (0, omega arith, is)
-    by false same new (suc k, inside, is) = there text texts x (new (k, omega arith, is))
-
--- what is kept was there
-in_all : {X : Type 0} (passes : ℕ → Type 0) (y : X) {i : ℕ} {xs ys : List X} → KeepsPassingFrom passes i xs ys → Contains ys y → Contains xs y
-in_all passes y keep.nothing has = has
-in_all passes y (keep.kept {x = x} {xs = xs} p rest) (zero, inside, is) = (0, omega arith, is)
-in_all passes y (keep.kept {x = x} {xs = xs} p rest) (suc k, inside, is) = there x xs y (in_all passes y rest (k, omega arith, is))
-in_all passes y (keep.left_out {x = x} {xs = xs} p rest) has = there x xs y (in_all passes y rest has)
-
 in_one : {X Y : Type 0} (f : X → List Y) (xs : List X) (y : Y) → Contains (flat_map f xs) y → (x : X) × Contains xs x × Contains (f x) y
 in_one f [] y (k, inside, is) = absurd (omega arith)
 in_one f (x ∷ xs) y has = by (Contains-append_cases (f x) (flat_map f xs) y has) (in_one f xs y)
@@ -101,18 +61,11 @@ module _ (g : Grammar) where
   pub filled_rules : WritesNoEmptyKeyword g → HasNoEmptyKeyword g
   filled_rules filled of k are is =
       let has : Contains of.keywords [] = (k, slice_get_within of.keywords k [] is, get_or_from_slice_get of.keywords k [] [] is) in
-      let uses = in_texts [] [] (flat_map (λ (rule : Rule). keywords_in rule.body) are.rules) (subst (λ texts. Contains texts []) are.keywords has) in
+      let uses = Contains-from_first_uses (flat_map (λ (rule : Rule). keywords_in rule.body) are.rules) [] (subst (λ texts. Contains texts []) are.keywords has) in
       let found = in_one (λ (rule : Rule). keywords_in rule.body) are.rules [] uses in
-      filled found.0 (in_all (IsReached g) found.0 are.reached found.1) found.2
+      filled found.0 (kept_from (IsReached g) found.0 are.reached found.1) found.2
 
-  -- a grammar has one list of kinds
-  pub one_kinds : (a b : Kinds) → AreKinds g a → AreKinds g b → a ≡ b
-  one_kinds a b is was =
-      ap₂ (λ words terminals. record { keywords = words; terminals = terminals })
-      (is.keywords ∙ ap (λ rules. first_uses [] (flat_map (λ (rule : Rule). keywords_in rule.body) rules)) (kept_once (IsReached g) is.reached was.reached) ∙ sym was.keywords)
-      (kept_once (IsKindTerminal g) is.terminals was.terminals)
-
-  -- and its keywords can be told apart
+  -- they can be told apart
   pub can_be_told_apart : (of : Kinds) → HasNoEmptyKeyword g → AreKinds g of → AreKeywords of.keywords
   can_be_told_apart of filled are = record {
     not_empty = λ k d inside. not_nothing (get_or of.keywords k d) (λ is. filled of k are (slice_get-get_or of.keywords k d inside ∙ ap Some is));
@@ -122,11 +75,3 @@ module _ (g : Grammar) where
       not_nothing : (text : List ℕ) → text ≢ [] → 0 < length text
       not_nothing [] not = absurd (not refl)
       not_nothing (b ∷ text) not = omega arith
-
-  one_list_of_texts : (texts others : List (List ℕ)) → AreKindTexts g texts → AreKindTexts g others → texts ≡ others
-  one_list_of_texts texts others (of, are, is) (kinds, were, was) = is ∙ ap texts_of (one_kinds of kinds are were) ∙ sym was
-
-  -- a kind has one text
-  pub one_kind_text : (k : ℕ) (text other : List ℕ) → IsKindText g k text → IsKindText g k other → text ≡ other
-  one_kind_text k text other (texts, are, is) (others, were, was) =
-      same_Some text other (sym is ∙ ap (λ ts. slice_get ts k) (one_list_of_texts texts others are were) ∙ was)

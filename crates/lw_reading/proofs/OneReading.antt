@@ -16,10 +16,10 @@ use Rattle.lw_reading.specs.declared.issue.Issue.TheVariants.{Lexical, Syntax}
 use Rattle.lw_reading.specs.declared.issue.Parsed.{Parsed}
 use Rattle.lw_reading.specs.declared.issue.Parsed.TheVariants.{Broken}
 use Rattle.lw_reading.specs.Reading as reading
-use Rattle.lw_base.specs.declared.limits.TheConstants.{LONGEST_DOCUMENT}
 use Rattle.lw_reading.specs.Reading.{IsFirstUnexpected, EndsEarly, ReadsBy, Reads}
 use Rattle.lw_reading.specs.Laws.{HasNoEmptyKeyword}
-use Rattle.lw_reading.proofs.OneKinds.{one_kinds, can_be_told_apart}
+use Rattle.lw_grammar.proofs.KindLemmas.{one_kinds}
+use Rattle.lw_reading.proofs.OneKinds.{can_be_told_apart}
 
 -- of two places in a list, either they are one, or one comes before the other
 data Placed {A : Type 0} (before : List A) (x : A) (befores : List A) (y : A) : Type 0 where

@@ -4,28 +4,14 @@ use Rattle.std.specs.List.{AllZip}
 use Rattle.std.proofs.lemmas.Option.{slice_get_within, get_or_from_slice_get}
 use Rattle.lw_base.specs.declared.token.Span.{Span}
 use Rattle.lw_grammar.specs.declared.grammar.Grammar.{Grammar}
-use Rattle.lw_grammar.specs.declared.rule.Element.{Element}
 use Rattle.lw_grammar.specs.declared.rule.Element.TheVariants.{Keyword, Group, outs-Keyword, outs-Group}
 use Rattle.lw_grammar.specs.declared.rule.Element.TheOpen as layer
 use Rattle.lw_grammar.specs.Kinds.{Kinds, IsKeywordKind}
-use Rattle.lw_sentences.specs.Marks.{Mark, kinds_of}
+use Rattle.lw_sentences.specs.Marks.{Mark}
 use Rattle.lw_sentences.specs.Marks as mark
 use Rattle.lw_sentences.specs.Yields.{Yields, Gives, YieldsAll}
 use Rattle.lw_sentences.specs.Yields as y
-
-pub kinds_join : (m n : List Mark) → kinds_of (m ++ n) ≡ kinds_of m ++ kinds_of n
-kinds_join [] n = refl
-kinds_join (mark.Token k ∷ m) n = ap (λ ks. k ∷ ks) (kinds_join m n)
-kinds_join (mark.Open r ∷ m) n = kinds_join m n
-kinds_join (mark.Shut ∷ m) n = kinds_join m n
-kinds_join (mark.Put p op v ∷ m) n = kinds_join m n
-kinds_join (mark.End ∷ m) n = kinds_join m n
-kinds_join (mark.Act a ∷ m) n = kinds_join m n
-
--- words with the places where they stand
-abbrev pub keyword_row : List (List ℕ × Span) → List Element
-keyword_row [] = []
-keyword_row (w ∷ ws) = Keyword w.0 w.1 ∷ keyword_row ws
+use Rattle.lw_sentences.specs.Worked.{keyword_row}
 
 module _ (g : Grammar) (kinds : Kinds) where
   -- the keywords of a grammar differ, so a text has one kind

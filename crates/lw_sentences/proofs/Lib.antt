@@ -1,3 +1,12 @@
+pub mod Every
+pub mod Meaning
+pub mod Joined
 pub mod Starting
 pub mod KeywordRows
 pub mod TwoWays
+pub mod LeavesPutIn
+pub mod CallLemmas
+pub mod StatesWorked
+pub mod DottedWorked
+pub mod FragmentWorked
+pub mod TwiceWorked

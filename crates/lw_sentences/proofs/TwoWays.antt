@@ -1,67 +1,33 @@
--- A grammar of two ways that begin and end alike, `grammar E entry A: 'a' b='b' 'c' | 'a' d='d' 'c';`: its sentences are `a b c` and `a d c`,
--- so that `a` begins one, and `a c` begins none, though `c` ends both ways.
-use Rattle.std.proofs.Common.{◌≡◌, ◌≢◌, ◌<◌, ℕ, zero, suc, slice_get, List, [], ◌∷◌, ◌++◌, map, Some, true, false, codes, lit<, All, AllPairs, Contains, ◌⊎◌, inl, inr, refl, sym, ap, ◌∙◌, subst, arith, true≢false}
-use Rattle.std.specs.List.{flat_map}
+-- The grammar of two ways that begin and end alike: its sentences are `a b c` and `a d c`, so that `a` begins one, and `a c` begins none,
+-- though `c` ends both ways.
+use Rattle.std.proofs.Common.{◌≡◌, ◌≢◌, ◌<◌, ℕ, zero, suc, slice_get, List, [], ◌∷◌, ◌++◌, map, Some, codes, lit<, All, AllPairs, Contains, ◌⊎◌, inl, inr, refl, sym, ap, ◌∙◌, subst, arith, true≢false}
 use Rattle.std.proofs.lemmas.List.{append-nil}
 use Rattle.std.proofs.lemmas.List.Elements.{All-nil, All-cons, All-head, All-tail}
 use Rattle.std.proofs.lemmas.List.Kept.{AllPairs-cons}
 use Rattle.std.proofs.lemmas.Option.{none-some, same_Some}
-use Rattle.lw_base.specs.declared.token.Span.{Span}
-use Rattle.lw_grammar.specs.declared.grammar.Grammar.{Grammar}
 use Rattle.lw_grammar.specs.declared.rule.Rule.{Rule}
-use Rattle.lw_grammar.specs.declared.rule.RuleResult.TheVariants.{Own}
 use Rattle.lw_grammar.specs.declared.rule.Op.TheVariants.{One}
-use Rattle.lw_grammar.specs.declared.rule.Element.{Element, out-Element, fold_out-Element}
-use Rattle.lw_grammar.specs.declared.rule.Element.TheFolds.{map-Element}
-use Rattle.lw_grammar.specs.declared.rule.Element.TheVariants.{Keyword, Assign, Group, Choice, outs-Keyword, outs-Assign, outs-Group, outs-Choice}
+use Rattle.lw_grammar.specs.declared.rule.Element.TheVariants.{outs-Keyword, outs-Assign, outs-Group, outs-Choice}
 use Rattle.lw_grammar.specs.declared.rule.Element.TheOpen as layer
-use Rattle.lw_grammar.specs.declared.rule.Value0.{Value0, fold_out-Value0}
-use Rattle.lw_grammar.specs.declared.rule.Value0.TheFolds.{map-Value0}
+use Rattle.lw_grammar.specs.declared.rule.Value0.{Value0}
 use Rattle.lw_grammar.specs.declared.rule.Value0.TheVariants as value
 use Rattle.lw_grammar.specs.declared.rule.Value0.TheOpen as value_layer
 use Rattle.lw_grammar.specs.Leaves.{Leaf, leaves, layer_leaves, ValueLeaf, value_leaves, layer_values, keywords_in, keywords_of, literals_of}
 use Rattle.lw_grammar.specs.Leaves as leaf
+use Rattle.lw_grammar.proofs.LeafLemmas.{leaf_equations, value_equations}
 use Rattle.lw_grammar.specs.Named.{IsEntry}
 use Rattle.lw_grammar.specs.Nodes.{MakesNodes, assigns}
 use Rattle.lw_grammar.specs.Reached as reached
 use Rattle.lw_grammar.specs.Kept as keep
-use Rattle.lw_grammar.specs.Kinds.{Kinds, AreKinds, IsKeywordKind, first_uses}
+use Rattle.lw_grammar.specs.Kinds.{AreKinds, IsKeywordKind, first_uses}
 use Rattle.lw_sentences.specs.Marks.{Mark, kinds_of}
 use Rattle.lw_sentences.specs.Marks as mark
-use Rattle.lw_sentences.specs.Yields.{Yields, Gives, RuleGives, GivesValue, GivesValueLayer}
+use Rattle.lw_sentences.specs.Yields.{Yields, Gives, RuleGives, ValueYields, ValueGives}
 use Rattle.lw_sentences.specs.Yields as y
 use Rattle.lw_sentences.specs.Sentences.{IsWhole, Starts}
-use Rattle.lw_sentences.proofs.KeywordRows.{kinds_join, keyword_once}
-
-abbrev pub nowhere : Span
-nowhere = record { start = 0; end = 0 }
-
-abbrev pub keyword : List ℕ → Element
-keyword word = Keyword word nowhere
-
--- the word goes into the property that is named like it
-abbrev pub assignment : List ℕ → Element
-assignment word = Assign word One (value.Keyword word nowhere) nowhere
-
-abbrev pub way_parts : List ℕ → List Element
-way_parts word = keyword (codes "a") ∷ assignment word ∷ keyword (codes "c") ∷ []
-
--- one way: the keyword `a`, a word that is assigned, and the keyword `c`
-abbrev pub way : List ℕ → Element
-way word = Group (way_parts word) nowhere
-
-abbrev pub ways : List Element
-ways = way (codes "b") ∷ way (codes "d") ∷ []
-
-abbrev pub A : Rule
-A = record { name = codes "A"; file = 0; span = nowhere; is_entry = true; is_fragment = false; result = Own; body = Choice ways nowhere }
-
-abbrev pub E : Grammar
-E = record { name = codes "E"; files = []; rules = A ∷ []; terminals = []; interfaces = []; unions = []; imports = [] }
-
--- its keywords, in the order of their first use
-abbrev pub kinds : Kinds
-kinds = record { keywords = codes "a" ∷ codes "b" ∷ codes "c" ∷ codes "d" ∷ []; terminals = [] }
+use Rattle.lw_sentences.specs.Worked.{nowhere, word as keyword, assignment, way_parts, way, ways, two_ways_rule as A, two_ways as E, two_ways_kinds as kinds}
+use Rattle.lw_sentences.proofs.Joined.{kinds_join}
+use Rattle.lw_sentences.proofs.KeywordRows.{keyword_once}
 
 abbrev pub a : ℕ
 a = 0
@@ -77,51 +43,17 @@ d = 3
 
 -- ---- its kinds are these
 
-leaves_layer : (e : Element) (f : layer.Element-F Element) → out-Element e ≡ f → leaves e ≡ layer_leaves (map-Element Element (List Leaf) leaves f)
-leaves_layer e f is = fold_out-Element (List Leaf) layer_leaves e ∙ ap (λ f. layer_leaves (map-Element Element (List Leaf) leaves f)) is
-
-keyword_leaf : (word : List ℕ) → leaves (keyword word) ≡ leaf.Keyword word nowhere ∷ []
-keyword_leaf word = leaves_layer (keyword word) (layer.Keyword word nowhere) (outs-Keyword word nowhere)
-
 abbrev assigned : List ℕ → Leaf
-assigned word = leaf.Assign word One (value.Keyword word nowhere) nowhere
-
-assignment_leaf : (word : List ℕ) → leaves (assignment word) ≡ assigned word ∷ []
-assignment_leaf word =
-    leaves_layer (assignment word) (layer.Assign word One (value.Keyword word nowhere) nowhere) (outs-Assign word One (value.Keyword word nowhere) nowhere)
+assigned text = leaf.Assign text One (value.Keyword text nowhere) nowhere
 
 abbrev way_leaves : List ℕ → List Leaf
-way_leaves word = leaf.Keyword (codes "a") nowhere ∷ assigned word ∷ leaf.Keyword (codes "c") nowhere ∷ []
-
-leaves_of_way : (word : List ℕ) → leaves (way word) ≡ way_leaves word
-leaves_of_way word =
-    leaves_layer (way word) (layer.Group (way_parts word) nowhere) (outs-Group (way_parts word) nowhere)
-    ∙ joined _ _ _ (keyword_leaf (codes "a")) (assignment_leaf word) (keyword_leaf (codes "c"))
-  where
-    joined : (p q r : List Leaf) {x y z : Leaf} → p ≡ x ∷ [] → q ≡ y ∷ [] → r ≡ z ∷ [] → p ++ (q ++ (r ++ [])) ≡ x ∷ y ∷ z ∷ []
-    joined p q r f g h = rw (f, g, h) refl
+way_leaves text = leaf.Keyword (codes "a") nowhere ∷ assigned text ∷ leaf.Keyword (codes "c") nowhere ∷ []
 
 all_leaves : leaves A.body ≡ way_leaves (codes "b") ++ way_leaves (codes "d")
-all_leaves =
-    leaves_layer A.body (layer.Choice ways nowhere) (outs-Choice ways nowhere) ∙ joined _ _ _ _ (leaves_of_way (codes "b")) (leaves_of_way (codes "d"))
-  where
-    joined : (p q x y : List Leaf) → p ≡ x → q ≡ y → p ++ (q ++ []) ≡ x ++ y
-    joined p q x y f g = ap (λ r. p ++ r) (append-nil q) ∙ ap (λ r. r ++ q) f ∙ ap (λ r. x ++ r) g
-
-value_leaf : (word : List ℕ) → value_leaves (value.Keyword word nowhere) ≡ leaf.Literal word nowhere ∷ []
-value_leaf word =
-    fold_out-Value0 (List ValueLeaf) layer_values (value.Keyword word nowhere)
-    ∙ ap (λ f. layer_values (map-Value0 Value0 (List ValueLeaf) value_leaves f)) (value.outs-Keyword word nowhere)
-
-assigned_keyword : (word : List ℕ) → keywords_of (assigned word) ≡ word ∷ []
-assigned_keyword word = ap (flat_map literals_of) (value_leaf word)
+all_leaves = simp leaf_equations
 
 all_keywords : keywords_in A.body ≡ codes "a" ∷ codes "b" ∷ codes "c" ∷ codes "a" ∷ codes "d" ∷ codes "c" ∷ []
-all_keywords = ap (flat_map keywords_of) all_leaves ∙ joined _ _ (assigned_keyword (codes "b")) (assigned_keyword (codes "d"))
-  where
-    joined : (p q : List (List ℕ)) → p ≡ codes "b" ∷ [] → q ≡ codes "d" ∷ [] →
-        codes "a" ∷ (p ++ (codes "c" ∷ codes "a" ∷ (q ++ (codes "c" ∷ [])))) ≡ codes "a" ∷ codes "b" ∷ codes "c" ∷ codes "a" ∷ codes "d" ∷ codes "c" ∷ []
-    joined p q f g = rw (f, g) refl
+all_keywords = simp (leaf_equations, value_equations)
 
 is_entry : IsEntry E 0 A
 is_entry = record { there = refl; does = (refl, refl); none_before = λ j other below. absurd (omega arith) }
@@ -182,7 +114,7 @@ keyword_can : (word : List ℕ) (k : ℕ) → IsKeywordKind kinds word k → Yie
 keyword_can word k is = y.yields (subst (λ f. Gives E kinds f (mark.Token k ∷ [])) (sym (outs-Keyword word nowhere)) (y.keyword is))
 
 module _ (word : List ℕ) (k : ℕ) (is_kind : IsKeywordKind kinds word k) where
-  value_gives : {v w : Value0} {m : List Mark} → GivesValueLayer E kinds v (value_layer.Keyword word nowhere) w m → kinds_of m ≡ k ∷ []
+  value_gives : {v w : Value0} {m : List Mark} → ValueGives E kinds v (value_layer.Keyword word nowhere) w m → kinds_of m ≡ k ∷ []
   value_gives (y.keyword_value {k = l} at) = ap (λ n. n ∷ []) (once word k l is_kind at)
 
   assignment_gives : {m : List Mark} → Yields E kinds (assignment word) m → kinds_of m ≡ k ∷ []
@@ -191,7 +123,7 @@ module _ (word : List ℕ) (k : ℕ) (is_kind : IsKeywordKind kinds word k) wher
       inside : {m : List Mark} → Gives E kinds (layer.Assign word One (value.Keyword word nowhere) nowhere) m → kinds_of m ≡ k ∷ []
       inside (y.assigned {m} (y.reads {c} layered)) =
           kinds_join m (mark.End ∷ []) ∙ append-nil (kinds_of m)
-          ∙ value_gives (subst (λ f. GivesValueLayer E kinds (value.Keyword word nowhere) f c m) (value.outs-Keyword word nowhere) layered)
+          ∙ value_gives (subst (λ f. ValueGives E kinds (value.Keyword word nowhere) f c m) (value.outs-Keyword word nowhere) layered)
 
   pub way_gives : {m : List Mark} → Yields E kinds (way word) m → kinds_of m ≡ a ∷ k ∷ c ∷ []
   way_gives {m} (y.yields gives) = inside (subst (λ f. Gives E kinds f m) (outs-Group (way_parts word) nowhere) gives)
@@ -209,8 +141,8 @@ module _ (word : List ℕ) (k : ℕ) (is_kind : IsKeywordKind kinds word k) wher
   pub way_can : (m : List Mark) × Yields E kinds (way word) m × (kinds_of m ≡ a ∷ k ∷ c ∷ [])
   way_can =
       let word_value : Value0 = value.Keyword word nowhere in
-      let read : GivesValue E kinds word_value word_value (mark.Token k ∷ []) =
-      y.reads (subst (λ f. GivesValueLayer E kinds word_value f word_value (mark.Token k ∷ [])) (sym (value.outs-Keyword word nowhere)) (y.keyword_value is_kind)) in
+      let read : ValueYields E kinds word_value word_value (mark.Token k ∷ []) =
+      y.reads (subst (λ f. ValueGives E kinds word_value f word_value (mark.Token k ∷ [])) (sym (value.outs-Keyword word nowhere)) (y.keyword_value is_kind)) in
       let put : List Mark = mark.Put word One word_value ∷ (mark.Token k ∷ []) ++ mark.End ∷ [] in
       let second : Yields E kinds (assignment word) put =
       y.yields (subst (λ f. Gives E kinds f put) (sym (outs-Assign word One word_value nowhere)) (y.assigned read)) in
@@ -286,3 +218,7 @@ no_c_after_a (rest, whole) = by (sentence_kinds (a ∷ c ∷ rest) whole)
     by : IsEither (a ∷ c ∷ rest) → ⊥
     by (inl is) = omega (arith, second_of c b rest (c ∷ []) is)
     by (inr is) = omega (arith, second_of c d rest (c ∷ []) is)
+
+-- nor is it one
+pub no_short_sentence : ¬ IsWhole E kinds (a ∷ c ∷ [])
+no_short_sentence whole = no_c_after_a ([], whole)

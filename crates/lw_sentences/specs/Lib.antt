@@ -1,3 +1,4 @@
 pub mod Marks
 pub mod Yields
 pub mod Sentences
+pub mod Worked

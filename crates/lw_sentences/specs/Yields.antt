@@ -28,7 +28,7 @@ module _ (g : Grammar) (kinds : Kinds) where
     pub data Gives : Element-F Element → List Mark → Type 0 where
       keyword : {text : List ℕ} {s : Span} {k : ℕ} → IsKeywordKind kinds text k → Gives (Keyword text s) (mark.Token k ∷ [])
       called : {name : List ℕ} {s : Span} {m : List Mark} → Calls name m → Gives (Call name s) m
-      assigned : {p : List ℕ} {op : Op} {v c : Value0} {s : Span} {m : List Mark} → GivesValue v c m → Gives (Assign p op v s) (mark.Put p op c ∷ m ++ mark.End ∷ [])
+      assigned : {p : List ℕ} {op : Op} {v c : Value0} {s : Span} {m : List Mark} → ValueYields v c m → Gives (Assign p op v s) (mark.Put p op c ∷ m ++ mark.End ∷ [])
       acted : {a : Action} → Gives (Act a) (mark.Act a ∷ [])
       grouped : {es : List Element} {s : Span} {m : List Mark} → YieldsAll es m → Gives (Group es s) m
       chosen : {es : List Element} {s : Span} {e : Element} {m : List Mark} → Contains es e → Yields e m → Gives (Choice es s) m
@@ -49,7 +49,7 @@ module _ (g : Grammar) (kinds : Kinds) where
 
     -- a call by name, of a terminal or a rule
     pub data Calls : List ℕ → List Mark → Type 0 where
-      terminal : {name : List ℕ} {k : ℕ} → IsTerminalKind kinds name k → Calls name (mark.Token k ∷ [])
+      terminal : {name : List ℕ} {k : ℕ} → IsTerminalKind g kinds name k → Calls name (mark.Token k ∷ [])
       rule_ : {name : List ℕ} {m : List Mark} (r : ℕ) (rule : Rule) → IsRule g name r rule → RuleGives r rule m → Calls name m
 
     -- a call of the rule of this number: fragments and data type rules give what their body gives, others a node of it
@@ -59,15 +59,15 @@ module _ (g : Grammar) (kinds : Kinds) where
       node : {r : ℕ} {rule : Rule} {m : List Mark} → rule.is_fragment ≡ false → MakesNodes g rule → Yields rule.body m →
           RuleGives r rule (mark.Open r ∷ m ++ mark.Shut ∷ [])
 
-    -- `Reads v c m`: the value v reads the marks m, and c is the keyword, call or cross-reference of v that was read
-    pub data GivesValue : Value0 → Value0 → List Mark → Type 0 where
-      reads : {v c : Value0} {m : List Mark} → GivesValueLayer v (out-Value0 v) c m → GivesValue v c m
+    -- `ValueYields v c m`: the value v may give the marks m, having read its keyword, call or cross-reference c
+    pub data ValueYields : Value0 → Value0 → List Mark → Type 0 where
+      reads : {v c : Value0} {m : List Mark} → ValueGives v (out-Value0 v) c m → ValueYields v c m
 
-    pub data GivesValueLayer : Value0 → Value0-F Value0 → Value0 → List Mark → Type 0 where
-      keyword_value : {v : Value0} {text : List ℕ} {s : Span} {k : ℕ} → IsKeywordKind kinds text k → GivesValueLayer v (value.Keyword text s) v (mark.Token k ∷ [])
-      call_value : {v : Value0} {name : List ℕ} {s : Span} {m : List Mark} → Calls name m → GivesValueLayer v (value.Call name s) v m
-      cross_value : {v : Value0} {wanted name : List ℕ} {s : Span} {m : List Mark} → Calls name m → GivesValueLayer v (value.Cross wanted (Some name) s) v m
+    pub data ValueGives : Value0 → Value0-F Value0 → Value0 → List Mark → Type 0 where
+      keyword_value : {v : Value0} {text : List ℕ} {s : Span} {k : ℕ} → IsKeywordKind kinds text k → ValueGives v (value.Keyword text s) v (mark.Token k ∷ [])
+      call_value : {v : Value0} {name : List ℕ} {s : Span} {m : List Mark} → Calls name m → ValueGives v (value.Call name s) v m
+      cross_value : {v : Value0} {wanted name : List ℕ} {s : Span} {m : List Mark} → Calls name m → ValueGives v (value.Cross wanted (Some name) s) v m
       cross_by_name : {v : Value0} {wanted : List ℕ} {s : Span} {m : List Mark} (name : List ℕ) → IsNameRule g wanted name → Calls name m →
-          GivesValueLayer v (value.Cross wanted None s) v m
-      chosen_value : {v : Value0} {vs : List Value0} {s : Span} {w c : Value0} {m : List Mark} → Contains vs w → GivesValue w c m →
-          GivesValueLayer v (value.Choice vs s) c m
+          ValueGives v (value.Cross wanted None s) v m
+      chosen_value : {v : Value0} {vs : List Value0} {s : Span} {w c : Value0} {m : List Mark} → Contains vs w → ValueYields w c m →
+          ValueGives v (value.Choice vs s) c m

@@ -1,11 +1,11 @@
 -- How far the terminals are gone through.
-use Rattle.std.proofs.Common.{◌≡◌, List, [], ◌∷◌, ◌++◌, length, length-append, append_assoc, map, take, Some, Result, Err, slice_get, All, refl, sym, subst, ap, ◌∙◌, arith}
+use Rattle.std.proofs.Common.{◌≡◌, ℕ, List, [], ◌∷◌, ◌++◌, length, length-append, append_assoc, map, take, Some, Result, Err, slice_get, refl, sym, subst, ap, ◌∙◌, arith}
 use Rattle.std.proofs.Math.Seq.{get_or-append_seam}
-use Rattle.std.proofs.lemmas.List.{take_at, map-append}
+use Rattle.std.proofs.lemmas.List.{append-nil, take_at, map-append}
 use Rattle.std.proofs.lemmas.Option.{slice_get-get_or}
 use Rattle.lw_terminals.specs.declared.source.TerminalSource.{TerminalSource}
 use Rattle.lw_terminals.specs.declared.fault.MakeTokensFault.{MakeTokensFault}
-use Rattle.lw_terminals.specs.Made.{IsUsable, IsReachedTerminal}
+use Rattle.lw_terminals.specs.Made.{AreUsable, AreUnlisted, IsTriedAt}
 
 seam : (done : List TerminalSource) (terminal : TerminalSource) (rest : List TerminalSource) →
     slice_get (done ++ terminal ∷ rest) (length done) ≡ Some terminal
@@ -14,12 +14,21 @@ seam done terminal rest =
     ∙ ap Some (get_or-append_seam done terminal rest terminal)
 
 -- the terminal behind those that are done
-pub reached : (all done : List TerminalSource) (terminal : TerminalSource) (rest : List TerminalSource) → done ++ terminal ∷ rest ≡ all → All IsUsable done →
-    IsReachedTerminal all (length done) terminal
-reached all done terminal rest parts usable = record {
+pub tried : (listed : List (List ℕ)) (all done : List TerminalSource) (terminal : TerminalSource) (rest : List TerminalSource) → done ++ terminal ∷ rest ≡ all → AreUsable done →
+    AreUnlisted listed done → IsTriedAt listed all (length done) terminal
+tried listed all done terminal rest parts usable unlisted = record {
   there = subst (λ (xs : List TerminalSource). slice_get xs (length done) ≡ Some terminal) parts (seam done terminal rest);
-  before = subst (All IsUsable) (sym (take_at done (terminal ∷ rest) (length done) refl) ∙ ap (take (length done)) parts) usable;
+  before = subst AreUsable front usable;
+  unlisted = subst (AreUnlisted listed) front unlisted;
 }
+  where
+    front : done ≡ take (length done) all
+    front = sym (take_at done (terminal ∷ rest) (length done) refl) ∙ ap (take (length done)) parts
+
+-- with nothing left all are done
+pub all_done : (done rest all : List TerminalSource) → done ++ rest ≡ all → length rest ≡ 0 → done ≡ all
+all_done done [] all parts none = sym (append-nil done) ∙ parts
+all_done done (x ∷ rest) all parts none = absurd (omega (arith, none))
 
 same_fault : {T : Type 0} (a b : MakeTokensFault) → ◌≡◌ {A = Result T MakeTokensFault} (Err a) (Err b) → a ≡ b
 same_fault a b e = cc

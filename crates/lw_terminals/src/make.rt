@@ -1,9 +1,9 @@
 // The making of a set of tokens.
-ghost use Rattle.std.specs.Prelude.{◌≡◌, ◌≢◌, ℕ, ◌+◌, ◌≤◌, ◌++◌, [], List, map, length, All, IfOk, Err, OnOk, IsSome, Some};
+ghost use Rattle.std.specs.Prelude.{◌≡◌, ◌≢◌, ℕ, ◌+◌, ◌≤◌, ◌++◌, [], List, map, length, All, Contains, IfOk, Err, OnOk, IsSome, Some};
 ghost use Rattle.lw_io.specs.Patterns.{anchored};
 ghost use Rattle.lw_tokens.specs.Matching.{pattern_of, match_length};
 ghost use Rattle.lw_grammar.specs.KindTexts.{quoted};
-ghost use Rattle.lw_terminals.specs.Made.{form_of, IsUsable, IsRefusedAt, MatchesEmptyAt, CountsTokens, KeepsRefused};
+ghost use Rattle.lw_terminals.specs.Made.{form_of, IsUsable, AreUsable, AreUnlisted, IsRefusedAt, MatchesEmptyAt, CountsRefusals, KeepsRefused};
 
 use crate::{MakeTokensFault, Terminal, TerminalSource};
 use lw_base::{Name, NoMemory};
@@ -29,8 +29,7 @@ pub(crate) fn keyword_texts(
 fn quoted(alloc: Global, text: &Name) -> Result<Name, NoMemory>
     ensures { IfOk result (λ name. name ≡ quoted text.now) }
 {
-    let quoted = format!(in alloc; "'{}'", text.text())?;
-    Name::from_text(alloc, quoted.as_str())
+    Ok(Name::from_string(format!(in alloc; "'{}'", text.text())?))
 }
 
 /// The terminals with their compiled patterns, made in order. Their names are put behind the texts.
@@ -42,11 +41,12 @@ pub(crate) fn make_terminals<P: Patterns>(
 ) -> Result<Vec<Terminal>, MakeTokensFault>
     ensures made { IfOk result (λ terminals. terminals.items ≡ map form_of sources.items) }
     ensures texts { OnOk result (texts.new.items ≡ texts.old.items ++ map (λ source. source.name) sources.items) }
-    ensures usable { OnOk result (All IsUsable sources.items) }
+    ensures usable { OnOk result (AreUsable sources.items) }
+    ensures unlisted { OnOk result (AreUnlisted (P.listed patterns.old) sources.items) }
     ensures refused { (i : ℕ) → result ≡ Err (MakeTokensFault.Refused i)
-        → IsRefusedAt sources.items (P.last_refused patterns.new) i }
-    ensures empty_match { (i : ℕ) → result ≡ Err (MakeTokensFault.EmptyMatch i) → MatchesEmptyAt sources.items i }
-    ensures count { CountsTokens (P.count patterns.old) (P.count patterns.new) result }
+        → IsRefusedAt (P.listed patterns.old) sources.items (P.last_refused patterns.new) i }
+    ensures empty_match { (i : ℕ) → result ≡ Err (MakeTokensFault.EmptyMatch i) → MatchesEmptyAt (P.listed patterns.old) sources.items i }
+    ensures count { CountsRefusals (P.count patterns.old) (P.count patterns.new) result }
     ensures last { KeepsRefused (P.last_refused patterns.old) (P.last_refused patterns.new) result }
 {
     let mut terminals = Vec::with_capacity(alloc, sources.len())?;
@@ -68,13 +68,14 @@ fn make_terminal<P: Patterns>(
     patterns: &mut P,
 ) -> Result<Terminal, MakeTokensFault>
     ensures made { IfOk result (λ terminal. terminal ≡ record { pattern = pattern; hidden = hidden }) }
-    ensures readable { OnOk result (IsSome (pattern_of (anchored pattern))) }
-    ensures not_empty { OnOk result (match_length pattern [] ≢ Some 0) }
+    ensures usable { OnOk result (IsUsable pattern) }
+    ensures unlisted { OnOk result (¬ (Contains (P.listed patterns.old) pattern)) }
+    ensures same_list { P.listed patterns.new ≡ P.listed patterns.old }
     ensures refused { (i : ℕ) → result ≡ Err (MakeTokensFault.Refused i)
         → (i ≡ place) × (P.last_refused patterns.new ≡ Some pattern) }
     ensures empty_match { (i : ℕ) → result ≡ Err (MakeTokensFault.EmptyMatch i)
-        → (i ≡ place) × (match_length pattern [] ≡ Some 0) }
-    ensures count { CountsTokens (P.count patterns.old) (P.count patterns.new) result }
+        → (i ≡ place) × (match_length pattern [] ≡ Some 0) × ¬ (Contains (P.listed patterns.old) pattern) }
+    ensures count { CountsRefusals (P.count patterns.old) (P.count patterns.new) result }
     ensures last { KeepsRefused (P.last_refused patterns.old) (P.last_refused patterns.new) result }
 {
     let text = pattern.copy(alloc)?;

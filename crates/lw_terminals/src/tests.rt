@@ -2,7 +2,7 @@
 ghost use Rattle.std.specs.Prelude.{IfOk};
 ghost use Rattle.lw_tokens.specs.Keywords.{AreKeywords};
 
-use crate::{MakeTokensFault, TerminalSource, TokenSet};
+use crate::{TerminalSource, TokenSet};
 use lw_base::{KindId, Name, NoMemory};
 use lw_io::{MemPatterns, Patterns};
 use std::alloc::Global;
@@ -42,60 +42,74 @@ fn sources_of(alloc: Global, patterns: &[&str]) -> Result<Vec<TerminalSource>, N
     Ok(sources)
 }
 
-fn made(
+// The texts of the kinds, the places of the keywords that begin with `a`, and how many bytes each terminal
+// matches at the start of the text, or `-`.
+fn set_text(alloc: Global, set: &TokenSet, text: &str) -> Result<String, NoMemory> {
+    let mut shown = String::new(alloc);
+    for kind in 0..8u16 {
+        if set.has_kind(KindId(kind)) {
+            shown.push_str(set.kind_text(KindId(kind)).text())?;
+        }
+    }
+    for place in set.keywords_starting(b'a') {
+        shown.push_str(format!(in alloc; " {place}")?.as_str())?;
+    }
+    for matcher in set.matchers(alloc)?.iter_mut() {
+        let length = matcher.match_length(text);
+        shown.push_str(format!(in alloc; " {length:?}")?.as_str())?;
+    }
+    Ok(shown)
+}
+
+// The set that is made of these patterns, or the fault and how many patterns were refused until then.
+fn answer_text(
     rt: &impl Abort,
     alloc: Global,
     sources: &[&str],
     patterns: &mut MemPatterns,
-) -> Result<Result<TokenSet, MakeTokensFault>, NoMemory> {
+    text: &str,
+) -> Result<String, NoMemory> {
     let keywords = keywords_of(alloc, &["as", "at", "by"])?;
     let terminals = sources_of(alloc, sources)?;
     assert!(rt; keywords.len() <= 100 && terminals.len() <= 100);
-    Ok(TokenSet::make(alloc, keywords, terminals, patterns))
+    match TokenSet::make(alloc, keywords, terminals, patterns) {
+        Ok(set) => set_text(alloc, &set, text),
+        Err(fault) => Ok(format!(in alloc; "{fault:?} {}", patterns.faults())?),
+    }
 }
 
 #[test]
-fn kinds_are_told_by_their_texts(rt: HostRuntime) -> Result<(), Fail> {
-    let alloc = rt.alloc();
-    let mut patterns = MemPatterns::new(Vec::new(alloc));
-    let set = made(&rt, alloc, &["\\s+", "a\\d"], &mut patterns)?.expect(&rt, "the set is made");
-    for (kind, text) in [(0u16, "'as'"), (2, "'by'"), (3, "T"), (4, "T")] {
-        assert!(rt; set.has_kind(KindId(kind)));
-        assert_eq!(rt; set.kind_text(KindId(kind)).text(), text, "at {kind}");
-    }
-    assert!(rt; !set.has_kind(KindId(5)));
-    assert!(rt; set.keywords_starting(b'a') == [0usize, 1].as_slice());
-    assert!(rt; set.keywords_starting(b'c').is_empty());
-    let mut matchers = set.matchers(alloc)?;
-    assert!(rt; matchers.len() == 2);
-    assert!(rt; matchers[0].is_hidden());
-    for (text, bytes) in [
-        ("a1a2", Some(2)),
-        ("a\u{0661}", Some(3)),
-        ("1a2", None),
-        ("", None),
-    ] {
-        assert!(rt; matchers[1].match_length(text) == bytes);
-    }
-    Ok(())
-}
-
-#[test]
-fn the_first_pattern_that_does_not_serve_decides(rt: HostRuntime) -> Result<(), Fail> {
+fn sets_are_made_or_the_first_pattern_that_does_not_serve_is_told(
+    rt: HostRuntime,
+) -> Result<(), Fail> {
     let alloc = rt.alloc();
     let mut listed = Vec::new(alloc);
     listed.push(Name::from_text(alloc, "no")?)?;
     let mut patterns = MemPatterns::new(listed);
-    for (sources, fault, count) in [
-        (["a", "b*", "no"], MakeTokensFault::EmptyMatch(1), 0u64),
-        (["a", "no", "b*"], MakeTokensFault::Refused(1), 1),
-        (["(", "b*", "no"], MakeTokensFault::Refused(0), 2),
-        (["a", "b", "c?"], MakeTokensFault::EmptyMatch(2), 2),
-        (["a", "b", "no"], MakeTokensFault::Refused(2), 3),
+    for (sources, text, answer) in [
+        (
+            ["\\s+", "a\\d", "b"],
+            "a1a2",
+            "'as''at''by'TTT 0 1 None Some(2) None",
+        ),
+        (
+            ["\\s+", "a\\d", "b"],
+            "a\u{0661}",
+            "'as''at''by'TTT 0 1 None Some(3) None",
+        ),
+        (
+            ["\\s+", "a\\d", "b"],
+            "1a2",
+            "'as''at''by'TTT 0 1 None None None",
+        ),
+        (["a", "b*", "no"], "", "EmptyMatch(1) 0"),
+        (["a", "no", "b*"], "", "Refused(1) 1"),
+        (["(", "b*", "no"], "", "Refused(0) 2"),
+        (["a", "b", "c?"], "", "EmptyMatch(2) 2"),
+        (["a", "b", "no"], "", "Refused(2) 3"),
     ] {
-        let answer = made(&rt, alloc, sources.as_slice(), &mut patterns)?;
-        assert!(rt; answer.err() == Some(fault));
-        assert!(rt; patterns.faults() == count);
+        let shown = answer_text(&rt, alloc, sources.as_slice(), &mut patterns, text)?;
+        assert_eq!(rt; shown.as_str(), answer);
     }
     let last = patterns.refused().expect(&rt, "a text was refused");
     assert_eq!(rt; last.text(), "no");

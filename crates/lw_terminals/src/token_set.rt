@@ -40,7 +40,7 @@ impl TokenSet {
     ghost use Rattle.lw_tokens.specs.Keywords.{AreKeywords};
     ghost use Rattle.lw_terminals.specs.TokenKinds.{AreTokenKinds};
     ghost use Rattle.lw_terminals.specs.Starting.{AreStarting};
-    ghost use Rattle.lw_terminals.specs.Made.{token_kinds_of, IsUsable, IsRefusedAt, MatchesEmptyAt, CountsTokens, KeepsRefused};
+    ghost use Rattle.lw_terminals.specs.Made.{token_kinds_of, AreUsable, AreUnlisted, IsRefusedAt, MatchesEmptyAt, CountsRefusals, KeepsRefused};
 
     /// The kinds of these keywords and terminals. The patterns are made in order, and the first that is
     /// refused or matches the empty text decides. Where the answer is not `Refused`, the count of refusals
@@ -54,12 +54,13 @@ impl TokenSet {
         requires keywords { AreKeywords keywords.items }
         requires few { length keywords.items + length terminals.items ≤ 65535 }
         ensures made { IfOk result (λ set. set ≡ token_kinds_of keywords.items terminals.items) }
-        ensures usable { OnOk result (All IsUsable terminals.items) }
+        ensures usable { OnOk result (AreUsable terminals.items) }
+        ensures unlisted { OnOk result (AreUnlisted (P.listed patterns.old) terminals.items) }
         ensures refused { (i : ℕ) → result ≡ Err (MakeTokensFault.Refused i)
-            → IsRefusedAt terminals.items (P.last_refused patterns.new) i }
+            → IsRefusedAt (P.listed patterns.old) terminals.items (P.last_refused patterns.new) i }
         ensures empty_match { (i : ℕ) → result ≡ Err (MakeTokensFault.EmptyMatch i)
-            → MatchesEmptyAt terminals.items i }
-        ensures count { CountsTokens (P.count patterns.old) (P.count patterns.new) result }
+            → MatchesEmptyAt (P.listed patterns.old) terminals.items i }
+        ensures count { CountsRefusals (P.count patterns.old) (P.count patterns.new) result }
         ensures last { KeepsRefused (P.last_refused patterns.old) (P.last_refused patterns.new) result }
     {
         let starting = by_first_byte(alloc, keywords.as_slice())?;

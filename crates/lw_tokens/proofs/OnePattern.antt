@@ -1,27 +1,16 @@
 -- A terminal has one pattern, and so a grammar with its kinds has one lexicon.
-use Rattle.std.proofs.Common.{◌≡◌, ℕ, List, [], ◌∷◌, ◌++◌, codes, Some, inl, inr, refl, sym, ap, ap₂, ◌∙◌, subst, arith, slice_get}
-use Rattle.std.proofs.lemmas.Bool.{cases_lt}
+use Rattle.std.proofs.Common.{◌≡◌, ℕ, List, [], ◌∷◌, ◌++◌, codes, Some, refl, sym, ap, ap₂, ◌∙◌, subst}
 use Rattle.std.proofs.lemmas.Option.{none-some, same_Some}
 use Rattle.std.specs.List.{AllZip}
 use Rattle.lw_grammar.specs.declared.grammar.Grammar.{Grammar}
 use Rattle.lw_grammar.specs.declared.terminal.Terminal.{Terminal}
 use Rattle.lw_grammar.specs.declared.terminal.TermElement.{TermElement, out-TermElement}
 use Rattle.lw_grammar.specs.declared.terminal.TermElement.TheOpen.{TermElement-F, Pattern, Choice}
-use Rattle.lw_grammar.specs.Named.{IsFirst}
 use Rattle.lw_grammar.specs.Kinds.{Kinds}
+use Rattle.lw_grammar.proofs.FirstLemmas.{first_item}
 use Rattle.lw_tokens.specs.Patterns as p
 use Rattle.lw_tokens.specs.Patterns.{TerminalPattern, ElementPattern, LayerPattern, RowPattern, ChoicePattern, AlternativePattern, as_pattern, as_row, as_choice, unescaped, grouped, by_number}
 use Rattle.lw_tokens.specs.Lexicon.{Lexicon, TerminalForm, HasForm, IsLexicon}
-
--- the first item that passes is one
-one_first : {X : Type 0} (passes : X → Type 0) (xs : List X) (i j : ℕ) (x y : X) → IsFirst passes xs i x → IsFirst passes xs j y → x ≡ y
-one_first passes xs i j x y a b = elim (cases_lt i j) [
-  | inl lt ↦ absurd (b.none_before i x lt a.there a.does)
-  | inr ge ↦ elim (cases_lt j i) [
-    | inl gt ↦ absurd (a.none_before j y gt b.there b.does)
-    | inr le ↦ let same : i ≡ j = omega arith in same_Some x y (sym a.there ∙ ap (λ n. slice_get xs n) same ∙ b.there)
-  ]
-]
 
 not_both : {A : Type 0} (l : TermElement-F TermElement) (text : List ℕ) (parts : List TermElement) → as_pattern l ≡ Some text → as_choice l ≡ Some parts → A
 not_both (Pattern found s) text parts is choice = absurd (none-some parts choice)
@@ -53,7 +42,7 @@ module _ (g : Grammar) where
         ap₂ (λ x y. codes "[" ++ by_number x ++ codes "-" ++ by_number y ++ codes "]") low high
     one_layer p.pattern p.pattern = refl
     one_layer (p.call t called is x) (p.call {p = b} u other was y) =
-        ap grouped (one_terminal x (subst (λ c. TerminalPattern g c b) (one_first _ g.terminals u t other called was is) y))
+        ap grouped (one_terminal x (subst (λ c. TerminalPattern g c b) (first_item was.first is.first) y))
     one_layer (p.group x) (p.group y) = ap grouped (one_row x y)
     one_layer (p.choice x) (p.choice y) = ap grouped (one_choice x y)
     one_layer (p.maybe x) (p.maybe y) = ap (λ q. grouped q ++ codes "?") (one_element x y)

@@ -1,5 +1,5 @@
 -- What a terminal's pattern matches at the start of a text, by the definition of the library `regex`.
-use Rattle.std.specs.Prelude.{ℕ, ◌==◌, List, ◌++◌, Option, Some, None, codes, if◌then◌else◌, option_map, option_and_then, chars}
+use Rattle.std.specs.Prelude.{ℕ, ◌==◌, List, Option, Some, None, if◌then◌else◌, option_map, option_and_then, chars}
 use Rattle.regex.specs.Patterns.{Re, Match, find_str, default_config}
 use Rattle.regex_syntax.specs.Grammar.{read}
 use Rattle.lw_io.specs.Patterns.{anchored}

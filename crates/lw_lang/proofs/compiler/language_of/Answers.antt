@@ -19,13 +19,13 @@ returns-in-Ok-clause-clear g c =
 pub returns-in-Err-EmptyMatch-clause-fault : goal.returns-in-Err-EmptyMatch-clause-fault
 returns-in-Err-EmptyMatch-clause-fault g c =
     let at = c.in-Err-EmptyMatch.ensures.empty_match c.in-Err-EmptyMatch.field-0-0 (ap Err c.in-Err-EmptyMatch.field-0-is) in
-    let of = tried c.args.grammar c.requires.shape c.args.flat c.requires.flat c.in-Err-EmptyMatch.field-0-0 at.terminal at.reached in
+    let of = tried c.args.grammar c.requires.shape c.args.flat c.requires.flat _ c.in-Err-EmptyMatch.field-0-0 at.terminal at.tried in
     condition_causes c.args.grammar c.args.file.now _ c.unbuilt.result c.unbuilt.ensures (inr (of.terminal, at.terminal.pattern, of.tried, at.matches_empty))
 
 pub swap_remove-requires : goal.swap_remove-requires
 swap_remove-requires g c =
     let at = c.in-Err-Refused.ensures.refused c.in-Err-Refused.i (ap Err c.in-Err-Refused.field-0-is) in
-    let within = slice_get_within c.args.flat.terminals.items c.in-Err-Refused.i at.terminal at.reached.there in
+    let within = slice_get_within c.args.flat.terminals.items c.in-Err-Refused.i at.terminal at.tried.there in
     let names = simp length-map at (ap length c.in_ok-names.ensures) in
     let same = ap length c.deref.ensures.value in
     omega (arith, within, names, same)
@@ -33,10 +33,10 @@ swap_remove-requires g c =
 pub refused-requires-clause-named : goal.refused-requires-clause-named
 refused-requires-clause-named g c =
     let at = c.in-Err-Refused.ensures.refused c.in-Err-Refused.i (ap Err c.in-Err-Refused.field-0-is) in
-    let of = tried c.args.grammar c.requires.shape c.args.flat c.requires.flat c.in-Err-Refused.i at.terminal at.reached in
+    let of = tried c.args.grammar c.requires.shape c.args.flat c.requires.flat _ c.in-Err-Refused.i at.terminal at.tried in
     let name =
     name_at c.args.flat.terminals.items c.in_ok-names.names.items c.in-Err-Refused.i at.terminal c.swap_remove.result
-    (c.in_ok-names.ensures ∙ ap (map (λ s. s.name)) c.deref.ensures.value) at.reached.there c.swap_remove.ensures.value in
+    (c.in_ok-names.ensures ∙ ap (map (λ s. s.name)) c.deref.ensures.value) at.tried.there c.swap_remove.ensures.value in
     any_named c.args.grammar.terminals _ of.place of.terminal of.there (of.named ∙ sym name)
 
 pub refused-requires-clause-few : goal.refused-requires-clause-few
@@ -45,9 +45,9 @@ refused-requires-clause-few g c = few c.args.grammar c.requires.shape c.requires
 pub returns-in-Err-Refused-clause-fault : goal.returns-in-Err-Refused-clause-fault
 returns-in-Err-Refused-clause-fault g c =
     let at = c.in-Err-Refused.ensures.refused c.in-Err-Refused.i (ap Err c.in-Err-Refused.field-0-is) in
-    let of = tried c.args.grammar c.requires.shape c.args.flat c.requires.flat c.in-Err-Refused.i at.terminal at.reached in
+    let of = tried c.args.grammar c.requires.shape c.args.flat c.requires.flat _ c.in-Err-Refused.i at.terminal at.tried in
     let name =
     name_at c.args.flat.terminals.items c.in_ok-names.names.items c.in-Err-Refused.i at.terminal c.swap_remove.result
-    (c.in_ok-names.ensures ∙ ap (map (λ s. s.name)) c.deref.ensures.value) at.reached.there c.swap_remove.ensures.value in
+    (c.in_ok-names.ensures ∙ ap (map (λ s. s.name)) c.deref.ensures.value) at.tried.there c.swap_remove.ensures.value in
     pattern_causes c.args.grammar c.args.file.now _ _ c.refused.result c.refused.ensures c.requires.clear at.terminal.pattern at.refused of.terminal of.tried
     (λ i other there named. one_named c.args.grammar c.requires.shape c.requires.clear i of.place other of.terminal there of.there (named ∙ (name ∙ sym of.named)))

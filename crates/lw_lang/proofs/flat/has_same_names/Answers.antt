@@ -6,7 +6,7 @@ use Rattle.std.proofs.lemmas.Map.Made.{AllPairs-from_IsDistinct}
 use Rattle.std.proofs.lemmas.Map.Views.{Contains-from_any}
 use Rattle.std.proofs.lemmas.Slice.Eq.{bytes_eq-Decides}
 use Rattle.lw_lang.specs.Obstacles.{names}
-use Rattle.lw_lang.proofs.FirstUses.{same_text}
+use Rattle.lw_grammar.proofs.FirstUses.{same_text}
 use Rattle.lw_lang.proofs.FlatTexts.{HasRepeat-next}
 use Rattle.lw_lang.proofs.flat.has_same_names.Goals as goal
 

@@ -7,5 +7,5 @@ use Rattle.lw_lang.proofs.flat_terminals.unescaped.Goals as goal
 
 pub unreachable-requires : goal.unreachable-requires
 unreachable-requires c =
-    let same = c.deref.ensures.value ∙ c.in_ok-bytes.ensures ∙ ap unescaped c.bytes.ensures.bytes in
-    MatchOption-at_none _ _ c.in-None.is c.in_ok-text.ensures (subst IsUtf8 (sym same) (IsUtf8-unescaped _ c.bytes.ensures.utf8))
+    let same = c.in_ok-unescaped_bytes.ensures ∙ ap unescaped c.bytes.ensures.bytes in
+    MatchOption-at_none _ _ c.in-None.is c.from_vec.ensures (subst IsUtf8 (sym same) (IsUtf8-unescaped _ c.bytes.ensures.utf8))

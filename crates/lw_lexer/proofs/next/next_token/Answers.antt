@@ -19,10 +19,10 @@ returns-in-Some-clause-next c =
 
 pub returns-in-None-clause-next : goal.returns-in-None-clause-next
 returns-in-None-clause-next c =
-    rw c.found_keyword.ensures
+    rw c.keyword_next.ensures
     (keyword_is_next c.args.set.now.lexicon c.args.text.now c.longest_keyword-keyword.result c.longest_keyword-keyword.ensures.longest
     (rw (c.requires, c.length_or_zero.ensures) at c.in-None.ensures.first))
 
 pub returns-in-None-clause-some : goal.returns-in-None-clause-some
 returns-in-None-clause-some c =
-    has_bytes c.found_keyword.result c.longest_keyword-keyword.result c.found_keyword.ensures c.longest_keyword-keyword.ensures.filled
+    has_bytes c.keyword_next.result c.longest_keyword-keyword.result c.keyword_next.ensures c.longest_keyword-keyword.ensures.filled
