@@ -52,15 +52,6 @@ pub(crate) struct Setting<'a> {
     pub refused: &'a str,
 }
 
-// A check of the flat language.
-const CHECK: Setting<'static> = Setting {
-    words: &["check", PATH],
-    grammar: Some(FLAT),
-    pieces: &[],
-    failing: NOTHING,
-    refused: "none",
-};
-
 pub(crate) fn setting_of<'a>(words: &'a [&'a str], grammar: Option<&'a str>) -> Setting<'a> {
     Setting {
         words,
@@ -234,136 +225,30 @@ fn the_longest_document_is_read(rt: HostRuntime) -> Result<(), Fail> {
 
 #[test]
 fn runs_stop_with_a_note(rt: HostRuntime) -> Result<(), Fail> {
-    let check = CHECK;
-    let unread = Setting {
-        pieces: &[3, 3],
-        failing: Failing { read: 3, ..NOTHING },
-        ..check
-    };
-    let unwritten = Setting {
-        failing: Failing {
-            write: 1,
-            ..NOTHING
-        },
-        ..check
-    };
-    let unstored = Setting {
-        failing: Failing { file: 1, ..NOTHING },
-        ..check
-    };
-    for (setting, code, out, note) in [
-        (
-            Setting {
-                grammar: Some(CHOICE),
-                ..check
-            },
-            3,
-            "",
-            "f.langium:1:24: not built\n",
-        ),
-        (
-            Setting {
-                grammar: None,
-                ..check
-            },
-            6,
-            "",
-            "f.langium: absent\n",
-        ),
-        (unstored, 6, "", "f.langium: failed\n"),
-        (unread, 4, "", "read failed\n"),
-        (unwritten, 5, "", "write failed\n"),
-        (
-            Setting {
-                words: &[],
-                ..check
-            },
-            2,
-            "",
-            USAGE,
-        ),
-        (
-            Setting {
-                refused: UNPATTERNED,
-                ..check
-            },
-            3,
-            "",
-            "f.langium:1:77: terminal ID: pattern refused\n",
-        ),
+    let words: &[&str] = &["check", PATH];
+    let whole: &[u32] = &[];
+    let threes: &[u32] = &[3, 3];
+    for (words, grammar, pieces, failing, refused, code, out, note) in [
+        (words, Some(CHOICE), whole, NOTHING, "none", 3, "", "f.langium:1:24: not built\n"),
+        (words, None, whole, NOTHING, "none", 6, "", "f.langium: absent\n"),
+        (words, Some(FLAT), whole, Failing { file: 1, ..NOTHING }, "none", 6, "", "f.langium: failed\n"),
+        (words, Some(FLAT), threes, Failing { read: 3, ..NOTHING }, "none", 4, "", "read failed\n"),
+        (words, Some(FLAT), whole, Failing { write: 1, ..NOTHING }, "none", 5, "", "write failed\n"),
+        (&[], Some(FLAT), whole, NOTHING, "none", 2, "", USAGE),
+        (words, Some(FLAT), whole, NOTHING, UNPATTERNED, 3, "", "f.langium:1:77: terminal ID: pattern refused\n"),
         // The grammar's file is read once.
-        (
-            Setting {
-                failing: Failing { file: 2, ..NOTHING },
-                ..check
-            },
-            0,
-            "ok\n",
-            "",
-        ),
+        (words, Some(FLAT), whole, Failing { file: 2, ..NOTHING }, "none", 0, "ok\n", ""),
         // That a note fails changes neither the status nor what was written.
-        (
-            Setting {
-                grammar: None,
-                failing: Failing { note: 1, ..NOTHING },
-                ..check
-            },
-            6,
-            "",
-            "",
-        ),
-        (
-            Setting {
-                failing: Failing {
-                    write: 1,
-                    note: 1,
-                    ..NOTHING
-                },
-                ..check
-            },
-            5,
-            "",
-            "",
-        ),
-        (
-            Setting {
-                failing: Failing { note: 1, ..NOTHING },
-                ..check
-            },
-            0,
-            "ok\n",
-            "",
-        ),
+        (words, None, whole, Failing { note: 1, ..NOTHING }, "none", 6, "", ""),
+        (words, Some(FLAT), whole, Failing { write: 1, note: 1, ..NOTHING }, "none", 5, "", ""),
+        (words, Some(FLAT), whole, Failing { note: 1, ..NOTHING }, "none", 0, "ok\n", ""),
     ] {
+        let setting = Setting { words, grammar, pieces, failing, refused };
         ends_as(&rt, rt.alloc(), &setting, b"model m", code, out, note)?;
     }
     Ok(())
 }
 
-// Notes for which there is never memory.
-#[derive(Drop)]
-struct NoRoom {
-    calls: u64,
-}
-
-impl Sink for NoRoom {
-    ghost use Rattle.std.specs.Prelude.{None};
-
-    ghost written = { λ s. None };
-
-    ghost count = { λ s. 0 };
-
-    fn faults(&self) -> u64 {
-        0
-    }
-
-    fn write(&mut self, bytes: &[u8]) -> Wrote {
-        self.calls = self.calls.saturating_add(1);
-        Wrote::NoMemory
-    }
-}
-
-// The status is 7 then, and no second note is tried.
 #[test]
 fn a_note_without_memory_is_the_last(rt: HostRuntime) -> Result<(), Fail> {
     let alloc = rt.alloc();
