@@ -71,7 +71,8 @@ impl Language {
         self.tokens.kind_text(kind)
     }
 
-    /// What the text reads as. It takes time linear in the length of the text.
+    /// What the text reads as. At each token every pattern is tried once at its start: time is linear in the
+    /// length of the text where a pattern looks no further than it matches, and up to quadratic elsewhere.
     pub fn read(&self, alloc: Global, text: &Name) -> Result<Parsed, NoMemory>
         ensures reads { IfOk result (Reads self.now.grammar text.now) }
         ensures named { IfOk result (λ parsed. IfBroken parsed (IsNamed self.now.texts)) }
