@@ -225,29 +225,143 @@ fn the_longest_document_is_read(rt: HostRuntime) -> Result<(), Fail> {
 
 #[test]
 fn runs_stop_with_a_note(rt: HostRuntime) -> Result<(), Fail> {
-    let words: &[&str] = &["check", PATH];
-    let whole: &[u32] = &[];
-    let threes: &[u32] = &[3, 3];
-    for (words, grammar, pieces, failing, refused, code, out, note) in [
-        (words, Some(CHOICE), whole, NOTHING, "none", 3, "", "f.langium:1:24: not built\n"),
-        (words, None, whole, NOTHING, "none", 6, "", "f.langium: absent\n"),
-        (words, Some(FLAT), whole, Failing { file: 1, ..NOTHING }, "none", 6, "", "f.langium: failed\n"),
-        (words, Some(FLAT), threes, Failing { read: 3, ..NOTHING }, "none", 4, "", "read failed\n"),
-        (words, Some(FLAT), whole, Failing { write: 1, ..NOTHING }, "none", 5, "", "write failed\n"),
-        (&[], Some(FLAT), whole, NOTHING, "none", 2, "", USAGE),
-        (words, Some(FLAT), whole, NOTHING, UNPATTERNED, 3, "", "f.langium:1:77: terminal ID: pattern refused\n"),
+    let known: &[&str] = &["check", PATH];
+    let absent: &[&str] = &["check", "g.langium"];
+    for (words, grammar, failing, refused, code, out, note) in [
+        (
+            known,
+            CHOICE,
+            NOTHING,
+            "none",
+            3,
+            "",
+            "f.langium:1:24: not built\n",
+        ),
+        (absent, FLAT, NOTHING, "none", 6, "", "g.langium: absent\n"),
+        (
+            known,
+            FLAT,
+            Failing { file: 1, ..NOTHING },
+            "none",
+            6,
+            "",
+            "f.langium: failed\n",
+        ),
+        (
+            known,
+            FLAT,
+            Failing { read: 1, ..NOTHING },
+            "none",
+            4,
+            "",
+            "read failed\n",
+        ),
+        (
+            known,
+            FLAT,
+            Failing {
+                write: 1,
+                ..NOTHING
+            },
+            "none",
+            5,
+            "",
+            "write failed\n",
+        ),
+        (&[], FLAT, NOTHING, "none", 2, "", USAGE),
+        (
+            known,
+            FLAT,
+            NOTHING,
+            UNPATTERNED,
+            3,
+            "",
+            "f.langium:1:77: terminal ID: pattern refused\n",
+        ),
         // The grammar's file is read once.
-        (words, Some(FLAT), whole, Failing { file: 2, ..NOTHING }, "none", 0, "ok\n", ""),
+        (
+            known,
+            FLAT,
+            Failing { file: 2, ..NOTHING },
+            "none",
+            0,
+            "ok\n",
+            "",
+        ),
         // That a note fails changes neither the status nor what was written.
-        (words, None, whole, Failing { note: 1, ..NOTHING }, "none", 6, "", ""),
-        (words, Some(FLAT), whole, Failing { write: 1, note: 1, ..NOTHING }, "none", 5, "", ""),
-        (words, Some(FLAT), whole, Failing { note: 1, ..NOTHING }, "none", 0, "ok\n", ""),
+        (
+            absent,
+            FLAT,
+            Failing { note: 1, ..NOTHING },
+            "none",
+            6,
+            "",
+            "",
+        ),
+        (
+            known,
+            FLAT,
+            Failing {
+                write: 1,
+                note: 1,
+                ..NOTHING
+            },
+            "none",
+            5,
+            "",
+            "",
+        ),
+        (
+            known,
+            FLAT,
+            Failing { note: 1, ..NOTHING },
+            "none",
+            0,
+            "ok\n",
+            "",
+        ),
     ] {
-        let setting = Setting { words, grammar, pieces, failing, refused };
+        let setting = Setting {
+            failing,
+            refused,
+            ..setting_of(words, Some(grammar))
+        };
         ends_as(&rt, rt.alloc(), &setting, b"model m", code, out, note)?;
     }
+    // A read that fails in mid-stream.
+    let broken = Setting {
+        pieces: &[3, 3],
+        failing: Failing { read: 3, ..NOTHING },
+        ..setting_of(known, Some(FLAT))
+    };
+    ends_as(&rt, rt.alloc(), &broken, b"model m", 4, "", "read failed\n")?;
     Ok(())
 }
+
+// Notes for which there is never memory.
+#[derive(Drop)]
+struct NoRoom {
+    calls: u64,
+}
+
+impl Sink for NoRoom {
+    ghost use Rattle.std.specs.Prelude.{None};
+
+    ghost written = { λ s. None };
+
+    ghost count = { λ s. 0 };
+
+    fn faults(&self) -> u64 {
+        0
+    }
+
+    fn write(&mut self, bytes: &[u8]) -> Wrote {
+        self.calls = self.calls.saturating_add(1);
+        Wrote::NoMemory
+    }
+}
+
+// The status is 7 then, and no second note is tried.
 
 #[test]
 fn a_note_without_memory_is_the_last(rt: HostRuntime) -> Result<(), Fail> {
