@@ -9,8 +9,8 @@ use lw_lang::{Issue, Language, Parsed};
 use lw_text::{Encoding, Pos, Shown, TextDoc};
 use std::alloc::Global;
 
-/// The list of a text: empty where the grammar reads it whole, else its one fault. The one error is want of
-/// memory.
+/// The list of a text: empty where the grammar reads it whole, else its one fault. The one error is
+/// [`NoMemory`], want of memory.
 ///
 /// Positions are zero-based lines and UTF-16 units (Language Server Protocol 3.17, "Position"), found by the
 /// lines that the text knows. It takes time linear in the length of the text, and memory for its tokens.
@@ -32,7 +32,7 @@ pub fn diagnostics(
 }
 
 /// The one diagnostic of a text that is longer than a document may be, at the text's start. The one error is
-/// want of memory.
+/// [`NoMemory`], want of memory.
 pub fn too_large(alloc: Global) -> Result<Shown, NoMemory>
     ensures { IfOk result (λ shown. shown ≡ too_large_shown) }
 {

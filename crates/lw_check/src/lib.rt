@@ -4,9 +4,9 @@
 //! with where it begins and ends, its code and its message. Which list a text has is defined in
 //! `specs/Diagnostics.antt` of `lw_scopes`, and how a fault is shown in `specs/Faults.antt` there.
 //!
-//! It promises that [`diagnostics`] answers exactly that list, or that memory was refused; [`too_large`] is the one
-//! entry of a document that is not read, which a caller may know before it has the whole text. What a
-//! command line prints of a document and what an editor is told of it both come from here.
+//! It promises that [`diagnostics`] answers exactly that list. [`too_large`] is the one entry of a document
+//! that is not read, which a caller may know before it has the whole text. The one error of both calls is want
+//! of memory. What a command line prints of a document and what an editor is told of it both come from here.
 #![tactic(auto)]
 
 mod document;

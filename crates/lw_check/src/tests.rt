@@ -39,18 +39,18 @@ fn listed(
 
 // Whether the list has one entry, on this line from one character to another.
 fn is_one(list: &[Shown], line: u32, from: u32, to: u32, code: u8, message: &str) -> bool {
+    let start = Pos {
+        line,
+        character: from,
+    };
+    let end = Pos {
+        line,
+        character: to,
+    };
     match list {
         [shown] => {
-            let Pos {
-                line: first,
-                character: start,
-            } = shown.start;
-            let Pos {
-                line: last,
-                character: end,
-            } = shown.end;
-            let place = (first, start, last, end);
-            place == (line, from, line, to) && shown.code == code && shown.message.text() == message
+            let place = shown.start == start && shown.end == end;
+            place && shown.code == code && shown.message.text() == message
         }
         _ => false,
     }

@@ -1,6 +1,6 @@
 -- What the bytes of a text say of its characters.
-use Rattle.std.proofs.Common.{◌≡◌, ◌∙◌, sym, ap, ap₂, ℕ, ◌+◌, ◌/◌, ◌%◌, ◌<◌, ◌≤◌, List, [], ◌∷◌, length, Bool, ◌&&◌, cond, true, false, inl, inr, refl, arith, IsUtf8}
-use Rattle.std.proofs.lemmas.Bool.{lt-ltb, le-ltb, cases_lt}
+use Rattle.std.proofs.Common.{◌≡◌, ◌∙◌, sym, ap, ap₂, ℕ, ◌+◌, ◌/◌, ◌%◌, ◌<◌, ◌≤◌, List, [], ◌∷◌, length, cond, true, inl, inr, refl, arith, IsUtf8}
+use Rattle.std.proofs.lemmas.Bool.{lt-ltb, le-ltb, cases_lt, and_parts}
 use Rattle.std.proofs.lemmas.Bool.Decides.{nat_tests}
 use Rattle.std.proofs.lemmas.List.{length-append}
 use Rattle.std.proofs.lemmas.List.Sums.{sum_by-append}
@@ -11,31 +11,21 @@ use Rattle.std.specs.Str.{chars}
 use lib.Utf8.{encode, encodes, scalar, scalars, scalar_cases}
 use Rattle.lw_lanes.specs.Utf8.{begins_character, begins_pair, characters, utf16_units, in_utf16}
 
--- of a character's bytes, the first alone begins a character
-one_byte : (c : ℕ) → c < 128 → characters (c ∷ []) ≡ 1
-one_byte c below = grind (arith, nat_tests)
+-- these bytes are one character's, which takes so many units: the first of them alone begins a character, and a pair where they are four
+abbrev HoldsOne : List ℕ → ℕ → Type 0
+HoldsOne bytes units = (characters bytes ≡ 1) × (utf16_units bytes ≡ units)
 
-two_bytes : (c : ℕ) → 128 ≤ c → c < 2048 → characters ((192 + c / 64) ∷ (128 + c % 64) ∷ []) ≡ 1
-two_bytes c above below = grind (arith, nat_tests)
+one_byte : (c : ℕ) → c < 128 → HoldsOne (c ∷ []) 1
+one_byte c below = (grind (arith, nat_tests), grind (arith, nat_tests))
 
-three_bytes : (c : ℕ) → 2048 ≤ c → c < 65536 → characters ((224 + c / 4096) ∷ (128 + c / 64 % 64) ∷ (128 + c % 64) ∷ []) ≡ 1
-three_bytes c above below = grind (arith, nat_tests)
+two_bytes : (c : ℕ) → 128 ≤ c → c < 2048 → HoldsOne ((192 + c / 64) ∷ (128 + c % 64) ∷ []) 1
+two_bytes c above below = (grind (arith, nat_tests), grind (arith, nat_tests))
 
-four_bytes : (c : ℕ) → 65536 ≤ c → c < 1114112 → characters ((240 + c / 262144) ∷ (128 + c / 4096 % 64) ∷ (128 + c / 64 % 64) ∷ (128 + c % 64) ∷ []) ≡ 1
-four_bytes c above below = grind (arith, nat_tests)
+three_bytes : (c : ℕ) → 2048 ≤ c → c < 65536 → HoldsOne ((224 + c / 4096) ∷ (128 + c / 64 % 64) ∷ (128 + c % 64) ∷ []) 1
+three_bytes c above below = (grind (arith, nat_tests), grind (arith, nat_tests))
 
--- a character of four bytes, and no other, takes two units
-one_byte_unit : (c : ℕ) → c < 128 → utf16_units (c ∷ []) ≡ 1
-one_byte_unit c below = grind (arith, nat_tests)
-
-two_bytes_unit : (c : ℕ) → 128 ≤ c → c < 2048 → utf16_units ((192 + c / 64) ∷ (128 + c % 64) ∷ []) ≡ 1
-two_bytes_unit c above below = grind (arith, nat_tests)
-
-three_bytes_unit : (c : ℕ) → 2048 ≤ c → c < 65536 → utf16_units ((224 + c / 4096) ∷ (128 + c / 64 % 64) ∷ (128 + c % 64) ∷ []) ≡ 1
-three_bytes_unit c above below = grind (arith, nat_tests)
-
-four_bytes_units : (c : ℕ) → 65536 ≤ c → c < 1114112 → utf16_units ((240 + c / 262144) ∷ (128 + c / 4096 % 64) ∷ (128 + c / 64 % 64) ∷ (128 + c % 64) ∷ []) ≡ 2
-four_bytes_units c above below = grind (arith, nat_tests)
+four_bytes : (c : ℕ) → 65536 ≤ c → c < 1114112 → HoldsOne ((240 + c / 262144) ∷ (128 + c / 4096 % 64) ∷ (128 + c / 64 % 64) ∷ (128 + c % 64) ∷ []) 2
+four_bytes c above below = (grind (arith, nat_tests), grind (arith, nat_tests))
 
 encode-two : (c : ℕ) → 128 ≤ c → c < 2048 → encode c ≡ (192 + c / 64) ∷ (128 + c % 64) ∷ []
 unfolding encode
@@ -55,19 +45,18 @@ length-encode_utf16_one c below = rw (lt-ltb c 65536 below) refl
 length-encode_utf16_two : (c : ℕ) → 65536 ≤ c → length (encode_utf16 c) ≡ 2
 length-encode_utf16_two c above = rw (le-ltb c 65536 above) refl
 
--- what a count says of one character's bytes
-abbrev CountsOne : ℕ → Type 0
-CountsOne c = (characters (encode c) ≡ 1) × (utf16_units (encode c) ≡ length (encode_utf16 c))
+held : (c : ℕ) (bytes : List ℕ) (units : ℕ) → encode c ≡ bytes → length (encode_utf16 c) ≡ units → HoldsOne bytes units → HoldsOne (encode c) (length (encode_utf16 c))
+held c bytes units spelled size holds = (ap characters spelled ∙ holds.0, ap utf16_units spelled ∙ holds.1 ∙ sym size)
 
-counts_one : (c : ℕ) → c < 1114112 → CountsOne c
+counts_one : (c : ℕ) → c < 1114112 → HoldsOne (encode c) (length (encode_utf16 c))
 counts_one c top =
     elim (cases_lt c 128) [
-      | inl one ↦ (rw (encode_ascii c one) (one_byte c one), rw (encode_ascii c one) (one_byte_unit c one ∙ sym (length-encode_utf16_one c (omega arith))))
+      | inl one ↦ held c _ _ (encode_ascii c one) (length-encode_utf16_one c (omega arith)) (one_byte c one)
       | inr two ↦ elim (cases_lt c 2048) [
-        | inl below ↦ (rw (encode-two c two below) (two_bytes c two below), rw (encode-two c two below) (two_bytes_unit c two below ∙ sym (length-encode_utf16_one c (omega arith))))
+        | inl below ↦ held c _ _ (encode-two c two below) (length-encode_utf16_one c (omega arith)) (two_bytes c two below)
         | inr three ↦ elim (cases_lt c 65536) [
-          | inl below ↦ (rw (encode-three c three below) (three_bytes c three below), rw (encode-three c three below) (three_bytes_unit c three below ∙ sym (length-encode_utf16_one c below)))
-          | inr four ↦ (rw (encode-four c four) (four_bytes c four top), rw (encode-four c four) (four_bytes_units c four top ∙ sym (length-encode_utf16_two c four)))
+          | inl below ↦ held c _ _ (encode-three c three below) (length-encode_utf16_one c below) (three_bytes c three below)
+          | inr four ↦ held c _ _ (encode-four c four) (length-encode_utf16_two c four) (four_bytes c four top)
         ]
       ]
     ]
@@ -75,14 +64,10 @@ counts_one c top =
 scalar_below : (c : ℕ) → scalar c ≡ true → c < 1114112
 scalar_below c is = elim (scalar_cases c is) [ inl low ↦ omega arith | inr high ↦ high.1 ]
 
-both_true : (a b : Bool) → (a && b) ≡ true → (a ≡ true) × (b ≡ true)
-both_true true b is = (refl, is)
-both_true false b is = cc
-
 characters-encodes : (text : List ℕ) → scalars text ≡ true → characters (encodes text) ≡ length text
 characters-encodes [] are = refl
 characters-encodes (c ∷ cs) are =
-    let parts = both_true (scalar c) (scalars cs) are in
+    let parts = and_parts (scalar c) (scalars cs) are in
     sum_by-append (λ byte. cond (begins_character byte) 1 0) (encode c) (encodes cs)
     ∙ ap₂ ◌+◌ (counts_one c (scalar_below c parts.0)).0 (characters-encodes cs parts.1)
     ∙ omega arith
@@ -90,7 +75,7 @@ characters-encodes (c ∷ cs) are =
 utf16_units-encodes : (text : List ℕ) → scalars text ≡ true → utf16_units (encodes text) ≡ length (flat_map encode_utf16 text)
 utf16_units-encodes [] are = refl
 utf16_units-encodes (c ∷ cs) are =
-    let parts = both_true (scalar c) (scalars cs) are in
+    let parts = and_parts (scalar c) (scalars cs) are in
     omega (
       arith,
       sum_by-append (λ byte. cond (begins_character byte) 1 0) (encode c) (encodes cs),

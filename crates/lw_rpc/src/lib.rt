@@ -16,6 +16,7 @@
 #![tactic(auto)]
 
 mod hello;
+mod members;
 mod message;
 mod methods;
 mod params;

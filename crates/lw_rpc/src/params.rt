@@ -1,48 +1,29 @@
 // Parameters, by the shape that each method asks for.
-ghost use Rattle.std.specs.Prelude.{◌≡◌, IfOk, codes, option_map};
-ghost use Rattle.serde_json.specs.View.{view};
+ghost use Rattle.std.specs.Prelude.{◌≡◌, Some, option_map};
+ghost use Rattle.serde_json.specs.Data.{object};
+ghost use Rattle.serde_json.specs.View.{view, members_view};
 ghost use Rattle.lw_rpc.specs.Params as shape;
 
 use crate::Message;
-use lw_base::{Name, NoMemory};
-use serde_json::Value;
-use std::alloc::Global;
+use crate::members::{member_at, taken_text, taken_value};
+use serde_json::{Map, Value};
 
 /// What `textDocument/didOpen` says, or None where its parameters are not of its shape.
-pub fn did_open(alloc: Global, params: Option<&Value>) -> Result<Option<Message>, NoMemory>
-    ensures { IfOk result (λ message. message ≡ shape.did_open (option_map (λ value. view value.now) params.entry)) }
+pub fn did_open(params: Option<Value>) -> Option<Message>
+    ensures { result ≡ shape.did_open (option_map view params) }
 {
-    let document = member_at(params, "textDocument");
-    let Some(uri) = text_at(document, "uri") else {
-        return Ok(None);
-    };
-    let Some(version) = whole_at(document, "version") else {
-        return Ok(None);
-    };
-    let Some(text) = text_at(document, "text") else {
-        return Ok(None);
-    };
-    Ok(Some(Message::DidOpen {
-        uri: Name::from_text(alloc, uri)?,
-        version,
-        text: Name::from_text(alloc, text)?,
-    }))
+    match member_at(params, "textDocument")? {
+        Value::Object(document) => opened(document),
+        _ => None,
+    }
 }
 
-fn member_at<'v>(value: Option<&'v Value>, key: &str) -> Option<&'v Value>
-    ensures { option_map (λ member. view member.now) result ≡ shape.member_at key.now (option_map (λ value. view value.now) value.entry) }
+/// The document of these members is opened.
+fn opened(mut document: Map<String, Value>) -> Option<Message>
+    ensures { result ≡ shape.opened_document (Some (object (members_view document.entries))) }
 {
-    value?.get(key)
-}
-
-fn text_at<'v>(value: Option<&'v Value>, key: &str) -> Option<&'v str>
-    ensures { option_map (λ text. text.now) result ≡ shape.text_at key.now (option_map (λ value. view value.now) value.entry) }
-{
-    member_at(value, key)?.as_str()
-}
-
-fn whole_at(value: Option<&Value>, key: &str) -> Option<i64>
-    ensures { result ≡ shape.whole_at key.now (option_map (λ value. view value.now) value.entry) }
-{
-    member_at(value, key)?.as_i64()
+    let uri = taken_text(taken_value(&mut document, "uri")?)?;
+    let version = taken_value(&mut document, "version")?.as_i64()?;
+    let text = taken_text(taken_value(&mut document, "text")?)?;
+    Some(Message::DidOpen { uri, version, text })
 }

@@ -20,7 +20,7 @@ pub fn reply_text(alloc: Global, reply: &Reply) -> Result<Name, NoMemory>
     ensures reads_back { IfOk result (λ text. read text ≡ Some (spec.value_of reply.now)) }
 {
     let text = reply_value(alloc, reply)?.to_string(alloc)?;
-    Name::from_text(alloc, text.as_str())
+    Ok(Name::from_string(text))
 }
 
 /// The JSON value of a reply: one case for each of them.

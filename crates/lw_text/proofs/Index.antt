@@ -6,7 +6,7 @@ use Rattle.std.proofs.lemmas.Str.{IsCharBoundary-after_ascii, IsCharBoundary-fro
 use Rattle.lw_text.specs.Lines.{Line, IsEnding, line_feed, both, carriage_return, AreLines, last, next, line_bytes, lines_bytes}
 use Rattle.lw_text.specs.Position.{IsLineOf}
 use Rattle.lw_text.specs.Starts.{AreStarts, starts_from}
-use Rattle.lw_text.proofs.Lines.{not_none}
+use Rattle.lw_text.proofs.Lines.{not_none, some_ending}
 
 -- ---- the line of a number
 -- the line number n of these lines, of which the first begins at `base`
@@ -46,11 +46,6 @@ length-starts_from [] base = refl
 length-starts_from (line ∷ lines) base = ap suc (length-starts_from lines (base + line_bytes line))
 
 -- ---- where a line begins
-some_ending : {rest ending : List ℕ} → IsEnding rest ending → 0 < length ending
-some_ending line_feed = omega arith
-some_ending both = omega arith
-some_ending (carriage_return _) = omega arith
-
 -- the lines before another have a byte each at least
 few_lines : (before : List Line) {text : List ℕ} {lines : List Line} → AreLines text lines → (line : Line) (after : List Line) → lines ≡ before ++ line ∷ after → length before ≤ lines_bytes before
 few_lines [] cut line after e = omega arith
@@ -99,11 +94,12 @@ start_boundary text before line after utf8 cut = begins_whole before utf8 cut li
 
 -- ---- the line of a place
 -- by two places of the index that follow each other, with the place between them
-pub line_between : (text starts : List ℕ) (offset n : ℕ) → AreStarts text starts → n < length starts → get_or starts n 0 ≤ offset →
-    (n + 1 ≡ length starts) ⊎ (offset < get_or starts (n + 1) 0) → IsLineOf text offset n (get_or starts n 0) × (n ≤ offset)
-line_between text starts offset n are within from to =
+pub line_between : (text starts : List ℕ) (offset n end : ℕ) → AreStarts text starts → end ≡ n + 1 → end ≤ length starts → get_or starts n 0 ≤ offset →
+    (end ≡ length starts) ⊎ (offset < get_or starts end 0) → IsLineOf text offset n (get_or starts n 0) × (n ≤ offset)
+line_between text starts offset n end are near within from reaches =
     let places = are.places in
     let found = numbered are.lines n 0 (omega (arith, ap length places)) in
+    let to : (n + 1 ≡ length starts) ⊎ (offset < get_or starts (n + 1) 0) = subst (λ k. (k ≡ length starts) ⊎ (offset < get_or starts k 0)) near reaches in
     let cut : AreLines text (found.before ++ found.line ∷ found.after) = subst (λ lines. AreLines text lines) found.parts are.cut in
     let start : get_or starts n 0 ≡ lines_bytes found.before = ap (λ xs. get_or xs n 0) places ∙ found.begins ∙ omega arith in
     let behind : get_or starts (n + 1) 0 ≡ get_or (starts_from 0 are.lines) (n + 1) 0 = ap (λ xs. get_or xs (n + 1) 0) places in

@@ -1,5 +1,5 @@
 -- The cut of a text into lines: there is one, there is only one, and its lines joined_lines are the text.
-use Rattle.std.proofs.Common.{◌≡◌, ◌≢◌, ℕ, ◌⊎◌, inl, inr, ⊎_elim, List, [], ◌∷◌, ◌++◌, All, refl, sym, ap, ap₂, ◌∙◌, subst, append_assoc, append-nil}
+use Rattle.std.proofs.Common.{◌≡◌, ◌≢◌, ℕ, ◌<◌, ◌⊎◌, inl, inr, ⊎_elim, List, [], ◌∷◌, ◌++◌, All, refl, sym, ap, ap₂, ◌∙◌, subst, append_assoc, append-nil, length, arith}
 use Rattle.std.proofs.lemmas.Bool.{cases_eq}
 use Rattle.std.proofs.lemmas.List.Elements.{All-head, All-tail, All-nil, All-cons, All-append}
 use Rattle.lw_text.specs.Starts.{IsBreakOrOver}
@@ -48,6 +48,12 @@ same_ending {r} both (carriage_return none) h = absurd (none r cc)
 same_ending (carriage_return _) line_feed h = cc
 same_ending {r} {s} (carriage_return none) both h = absurd (none s cc)
 same_ending (carriage_return _) (carriage_return _) h = (refl, cc)
+
+-- what ends a line has a byte at least
+pub some_ending : {rest ending : List ℕ} → IsEnding rest ending → 0 < length ending
+some_ending line_feed = omega arith
+some_ending both = omega arith
+some_ending (carriage_return _) = omega arith
 
 ending_not_over : {rest ending : List ℕ} (bytes : List ℕ) → IsEnding rest ending → [] ≢ ending ++ bytes
 ending_not_over bytes line_feed e = cc

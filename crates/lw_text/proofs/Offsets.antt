@@ -25,7 +25,7 @@ pub record StartsLine (text : List ℕ) (n start : ℕ) : Type 0 where
   pub number : n ≡ length before
   pub begins : start ≡ lines_bytes before
 
-pub StartsLine-at : (text starts : List ℕ) (n start : ℕ) → AreStarts text starts → n < length starts → start ≡ get_or starts n start → StartsLine text n start
+StartsLine-at : (text starts : List ℕ) (n start : ℕ) → AreStarts text starts → n < length starts → start ≡ get_or starts n start → StartsLine text n start
 StartsLine-at text starts n start are within at =
     let places = are.places in
     let found = numbered are.lines n 0 (omega (arith, ap length places)) in
@@ -38,8 +38,14 @@ StartsLine-at text starts n start are within at =
       begins = get_or_read starts n start within at 0 ∙ ap (λ xs. get_or xs n 0) places ∙ found.begins ∙ omega arith;
     }
 
-pub StartsLine-boundary : (text : List ℕ) (n start : ℕ) → IsUtf8 text → StartsLine text n start → IsCharBoundary text start
+StartsLine-boundary : (text : List ℕ) (n start : ℕ) → IsUtf8 text → StartsLine text n start → IsCharBoundary text start
 StartsLine-boundary text n start utf8 s = subst (λ k. IsCharBoundary text k) (sym s.begins) (start_boundary text s.before s.line s.after utf8 s.cut)
+
+-- by the index: the line begins with a whole character
+pub line_of_index : (text starts : List ℕ) (n start : ℕ) → IsUtf8 text → AreStarts text starts → n < length starts → start ≡ get_or starts n start → StartsLine text n start × IsCharBoundary text start
+line_of_index text starts n start utf8 are within at =
+    let line = StartsLine-at text starts n start are within at in
+    (line, StartsLine-boundary text n start utf8 line)
 
 begins_with : (text : List ℕ) (n start : ℕ) → (s : StartsLine text n start) → BeginsWith (drop start text) s.line s.after
 begins_with text n start s = subst (λ k. BeginsWith (drop k text) s.line s.after) (sym s.begins) (line_in s.before s.cut s.line s.after refl)

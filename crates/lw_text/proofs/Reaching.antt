@@ -1,6 +1,6 @@
 -- A walk over a text from one line to the next.
 use Rattle.std.proofs.Common.{◌≡◌, ◌≢◌, ℕ, ◌+◌, ◌-◌, ◌<◌, ◌≤◌, ◌⊎◌, inl, inr, ⊎_elim, Bool, ◌||◌, ◌==◌, true, false, List, [], ◌∷◌, ◌++◌, length, get_or, take, drop, All, Option, Some, None, IfSome, IfNone, unwrap_or, refl, sym, ap, ap₂, ◌∙◌, subst, append_assoc, append-nil, arith, length-append, length-drop, length-take-le, take-append-drop}
-use Rattle.std.proofs.lemmas.Bool.{eqb-true, eqb-false, false≢true}
+use Rattle.std.proofs.lemmas.Bool.{eqb-true, eqb-false, false≢true, or_cases, or_parts}
 use Rattle.std.proofs.lemmas.Bool.Decides.{Decides-eqb}
 use Rattle.std.proofs.lemmas.Slice.Eq.{starts_is}
 use Rattle.std.specs.List.{starts_with}
@@ -12,22 +12,14 @@ use Rattle.lw_lanes.specs.LineBreak.{is_break, IsLeastBreak, NoBreakBetween}
 use Rattle.lw_text.specs.Lines.{IsNoBreak, Line, IsEnding, line_feed, both, carriage_return, AreLines, last, next, line_bytes, lines_bytes}
 use Rattle.lw_text.specs.Position.{IsLineOf}
 use Rattle.lw_text.specs.Starts.{AreStarts, IsBreakOrOver, IsLineEnd, IsNextLine, starts_from}
-use Rattle.lw_text.proofs.Lines.{cut_of}
+use Rattle.lw_text.proofs.Lines.{cut_of, some_ending}
 
 -- ---- where a line ends
-both_false : (a b : Bool) → (a || b) ≡ false → (a ≡ false) × (b ≡ false)
-both_false true b e = cc
-both_false false b e = (refl, e)
-
-one_true : (a b : Bool) → (a || b) ≡ true → (a ≡ true) ⊎ (b ≡ true)
-one_true true b e = inl refl
-one_true false b e = inr e
-
 IsNoBreak-from_test : (c : ℕ) → is_break c ≡ false → IsNoBreak c
-IsNoBreak-from_test c e = let parts = both_false (c == 10) (c == 13) e in (eqb-false c 13 parts.1, eqb-false c 10 parts.0)
+IsNoBreak-from_test c e = let parts = or_parts (c == 10) (c == 13) e in (eqb-false c 13 parts.1, eqb-false c 10 parts.0)
 
 break_from_test : (c : ℕ) → is_break c ≡ true → (c ≡ 13) ⊎ (c ≡ 10)
-break_from_test c e = ⊎_elim (λ feed. inr (eqb-true c 10 feed)) (λ return. inl (eqb-true c 13 return)) (one_true (c == 10) (c == 13) e)
+break_from_test c e = ⊎_elim (λ feed. inr (eqb-true c 10 feed)) (λ return. inl (eqb-true c 13 return)) (or_cases (c == 10) (c == 13) e)
 
 line_end_at : (text : List ℕ) (start end : ℕ) → start ≤ end → end ≤ length text → NoBreakBetween text start end → IsBreakOrOver (drop end text) → IsLineEnd text start end
 line_end_at text start end after within none over =
@@ -56,14 +48,6 @@ line_end_by text start (Some end) within some none =
     line_end_at text start end some.onwards (omega (arith, some.within)) some.least (subst IsBreakOrOver (sym (drop_more text end 0 some.within)) is)
 
 -- ---- from one line to the next
-pub IsLineEnd-within : (text : List ℕ) (start end : ℕ) → start ≤ length text → IsLineEnd text start end → end ≤ length text
-IsLineEnd-within text start end within e =
-    let sizes : length (drop start text) ≡ length e.content + length (drop end text) = ap length e.parts ∙ length-append e.content (drop end text) in
-    omega (arith, sizes, length-drop start text, e.far)
-
-pub last_line : (text : List ℕ) (start end : ℕ) → IsLineEnd text start end → drop end text ≡ [] → All IsNoBreak (drop start text)
-last_line text start end e over = subst (All IsNoBreak) (sym (e.parts ∙ ap (λ bytes. e.content ++ bytes) over ∙ append-nil e.content)) e.bare
-
 pub next_line_by : (text : List ℕ) (start end : ℕ) (ending : List ℕ) → IsLineEnd text start end → drop end text ≡ ending ++ drop (end + length ending) text → IsEnding (drop (end + length ending) text) ending → IsNextLine text start (end + length ending)
 next_line_by text start end ending e goes_on ends = record {
   content = e.content;
@@ -93,11 +77,6 @@ next_line_one text start end e some none = one_byte text start end (drop end tex
 pub next_line_two : (text : List ℕ) (start end : ℕ) → IsLineEnd text start end → drop end text ≡ (13 ∷ 10 ∷ []) ++ drop 2 (drop end text) → IsNextLine text start (end + 2)
 next_line_two text start end e is = next_line_by text start end (13 ∷ 10 ∷ []) e (is ∙ ap (λ bytes. (13 ∷ 10 ∷ []) ++ bytes) (drop-drop 2 end text)) both
 
-some_ending : {rest ending : List ℕ} → IsEnding rest ending → 0 < length ending
-some_ending line_feed = omega arith
-some_ending both = omega arith
-some_ending (carriage_return _) = omega arith
-
 pub IsNextLine-onwards : {text : List ℕ} {start end : ℕ} → IsNextLine text start end → start < end
 IsNextLine-onwards n = omega (arith, n.far, some_ending n.ends)
 
@@ -107,20 +86,17 @@ IsNextLine-within text start end within n =
     omega (arith, sizes, length-drop start text, n.far)
 
 -- by whether the rest of the text begins with `\r\n`
-pub next_line_test : (text : List ℕ) (start end : ℕ) (pair : Bool) → IsLineEnd text start end → pair ≡ starts_with eqb (drop end text) (13 ∷ 10 ∷ []) →
-    (pair ≡ true → IsNextLine text start (end + 2)) × (pair ≡ false → drop end text ≢ [] → IsNextLine text start (end + 1))
-next_line_test text start end pair e is =
-    let says = starts_is Decides-eqb (drop end text) (13 ∷ 10 ∷ []) pair is in
-    (λ two. next_line_two text start end e (says.0 two), λ one some. next_line_one text start end e some (λ rest h. false≢true (sym one ∙ says.1 rest h)))
+pub next_line_test : (text : List ℕ) (start end : ℕ) (rest : List ℕ) (pair : Bool) → rest ≡ drop end text → IsLineEnd text start end → pair ≡ starts_with eqb rest (13 ∷ 10 ∷ []) →
+    (pair ≡ true → IsNextLine text start (end + 2)) × (pair ≡ false → rest ≢ [] → IsNextLine text start (end + 1))
+next_line_test text start end rest pair left e is =
+    let says = starts_is Decides-eqb (drop end text) (13 ∷ 10 ∷ []) pair (is ∙ ap (λ bytes. starts_with eqb bytes (13 ∷ 10 ∷ [])) left) in
+    (λ two. next_line_two text start end e (says.0 two), λ one some. next_line_one text start end e (λ over. some (left ∙ over)) (λ more h. false≢true (sym one ∙ says.1 more h)))
 
 -- ---- the lines so far
 -- these are the lines before the one that begins at `start`
 pub record Reached (text : List ℕ) (start : ℕ) (before : List Line) : Type 0 where
   pub opens : (after : List Line) → AreLines (drop start text) after → AreLines text (before ++ after)
   pub begins : start ≡ lines_bytes before
-
-pub Reached-start : (text : List ℕ) → Reached text 0 []
-Reached-start text = record { opens = λ after cut. cut; begins = refl }
 
 abbrev pub line_to : {text : List ℕ} {start end : ℕ} → IsNextLine text start end → Line
 line_to n = record { content = n.content; ending = n.ending }
@@ -174,9 +150,6 @@ pub record Noted (text : List ℕ) (start : ℕ) (starts : List ℕ) : Type 0 wh
   pub before : List Line
   pub reached : Reached text start before
   pub places : starts ≡ starts_from 0 before ++ start ∷ []
-
-pub Noted-start : (text : List ℕ) → Noted text 0 (0 ∷ [])
-Noted-start text = record { before = []; reached = Reached-start text; places = refl }
 
 pub Noted-next : (text : List ℕ) (start end : ℕ) (starts : List ℕ) → Noted text start starts → IsNextLine text start end → Noted text end (starts ++ end ∷ [])
 Noted-next text start end starts noted n =

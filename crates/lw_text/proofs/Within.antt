@@ -43,9 +43,6 @@ module _ (size : ℕ → ℕ) (text : List ℕ) (n : ℕ) (cs rest : List ℕ) (
 
 -- ---- a piece after a piece
 module _ (size : ℕ → ℕ) (text : List ℕ) (place left n : ℕ) (ds : List ℕ) (utf8 : IsUtf8 text) (at : IsCharBoundary text place) (counted : left + sum_by size (chars (take place text)) ≡ n) (found : AreCharsWithin size (drop place text) left ds) where
-  front : List ℕ
-  front = chars (take place text)
-
   front_utf8 : IsUtf8 (take place text)
   front_utf8 = IsUtf8-take text place utf8 at
 

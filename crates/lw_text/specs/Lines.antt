@@ -1,5 +1,5 @@
 -- The lines of a text, as the Language Server Protocol 3.17 has them ("Text Documents"): a line ends with `\n`, `\r\n` or `\r`.
-use Rattle.std.specs.Prelude.{ℕ, ◌≡◌, ◌≢◌, ◌+◌, ◌⊎◌, List, [], ◌∷◌, ◌++◌, length, sum_by, All, Some, slice_get}
+use Rattle.std.specs.Prelude.{ℕ, ◌≡◌, ◌≢◌, ◌+◌, List, [], ◌∷◌, ◌++◌, length, sum_by, All}
 use Rattle.std.specs.List.{flat_map}
 
 -- a carriage return is 13, a line feed 10
@@ -33,7 +33,3 @@ line_bytes line = length line.content + length line.ending
 
 abbrev pub lines_bytes : List Line → ℕ
 lines_bytes lines = sum_by line_bytes lines
-
--- the byte at i is the last of what ends a line: a `\n`, or a `\r` with no `\n` behind it
-abbrev pub EndsLine : List ℕ → ℕ → Type 0
-EndsLine text i = (slice_get text i ≡ Some 10) ⊎ ((slice_get text i ≡ Some 13) × (slice_get text (i + 1) ≢ Some 10))

@@ -166,8 +166,7 @@ impl TextDoc {
         number: u64,
         enc: Encoding,
     ) -> Result<TextDoc, EditFault>
-        ensures made { IfOk result (IsMade enc self.now change.now) }
-        ensures fault { IfErr result (λ fault. (fault ≡ EditFault.NoMemory) ⊎ IsRefused enc self.now change.now number fault) }
+        ensures { MatchResult result (IsMade enc self.now change.now) (λ fault. (fault ≡ EditFault.NoMemory) ⊎ IsRefused enc self.now change.now number fault) }
     {
         if change.has_bad_range() {
             return Err(EditFault::BadRange(number));

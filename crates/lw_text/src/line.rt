@@ -21,12 +21,11 @@ pub(crate) fn line_at(text: &str, offset: usize) -> LineStart
     requires small { length text.now < 2 ^ 32 }
     ensures line { IsLineOf text.now offset result.number result.start }
 {
-    let bytes = text.as_bytes();
     let mut line = LineStart {
         number: 0,
         start: 0,
     };
-    'lines: while let Some(next) = next_line(bytes, line.start) {
+    'lines: while let Some(next) = next_line(text, line.start) {
         if next > offset {
             break;
         }
@@ -43,11 +42,10 @@ pub(crate) fn line_starts(alloc: Global, text: &str) -> Result<Items<u32>, NoMem
     requires { length text.now < 2 ^ 32 }
     ensures { IfOk result (λ starts. AreStarts text.now starts) }
 {
-    let bytes = text.as_bytes();
     let mut starts = Items::new(alloc);
     starts.push(0)?;
     let mut start = 0;
-    'lines: while let Some(next) = next_line(bytes, start) {
+    'lines: while let Some(next) = next_line(text, start) {
         starts.push(next as u32)?;
         start = next;
     }
@@ -78,12 +76,12 @@ pub(crate) fn line_among(text: &str, starts: &[u32], offset: usize) -> LineStart
 }
 
 /// Where the next line begins, behind the one that begins at `start`; None where that one is the last.
-fn next_line(text: &[u8], start: usize) -> Option<usize>
+fn next_line(text: &str, start: usize) -> Option<usize>
     requires { start ≤ length text.now }
     ensures { MatchOption result (All IsNoBreak (drop start text.now)) (IsNextLine text.now start) }
 {
     let end = line_end(text, start);
-    let rest = &text[end..];
+    let rest = &text.as_bytes()[end..];
     if rest.is_empty() {
         None
     } else if rest.starts_with(b"\r\n") {
@@ -95,9 +93,9 @@ fn next_line(text: &[u8], start: usize) -> Option<usize>
 
 /// Where what stands in the line that begins at `start` ends: at what ends the line, or at the end of
 /// the text.
-pub(crate) fn line_end(text: &[u8], start: usize) -> usize
+pub(crate) fn line_end(text: &str, start: usize) -> usize
     requires { start ≤ length text.now }
     ensures { IsLineEnd text.now start result }
 {
-    next_break(text, start).unwrap_or(text.len())
+    next_break(text.as_bytes(), start).unwrap_or(text.len())
 }

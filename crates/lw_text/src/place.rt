@@ -59,6 +59,6 @@ pub(crate) fn offset_in(text: &str, starts: &[u32], at: Pos, enc: Encoding) -> u
         return text.len();
     };
     let start = *start as usize;
-    let content = &text[start..line_end(text.as_bytes(), start)];
+    let content = &text[start..line_end(text, start)];
     start + place_behind(content, at.character, enc)
 }

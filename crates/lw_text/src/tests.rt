@@ -1,10 +1,9 @@
 // Places, positions and changes, by hand.
 ghost use Rattle.std.specs.Prelude.{◌≡◌};
 
-use crate::{Change, EditFault, Encoding, LONGEST_TEXT, Pos, TextDoc, position};
-use lw_base::{Items, Name, NoMemory};
+use crate::{Change, EditFault, Encoding, Pos, TextDoc, position};
+use lw_base::{Items, LONGEST_TEXT, Name, NoMemory};
 use std::alloc::Global;
-use std::process::Abort;
 use std::test::Fail;
 
 const ENC: Encoding = Encoding::Utf16;
@@ -13,42 +12,45 @@ fn doc(alloc: Global, text: &str) -> Result<TextDoc, EditFault> {
     TextDoc::new(alloc, Name::from_text(alloc, text)?)
 }
 
+/// A text, a byte in it, and the line and the character of its position.
+const PLACES: [(&str, u32, u32, u32); 30] = [
+    ("", 0, 0, 0),
+    ("model state", 6, 0, 6),
+    // A character of four bytes takes two units, and the places inside it are where it begins.
+    ("a😀b", 0, 0, 0),
+    ("a😀b", 1, 0, 1),
+    ("a😀b", 2, 0, 1),
+    ("a😀b", 4, 0, 1),
+    ("a😀b", 5, 0, 3),
+    ("a😀b", 6, 0, 4),
+    ("é😀\nü€x", 3, 0, 1),
+    ("é😀\nü€x", 6, 0, 3),
+    ("é😀\nü€x", 7, 1, 0),
+    ("é😀\nü€x", 8, 1, 0),
+    ("é😀\nü€x", 11, 1, 1),
+    ("é😀\nü€x", 12, 1, 2),
+    ("é😀\nü€x", 13, 1, 3),
+    // `\n`, `\r` and `\r\n` end a line, `\n\r` ends two.
+    ("a\nb\rc\r\nd", 1, 0, 1),
+    ("a\nb\rc\r\nd", 2, 1, 0),
+    ("a\nb\rc\r\nd", 3, 1, 1),
+    ("a\nb\rc\r\nd", 4, 2, 0),
+    ("a\nb\rc\r\nd", 5, 2, 1),
+    ("a\nb\rc\r\nd", 6, 2, 1),
+    ("a\nb\rc\r\nd", 7, 3, 0),
+    ("a\nb\rc\r\nd", 8, 3, 1),
+    ("\n\r\r\n", 1, 1, 0),
+    ("\n\r\r\n", 2, 2, 0),
+    ("\n\r\r\n", 3, 2, 0),
+    ("\n\r\r\n", 4, 3, 0),
+    ("last\r", 4, 0, 4),
+    ("last\r", 5, 1, 0),
+    ("last\n", 5, 1, 0),
+];
+
 #[test]
 fn places_have_positions(rt: HostRuntime) -> Result<(), Fail> {
-    for (text, offset, line, character) in [
-        ("", 0u32, 0u32, 0u32),
-        ("model state", 6, 0, 6),
-        // A character of four bytes takes two units, and the places inside it are where it begins.
-        ("a😀b", 0, 0, 0),
-        ("a😀b", 1, 0, 1),
-        ("a😀b", 2, 0, 1),
-        ("a😀b", 4, 0, 1),
-        ("a😀b", 5, 0, 3),
-        ("a😀b", 6, 0, 4),
-        ("é😀\nü€x", 3, 0, 1),
-        ("é😀\nü€x", 6, 0, 3),
-        ("é😀\nü€x", 7, 1, 0),
-        ("é😀\nü€x", 8, 1, 0),
-        ("é😀\nü€x", 11, 1, 1),
-        ("é😀\nü€x", 12, 1, 2),
-        ("é😀\nü€x", 13, 1, 3),
-        // `\n`, `\r` and `\r\n` end a line, `\n\r` ends two.
-        ("a\nb\rc\r\nd", 1, 0, 1),
-        ("a\nb\rc\r\nd", 2, 1, 0),
-        ("a\nb\rc\r\nd", 3, 1, 1),
-        ("a\nb\rc\r\nd", 4, 2, 0),
-        ("a\nb\rc\r\nd", 5, 2, 1),
-        ("a\nb\rc\r\nd", 6, 2, 1),
-        ("a\nb\rc\r\nd", 7, 3, 0),
-        ("a\nb\rc\r\nd", 8, 3, 1),
-        ("\n\r\r\n", 1, 1, 0),
-        ("\n\r\r\n", 2, 2, 0),
-        ("\n\r\r\n", 3, 2, 0),
-        ("\n\r\r\n", 4, 3, 0),
-        ("last\r", 4, 0, 4),
-        ("last\r", 5, 1, 0),
-        ("last\n", 5, 1, 0),
-    ] {
+    for (text, offset, line, character) in PLACES {
         assert!(rt; offset as usize <= text.len());
         assert!(rt; text.len() < 100);
         let at = Pos { line, character };
@@ -60,34 +62,37 @@ fn places_have_positions(rt: HostRuntime) -> Result<(), Fail> {
     Ok(())
 }
 
+/// A text, a line and a character, and the byte that they mean.
+const POSITIONS: [(&str, u32, u32, u32); 23] = [
+    ("a😀b", 0, 0, 0),
+    ("a😀b", 0, 1, 1),
+    ("a😀b", 0, 2, 1),
+    ("a😀b", 0, 3, 5),
+    ("a😀b", 0, 4, 6),
+    ("a😀b", 0, 99, 6),
+    ("a😀b", 1, 0, 6),
+    ("", 0, 0, 0),
+    ("", 0, 7, 0),
+    ("", 7, 0, 0),
+    // A character past the line's end is the line's end, before what ends the line.
+    ("ab\r\ncd", 0, 2, 2),
+    ("ab\r\ncd", 0, 3, 2),
+    ("ab\r\ncd", 0, 4, 2),
+    ("ab\r\ncd", 1, 0, 4),
+    ("ab\r\ncd", 1, 9, 6),
+    ("ab\r\ncd", 2, 0, 6),
+    ("a\rb", 0, 9, 1),
+    ("a\rb", 1, 0, 2),
+    ("é\n😀", 1, 1, 3),
+    ("é\n😀", 1, 2, 7),
+    ("last\n", 1, 0, 5),
+    ("last\n", 1, 1, 5),
+    ("last\n", 2, 0, 5),
+];
+
 #[test]
 fn positions_mean_places(rt: HostRuntime) -> Result<(), Fail> {
-    for (text, line, character, offset) in [
-        ("a😀b", 0u32, 0u32, 0u32),
-        ("a😀b", 0, 1, 1),
-        ("a😀b", 0, 2, 1),
-        ("a😀b", 0, 3, 5),
-        ("a😀b", 0, 4, 6),
-        ("a😀b", 0, 99, 6),
-        ("a😀b", 1, 0, 6),
-        ("", 0, 0, 0),
-        ("", 0, 7, 0),
-        ("", 7, 0, 0),
-        // A character past the line's end is the line's end, before what ends the line.
-        ("ab\r\ncd", 0, 2, 2),
-        ("ab\r\ncd", 0, 3, 2),
-        ("ab\r\ncd", 0, 4, 2),
-        ("ab\r\ncd", 1, 0, 4),
-        ("ab\r\ncd", 1, 9, 6),
-        ("ab\r\ncd", 2, 0, 6),
-        ("a\rb", 0, 9, 1),
-        ("a\rb", 1, 0, 2),
-        ("é\n😀", 1, 1, 3),
-        ("é\n😀", 1, 2, 7),
-        ("last\n", 1, 0, 5),
-        ("last\n", 1, 1, 5),
-        ("last\n", 2, 0, 5),
-    ] {
+    for (text, line, character, offset) in POSITIONS {
         let doc = doc(rt.alloc(), text)?;
         let at = Pos { line, character };
         assert_eq!(rt; doc.offset(at, ENC), offset, "{text:?} at {at:?}");
@@ -120,101 +125,75 @@ fn long_lines_are_counted(rt: HostRuntime) -> Result<(), Fail> {
 }
 
 /// A change as a test writes it: line and character of the start and of the end, and the text.
-type Edit<'a> = (Option<(u32, u32, u32, u32)>, &'a str);
+type Edit = (Option<(u32, u32, u32, u32)>, &'static str);
 
-fn changes(alloc: Global, edits: &[Edit<'_>]) -> Result<Items<Change>, NoMemory> {
+fn changes(alloc: Global, edits: &[Edit]) -> Result<Items<Change>, NoMemory> {
     let mut changes = Items::new(alloc);
     for (range, text) in edits {
-        changes.push(Change {
-            range: range.map(|(line, character, end, behind)| {
-                (
-                    Pos { line, character },
-                    Pos {
-                        line: end,
-                        character: behind,
-                    },
-                )
-            }),
-            text: Name::from_text(alloc, text)?,
-        })?;
+        let text = Name::from_text(alloc, text)?;
+        let range = range.map(|(line, character, last, end)| {
+            let start = Pos { line, character };
+            (
+                start,
+                Pos {
+                    line: last,
+                    character: end,
+                },
+            )
+        });
+        changes.push(Change { range, text })?;
     }
     Ok(changes)
 }
 
-/// The edits give the answer, and leave this text.
-fn leaves(
-    rt: &impl Abort,
-    alloc: Global,
-    text: &str,
-    edits: &[Edit<'_>],
-    answer: Result<(), EditFault>,
-    left: &str,
-) -> Result<(), EditFault> {
+const LAST: Edit = (Some((0, 3, 0, 99)), "c\r\nd");
+
+const JOINED: Edit = (Some((0, 4, 1, 0)), "");
+
+/// A text, the edits, the text that they leave, and the number of the one whose range is bad.
+const EDITS: [(&str, &[Edit], &str, Option<u64>); 11] = [
+    ("a😀b", &[], "a😀b", None),
+    ("a😀b", &[LAST], "a😀c\r\nd", None),
+    ("a😀c\r\nd", &[JOINED], "a😀cd", None),
+    ("a😀b", &[LAST, JOINED], "a😀cd", None),
+    ("a😀b", &[(Some((0, 2, 0, 1)), "x")], "a😀b", Some(0)),
+    (
+        "a😀b",
+        &[LAST, (Some((1, 0, 0, 5)), "x"), JOINED],
+        "a😀b",
+        Some(1),
+    ),
+    // The whole text, the very end, past the last line, and inside a character.
+    (
+        "a😀b",
+        &[(None, "\n"), (Some((1, 0, 1, 0)), "é")],
+        "\né",
+        None,
+    ),
+    ("ab", &[(Some((0, 2, 0, 2)), "c")], "abc", None),
+    ("ab", &[(Some((9, 0, 9, 9)), "c")], "abc", None),
+    ("a😀b", &[(Some((0, 2, 0, 3)), "")], "ab", None),
+    ("", &[(Some((0, 0, 0, 0)), "\r")], "\r", None),
+];
+
+/// The document after the edits, and the number of the one whose range is bad.
+fn edited(alloc: Global, text: &str, edits: &[Edit]) -> Result<(TextDoc, Option<u64>), EditFault> {
     let mut doc = doc(alloc, text)?;
     let changes = changes(alloc, edits)?;
-    assert_eq!(rt;
-        doc.apply(alloc, changes.as_slice(), ENC),
-        answer,
-        "{text:?}"
-    );
-    assert_eq!(rt; doc.text(alloc)?.text(), left, "{text:?}");
-    Ok(())
+    match doc.apply(alloc, changes.as_slice(), ENC) {
+        Ok(()) => Ok((doc, None)),
+        Err(EditFault::BadRange(number)) => Ok((doc, Some(number))),
+        Err(fault) => Err(fault),
+    }
 }
 
 #[test]
 fn changes_are_made_in_order(rt: HostRuntime) -> Result<(), Fail> {
-    let alloc = rt.alloc();
-    let first: Edit<'_> = (Some((0, 3, 0, 99)), "c\r\nd");
-    let second: Edit<'_> = (Some((0, 4, 1, 0)), "");
-    let bad: Edit<'_> = (Some((0, 2, 0, 1)), "x");
-    let bad_lines: Edit<'_> = (Some((1, 0, 0, 5)), "x");
-    leaves(&rt, alloc, "a😀b", &[first], Ok(()), "a😀c\r\nd")?;
-    leaves(&rt, alloc, "a😀c\r\nd", &[second], Ok(()), "a😀cd")?;
-    leaves(&rt, alloc, "a😀b", &[first, second], Ok(()), "a😀cd")?;
-    leaves(&rt, alloc, "a😀b", &[], Ok(()), "a😀b")?;
-    leaves(
-        &rt,
-        alloc,
-        "a😀b",
-        &[bad],
-        Err(EditFault::BadRange(0)),
-        "a😀b",
-    )?;
-    leaves(
-        &rt,
-        alloc,
-        "a😀b",
-        &[first, bad_lines, second],
-        Err(EditFault::BadRange(1)),
-        "a😀b",
-    )?;
-    // The whole text, the very end, past the last line, and inside a character.
-    leaves(
-        &rt,
-        alloc,
-        "a😀b",
-        &[(None, "\n"), (Some((1, 0, 1, 0)), "é")],
-        Ok(()),
-        "\né",
-    )?;
-    leaves(
-        &rt,
-        alloc,
-        "ab",
-        &[(Some((0, 2, 0, 2)), "c")],
-        Ok(()),
-        "abc",
-    )?;
-    leaves(
-        &rt,
-        alloc,
-        "ab",
-        &[(Some((9, 0, 9, 9)), "c")],
-        Ok(()),
-        "abc",
-    )?;
-    leaves(&rt, alloc, "a😀b", &[(Some((0, 2, 0, 3)), "")], Ok(()), "ab")?;
-    leaves(&rt, alloc, "", &[(Some((0, 0, 0, 0)), "\r")], Ok(()), "\r")?;
+    for (text, edits, left, bad) in EDITS {
+        let (doc, refused) = edited(rt.alloc(), text, edits)?;
+        assert_eq!(rt; doc.as_text(), left, "{text:?}");
+        assert_eq!(rt; refused, bad, "{text:?}");
+    }
     Ok(())
 }
 
