@@ -47,7 +47,7 @@ module _ (text : List ℕ) where
       let later : xs ≡ ys = from_same (at + m) xs ys after (subst (λ j. IsCutFrom (at + j) ys) same.1 rest) in
       ap (λ x. token_from at m k ∷ x) later ∙ ap (λ j. token_from at j k ∷ ys) (sym same.1) ∙ ap (λ j. token_from at n j ∷ ys) (sym same.0)
 
-  whole : (tokens : List FileToken) → IsFileCut text tokens → IsCutFrom 0 tokens
+  pub whole : (tokens : List FileToken) → IsFileCut text tokens → IsCutFrom 0 tokens
   whole tokens cut = subst (IsCutFrom 0) (append-nil tokens) (joined (length text) tokens [] cut (IsCutFrom.done refl))
 
   pub cut_same : (xs ys : List FileToken) → IsFileCut text xs → IsFileCut text ys → ys ≡ xs

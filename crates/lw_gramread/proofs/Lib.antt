@@ -6,5 +6,6 @@ pub mod HiddenLemmas
 pub mod StepLemmas
 pub mod PlaceLemmas
 pub mod CutLemmas
+pub mod FrontCuts
 pub mod ValueLemmas
 pub mod Laws

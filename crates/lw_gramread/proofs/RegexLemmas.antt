@@ -266,13 +266,7 @@ regex_same t f g m n p q =
     let cs = (p.first ++ p.others) ++ 47 ∷ p.after in
     behind_same cs f g m n (regex_parts t cs 47 f m p.parts p).1 (regex_parts t cs 47 g n p.parts q).1
 
--- none stands at the end, and none begins with another byte
-pub regex_none_empty : (flags n : ℕ) → ¬ IsRegex [] flags n
-regex_none_empty flags n r = let e : [] ≡ 47 ∷ ((r.first ++ r.others) ++ 47 ∷ r.after) = r.parts in cc
-
-pub regex_none_other : (t cs : List ℕ) (c : ℕ) → t ≡ c ∷ cs → c ≢ 47 → (flags n : ℕ) → ¬ IsRegex t flags n
-regex_none_other t cs c e apart flags n r = apart (regex_parts t cs c flags n e r).0
-
+-- none begins with a slash that nothing closes, and none with `/*`
 pub regex_none_open : (t cs : List ℕ) (c : ℕ) → t ≡ c ∷ cs → ((m : ℕ) → ¬ AreClosed cs m) → (flags n : ℕ) → ¬ IsRegex t flags n
 regex_none_open t cs c e none flags n r = let b = (regex_parts t cs c flags n e r).1 in none b.count (closed_some cs b.count b.closed)
 

@@ -95,10 +95,7 @@ string_some t cs c m e is_quote h =
     let f = inside_end_found c 0 false cs m h in
     record { quote = c; is_quote = is_quote; inside = f.inside; after = f.after; parts = e ∙ ap (λ x. c ∷ x) f.parts; within = f.within; bytes = omega (arith, f.bytes) }
 
--- no string stands at the end, and none begins with another byte
-pub string_none_empty : (n : ℕ) → ¬ IsString [] n
-string_none_empty n s = let e : [] ≡ s.quote ∷ s.inside ++ s.quote ∷ s.after = s.parts in cc
-
+-- no string begins with another byte
 pub string_none_other : (t cs : List ℕ) (c : ℕ) → t ≡ c ∷ cs → c ≢ 39 → c ≢ 34 → (n : ℕ) → ¬ IsString t n
 string_none_other t cs c e a b n s =
     let f : s.quote ∷ s.inside ++ s.quote ∷ s.after ≡ c ∷ cs = sym s.parts ∙ e in

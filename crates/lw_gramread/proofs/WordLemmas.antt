@@ -26,11 +26,6 @@ word_same t _ _ (marked {n = j} a e p) (marked {n = k} b f q) =
     let g : a ≡ b = (let h : 94 ∷ a ≡ 94 ∷ b = sym e ∙ f in cc) in
     ap (λ i. 1 + i) (plain_same b j k (subst (λ x. IsPlainWord x j) g p) q)
 
--- no word stands at the end
-pub word_none_empty : (n : ℕ) → ¬ IsWord [] n
-word_none_empty n (plain p) = let e : [] ≡ p.first ∷ p.after = p.parts in cc
-word_none_empty _ (marked after e p) = cc
-
 -- behind a mark a word stands where one without a mark does
 pub word_none_marked : (t after : List ℕ) → t ≡ 94 ∷ after → ((n : ℕ) → ¬ IsPlainWord after n) → (n : ℕ) → ¬ IsWord t n
 word_none_marked t after e none n (plain p) = unmarked t after n e p

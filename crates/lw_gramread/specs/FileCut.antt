@@ -1,6 +1,7 @@
 -- The cut of a grammar file into its tokens: at each place what is passed over, or the token that stands there.
-use Rattle.std.specs.Prelude.{ℕ, ◌+◌, ◌<◌, List, [], ◌∷◌, ◌++◌, drop, length}
+use Rattle.std.specs.Prelude.{ℕ, ◌≡◌, ◌+◌, ◌<◌, ◌⊎◌, List, [], ◌∷◌, ◌++◌, drop, length}
 use Rattle.lw_gramread.specs.declared.token.FileKind.{FileKind}
+use Rattle.lw_gramread.specs.declared.token.FileKind.TheVariants.{Other}
 use Rattle.lw_gramread.specs.declared.token.FileToken.{FileToken}
 use Rattle.lw_gramread.specs.FileTokens.{IsHidden, IsFileToken}
 
@@ -15,3 +16,11 @@ module _ (text : List ℕ) where
   -- the whole text is cut into these tokens; every text has one cut
   abbrev pub IsFileCut : List FileToken → Type 0
   IsFileCut tokens = IsFileCutTo (length text) tokens
+
+  -- the last of the tokens is none and can follow nowhere
+  abbrev pub EndsStray : List FileToken → Type 0
+  EndsStray tokens = (before : List FileToken) × (t : FileToken) × (tokens ≡ before ++ t ∷ []) × (t.kind ≡ Other)
+
+  -- the text is cut into these tokens as far as it can be read: to its end, or up to one that can follow nowhere
+  abbrev pub IsFrontCut : List FileToken → Type 0
+  IsFrontCut tokens = (at : ℕ) × IsFileCutTo at tokens × ((at ≡ length text) ⊎ EndsStray tokens)

@@ -3,7 +3,7 @@ ghost use Rattle.std.specs.Prelude.{◌≡◌, ℕ, ◌<◌, ◌≤◌, List, le
 ghost use Rattle.lw_base.specs.declared.limits.TheConstants.{LONGEST_TEXT};
 ghost use Rattle.lw_gramread.specs.declared.token.FileToken.{FileToken};
 ghost use Rattle.lw_gramread.specs.FileTokens.{IsHidden, IsFileToken};
-ghost use Rattle.lw_gramread.specs.FileCut.{IsFileCut};
+ghost use Rattle.lw_gramread.specs.FileCut.{IsFileCut, IsFrontCut};
 ghost use Rattle.lw_gramread.specs.Places.{IsPlace, IsOfKind};
 ghost use Rattle.lw_gramread.specs.Values.{part_of};
 
@@ -46,6 +46,43 @@ pub fn file_tokens(alloc: Global, text: &Name) -> Result<Vec<FileToken>, NoMemor
                     end: (at + n) as u32,
                 };
                 tokens.push(FileToken { kind, span })?;
+                at += n;
+            }
+        }
+    }
+    Ok(tokens)
+}
+
+/// The tokens of a grammar file up to its end, or up to the first that is no token and can follow nowhere,
+/// with that one. The text has at most 64 MiB.
+///
+/// A byte is read a fixed number of times, however many openings nothing closes: the first of them ends it.
+///
+/// The one error is want of memory.
+pub fn front_tokens(alloc: Global, text: &Name) -> Result<Vec<FileToken>, NoMemory>
+    requires { length text.now ≤ LONGEST_TEXT }
+    ensures cut { IfOk result (λ tokens. IsFrontCut text.now tokens.items) }
+    ensures places { IfOk result (λ tokens. All (λ t. IsPlace text.now t.span) tokens.items) }
+    ensures forms { IfOk result
+        (λ tokens. All (λ t. IsOfKind t.kind (part_of text.now t.span)) tokens.items) }
+{
+    let text = text.text();
+    let mut tokens = Vec::new(alloc);
+    let mut at = 0;
+    'front: while text.len() > at {
+        let rest = &text[at..];
+        match hidden_length(rest) {
+            Some(n) => at += n,
+            None => {
+                let (kind, n) = token_at(rest);
+                let span = Span {
+                    start: at as u32,
+                    end: (at + n) as u32,
+                };
+                tokens.push(FileToken { kind, span })?;
+                if kind == FileKind::Other {
+                    return Ok(tokens);
+                }
                 at += n;
             }
         }

@@ -6,9 +6,10 @@
 //! every text has one cut, and a reader refuses at a token. The forms are those of Langium's grammar
 //! language, of which these files are a stated part.
 //!
-//! It promises that [`file_tokens`] gives the one cut of a text, that each token stands at a part of
-//! the text that splits no character, and that its bytes have the form of its kind, which is what the
-//! functions on a token's text ask for.
+//! It promises that [`file_tokens`] gives the one cut of a text, and [`front_tokens`] its front up to the
+//! first token that can follow nowhere; that each token stands at a part of the text that splits no
+//! character; and that its bytes have the form of its kind, which is what the functions on a token's text
+//! ask for.
 #![tactic(auto)]
 
 mod cut;
@@ -20,7 +21,7 @@ mod token;
 mod values;
 mod word;
 
-pub use cut::file_tokens;
+pub use cut::{file_tokens, front_tokens};
 pub use token::{FileKind, FileToken, Symbol};
 pub use values::{is_reserved, read_escapes, regex_text, string_value, word_name};
 
