@@ -1,0 +1,14 @@
+pub mod Loops
+pub mod Shorter
+pub mod AgainTypes
+pub mod AgainRules
+pub mod AgainTerminals
+pub mod AgainFiles
+pub mod Machine
+pub mod At
+pub mod AtTypes
+pub mod AtRules
+pub mod AtTerminals
+pub mod AtFiles
+pub mod Reach
+pub mod Verdicts

@@ -1,0 +1,15 @@
+pub mod Lexemes
+pub mod Steps
+pub mod Spans
+pub mod TypeSteps
+pub mod ValueSteps
+pub mod ElementSteps
+pub mod RuleSteps
+pub mod TerminalSteps
+pub mod FileSteps
+pub mod OptionalTokens
+pub mod DeclaredTypes
+pub mod ParserRules
+pub mod TerminalRules
+pub mod Syntax
+pub mod Refusals

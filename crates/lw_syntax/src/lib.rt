@@ -1,0 +1,28 @@
+//! Which grammar a grammar file says: the syntax of grammar files, and its reader.
+//!
+//! Its model: the tokens of a file, as `lw_gramread` cuts them, say something each, a [`Lexeme`]. Lists of
+//! lexemes spell the things of a grammar, rule by rule, and with each thing its value in the plain types of
+//! `lw_grammar`, places included. The rules are those of Langium's grammar language, of which these are a
+//! stated part. The definitions stand in `specs/`:
+//!
+//! - `Lexemes.antt`: what a token says; `OptionalTokens.antt`, `Spans.antt`: what the rules share.
+//! - `DeclaredTypes.antt`, `ParserRules.antt`, `TerminalRules.antt`: what spells an interface or a union, a
+//!   parser rule, a terminal.
+//! - `Syntax.antt`: what spells a file, and which grammar a text says.
+//! - `Refusals.antt`: where a file goes wrong.
+//!
+//! It promises that [`read_grammar`] gives the grammar that a text says, and that it says no other; and else
+//! the first token that cannot follow those before it, or the first parenthesis that is opened inside 64
+//! others. That a form which is left out is told as such is tested: no clause says which form it is.
+//!
+//! `Steps.antt` and the files of steps beside it are the reader's own way through a file; the lemmas show
+//! that what it comes to is what the rules say.
+#![tactic(auto)]
+
+mod form;
+mod lexeme;
+mod reader;
+
+pub use form::Form;
+pub use lexeme::{Lexeme, Reserved};
+pub use reader::{ReadFault, read_grammar};
