@@ -204,9 +204,11 @@ keeps b (s ∷ r ∷ others) t m h e = from (begin s t) (inner_keeps b s t p.0) 
   where
     p : (inner b s ≡ true) × (held b (r ∷ others) ≡ true)
     p = both (inner b s) (held b (r ∷ others)) h
+
     skipped : (c : Bool) → cond c (after b (r ∷ others) t) None ≡ Some m → after b (r ∷ others) t ≡ Some m
     skipped true e = e
     skipped false e = absurd (cc e)
+
     from : (o : Wanted) → fits (all_inner b) o ≡ true → pushed o b (r ∷ others) (cond (nullable s) (after b (r ∷ others) t) None) ≡ Some m →
         (after b (r ∷ others) t ≡ Some m → (m.bottom ≡ b) × (held_or_over b m.wants ≡ true)) → (m.bottom ≡ b) × (held_or_over b m.wants ≡ true)
     from (Some w) f e again =

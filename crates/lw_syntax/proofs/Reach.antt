@@ -234,6 +234,7 @@ stuck_at [] d b wants spot left e = from (all_nullable wants) refl e
       room_left = d;
       shallow = refl;
     }
+
     from : (c : Bool) → all_nullable wants ≡ c → cond c Fine (Stuck (spot_of b wants []) []) ≡ Stuck spot left → StuckAt d b wants [] spot left
     from true n h = absurd (cc h)
     from false n h = at_end left (cc h) (cc h) n
@@ -250,6 +251,7 @@ stuck_at (t ∷ ts) d b wants spot left e = from (after b wants t) refl (deeper 
       room_left = d;
       shallow = refl;
     }
+
     from : (o : Option Stack) → after b wants t ≡ o → (q : Option ℕ) → deeper d t ≡ q → verdict o q (spot_of b wants (t ∷ ts)) (t ∷ ts) (λ n c others. place n c others ts) ≡ Stuck spot left →
         ((n : ℕ) (m : Stack) → place n m.bottom m.wants ts ≡ Stuck spot left → StuckAt n m.bottom m.wants ts spot left) → StuckAt d b wants (t ∷ ts) spot left
     from None a q f h again = here left (cc h) (cc h) a

@@ -107,9 +107,11 @@ module _ (m : Stack) where
     where
       k : (m.bottom ≡ InRule) × (held_or_over InRule m.wants ≡ true)
       k = keeps InRule wants t m h e
+
       none : (w : List Sym) → over InRule w ≡ true → w ≡ []
       none [] e = refl
       none (s ∷ w) e = absurd (cc e)
+
       from : (c : Bool) → held InRule m.wants ≡ c → cond c true (over InRule m.wants) ≡ true → RuleOn (ts ++ t ∷ []) m
       from true q f = (k.0, inl (Heads.body q))
       from false q f = (k.0, inr (none m.wants f))
@@ -135,6 +137,7 @@ split_last (x ∷ xs) (y ∷ ys) zs u e = from (split_last xs ys zs u (cc e))
   where
     same : x ≡ y
     same = cc e
+
     from : ((ys ≡ xs ++ u ∷ []) ⊎ ((ws : List Lexeme) × (xs ≡ ys ++ ws))) → (y ∷ ys ≡ x ∷ xs ++ u ∷ []) ⊎ ((ws : List Lexeme) × (x ∷ xs ≡ y ∷ ys ++ ws))
     from (inl h) = inl (ap (λ us. y ∷ us) h ∙ ap (λ z. z ∷ xs ++ u ∷ []) (sym same))
     from (inr h) = inr (h.0, ap (λ us. x ∷ us) h.1 ∙ ap (λ z. z ∷ ys ++ h.0) same)
@@ -145,17 +148,18 @@ abbrev NotWhole : List Lexeme → Type 0
 NotWhole ts = (g : Grammar) → ¬ SpellsFile ts g
 
 unfinished_one : (before : List Lexeme) (t : Lexeme) (g : Grammar) → SpellsFile before g → NotWhole (before ++ t ∷ []) → Unfinished (before ++ t ∷ []) (t ∷ [])
-unfinished_one before t g s n = record { whole = before; grammar = g; parts = refl; spells = s; longest = λ u front after e. only u front after e; }
+unfinished_one before t g s n = record { whole = before; grammar = g; parts = refl; spells = s; longest = λ u front after e. only u front after e }
   where
     only : (u : Lexeme) (front after : List Lexeme) → t ∷ [] ≡ u ∷ front ++ after → NotWhole (before ++ u ∷ front)
     only u [] after e = let h : t ≡ u = cc e in subst (λ z. NotWhole (before ++ z ∷ [])) h n
     only u (v ∷ front) after e = absurd (cc e)
 
 unfinished_on : (before begun : List Lexeme) (t : Lexeme) → Unfinished before begun → NotWhole (before ++ t ∷ []) → Unfinished (before ++ t ∷ []) (begun ++ t ∷ [])
-unfinished_on before begun t u n = record { whole = u.whole; grammar = u.grammar; parts = parts; spells = u.spells; longest = λ v front after e. still v front (split_last begun (v ∷ front) after t e); }
+unfinished_on before begun t u n = record { whole = u.whole; grammar = u.grammar; parts = parts; spells = u.spells; longest = λ v front after e. still v front (split_last begun (v ∷ front) after t e) }
   where
     parts : before ++ t ∷ [] ≡ u.whole ++ (begun ++ t ∷ [])
     parts = ap (λ xs. xs ++ t ∷ []) u.parts ∙ append_assoc u.whole begun (t ∷ [])
+
     still : (v : Lexeme) (front : List Lexeme) → ((v ∷ front ≡ begun ++ t ∷ []) ⊎ ((ws : List Lexeme) × (begun ≡ v ∷ front ++ ws))) → NotWhole (u.whole ++ v ∷ front)
     still v front (inl h) = subst NotWhole (parts ∙ ap (λ xs. u.whole ++ xs) (sym h)) n
     still v front (inr h) = u.longest v front h.0 h.1
@@ -290,6 +294,7 @@ module _ (before : List Lexeme) (b : Bottom) (wants : List Sym) (t : Lexeme) (m 
     where
       k : (m.bottom ≡ b) × (held_or_over b m.wants ≡ true)
       k = keeps b wants t m h e
+
       from : (x : Bool) → held b m.wants ≡ x → cond x true (over b m.wants) ≡ true → StateOf (before ++ t ∷ []) m
       from true q z =
           subst (λ d. State (before ++ t ∷ []) d m.wants) (sym (k.0 ∙ same))
@@ -307,6 +312,7 @@ module _ (before : List Lexeme) (t : Lexeme) (m : Stack) where
     where
       p : (m.bottom ≡ InRule) × (Heads (begun ++ t ∷ []) m.wants ⊎ (m.wants ≡ []))
       p = heads_step m h t e
+
       from : (Heads (begun ++ t ∷ []) m.wants ⊎ (m.wants ≡ [])) → StateOf (before ++ t ∷ []) m
       from (inl k) =
           subst (λ d. State (before ++ t ∷ []) d m.wants) (sym p.0) (State.rule (unfinished_on before begun t u

@@ -46,6 +46,7 @@ front_taken front left = ap (λ n. take n (front ++ left)) same ∙ taken front
   where
     same : length (front ++ left) - length left ≡ length front
     same = let h = length-append front left in omega (arith, h)
+
     taken : (xs : List Lexeme) → take (length xs) (xs ++ left) ≡ xs
     taken [] = refl
     taken (x ∷ xs) = ap (λ ys. x ∷ ys) (taken xs)
@@ -64,6 +65,7 @@ seen_ends x ts e = from (last_token ts) refl (seen x (last_token ts))
     only : (us : List Lexeme) (s : Span) → last_token ts ≡ Sign x s ∷ us → us ≡ []
     only [] s h = refl
     only (u ∷ us) s h = let n = length-drop (length ts - 1) ts in let k : length (drop (length ts - 1) ts) ≡ length (Sign x s ∷ u ∷ us) = ap length h in absurd (omega (arith, n, k))
+
     from : (us : List Lexeme) → last_token ts ≡ us → Seen x us → EndsIn x ts
     from us h (comes_not n) = absurd (cc (e, ap (sees x) h, n))
     from us h (comes s vs) =
@@ -310,6 +312,7 @@ module _ (front : List Lexeme) (m : Stack) (t : Lexeme) (ts : List Lexeme) (reac
       none [] o e = cc e
       none (May sign.Semicolon ∷ []) o e = cc e
       none (s ∷ wants) o e = absurd (cc o)
+
       from : (b : Bottom) (wants : List Sym) → State front b wants → b ≡ InType true → is_behind_type (spot_of b wants (t ∷ ts)) ≡ true → (begun : List Lexeme) × Unfinished front begun × BeginsInterface begun
       from b wants (State.between n l) i e = absurd (none wants (rw i at l) (rw i at e))
       from b wants (State.beside n l) i e = absurd (cc (rw i at l))
@@ -332,10 +335,13 @@ module _ (front : List Lexeme) (m : Stack) (t : Lexeme) (ts : List Lexeme) (reac
     where
       k : InRuleHere front m.wants
       k = in_rule (first_in_head (spot_of m.bottom m.wants (t ∷ ts)) e).0
+
       h : (n : List ℕ) × (s : Span) × (k.0 ≡ Word n None s ∷ [])
       h = first_here k.0 m.wants (t ∷ ts) k.3 (rw (in_rule_bottom (first_in_head (spot_of m.bottom m.wants (t ∷ ts)) e).0) at e)
+
       last : last_token front ≡ Word h.0 None h.1 ∷ []
       last = ap last_token (k.1.parts ∙ ap (λ xs. k.1.whole ++ xs) h.2) ∙ last_snoc k.1.whole (Word h.0 None h.1)
+
       spelled : h.0 ≡ codes "infix"
       spelled = (bytes_eq-Decides h.0 (codes "infix")).0 (ap begins_infix (sym last) ∙ i)
 
@@ -344,6 +350,7 @@ module _ (front : List Lexeme) (m : Stack) (t : Lexeme) (ts : List Lexeme) (reac
     where
       k : InRuleHere front m.wants
       k = in_rule (head_in_rule (spot_of m.bottom m.wants (t ∷ ts)) e)
+
       h : (behind : List Lexeme) × (type : RuleResult) × RuleHead k.0 behind × SpellsResult behind [] type
       h = head_here k.0 m.wants (t ∷ ts) k.3 (rw (in_rule_bottom (head_in_rule (spot_of m.bottom m.wants (t ∷ ts)) e)) at e)
 
@@ -482,29 +489,59 @@ Opened c b wants begun = (x : Lexeme) × (inside : List Lexeme) × (k : Stack) �
 module _ (b : Bottom) (wants : List Sym) (n : all_nullable wants ≡ true) where
   rule_opened : (begun : List Lexeme) → BeginsRule begun → Opened InRule b wants begun
   unfolding same_reserved
-  rule_opened _ (BeginsRule.entry {w} {s} {ts}) =
-      (Word w (Some word.Entry) s, ts, record { bottom = InRule; wants = RuleName ∷ ResultColon false ∷ Body }, refl,
-      word_falls b wants w (Some word.Entry) s n ∙ bottom_item b (Word w (Some word.Entry) s) refl refl, refl, refl)
-  rule_opened _ (BeginsRule.fragment {w} {s} {ts}) =
-      (Word w (Some word.Fragment) s, ts, record { bottom = InRule; wants = WantName ∷ ResultColon false ∷ Body }, refl,
-      word_falls b wants w (Some word.Fragment) s n ∙ bottom_item b (Word w (Some word.Fragment) s) refl refl, refl, refl)
+  rule_opened _ (BeginsRule.entry {w} {s} {ts}) = (
+    Word w (Some word.Entry) s,
+    ts,
+    record { bottom = InRule; wants = RuleName ∷ ResultColon false ∷ Body },
+    refl,
+    word_falls b wants w (Some word.Entry) s n ∙ bottom_item b (Word w (Some word.Entry) s) refl refl,
+    refl,
+    refl,
+  )
+  rule_opened _ (BeginsRule.fragment {w} {s} {ts}) = (
+    Word w (Some word.Fragment) s,
+    ts,
+    record { bottom = InRule; wants = WantName ∷ ResultColon false ∷ Body },
+    refl,
+    word_falls b wants w (Some word.Fragment) s n ∙ bottom_item b (Word w (Some word.Fragment) s) refl refl,
+    refl,
+    refl,
+  )
   rule_opened _ (BeginsRule.named {n = w} {s} {ts}) =
       (Word w None s, ts, record { bottom = InRule; wants = ResultColon true ∷ Body }, refl, word_falls b wants w None s n ∙ bottom_item b (Word w None s) refl refl, refl, refl)
 
   terminal_opened : (begun : List Lexeme) → BeginsTerminal begun → Opened InTerminal b wants begun
   unfolding same_reserved
-  terminal_opened _ (BeginsTerminal.terminal {w} {s} {ts}) =
-      (Word w (Some word.Terminal) s, ts, record { bottom = InTerminal; wants = TerminalName ∷ Term ∷ TermsEnd ∷ [] }, refl,
-      word_falls b wants w (Some word.Terminal) s n ∙ bottom_item b (Word w (Some word.Terminal) s) refl refl, refl, refl)
-  terminal_opened _ (BeginsTerminal.hidden {w} {s} {ts}) =
-      (Word w (Some word.Hidden) s, ts, record { bottom = InTerminal; wants = WantWord word.Terminal ∷ TerminalName ∷ Term ∷ TermsEnd ∷ [] }, refl,
-      word_falls b wants w (Some word.Hidden) s n ∙ bottom_item b (Word w (Some word.Hidden) s) refl refl, refl, refl)
+  terminal_opened _ (BeginsTerminal.terminal {w} {s} {ts}) = (
+    Word w (Some word.Terminal) s,
+    ts,
+    record { bottom = InTerminal; wants = TerminalName ∷ Term ∷ TermsEnd ∷ [] },
+    refl,
+    word_falls b wants w (Some word.Terminal) s n ∙ bottom_item b (Word w (Some word.Terminal) s) refl refl,
+    refl,
+    refl,
+  )
+  terminal_opened _ (BeginsTerminal.hidden {w} {s} {ts}) = (
+    Word w (Some word.Hidden) s,
+    ts,
+    record { bottom = InTerminal; wants = WantWord word.Terminal ∷ TerminalName ∷ Term ∷ TermsEnd ∷ [] },
+    refl,
+    word_falls b wants w (Some word.Hidden) s n ∙ bottom_item b (Word w (Some word.Hidden) s) refl refl,
+    refl,
+    refl,
+  )
 
   interface_opened : (begun : List Lexeme) → BeginsInterface begun → Opened (InType true) b wants begun
   unfolding same_reserved
-  interface_opened _ (BeginsInterface.interface {w} {s} {ts}) =
-      (Word w (Some word.Interface) s, ts, record { bottom = InType true; wants = WantName ∷ Above ∷ [] }, refl,
-      word_falls b wants w (Some word.Interface) s n ∙ bottom_item b (Word w (Some word.Interface) s) refl refl, refl, refl)
+  interface_opened _ (BeginsInterface.interface {w} {s} {ts}) = (
+    Word w (Some word.Interface) s,
+    ts,
+    record { bottom = InType true; wants = WantName ∷ Above ∷ [] },
+    refl,
+    word_falls b wants w (Some word.Interface) s n ∙ bottom_item b (Word w (Some word.Interface) s) refl refl,
+    refl,
+    refl,
+  )
 
   -- the stack behind a rule's name
   head_stack : (begun vs : List Lexeme) → RuleHead begun vs → (first : Bool) × (reach b wants begun ≡ reach InRule (ResultColon first ∷ Body) vs)
@@ -515,9 +552,11 @@ module _ (b : Bottom) (wants : List Sym) (n : all_nullable wants ≡ true) where
       (false, ap (λ o. onward o (λ k. reach k.bottom k.wants (Word w None s ∷ vs))) (word_falls b wants v (Some word.Fragment) q n ∙ bottom_item b (Word v (Some word.Fragment) q) refl refl))
   head_stack _ vs (RuleHead.head {n = w} {s} (MayTakeWord.there {n = v} {s = q}) MayTakeWord.left_out) =
       (false, ap (λ o. onward o (λ k. reach k.bottom k.wants (Word w None s ∷ vs))) (word_falls b wants v (Some word.Entry) q n ∙ bottom_item b (Word v (Some word.Entry) q) refl refl))
-  head_stack _ vs (RuleHead.head {n = w} {s} (MayTakeWord.there {n = v} {s = q}) (MayTakeWord.there {n = u} {s = p})) =
-      (false, ap (λ o. onward o (λ k. reach k.bottom k.wants (Word u (Some word.Fragment) p ∷ Word w None s ∷ vs)))
-      (word_falls b wants v (Some word.Entry) q n ∙ bottom_item b (Word v (Some word.Entry) q) refl refl))
+  head_stack _ vs (RuleHead.head {n = w} {s} (MayTakeWord.there {n = v} {s = q}) (MayTakeWord.there {n = u} {s = p})) = (
+    false,
+    ap (λ o. onward o (λ k. reach k.bottom k.wants (Word u (Some word.Fragment) p ∷ Word w None s ∷ vs)))
+        (word_falls b wants v (Some word.Entry) q n ∙ bottom_item b (Word v (Some word.Entry) q) refl refl),
+  )
 
   first_stack : (w : List ℕ) (s : Span) → reach b wants (Word w None s ∷ []) ≡ Some (record { bottom = InRule; wants = ResultColon true ∷ Body })
   first_stack w s = ap (λ o. onward o (λ k. reach k.bottom k.wants [])) (word_falls b wants w None s n ∙ bottom_item b (Word w None s) refl refl)
@@ -551,9 +590,11 @@ runs (t ∷ inside) whole read k m r n f e = from (after k.bottom k.wants t) ref
   where
     later : (v : Lexeme) (front after : List Lexeme) → inside ≡ v ∷ front ++ after → NotWhole (whole ++ ((read ++ t ∷ []) ++ v ∷ front))
     later v front after h = subst (λ xs. NotWhole (whole ++ xs)) (sym (append_assoc read (t ∷ []) (v ∷ front))) (f t (v ∷ front) after (ap (λ xs. t ∷ xs) h))
+
     solid : (q : Stack) → reach AtStart [] (whole ++ (read ++ t ∷ [])) ≡ Some q → (c : Bool) → all_nullable q.wants ≡ c → c ≡ false
     solid q r false h = refl
     solid q r true h = let g = whole_spelled (whole ++ (read ++ t ∷ [])) q r h in absurd (f t [] inside refl g.0 g.1)
+
     from : (o : Option Stack) → after k.bottom k.wants t ≡ o → onward o (λ q. reach q.bottom q.wants inside) ≡ Some m →
         ((q : Stack) → reach AtStart [] (whole ++ (read ++ t ∷ [])) ≡ Some q → all_nullable q.wants ≡ false →
         ((v : Lexeme) (front after : List Lexeme) → inside ≡ v ∷ front ++ after → NotWhole (whole ++ ((read ++ t ∷ []) ++ v ∷ front))) → reach q.bottom q.wants inside ≡ Some m →
@@ -575,7 +616,7 @@ module _ (front begun : List Lexeme) (u : Unfinished front begun) (m : Stack) (r
   stands_in : (c : Bottom) → Opened c behind.0.bottom behind.0.wants begun → InItem c m.bottom m.wants
   stands_in c o =
       let i = runs o.1 u.whole (o.0 ∷ []) o.2 m (next u.whole behind.0.bottom behind.0.wants o.0 o.2 behind.1 o.4) o.6
-              (λ t f after h. u.longest o.0 (t ∷ f) after (o.3 ∙ ap (λ xs. o.0 ∷ xs) h)) inside in
+      (λ t f after h. u.longest o.0 (t ∷ f) after (o.3 ∙ ap (λ xs. o.0 ∷ xs) h)) inside in
       (i.0 ∙ o.5, i.1)
     where
       inside : reach o.2.bottom o.2.wants o.1 ≡ Some m
@@ -603,10 +644,12 @@ module _ (front begun : List Lexeme) (u : Unfinished front begun) (m : Stack) (r
     where
       r : (k : Stack) × (reach AtStart [] ((front ++ Sign sign.Semicolon e ∷ []) ++ s.0) ≡ Some k) × (all_nullable k.wants ≡ true)
       r = spelled_reach ((front ++ Sign sign.Semicolon e ∷ []) ++ s.0) s.1 s.2
+
       follows : onward (after m.bottom m.wants (Sign sign.Semicolon e)) (λ k. reach k.bottom k.wants s.0) ≡ Some r.0
       follows =
           ap (λ o. onward o (λ k. reach k.bottom k.wants (Sign sign.Semicolon e ∷ s.0))) (sym reached) ∙ sym (reach_join AtStart [] front (Sign sign.Semicolon e ∷ s.0)) ∙
           ap (reach AtStart []) (sym (append_assoc front (Sign sign.Semicolon e ∷ []) s.0)) ∙ r.1
+
       from : (b : Bottom) (wants : List Sym) → State front b wants → InItem (InType true) b wants → (o : Option Stack) → after b wants (Sign sign.Semicolon e) ≡ o →
           onward o (λ k. reach k.bottom k.wants s.0) ≡ Some r.0 → is_behind_type (spot_of b wants (Sign sign.Equals p ∷ ts)) ≡ true
       from b wants x i None a h = absurd (cc h)
@@ -634,7 +677,7 @@ spot_of_infix : (front : List Lexeme) (w : List ℕ) (s : Span) → Unfinished f
 spot_of_infix front w s u m reached left =
     let k = behind front (Word w None s ∷ []) u m reached in
     let same = same_stack (record { bottom = InRule; wants = ResultColon true ∷ Body }) m
-               (sym (first_stack k.0.bottom k.0.wants k.2 w s) ∙ from_there front (Word w None s ∷ []) u m reached) in
+    (sym (first_stack k.0.bottom k.0.wants k.2 w s) ∙ from_there front (Word w None s ∷ []) u m reached) in
     ap (λ (z : Stack). spot_of z.bottom z.wants left) (sym same)
 
 infix_seen : (front : List Lexeme) (s : Span) → Unfinished front (Word (codes "infix") None s ∷ []) → begins_infix (last_token front) ≡ true

@@ -91,8 +91,7 @@ fn form_of_symbol(spot: Spot, before: &[Lexeme], symbol: Symbol) -> Option<Form>
         Symbol::Exclamation if is_in_terminal(spot) => Some(Form::Negation),
         Symbol::Dot if is_in_terminal(spot) => Some(Form::Wildcard),
         Symbol::Question | Symbol::QuestionEquals
-            if is_in_terminal(spot) && ends_in(before, Symbol::OpenParenthesis) =>
-        {
+            if is_in_terminal(spot) && ends_in(before, Symbol::OpenParenthesis) => {
             Some(Form::Lookaround)
         }
         Symbol::Star if is_name(spot) => Some(Form::WildcardFragment),
