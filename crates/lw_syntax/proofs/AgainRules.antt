@@ -16,7 +16,7 @@ use Rattle.lw_syntax.specs.ParserRules.{SpellsCrossRule, SpellsValue, SpellsValu
 use Rattle.lw_syntax.specs.Steps.{◌>>◌, sees, sees_reserved, same_symbol, same_reserved, next_operator, skip, symbol, reserved, free_word, feature, text, primitive, gathered, one}
 use Rattle.lw_syntax.specs.ValueSteps.{rule_of_cross, cross_reference, plain_value, value_in, bare_value, values, values_inside}
 use Rattle.lw_syntax.specs.ElementSteps.{put_operator, put_of, action_behind, action, marked, begins_element, assigned, word_part, plain_part, part_in, element_in, elements, row, rows, choice, choice_inside}
-use Rattle.lw_syntax.specs.RuleSteps.{returned, rule_result, rule_behind, rule}
+use Rattle.lw_syntax.specs.RuleSteps.{returned, rule_result, rule_tail, rule_behind, rule}
 use Rattle.lw_syntax.proofs.Shorter.{word_shorter, value_shorter, element_shorter, row_shorter, result_shorter}
 use Rattle.lw_syntax.proofs.AgainTypes.{word_again, gathered_none, gathered_more, first_again, one_again}
 
@@ -218,7 +218,7 @@ fragment_no_entry MayTakeWord.left_out = refl
 fragment_no_entry MayTakeWord.there = refl
 
 pub rule_again : {ts rest : List Lexeme} {r : Rule} → SpellsRule ts rest r → (d : ℕ) → length ts ≤ d → rule d ts ≡ Ok (r, rest)
-unfolding rule rule_behind free_word symbol same_symbol
+unfolding rule rule_behind rule_tail free_word symbol same_symbol
 rule_again (rules.rule e f r c) d le =
     let entry = word_again e (fragment_no_entry f) in
     let fragment = word_again f refl in

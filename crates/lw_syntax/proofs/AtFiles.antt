@@ -1,5 +1,5 @@
 -- Whole files as they are read, beside the stack.
-use Rattle.std.proofs.Common.{ℕ, ◌≡◌, ◌<◌, ◌≤◌, true, false, List, [], ◌∷◌, ◌++◌, length, Some, None, refl, sym, subst, arith}
+use Rattle.std.proofs.Common.{ℕ, ◌≡◌, ◌<◌, ◌≤◌, Bool, true, false, List, [], ◌∷◌, ◌++◌, length, Some, None, refl, sym, subst, arith}
 use Rattle.lw_grammar.specs.declared.grammar.Import.{Import}
 use Rattle.lw_gramread.specs.declared.token.Symbol.TheVariants as sign
 use Rattle.lw_syntax.specs.declared.lexeme.Reserved.TheVariants as word
@@ -14,8 +14,8 @@ use Rattle.lw_syntax.specs.Syntax.{SpellsGrammarName, SpellsImports, SpellsItem,
 use Rattle.lw_syntax.specs.Steps.{◌>>◌, sees_reserved, same_symbol, same_reserved, skip, all_of, one}
 use Rattle.lw_syntax.specs.FileSteps.{grammar_name, import, imports, shown_item, hidden_item, union_item, next_item, is_left, items, all_items, file}
 use Rattle.lw_syntax.proofs.Shorter.{may_shorter, item_shorter}
-use Rattle.lw_syntax.proofs.Machine.{May, TerminalName, Term, TermsEnd, AtStart, AtImports, AtItems, Fine, place}
-use Rattle.lw_syntax.proofs.At.{At, read, bind, done, finish, SeenWord, word_comes, word_comes_not, seen_word, name_at, text_at, reserved_at, Turns, gathered_at}
+use Rattle.lw_syntax.proofs.Machine.{May, TerminalName, Term, TermsEnd, AtStart, AtImports, AtItems, InType, InRule, InTerminal, Fine, place}
+use Rattle.lw_syntax.proofs.At.{At, read, bind, done, finish, moved, SeenWord, word_comes, word_comes_not, seen_word, name_at, text_at, reserved_at, Turns, gathered_at}
 use Rattle.lw_syntax.proofs.AgainFiles.{some_left}
 use Rattle.lw_syntax.proofs.AtTypes.{last_may_at, interface_at, union_at}
 use Rattle.lw_syntax.proofs.AtRules.{rule_at}
@@ -49,7 +49,7 @@ module _ (d : ℕ) where
   grammar_name_at ts = by ts (seen_word word.Grammar ts)
     where
       by : (us : List Lexeme) → SeenWord word.Grammar us → At (place d AtStart [] us) (place d AtImports []) (SpellsGrammarName us) (grammar_name us)
-      by us (word_comes n s vs) = bind _ (name_at d AtImports [] spot.Elsewhere vs) (λ mid m h. done m.0 mid (rw h syntax.named))
+      by us (word_comes n s vs) = bind _ (name_at d AtImports [] vs) (λ mid m h. done m.0 mid (rw h syntax.named))
       by us (word_comes_not h) = rw h (read [] us (start_imports d us h) syntax.unnamed)
 
   imports_turns : Turns (sees_reserved word.Import) (skip >> one import) (place d AtImports []) (place d AtItems []) (λ ts. Unit {0}) (λ ts. Unit {0}) SpellsImports
@@ -66,7 +66,7 @@ module _ (d : ℕ) where
           ((skip >> one import) ts)
       from ts e (word_comes_not h) = absurd (cc (e, h))
       from ts e (word_comes n s us) =
-          bind _ (bind _ (text_at d AtImports (May sign.Semicolon ∷ []) spot.Elsewhere us) (λ mid path h.
+          bind _ (bind _ (text_at d AtImports (May sign.Semicolon ∷ []) us) (λ mid path h.
           finish {Q = λ rest x. (length rest < length us) × ((last : List Lexeme) (ys : List Import) → SpellsImports rest last ys → SpellsImports (Word n (Some word.Import) s ∷ us) last (x ∷ ys))}
           (λ rest x g. let less : length rest ≤ length mid = may_shorter g.1.1 in (refl, (rw h (omega (arith, less)), λ last ys m. rw (h, g.0) (syntax.import_and g.1.1 m)))) (last_may_at d AtImports [] _ mid)))
           (λ rest x g. let less : length rest < length us = g.0 in done (x ∷ []) rest (omega (arith, less), tt, g.1))
@@ -79,11 +79,24 @@ module _ (d : ℕ) where
 
 -- ---- items
 
+-- behind an item any may follow
+type_settled : (d : ℕ) (i : Bool) (ts : List Lexeme) → place d (InType i) [] ts ≡ place d AtItems [] ts
+type_settled d i [] = refl
+type_settled d i (t ∷ ts) = refl
+
+rule_settled : (d : ℕ) (ts : List Lexeme) → place d InRule [] ts ≡ place d AtItems [] ts
+rule_settled d [] = refl
+rule_settled d (t ∷ ts) = refl
+
+terminal_settled : (d : ℕ) (ts : List Lexeme) → place d InTerminal [] ts ≡ place d AtItems [] ts
+terminal_settled d [] = refl
+terminal_settled d (t ∷ ts) = refl
+
 module _ (d : ℕ) where
   rule_here : (us : List Lexeme) (t : Lexeme) (ts : List Lexeme) → us ≡ t ∷ ts → sees_reserved word.Interface us ≡ false → sees_reserved word.Type us ≡ false →
-      sees_reserved word.Hidden us ≡ false → sees_reserved word.Terminal us ≡ false → At (place d AtItems [] us) (place d AtItems []) (SpellsRule us) (rule d us)
+      sees_reserved word.Hidden us ≡ false → sees_reserved word.Terminal us ≡ false → At (place d AtItems [] us) (place d InRule []) (SpellsRule us) (rule d us)
   rule_here us t ts e f y h m =
-      subst (λ zs. At (place d AtItems [] zs) (place d AtItems []) (SpellsRule zs) (rule d zs)) (sym e) (rule_at d t ts (rw e at f) (rw e at y) (rw e at h) (rw e at m))
+      subst (λ zs. At (place d AtItems [] zs) (place d InRule []) (SpellsRule zs) (rule d zs)) (sym e) (rule_at d t ts (rw e at f) (rw e at y) (rw e at h) (rw e at m))
 
   item_at : (t : Lexeme) (ts : List Lexeme) → At (place d AtItems [] (t ∷ ts)) (place d AtItems []) (SpellsItem (t ∷ ts)) (next_item d (t ∷ ts))
   unfolding next_item union_item hidden_item shown_item same_reserved
@@ -91,14 +104,14 @@ module _ (d : ℕ) where
     where
       by : (us : List Lexeme) → us ≡ t ∷ ts → SeenWord word.Interface us → SeenWord word.Type us → SeenWord word.Hidden us → SeenWord word.Terminal us →
           At (place d AtItems [] us) (place d AtItems []) (SpellsItem us) (next_item d us)
-      by us e (word_comes n s vs) y h m = bind _ (interface_at d AtItems [] vs) (λ mid i p. done _ mid (syntax.interface p))
-      by us e (word_comes_not f) (word_comes n s vs) h m = bind _ (union_at d AtItems [] vs) (λ mid u p. done _ mid (syntax.union_type p))
+      by us e (word_comes n s vs) y h m = bind _ (moved (type_settled d true) (interface_at d [] vs)) (λ mid i p. done _ mid (syntax.interface p))
+      by us e (word_comes_not f) (word_comes n s vs) h m = bind _ (moved (type_settled d false) (union_at d [] vs)) (λ mid u p. done _ mid (syntax.union_type p))
       by us e (word_comes_not f) (word_comes_not y) (word_comes n s vs) m =
-          bind _ (reserved_at d AtItems (TerminalName ∷ Term ∷ TermsEnd ∷ []) spot.Terminal word.Terminal vs) (λ ws u q.
-          bind _ (terminal_at d AtItems [] true ws) (λ mid x p. done _ mid (rw q.2 (syntax.hidden_terminal p))))
-      by us e (word_comes_not f) (word_comes_not y) (word_comes_not h) (word_comes n s vs) = bind _ (terminal_at d AtItems [] false vs) (λ mid x p. done _ mid (syntax.terminal p))
+          bind _ (reserved_at d InTerminal (TerminalName ∷ Term ∷ TermsEnd ∷ []) word.Terminal vs) (λ ws u q.
+          bind _ (moved (terminal_settled d) (terminal_at d [] true ws)) (λ mid x p. done _ mid (rw q.2 (syntax.hidden_terminal p))))
+      by us e (word_comes_not f) (word_comes_not y) (word_comes_not h) (word_comes n s vs) = bind _ (moved (terminal_settled d) (terminal_at d [] false vs)) (λ mid x p. done _ mid (syntax.terminal p))
       by us e (word_comes_not f) (word_comes_not y) (word_comes_not h) (word_comes_not m) =
-          rw (f, y, h, m) (bind _ (rule_here us t ts e f y h m) (λ mid r p. done _ mid (syntax.rule p)))
+          rw (f, y, h, m) (bind _ (moved (rule_settled d) (rule_here us t ts e f y h m)) (λ mid r p. done _ mid (syntax.rule p)))
 
 -- items up to the end
 abbrev ItemsTo : List Lexeme → List Lexeme → List Item → Type 0

@@ -11,4 +11,8 @@ pub mod AtRules
 pub mod AtTerminals
 pub mod AtFiles
 pub mod Reach
+pub mod Held
+pub mod Spelled
+pub mod Stands
+pub mod Told
 pub mod Verdicts

@@ -8,6 +8,8 @@ use Rattle.lw_syntax.specs.declared.lexeme.Reserved.{Reserved}
 use Rattle.lw_syntax.specs.declared.lexeme.Reserved.TheVariants as word
 use Rattle.lw_syntax.specs.declared.lexeme.Lexeme.{Lexeme}
 use Rattle.lw_syntax.specs.declared.lexeme.Lexeme.TheVariants.{Sign}
+use Rattle.lw_syntax.specs.declared.reader.left.Spot.{Spot}
+use Rattle.lw_syntax.specs.declared.reader.left.Spot.TheVariants as spot
 use Rattle.lw_syntax.specs.Steps.{sees, sees_reserved, sees_word, sees_name, sees_text, sees_regex, sees_primitive, next_operator}
 use Rattle.lw_syntax.specs.ElementSteps.{begins_element}
 use Rattle.lw_syntax.specs.TerminalSteps.{begins_term}
@@ -27,8 +29,11 @@ pub data Sym : Type 0 where
   -- attributes and the brace that closes them
   Attributes : Sym
   Single : Sym
-  -- behind a first member of an attribute, behind another member, behind one in parentheses
+  -- behind a first member of an attribute, behind another, and behind the whole type
   TypeEnd : Sym
+  AttributeMembers : Sym
+  AttributeEnd : Sym
+  -- behind a member of a union, and behind one in parentheses
   MembersEnd : Sym
   MembersClose : Sym
   Value : Sym
@@ -45,7 +50,11 @@ pub data Sym : Type 0 where
   PutEnd : Sym
   PutOperator : Sym
   RuleName : Sym
-  ResultColon : Sym
+  -- behind a rule's name, before its type and before the colon; whether the rule begins with its name
+  ResultColon : Bool → Sym
+  NameColon : Bool → Sym
+  -- behind its type
+  TypedColon : Sym
   Returned : Sym
   TerminalName : Sym
   ReturnsColon : Sym
@@ -72,6 +81,9 @@ opens t = if is sign.OpenBrace t then Some (Attributes ∷ []) else None
 
 abbrev pub members_end : Lexeme → Wanted
 members_end t = if is sign.Bar t then Some (Single ∷ MembersEnd ∷ []) else if is sign.Semicolon t then Some [] else None
+
+abbrev pub attribute_members : Lexeme → Wanted
+attribute_members t = if is sign.Bar t then Some (Single ∷ AttributeMembers ∷ []) else if is sign.Semicolon t then Some [] else None
 
 abbrev pub card : Lexeme → Wanted
 card t = if is sign.Question t || is sign.Star t || is sign.Plus t then Some [] else None
@@ -104,7 +116,9 @@ begin Attributes t =
 begin Single t =
     if is sign.OpenParenthesis t then Some (Single ∷ MembersClose ∷ []) else if is sign.At t then Some (WantName ∷ [])
     else if sees_primitive (t ∷ []) then Some [] else if sees_text (t ∷ []) then Some [] else if sees_name (t ∷ []) then Some [] else None
-begin TypeEnd t = if is sign.OpenBracket t then Some (Want sign.CloseBracket ∷ May sign.Semicolon ∷ []) else members_end t
+begin TypeEnd t = if is sign.OpenBracket t then Some (Want sign.CloseBracket ∷ AttributeEnd ∷ []) else attribute_members t
+begin AttributeMembers t = attribute_members t
+begin AttributeEnd t = if is sign.Semicolon t then Some [] else None
 begin MembersEnd t = members_end t
 begin MembersClose t = if is sign.Bar t then Some (Single ∷ MembersClose ∷ []) else if is sign.CloseParenthesis t then Some [] else None
 begin Value t =
@@ -130,9 +144,11 @@ begin PutEnd t =
     else if is sign.CloseBrace t then Some [] else None
 begin PutOperator t = if is sign.PlusEquals t then Some [] else if is sign.Equals t then Some [] else None
 begin RuleName t = if is_reserved word.Fragment t then Some (WantName ∷ []) else if sees_name (t ∷ []) then Some [] else None
-begin ResultColon t =
-    if is_reserved word.Infers t then Some (WantName ∷ Want sign.Colon ∷ []) else if is_reserved word.Returns t then Some (Returned ∷ Want sign.Colon ∷ [])
+begin (ResultColon first) t =
+    if is_reserved word.Infers t then Some (WantName ∷ TypedColon ∷ []) else if is_reserved word.Returns t then Some (Returned ∷ TypedColon ∷ [])
     else if is sign.Colon t then Some [] else None
+begin (NameColon first) t = if is sign.Colon t then Some [] else None
+begin TypedColon t = if is sign.Colon t then Some [] else None
 begin Returned t = if sees_primitive (t ∷ []) then Some [] else if sees_name (t ∷ []) then Some [] else None
 begin TerminalName t = if is_reserved word.Fragment t then Some (WantName ∷ Want sign.Colon ∷ []) else if sees_name (t ∷ []) then Some (ReturnsColon ∷ []) else None
 begin ReturnsColon t = if is_reserved word.Returns t then Some (WantPrimitive ∷ Want sign.Colon ∷ []) else if is sign.Colon t then Some [] else None
@@ -149,41 +165,47 @@ begin AfterText t = if is sign.DotDot t then Some (WantText ∷ Card ∷ []) els
 abbrev pub nullable : Sym → Bool
 nullable (May x) = true
 nullable TypeEnd = true
+nullable AttributeMembers = true
+nullable AttributeEnd = true
 nullable MembersEnd = true
 nullable Card = true
 nullable AfterWord = true
 nullable AfterText = true
 nullable _ = false
 
--- where a file stands between its items
+-- where a file stands: in its head, between its items, or in one of them
 pub data Bottom : Type 0 where
   AtStart : Bottom
   AtImports : Bottom
   AtItems : Bottom
-
-abbrev pub item_begin : Lexeme → Wanted
-item_begin t =
-    if is_reserved word.Interface t then Some (WantName ∷ Above ∷ []) else if is_reserved word.Type t then Some (WantName ∷ Want sign.Equals ∷ Single ∷ MembersEnd ∷ [])
-    else if is_reserved word.Hidden t then Some (WantWord word.Terminal ∷ TerminalName ∷ Term ∷ TermsEnd ∷ [])
-    else if is_reserved word.Terminal t then Some (TerminalName ∷ Term ∷ TermsEnd ∷ [])
-    else if is_reserved word.Entry t then Some (RuleName ∷ ResultColon ∷ Element ∷ RowsEnd ∷ [])
-    else if is_reserved word.Fragment t then Some (WantName ∷ ResultColon ∷ Element ∷ RowsEnd ∷ [])
-    else if sees_name (t ∷ []) then Some (ResultColon ∷ Element ∷ RowsEnd ∷ []) else None
+  -- whether it is an interface
+  InType : Bool → Bottom
+  InRule : Bottom
+  InTerminal : Bottom
 
 pub record Stack : Type 0 where
   pub bottom : Bottom
   pub wants : List Sym
 
-abbrev pub stands : Bottom → Wanted → Option Stack
-stands b (Some wants) = Some (record { bottom = b; wants = wants })
-stands b None = None
+abbrev pub stands : Bottom → List Sym → Option Stack
+stands b wants = Some (record { bottom = b; wants = wants })
+
+abbrev pub item_begin : Lexeme → Option Stack
+item_begin t =
+    if is_reserved word.Interface t then stands (InType true) (WantName ∷ Above ∷ [])
+    else if is_reserved word.Type t then stands (InType false) (WantName ∷ Want sign.Equals ∷ Single ∷ MembersEnd ∷ [])
+    else if is_reserved word.Hidden t then stands InTerminal (WantWord word.Terminal ∷ TerminalName ∷ Term ∷ TermsEnd ∷ [])
+    else if is_reserved word.Terminal t then stands InTerminal (TerminalName ∷ Term ∷ TermsEnd ∷ [])
+    else if is_reserved word.Entry t then stands InRule (RuleName ∷ ResultColon false ∷ Element ∷ RowsEnd ∷ [])
+    else if is_reserved word.Fragment t then stands InRule (WantName ∷ ResultColon false ∷ Element ∷ RowsEnd ∷ [])
+    else if sees_name (t ∷ []) then stands InRule (ResultColon true ∷ Element ∷ RowsEnd ∷ []) else None
 
 abbrev pub bottom_begin : Bottom → Lexeme → Option Stack
-bottom_begin AtItems t = stands AtItems (item_begin t)
-bottom_begin AtImports t = if is_reserved word.Import t then stands AtImports (Some (WantText ∷ May sign.Semicolon ∷ [])) else stands AtItems (item_begin t)
+bottom_begin AtImports t = if is_reserved word.Import t then stands AtImports (WantText ∷ May sign.Semicolon ∷ []) else item_begin t
 bottom_begin AtStart t =
-    if is_reserved word.Grammar t then stands AtImports (Some (WantName ∷ []))
-    else if is_reserved word.Import t then stands AtImports (Some (WantText ∷ May sign.Semicolon ∷ [])) else stands AtItems (item_begin t)
+    if is_reserved word.Grammar t then stands AtImports (WantName ∷ [])
+    else if is_reserved word.Import t then stands AtImports (WantText ∷ May sign.Semicolon ∷ []) else item_begin t
+bottom_begin _ t = item_begin t
 
 abbrev pub pushed : Wanted → Bottom → List Sym → Option Stack → Option Stack
 pushed (Some wants) b others next = Some (record { bottom = b; wants = wants ++ others })
@@ -208,17 +230,51 @@ deeper d (Sign sign.OpenParenthesis s) = opened d
 deeper d (Sign sign.CloseParenthesis s) = Some (suc d)
 deeper d t = Some d
 
+-- what the reader says of a token that cannot follow
+abbrev pub bottom_spot : Bottom → Spot
+bottom_spot InRule = spot.Rule
+bottom_spot InTerminal = spot.Terminal
+bottom_spot _ = spot.Elsewhere
+
+-- behind the type of an attribute
+abbrev pub type_spot : Bottom → List Lexeme → Spot → Spot
+type_spot (InType true) left s = if sees sign.Equals left then spot.Attribute else s
+type_spot _ left s = s
+
+-- in the head of a rule
+abbrev pub head_spot : Bottom → Spot → Spot
+head_spot InRule s = s
+head_spot b s = bottom_spot b
+
+abbrev pub name_spot : Bool → Spot
+name_spot first = if first then spot.FirstName else spot.RuleName
+
+abbrev pub spot_of : Bottom → List Sym → List Lexeme → Spot
+spot_of b [] left = spot.Elsewhere
+spot_of b (TypeEnd ∷ others) left = type_spot b left (spot_of b others left)
+spot_of b (AttributeMembers ∷ others) left = type_spot b left (spot_of b others left)
+spot_of b (AttributeEnd ∷ others) left = type_spot b left (spot_of b others left)
+spot_of b (May x ∷ others) left = spot_of b others left
+spot_of b (MembersEnd ∷ others) left = spot_of b others left
+spot_of b (Card ∷ others) left = spot_of b others left
+spot_of b (AfterWord ∷ others) left = spot_of b others left
+spot_of b (AfterText ∷ others) left = spot_of b others left
+spot_of b (ResultColon first ∷ others) left = head_spot b (name_spot first)
+spot_of b (NameColon first ∷ others) left = head_spot b (name_spot first)
+spot_of b (TypedColon ∷ others) left = head_spot b spot.RuleType
+spot_of b (s ∷ others) left = bottom_spot b
+
 -- where tokens stop: at the first of these, which cannot follow, or at a parenthesis too deep
 pub data Verdict : Type 0 where
   Fine : Verdict
-  Stuck : List Lexeme → Verdict
+  Stuck : Spot → List Lexeme → Verdict
   Deep : List Lexeme → Verdict
 
-abbrev pub verdict : Option Stack → Option ℕ → List Lexeme → (ℕ → Bottom → List Sym → Verdict) → Verdict
-verdict None d left k = Stuck left
-verdict (Some m) None left k = Deep left
-verdict (Some m) (Some d) left k = k d m.bottom m.wants
+abbrev pub verdict : Option Stack → Option ℕ → Spot → List Lexeme → (ℕ → Bottom → List Sym → Verdict) → Verdict
+verdict None d s left k = Stuck s left
+verdict (Some m) None s left k = Deep left
+verdict (Some m) (Some d) s left k = k d m.bottom m.wants
 
 abbrev pub place : ℕ → Bottom → List Sym → List Lexeme → Verdict
-place d b wants [] = if all_nullable wants then Fine else Stuck []
-place d b wants (t ∷ ts) = verdict (after b wants t) (deeper d t) (t ∷ ts) (λ n c others. place n c others ts)
+place d b wants [] = if all_nullable wants then Fine else Stuck (spot_of b wants []) []
+place d b wants (t ∷ ts) = verdict (after b wants t) (deeper d t) (spot_of b wants (t ∷ ts)) (t ∷ ts) (λ n c others. place n c others ts)

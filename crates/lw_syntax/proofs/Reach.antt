@@ -6,10 +6,11 @@ use Rattle.lw_gramread.specs.declared.token.Symbol.TheVariants as sign
 use Rattle.lw_syntax.specs.declared.lexeme.Reserved.TheVariants as word
 use Rattle.lw_syntax.specs.declared.lexeme.Lexeme.{Lexeme}
 use Rattle.lw_syntax.specs.declared.lexeme.Lexeme.TheVariants.{Word, Text, Regex, Sign, Other}
+use Rattle.lw_syntax.specs.declared.reader.left.Spot.{Spot}
 use Rattle.lw_syntax.specs.Steps.{same_symbol, same_reserved}
 use Rattle.lw_syntax.specs.Syntax.{openings, closings}
 use Rattle.lw_syntax.proofs.AgainTypes.{symbol_itself, reserved_itself}
-use Rattle.lw_syntax.proofs.Machine.{Sym, Want, WantWord, WantName, WantFeature, WantText, WantPrimitive, May, Above, NamesOpen, Attributes, Single, TypeEnd, MembersEnd, MembersClose, Value, ValuesClose, CrossEnd, Element, RowsEnd, RowsClose, Card, AfterWord, Operator, ActionType, PutEnd, PutOperator, RuleName, ResultColon, Returned, TerminalName, ReturnsColon, Term, TermsEnd, TermsClose, AfterText, Bottom, AtStart, AtImports, AtItems, Stack, begin, after, nullable, all_nullable, deeper, Fine, Stuck, Deep, verdict, place}
+use Rattle.lw_syntax.proofs.Machine.{Sym, Want, WantWord, WantName, WantFeature, WantText, WantPrimitive, May, Above, NamesOpen, Attributes, Single, TypeEnd, AttributeMembers, AttributeEnd, MembersEnd, MembersClose, Value, ValuesClose, CrossEnd, Element, RowsEnd, RowsClose, Card, AfterWord, Operator, ActionType, PutEnd, PutOperator, RuleName, ResultColon, NameColon, TypedColon, Returned, TerminalName, ReturnsColon, Term, TermsEnd, TermsClose, AfterText, Bottom, AtStart, AtImports, AtItems, InType, InRule, InTerminal, Stack, begin, after, nullable, all_nullable, deeper, Fine, Stuck, Deep, verdict, place, spot_of}
 
 -- ---- the stack behind tokens
 
@@ -32,6 +33,12 @@ reach_join b wants (x ∷ xs) ys = chain (after b wants x) (λ m. reach_join m.b
 
 -- ---- a stack can be finished
 
+nowhere : Span
+nowhere = record { start = 0; end = 0 }
+
+a_name : Lexeme
+a_name = Word [] None (record { start = 0; end = 0 })
+
 abbrev sign_of : Symbol → Lexeme
 sign_of x = Sign x (record { start = 0; end = 0 })
 
@@ -49,6 +56,8 @@ fill NamesOpen = sign_of sign.OpenBrace ∷ sign_of sign.CloseBrace ∷ sign_of 
 fill Attributes = sign_of sign.CloseBrace ∷ sign_of sign.Semicolon ∷ []
 fill Single = Word [] None (record { start = 0; end = 0 }) ∷ []
 fill TypeEnd = sign_of sign.Semicolon ∷ []
+fill AttributeMembers = sign_of sign.Semicolon ∷ []
+fill AttributeEnd = sign_of sign.Semicolon ∷ []
 fill MembersEnd = sign_of sign.Semicolon ∷ []
 fill MembersClose = sign_of sign.CloseParenthesis ∷ []
 fill Value = Word [] None (record { start = 0; end = 0 }) ∷ []
@@ -64,7 +73,9 @@ fill ActionType = Word [] None (record { start = 0; end = 0 }) ∷ []
 fill PutEnd = sign_of sign.CloseBrace ∷ []
 fill PutOperator = sign_of sign.Equals ∷ []
 fill RuleName = Word [] None (record { start = 0; end = 0 }) ∷ []
-fill ResultColon = sign_of sign.Colon ∷ []
+fill (ResultColon first) = sign_of sign.Colon ∷ []
+fill (NameColon first) = sign_of sign.Colon ∷ []
+fill TypedColon = sign_of sign.Colon ∷ []
 fill Returned = Word [] None (record { start = 0; end = 0 }) ∷ []
 fill TerminalName = Word [] None (record { start = 0; end = 0 }) ∷ sign_of sign.Colon ∷ []
 fill ReturnsColon = sign_of sign.Colon ∷ []
@@ -87,6 +98,8 @@ filled NamesOpen b others rest = refl
 filled Attributes b others rest = refl
 filled Single b others rest = refl
 filled TypeEnd b others rest = refl
+filled AttributeMembers b others rest = refl
+filled AttributeEnd b others rest = refl
 filled MembersEnd b others rest = refl
 filled MembersClose b others rest = refl
 filled Value b others rest = refl
@@ -102,7 +115,9 @@ filled ActionType b others rest = refl
 filled PutEnd b others rest = refl
 filled PutOperator b others rest = refl
 filled RuleName b others rest = refl
-filled ResultColon b others rest = refl
+filled (ResultColon first) b others rest = refl
+filled (NameColon first) b others rest = refl
+filled TypedColon b others rest = refl
 filled Returned b others rest = refl
 filled TerminalName b others rest = refl
 filled ReturnsColon b others rest = refl
@@ -180,12 +195,13 @@ Blocked m [] = all_nullable m.wants ≡ false
 Blocked m (t ∷ ts) = after m.bottom m.wants t ≡ None
 
 -- what leads up to the place where a token cannot follow
-pub record StuckAt (d : ℕ) (b : Bottom) (wants : List Sym) (ts left : List Lexeme) : Type 0 where
+pub record StuckAt (d : ℕ) (b : Bottom) (wants : List Sym) (ts : List Lexeme) (spot : Spot) (left : List Lexeme) : Type 0 where
   pub front : List Lexeme
   pub parts : ts ≡ front ++ left
   pub stack : Stack
   pub reached : reach b wants front ≡ Some stack
   pub blocked : Blocked stack left
+  pub told : spot_of stack.bottom stack.wants left ≡ spot
   pub room_left : ℕ
   pub shallow : budget d front ≡ Some room_left
 
@@ -204,39 +220,41 @@ pub record DeepAt (d : ℕ) (b : Bottom) (wants : List Sym) (ts left : List Lexe
   pub shallow : budget d front ≡ Some room_left
   pub no_room : deeper room_left token ≡ None
 
-pub stuck_at : (ts : List Lexeme) (d : ℕ) (b : Bottom) (wants : List Sym) (left : List Lexeme) → place d b wants ts ≡ Stuck left → StuckAt d b wants ts left
-stuck_at [] d b wants left e = from (all_nullable wants) refl e
+pub stuck_at : (ts : List Lexeme) (d : ℕ) (b : Bottom) (wants : List Sym) (spot : Spot) (left : List Lexeme) → place d b wants ts ≡ Stuck spot left → StuckAt d b wants ts spot left
+stuck_at [] d b wants spot left e = from (all_nullable wants) refl e
   where
-    at_end : (us : List Lexeme) → us ≡ [] → all_nullable wants ≡ false → StuckAt d b wants [] us
-    at_end us same n = record {
+    at_end : (us : List Lexeme) → us ≡ [] → spot_of b wants [] ≡ spot → all_nullable wants ≡ false → StuckAt d b wants [] spot us
+    at_end us same told n = record {
       front = [];
       parts = sym same;
       stack = record { bottom = b; wants = wants };
       reached = refl;
       blocked = rw same n;
+      told = rw same told;
       room_left = d;
       shallow = refl;
     }
 
-    from : (c : Bool) → all_nullable wants ≡ c → cond c Fine (Stuck []) ≡ Stuck left → StuckAt d b wants [] left
+    from : (c : Bool) → all_nullable wants ≡ c → cond c Fine (Stuck (spot_of b wants []) []) ≡ Stuck spot left → StuckAt d b wants [] spot left
     from true n h = absurd (cc h)
-    from false n h = at_end left (cc h) n
-stuck_at (t ∷ ts) d b wants left e = from (after b wants t) refl (deeper d t) refl e (λ n m h. stuck_at ts n m.bottom m.wants left h)
+    from false n h = at_end left (cc h) (cc h) n
+stuck_at (t ∷ ts) d b wants spot left e = from (after b wants t) refl (deeper d t) refl e (λ n m h. stuck_at ts n m.bottom m.wants spot left h)
   where
-    here : (us : List Lexeme) → us ≡ t ∷ ts → after b wants t ≡ None → StuckAt d b wants (t ∷ ts) us
-    here us same n = record {
+    here : (us : List Lexeme) → us ≡ t ∷ ts → spot_of b wants (t ∷ ts) ≡ spot → after b wants t ≡ None → StuckAt d b wants (t ∷ ts) spot us
+    here us same told n = record {
       front = [];
       parts = sym same;
       stack = record { bottom = b; wants = wants };
       reached = refl;
       blocked = rw same n;
+      told = rw same told;
       room_left = d;
       shallow = refl;
     }
 
-    from : (o : Option Stack) → after b wants t ≡ o → (q : Option ℕ) → deeper d t ≡ q → verdict o q (t ∷ ts) (λ n c others. place n c others ts) ≡ Stuck left →
-        ((n : ℕ) (m : Stack) → place n m.bottom m.wants ts ≡ Stuck left → StuckAt n m.bottom m.wants ts left) → StuckAt d b wants (t ∷ ts) left
-    from None a q f h again = here left (cc h) a
+    from : (o : Option Stack) → after b wants t ≡ o → (q : Option ℕ) → deeper d t ≡ q → verdict o q (spot_of b wants (t ∷ ts)) (t ∷ ts) (λ n c others. place n c others ts) ≡ Stuck spot left →
+        ((n : ℕ) (m : Stack) → place n m.bottom m.wants ts ≡ Stuck spot left → StuckAt n m.bottom m.wants ts spot left) → StuckAt d b wants (t ∷ ts) spot left
+    from None a q f h again = here left (cc h) (cc h) a
     from (Some m) a None f h again = absurd (cc h)
     from (Some m) a (Some n) f h again =
         let r = again n m h in
@@ -246,6 +264,7 @@ stuck_at (t ∷ ts) d b wants left e = from (after b wants t) refl (deeper d t) 
           stack = r.stack;
           reached = rw a r.reached;
           blocked = r.blocked;
+          told = r.told;
           room_left = r.room_left;
           shallow = rw f r.shallow;
         }
@@ -253,12 +272,12 @@ stuck_at (t ∷ ts) d b wants left e = from (after b wants t) refl (deeper d t) 
 pub deep_at : (ts : List Lexeme) (d : ℕ) (b : Bottom) (wants : List Sym) (left : List Lexeme) → place d b wants ts ≡ Deep left → DeepAt d b wants ts left
 deep_at [] d b wants left e = from (all_nullable wants) e
   where
-    from : (c : Bool) → cond c Fine (Stuck []) ≡ Deep left → DeepAt d b wants [] left
+    from : (c : Bool) → cond c Fine (Stuck (spot_of b wants []) []) ≡ Deep left → DeepAt d b wants [] left
     from true h = absurd (cc h)
     from false h = absurd (cc h)
 deep_at (t ∷ ts) d b wants left e = from (after b wants t) refl (deeper d t) refl e (λ n m h. deep_at ts n m.bottom m.wants left h)
   where
-    from : (o : Option Stack) → after b wants t ≡ o → (q : Option ℕ) → deeper d t ≡ q → verdict o q (t ∷ ts) (λ n c others. place n c others ts) ≡ Deep left →
+    from : (o : Option Stack) → after b wants t ≡ o → (q : Option ℕ) → deeper d t ≡ q → verdict o q (spot_of b wants (t ∷ ts)) (t ∷ ts) (λ n c others. place n c others ts) ≡ Deep left →
         ((n : ℕ) (m : Stack) → place n m.bottom m.wants ts ≡ Deep left → DeepAt n m.bottom m.wants ts left) → DeepAt d b wants (t ∷ ts) left
     from None a q f h again = absurd (cc h)
     from (Some m) a None f h again =
@@ -298,12 +317,12 @@ deep_at (t ∷ ts) d b wants left e = from (after b wants t) refl (deeper d t) r
 pub fine_at : (ts : List Lexeme) (d : ℕ) (b : Bottom) (wants : List Sym) → place d b wants ts ≡ Fine → (m : Stack) × (reach b wants ts ≡ Some m) × (all_nullable m.wants ≡ true)
 fine_at [] d b wants e = from (all_nullable wants) refl e
   where
-    from : (c : Bool) → all_nullable wants ≡ c → cond c Fine (Stuck []) ≡ Fine → (m : Stack) × (reach b wants [] ≡ Some m) × (all_nullable m.wants ≡ true)
+    from : (c : Bool) → all_nullable wants ≡ c → cond c Fine (Stuck (spot_of b wants []) []) ≡ Fine → (m : Stack) × (reach b wants [] ≡ Some m) × (all_nullable m.wants ≡ true)
     from true n h = (record { bottom = b; wants = wants }, refl, n)
     from false n h = absurd (cc h)
 fine_at (t ∷ ts) d b wants e = from (after b wants t) refl (deeper d t) e (λ n m h. fine_at ts n m.bottom m.wants h)
   where
-    from : (o : Option Stack) → after b wants t ≡ o → (q : Option ℕ) → verdict o q (t ∷ ts) (λ n c others. place n c others ts) ≡ Fine →
+    from : (o : Option Stack) → after b wants t ≡ o → (q : Option ℕ) → verdict o q (spot_of b wants (t ∷ ts)) (t ∷ ts) (λ n c others. place n c others ts) ≡ Fine →
         ((n : ℕ) (m : Stack) → place n m.bottom m.wants ts ≡ Fine → (k : Stack) × (reach m.bottom m.wants ts ≡ Some k) × (all_nullable k.wants ≡ true)) →
         (m : Stack) × (reach b wants (t ∷ ts) ≡ Some m) × (all_nullable m.wants ≡ true)
     from None a q h again = absurd (cc h)
@@ -342,7 +361,7 @@ pub fine_room : (ts : List Lexeme) (d : ℕ) (b : Bottom) (wants : List Sym) →
 fine_room [] d b wants e = (d, refl)
 fine_room (t ∷ ts) d b wants e = from (after b wants t) (deeper d t) refl e (λ n m h. fine_room ts n m.bottom m.wants h)
   where
-    from : (o : Option Stack) (q : Option ℕ) → deeper d t ≡ q → verdict o q (t ∷ ts) (λ n c others. place n c others ts) ≡ Fine →
+    from : (o : Option Stack) (q : Option ℕ) → deeper d t ≡ q → verdict o q (spot_of b wants (t ∷ ts)) (t ∷ ts) (λ n c others. place n c others ts) ≡ Fine →
         ((n : ℕ) (m : Stack) → place n m.bottom m.wants ts ≡ Fine → (k : ℕ) × (budget n ts ≡ Some k)) → (k : ℕ) × (budget d (t ∷ ts) ≡ Some k)
     from None q f h again = absurd (cc h)
     from (Some m) None f h again = absurd (cc h)
@@ -357,6 +376,9 @@ bottom_other : (b : Bottom) (s : Span) → after b [] (Other s) ≡ None
 bottom_other AtStart s = refl
 bottom_other AtImports s = refl
 bottom_other AtItems s = refl
+bottom_other (InType i) s = refl
+bottom_other InRule s = refl
+bottom_other InTerminal s = refl
 
 if_nullable : (c : Bool) (o : Option Stack) → o ≡ None → cond c o None ≡ None
 if_nullable true o e = e

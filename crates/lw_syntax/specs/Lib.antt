@@ -12,4 +12,5 @@ pub mod DeclaredTypes
 pub mod ParserRules
 pub mod TerminalRules
 pub mod Syntax
+pub mod Forms
 pub mod Refusals

@@ -1,5 +1,6 @@
 -- The steps by which parser rules are read.
-use Rattle.std.specs.Prelude.{ℕ, Bool, false, not, ◌&&◌, if◌then◌else◌}
+use Rattle.std.specs.Prelude.{ℕ, Bool, false, not, ◌&&◌, if◌then◌else◌, List}
+use Rattle.lw_base.specs.declared.token.Span.{Span}
 use Rattle.lw_grammar.specs.declared.rule.Rule.{Rule}
 use Rattle.lw_grammar.specs.declared.rule.RuleResult.{RuleResult}
 use Rattle.lw_grammar.specs.declared.rule.RuleResult.TheVariants as result
@@ -30,15 +31,17 @@ abbrev pub before_colon : Bool → RuleResult → Spot
 before_colon begins_with_name result.Own = if begins_with_name then spot.FirstName else spot.RuleName
 before_colon begins_with_name _ = spot.RuleType
 
--- where parentheses may nest so deep, behind the words that may stand before its name
-unfoldable pub rule_behind : ℕ → Bool → Bool → Reading Rule
-rule_behind most entry fragment = do
-  n ← free_word (before_name (not entry && not fragment))
-  type ← rule_result
+-- where parentheses may nest so deep, behind the type and before it
+unfoldable pub rule_tail : ℕ → Bool → Bool → List ℕ × Span → RuleResult → Reading Rule
+rule_tail most entry fragment n type = do
   symbol sign.Colon (before_colon (not entry && not fragment) type)
   body ← choice (values_inside most) (choice_inside most)
   symbol sign.Semicolon spot.Rule
   pure (record { name = n.0; file = 0; span = n.1; is_entry = entry; is_fragment = fragment; result = type; body = body })
+
+-- behind the words that may stand before its name
+unfoldable pub rule_behind : ℕ → Bool → Bool → Reading Rule
+rule_behind most entry fragment = free_word (before_name (not entry && not fragment)) >>= (λ n. rule_result >>= rule_tail most entry fragment n)
 
 unfoldable pub rule : ℕ → Reading Rule
 rule most = do

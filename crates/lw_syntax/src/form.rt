@@ -1,4 +1,8 @@
 // The forms of Langium's grammar language that are left out.
+ghost use Rattle.std.specs.Prelude.{◌≡◌};
+ghost use Rattle.lw_syntax.specs.Forms.{form_of, form_of_symbol, is_hidden, is_name, is_in_head, is_in_rule, is_first_name, is_in_terminal, is_behind_type, last_token, begins_infix};
+ghost use Rattle.lw_syntax.specs.Steps.{sees};
+
 use crate::lexeme::{Lexeme, Reserved};
 use crate::reader::left::Spot;
 use lw_gramread::Symbol;
@@ -59,12 +63,15 @@ fn text_of(form: Form) -> &'static str {
     }
 }
 
-/// The form that a token tells which cannot follow, by the spot and the token directly before it.
-pub(crate) fn form_of(spot: Spot, before: Option<&Lexeme>, token: &Lexeme) -> Option<Form> {
+/// The form that a token tells which cannot follow, by the spot and the tokens before it.
+#[tactic(auto, unfolding(crate::specs::Steps::same_symbol))]
+pub(crate) fn form_of(spot: Spot, before: &[Lexeme], token: &Lexeme) -> Option<Form>
+    ensures { result ≡ form_of spot before.now token.now }
+{
     match token {
         Lexeme::Flagged(_) => Some(Form::RegexFlags),
-        Lexeme::Word(_, Some(Reserved::Hidden), _) if is_in_head(spot) => Some(Form::HiddenList),
-        Lexeme::Word(_, _, _) if spot == Spot::FirstName && is_infix(before) => {
+        Lexeme::Word(_, word, _) if is_hidden(*word) && is_in_head(spot) => Some(Form::HiddenList),
+        Lexeme::Word(_, _, _) if is_first_name(spot) && ends_in_infix(before) => {
             Some(Form::InfixRule)
         }
         Lexeme::Sign(symbol, _) => form_of_symbol(spot, before, *symbol),
@@ -72,54 +79,90 @@ pub(crate) fn form_of(spot: Spot, before: Option<&Lexeme>, token: &Lexeme) -> Op
     }
 }
 
-fn form_of_symbol(spot: Spot, before: Option<&Lexeme>, symbol: Symbol) -> Option<Form> {
+fn form_of_symbol(spot: Spot, before: &[Lexeme], symbol: Symbol) -> Option<Form>
+    ensures { result ≡ form_of_symbol spot before.now symbol }
+{
     match symbol {
         Symbol::Ampersand => Some(Form::UnorderedGroup),
         Symbol::Less => Some(Form::GuardOrParameter),
         Symbol::FatArrow => Some(Form::Predicate),
         Symbol::ThinArrow if is_in_rule(spot) => Some(Form::Predicate),
-        Symbol::Star if is_name(spot) => Some(Form::WildcardFragment),
-        Symbol::Equals if spot == Spot::Attribute => Some(Form::PropertyDefault),
-        Symbol::Plus if is_sign(before, Symbol::OpenBracket) => Some(Form::MultiReference),
-        _ if spot == Spot::Terminal => form_in_terminal(before, symbol),
-        _ => None,
-    }
-}
-
-fn form_in_terminal(before: Option<&Lexeme>, symbol: Symbol) -> Option<Form> {
-    match symbol {
-        Symbol::ThinArrow => Some(Form::Until),
-        Symbol::Exclamation => Some(Form::Negation),
-        Symbol::Dot => Some(Form::Wildcard),
-        Symbol::Question | Symbol::QuestionEquals if is_sign(before, Symbol::OpenParenthesis) => {
+        Symbol::ThinArrow if is_in_terminal(spot) => Some(Form::Until),
+        Symbol::Exclamation if is_in_terminal(spot) => Some(Form::Negation),
+        Symbol::Dot if is_in_terminal(spot) => Some(Form::Wildcard),
+        Symbol::Question | Symbol::QuestionEquals
+            if is_in_terminal(spot) && ends_in(before, Symbol::OpenParenthesis) => {
             Some(Form::Lookaround)
         }
+        Symbol::Star if is_name(spot) => Some(Form::WildcardFragment),
+        Symbol::Equals if is_behind_type(spot) => Some(Form::PropertyDefault),
+        Symbol::Plus if ends_in(before, Symbol::OpenBracket) => Some(Form::MultiReference),
         _ => None,
     }
 }
 
-fn is_name(spot: Spot) -> bool {
-    spot == Spot::FirstName || spot == Spot::RuleName
+fn is_hidden(word: Option<Reserved>) -> bool
+    ensures { result ≡ is_hidden word }
+{
+    matches!(word, Some(Reserved::Hidden))
 }
 
-fn is_in_head(spot: Spot) -> bool {
-    is_name(spot) || spot == Spot::RuleType
+fn is_name(spot: Spot) -> bool
+    ensures { result ≡ is_name spot }
+{
+    matches!(spot, Spot::FirstName | Spot::RuleName)
 }
 
-fn is_in_rule(spot: Spot) -> bool {
-    is_in_head(spot) || spot == Spot::Rule
+fn is_in_head(spot: Spot) -> bool
+    ensures { result ≡ is_in_head spot }
+{
+    matches!(spot, Spot::FirstName | Spot::RuleName | Spot::RuleType)
 }
 
-fn is_infix(before: Option<&Lexeme>) -> bool {
-    match before {
-        Some(Lexeme::Word(name, _, _)) => name.text() == "infix",
+fn is_in_rule(spot: Spot) -> bool
+    ensures { result ≡ is_in_rule spot }
+{
+    matches!(
+        spot,
+        Spot::FirstName | Spot::RuleName | Spot::RuleType | Spot::Rule
+    )
+}
+
+fn is_first_name(spot: Spot) -> bool
+    ensures { result ≡ is_first_name spot }
+{
+    matches!(spot, Spot::FirstName)
+}
+
+fn is_in_terminal(spot: Spot) -> bool
+    ensures { result ≡ is_in_terminal spot }
+{
+    matches!(spot, Spot::Terminal)
+}
+
+fn is_behind_type(spot: Spot) -> bool
+    ensures { result ≡ is_behind_type spot }
+{
+    matches!(spot, Spot::Attribute)
+}
+
+// Whether the last of the tokens is this symbol.
+#[tactic(auto, unfolding(crate::specs::Steps::same_symbol))]
+fn ends_in(tokens: &[Lexeme], symbol: Symbol) -> bool
+    ensures { result ≡ sees symbol (last_token tokens.now) }
+{
+    match &tokens[tokens.len().saturating_sub(1)..] {
+        [Lexeme::Sign(found, _), ..] => *found == symbol,
         _ => false,
     }
 }
 
-fn is_sign(before: Option<&Lexeme>, symbol: Symbol) -> bool {
-    match before {
-        Some(Lexeme::Sign(found, _)) => *found == symbol,
+// Whether the last of the tokens is the word `infix`, as it stands or behind `^`.
+fn ends_in_infix(tokens: &[Lexeme]) -> bool
+    ensures { result ≡ begins_infix (last_token tokens.now) }
+{
+    match &tokens[tokens.len().saturating_sub(1)..] {
+        [Lexeme::Word(name, _, _), ..] => name.text() == "infix",
         _ => false,
     }
 }

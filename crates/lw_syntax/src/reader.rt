@@ -7,7 +7,8 @@ ghost use Rattle.lw_gramread.specs.Places.{IsPlace, IsOfKind};
 ghost use Rattle.lw_gramread.specs.Values.{part_of};
 ghost use Rattle.lw_syntax.specs.Lexemes.{lexemes_of, place_of};
 ghost use Rattle.lw_syntax.specs.Syntax.{Syntax};
-ghost use Rattle.lw_syntax.specs.Refusals.{IsRefusal, Tells, place_or_end, text_end};
+ghost use Rattle.lw_syntax.specs.Forms.{form_left};
+ghost use Rattle.lw_syntax.specs.Refusals.{IsRefusal, Tells, front_of, place_or_end, text_end};
 
 use crate::form::{Form, form_of};
 use crate::lexeme::{Lexeme, lexeme_of};
@@ -83,8 +84,10 @@ fn lexemes_of(alloc: Global, text: &Name, tokens: &[FileToken]) -> Result<Vec<Le
 
 // The fault of a reading that stopped where these tokens are left.
 fn fault_at(text: &Name, lexemes: &[Lexeme], rest: &[Lexeme], stop: Stop) -> ReadFault
-    requires { length text.now ≤ LONGEST_TEXT }
-    ensures { Tells stop (place_or_end text.now rest.now) result }
+    requires text { length text.now ≤ LONGEST_TEXT }
+    requires rest { length rest.now ≤ length lexemes.now }
+    ensures { Tells stop (place_or_end text.now rest.now)
+        (λ spot. form_left spot (front_of lexemes.now rest.now) rest.now) result }
 {
     let span = match rest {
         [lexeme, ..] => lexeme.span(),
@@ -93,23 +96,23 @@ fn fault_at(text: &Name, lexemes: &[Lexeme], rest: &[Lexeme], stop: Stop) -> Rea
     match stop {
         Stop::NoMemory => ReadFault::NoMemory,
         Stop::TooDeep => ReadFault::TooDeep(span),
-        Stop::Unexpected(spot) => match told_form(lexemes, rest, spot) {
-            Some(form) => ReadFault::LeftOut(span, form),
-            None => ReadFault::Unexpected(span),
-        },
+        Stop::Unexpected(spot) => {
+            match told_form(spot, &lexemes[..lexemes.len() - rest.len()], rest) {
+                Some(form) => ReadFault::LeftOut(span, form),
+                None => ReadFault::Unexpected(span),
+            }
+        }
     }
 }
 
 // The form that the first of the tokens left tells.
-fn told_form(lexemes: &[Lexeme], rest: &[Lexeme], spot: Spot) -> Option<Form> {
-    let [lexeme, ..] = rest else {
-        return None;
-    };
-    let before = match lexemes.len().saturating_sub(rest.len()) {
-        0 => None,
-        at => lexemes.get(at - 1),
-    };
-    form_of(spot, before, lexeme)
+fn told_form(spot: Spot, before: &[Lexeme], rest: &[Lexeme]) -> Option<Form>
+    ensures { result ≡ form_left spot before.now rest.now }
+{
+    match rest {
+        [lexeme, ..] => form_of(spot, before, lexeme),
+        [] => None,
+    }
 }
 
 // An empty place at the file's end.

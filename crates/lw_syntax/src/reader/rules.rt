@@ -12,7 +12,7 @@ use lw_gramread::Symbol;
 use std::alloc::Global;
 
 /// 'entry'? 'fragment'? Word ('returns' (Word | Primitive) | 'infers' Word)? ':' Choice ';'
-#[tactic(auto, unfolding(crate::specs::RuleSteps::rule, crate::specs::RuleSteps::rule_behind))]
+#[tactic(auto, unfolding(crate::specs::RuleSteps::rule, crate::specs::RuleSteps::rule_behind, crate::specs::RuleSteps::rule_tail))]
 pub(crate) fn rule(alloc: Global, left: &mut Left<'_>) -> Result<Rule, Stop>
     ensures reads { ReadsAs (rule deepest left.old) result left.new }
     ensures shorter { length left.new ≤ length left.old }

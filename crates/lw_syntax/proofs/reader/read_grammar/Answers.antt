@@ -3,7 +3,8 @@ use Rattle.lw_syntax.specs.declared.lexeme.Lexeme.{Lexeme}
 use Rattle.lw_syntax.specs.FileSteps.{file}
 use Rattle.lw_syntax.specs.Lexemes.{lexemes_of}
 use Rattle.lw_syntax.specs.Syntax.{Syntax}
-use Rattle.lw_syntax.specs.Refusals.{Tells, place_or_end}
+use Rattle.lw_syntax.specs.Forms.{form_left}
+use Rattle.lw_syntax.specs.Refusals.{Tells, front_of, place_or_end}
 use Rattle.lw_syntax.proofs.Verdicts.{says_is, only_is, refusal_is, nothing_is}
 use Rattle.lw_syntax.proofs.reader.read_grammar.Goals as goal
 
@@ -14,8 +15,15 @@ says c = says_is c.args.text.now c.in_ok-tokens.tokens.items c.in-Ok.grammar c.f
     same = sym (c.new-left.ensures ∙ c.as_slice-2.ensures.value ∙ c.in_ok-lexemes.ensures ∙ ap (lexemes_of c.args.text.now) c.as_slice.ensures.value)
 
 -- what the code tells where it stopped
-told : (c : goal.After-drop-tokens-2) → Tells c.in-Err.stop (place_or_end c.args.text.now c.file.new.left) c.fault_at.result
-told c = subst (λ (us : List Lexeme). Tells c.in-Err.stop (place_or_end c.args.text.now us) c.fault_at.result) c.rest.ensures c.fault_at.ensures
+told : (c : goal.After-drop-tokens-2) → Tells c.in-Err.stop (place_or_end c.args.text.now c.file.new.left)
+    (λ spot. form_left spot (front_of (lexemes_of c.args.text.now c.in_ok-tokens.tokens.items) c.file.new.left) c.file.new.left) c.fault_at.result
+told c =
+    subst (λ (us : List Lexeme). Tells c.in-Err.stop (place_or_end c.args.text.now us) (λ spot. form_left spot (front_of (lexemes_of c.args.text.now c.in_ok-tokens.tokens.items) us) us) c.fault_at.result)
+    c.rest.ensures (subst (λ (all : List Lexeme). Tells c.in-Err.stop (place_or_end c.args.text.now c.rest.result.now)
+    (λ spot. form_left spot (front_of all c.rest.result.now) c.rest.result.now) c.fault_at.result) all_said c.fault_at.ensures)
+  where
+    all_said : c.as_slice-in-Err.result.now ≡ lexemes_of c.args.text.now c.in_ok-tokens.tokens.items
+    all_said = c.as_slice-in-Err.ensures.value ∙ c.in_ok-lexemes.ensures ∙ ap (lexemes_of c.args.text.now) c.as_slice.ensures.value
 
 same : (c : goal.After-drop-tokens-2) → lexemes_of c.args.text.now c.in_ok-tokens.tokens.items ≡ c.new-left.result
 same c = sym (c.new-left.ensures ∙ c.as_slice-2.ensures.value ∙ c.in_ok-lexemes.ensures ∙ ap (lexemes_of c.args.text.now) c.as_slice.ensures.value)
