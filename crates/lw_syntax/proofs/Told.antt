@@ -22,7 +22,7 @@ use Rattle.lw_syntax.specs.OptionalTokens.{MayTakeWord}
 use Rattle.lw_syntax.specs.ParserRules as rules
 use Rattle.lw_syntax.specs.ParserRules.{SpellsResult}
 use Rattle.lw_syntax.specs.Syntax.{SpellsFile}
-use Rattle.lw_syntax.specs.Forms.{BeginsFile, Unfinished, BeginsRule, BeginsTerminal, BeginsInterface, RuleHead, EndsIn, TellsForm, IsTold, is_name, is_in_head, is_in_rule, is_first_name, is_in_terminal, is_behind_type, last_token, begins_infix, is_hidden, form_of_symbol, form_of}
+use Rattle.lw_syntax.specs.Forms.{BeginsFile, Unfinished, BeginsRule, BeginsTerminal, BeginsInterface, RuleHead, HasLast, TellsForm, TellsOrNone, is_name, is_in_head, is_in_rule, is_first_name, is_in_terminal, is_behind_type, last_token, begins_infix, is_hidden, form_of_symbol, form_told}
 use Rattle.lw_syntax.specs.Refusals.{front_of}
 use Rattle.lw_syntax.specs.Steps.{sees, sees_reserved, same_symbol, same_reserved}
 use Rattle.lw_syntax.proofs.Machine.{Sym, Want, WantWord, WantName, WantFeature, May, Above, NamesOpen, Attributes, Single, TypeEnd, AttributeMembers, AttributeEnd, MembersEnd, MembersClose, Value, ValuesClose, CrossEnd, Element, RowsEnd, RowsClose, Card, AfterWord, Operator, ActionType, PutEnd, PutOperator, ResultColon, NameColon, TypedColon, RuleName, Returned, TerminalName, Term, TermsEnd, AfterText, Bottom, AtStart, AtImports, AtItems, InType, InRule, InTerminal, Stack, Wanted, begin, nullable, all_nullable, pushed, after, item_begin, bottom_begin, bottom_spot, type_spot, head_spot, name_spot, spot_of}
@@ -52,21 +52,21 @@ front_taken front left = ap (λ n. take n (front ++ left)) same ∙ taken front
     taken (x ∷ xs) = ap (λ ys. x ∷ ys) (taken xs)
 
 -- the last of the tokens is this symbol
-ends_seen : (x : Symbol) (ts : List Lexeme) → EndsIn x ts → sees x (last_token ts) ≡ true
+ends_seen : (x : Symbol) (ts : List Lexeme) → HasLast x ts → sees x (last_token ts) ≡ true
 unfolding same_symbol
 ends_seen x ts e = ap (λ us. sees x (last_token us)) e.2 ∙ ap (sees x) (last_snoc e.0 (Sign x e.1)) ∙ itself x
   where
     itself : (y : Symbol) → sees y (Sign y e.1 ∷ []) ≡ true
     itself y = rw (symbol_itself y) refl
 
-seen_ends : (x : Symbol) (ts : List Lexeme) → sees x (last_token ts) ≡ true → EndsIn x ts
+seen_ends : (x : Symbol) (ts : List Lexeme) → sees x (last_token ts) ≡ true → HasLast x ts
 seen_ends x ts e = from (last_token ts) refl (seen x (last_token ts))
   where
     only : (us : List Lexeme) (s : Span) → last_token ts ≡ Sign x s ∷ us → us ≡ []
     only [] s h = refl
     only (u ∷ us) s h = let n = length-drop (length ts - 1) ts in let k : length (drop (length ts - 1) ts) ≡ length (Sign x s ∷ u ∷ us) = ap length h in absurd (omega (arith, n, k))
 
-    from : (us : List Lexeme) → last_token ts ≡ us → Seen x us → EndsIn x ts
+    from : (us : List Lexeme) → last_token ts ≡ us → Seen x us → HasLast x ts
     from us h (comes_not n) = absurd (cc (e, ap (sees x) h, n))
     from us h (comes s vs) =
         (take (length ts - 1) ts, s, sym (take-append-drop (length ts - 1) ts) ∙ ap (λ ys. take (length ts - 1) ts ++ ys) (h ∙ ap (λ ys. Sign x s ∷ ys) (only vs s h)))
@@ -396,7 +396,7 @@ module _ (front : List Lexeme) (m : Stack) (t : Lexeme) (ts : List Lexeme) (reac
   hidden_is (Some word.Hidden) e = refl
   hidden_is _ e = absurd (cc e)
 
-  word_told : (w : List ℕ) (r : Option Reserved) (p : Span) (f : Form) → form_of (spot_of m.bottom m.wants (t ∷ ts)) front (Word w r p) ≡ Some f → TellsForm front (Word w r p) f
+  word_told : (w : List ℕ) (r : Option Reserved) (p : Span) (f : Form) → form_told (spot_of m.bottom m.wants (t ∷ ts)) front (Word w r p) ≡ Some f → TellsForm front (Word w r p) f
   word_told w r p f e =
       told_if (Word w r p) (is_hidden r && is_in_head (spot_of m.bottom m.wants (t ∷ ts))) form.HiddenList _ f e
       (λ h. let q = two (is_hidden r) (is_in_head (spot_of m.bottom m.wants (t ∷ ts))) h in subst (λ z. TellsForm front (Word w z p) form.HiddenList) (sym (hidden_is r q.0)) (hidden_told w p q.1))
@@ -407,7 +407,7 @@ module _ (front : List Lexeme) (m : Stack) (t : Lexeme) (ts : List Lexeme) (reac
       hidden_too : r ≡ Some word.Hidden → is_in_head (spot_of m.bottom m.wants (t ∷ ts)) ≡ true → (is_hidden r && is_in_head (spot_of m.bottom m.wants (t ∷ ts))) ≡ true
       hidden_too z h = rw (z, h) refl
 
-  told_is : (u : Lexeme) (f : Form) → form_of (spot_of m.bottom m.wants (t ∷ ts)) front u ≡ Some f → TellsForm front u f
+  told_is : (u : Lexeme) (f : Form) → form_told (spot_of m.bottom m.wants (t ∷ ts)) front u ≡ Some f → TellsForm front u f
   told_is (Flagged p) f e = subst (TellsForm front (Flagged p)) (same_form form.RegexFlags f e) TellsForm.regex_flags
   told_is (Word w r p) f e = word_told w r p f e
   told_is (Sign x p) f e = symbol_told x p f e
@@ -690,7 +690,7 @@ not_hidden _ n = refl
 
 -- what stands in the table is told
 table_told : (front : List Lexeme) (m : Stack) (t : Lexeme) (ts : List Lexeme) (f : Form) → reach AtStart [] front ≡ Some m → TellsForm front t f →
-    form_of (spot_of m.bottom m.wants (t ∷ ts)) front t ≡ Some f
+    form_told (spot_of m.bottom m.wants (t ∷ ts)) front t ≡ Some f
 table_told front m _ ts _ r TellsForm.unordered_group = refl
 table_told front m _ ts _ r TellsForm.guard = refl
 table_told front m _ ts _ r TellsForm.predicate = refl
@@ -713,9 +713,9 @@ table_told front m _ ts _ r (TellsForm.infix_rule {w} {r = q} {s} {p} u n) =
 -- ---- both
 
 pub told_exact : (front : List Lexeme) (t : Lexeme) (ts : List Lexeme) (m : Stack) (s : Spot) → reach AtStart [] front ≡ Some m → spot_of m.bottom m.wants (t ∷ ts) ≡ s →
-    IsTold front t (form_of s front t)
-told_exact front t ts m s reached told = subst (λ z. IsTold front t (form_of z front t)) told (from (form_of (spot_of m.bottom m.wants (t ∷ ts)) front t) refl)
+    TellsOrNone front t (form_told s front t)
+told_exact front t ts m s reached told = subst (λ z. TellsOrNone front t (form_told z front t)) told (from (form_told (spot_of m.bottom m.wants (t ∷ ts)) front t) refl)
   where
-    from : (o : Option Form) → form_of (spot_of m.bottom m.wants (t ∷ ts)) front t ≡ o → IsTold front t o
+    from : (o : Option Form) → form_told (spot_of m.bottom m.wants (t ∷ ts)) front t ≡ o → TellsOrNone front t o
     from (Some f) e = told_is front m t ts reached t f e
     from None e = λ f h. cc (e, table_told front m t ts f reached h)

@@ -17,7 +17,7 @@ use Rattle.lw_syntax.specs.declared.reader.ReadFault.TheVariants as fault
 use Rattle.lw_gramread.specs.FileCut.{IsFileCutTo, IsFileCut, IsFrontCut, EndsStray}
 use Rattle.lw_syntax.specs.Lexemes.{lexeme_of, lexemes_of}
 use Rattle.lw_syntax.specs.Syntax.{SpellsFile, openings, closings, IsShallow, Syntax}
-use Rattle.lw_syntax.specs.Forms.{BeginsFile, IsTold, form_left}
+use Rattle.lw_syntax.specs.Forms.{BeginsFile, TellsOrNone, form_left}
 use Rattle.lw_syntax.specs.Refusals.{IsImpossible, IsTooDeep, IsRefusal, front_of, place_or_end, Tells}
 use Rattle.lw_syntax.specs.Steps.{Outcome}
 use Rattle.lw_syntax.specs.FileSteps.{file}

@@ -52,8 +52,8 @@ pub data RuleHead : List Lexeme → List Lexeme → Type 0 where
       MayTakeWord word.Fragment us (Word n None s ∷ vs) fragment → RuleHead ts vs
 
 -- the last of the tokens is this symbol
-abbrev pub EndsIn : Symbol → List Lexeme → Type 0
-EndsIn x ts = (front : List Lexeme) × (s : Span) × (ts ≡ front ++ Sign x s ∷ [])
+abbrev pub HasLast : Symbol → List Lexeme → Type 0
+HasLast x ts = (front : List Lexeme) × (s : Span) × (ts ≡ front ++ Sign x s ∷ [])
 
 -- ---- the table
 
@@ -70,9 +70,9 @@ pub data TellsForm (before : List Lexeme) : Lexeme → Form → Type 0 where
   negation : {s : Span} {begun : List Lexeme} → Unfinished before begun → BeginsTerminal begun → TellsForm before (Sign Exclamation s) form.Negation
   wildcard : {s : Span} {begun : List Lexeme} → Unfinished before begun → BeginsTerminal begun → TellsForm before (Sign Dot s) form.Wildcard
   -- `?` or `?=` directly behind `(` in a terminal
-  lookahead : {s : Span} {begun : List Lexeme} → Unfinished before begun → BeginsTerminal begun → EndsIn OpenParenthesis before →
+  lookahead : {s : Span} {begun : List Lexeme} → Unfinished before begun → BeginsTerminal begun → HasLast OpenParenthesis before →
       TellsForm before (Sign Question s) form.Lookaround
-  lookahead_equals : {s : Span} {begun : List Lexeme} → Unfinished before begun → BeginsTerminal begun → EndsIn OpenParenthesis before →
+  lookahead_equals : {s : Span} {begun : List Lexeme} → Unfinished before begun → BeginsTerminal begun → HasLast OpenParenthesis before →
       TellsForm before (Sign QuestionEquals s) form.Lookaround
   -- `*` directly behind a parser rule's name
   wildcard_fragment : {s : Span} {begun : List Lexeme} → Unfinished before begun → RuleHead begun [] → TellsForm before (Sign Star s) form.WildcardFragment
@@ -80,7 +80,7 @@ pub data TellsForm (before : List Lexeme) : Lexeme → Form → Type 0 where
   property_default : {s : Span} {begun : List Lexeme} (e : Span) → Unfinished before begun → BeginsInterface begun → BeginsFile (before ++ Sign Semicolon e ∷ []) →
       TellsForm before (Sign Equals s) form.PropertyDefault
   -- `+` directly behind `[`
-  multi_reference : {s : Span} → EndsIn OpenBracket before → TellsForm before (Sign Plus s) form.MultiReference
+  multi_reference : {s : Span} → HasLast OpenBracket before → TellsForm before (Sign Plus s) form.MultiReference
   -- a regular expression with flags, wherever it stands
   regex_flags : {s : Span} → TellsForm before (Flagged s) form.RegexFlags
   -- `hidden` behind a parser rule's name or type
@@ -91,9 +91,9 @@ pub data TellsForm (before : List Lexeme) : Lexeme → Form → Type 0 where
       TellsForm before (Word w r s) form.InfixRule
 
 -- the form that the token tells, if it tells one
-abbrev pub IsTold : List Lexeme → Lexeme → Option Form → Type 0
-IsTold before t (Some f) = TellsForm before t f
-IsTold before t None = (f : Form) → ¬ TellsForm before t f
+abbrev pub TellsOrNone : List Lexeme → Lexeme → Option Form → Type 0
+TellsOrNone before t (Some f) = TellsForm before t f
+TellsOrNone before t None = (f : Form) → ¬ TellsForm before t f
 
 -- ---- how the reader finds it, by what it knows of the place
 
@@ -152,14 +152,14 @@ abbrev pub is_hidden : Option Reserved → Bool
 is_hidden (Some word.Hidden) = true
 is_hidden _ = false
 
-abbrev pub form_of : Spot → List Lexeme → Lexeme → Option Form
-form_of s before (Flagged p) = Some form.RegexFlags
-form_of s before (Word n r p) =
+abbrev pub form_told : Spot → List Lexeme → Lexeme → Option Form
+form_told s before (Flagged p) = Some form.RegexFlags
+form_told s before (Word n r p) =
     if is_hidden r && is_in_head s then Some form.HiddenList else if is_first_name s && begins_infix (last_token before) then Some form.InfixRule else None
-form_of s before (Sign x p) = form_of_symbol s before x
-form_of s before _ = None
+form_told s before (Sign x p) = form_of_symbol s before x
+form_told s before _ = None
 
 -- of the first of the tokens that are left
 abbrev pub form_left : Spot → List Lexeme → List Lexeme → Option Form
 form_left s before [] = None
-form_left s before (t ∷ ts) = form_of s before t
+form_left s before (t ∷ ts) = form_told s before t

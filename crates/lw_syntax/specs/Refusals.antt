@@ -15,7 +15,7 @@ use Rattle.lw_syntax.specs.declared.reader.left.Stop.TheVariants as stop
 use Rattle.lw_gramread.specs.FileCut.{IsFileCutTo, IsFileCut}
 use Rattle.lw_syntax.specs.Lexemes.{lexemes_of, place_of}
 use Rattle.lw_syntax.specs.Syntax.{SpellsFile, openings, closings, IsShallow}
-use Rattle.lw_syntax.specs.Forms.{BeginsFile, IsTold}
+use Rattle.lw_syntax.specs.Forms.{BeginsFile, TellsOrNone}
 
 -- an empty place at the text's end
 abbrev pub text_end : List ℕ → Span
@@ -25,7 +25,7 @@ text_end text = record { start = length text; end = length text }
 -- early. No parenthesis before it is too deep.
 pub data IsImpossible (text : List ℕ) : Span → Option Form → Type 0 where
   token : {at : ℕ} {tokens : List FileToken} {told : Option Form} (before after : List Lexeme) (t : Lexeme) → IsFileCutTo text at tokens →
-      lexemes_of text tokens ≡ before ++ t ∷ after → BeginsFile before → ¬ (BeginsFile (before ++ t ∷ [])) → IsShallow before → IsTold before t told →
+      lexemes_of text tokens ≡ before ++ t ∷ after → BeginsFile before → ¬ (BeginsFile (before ++ t ∷ [])) → IsShallow before → TellsOrNone before t told →
       IsImpossible text (place_of t) told
   end : {tokens : List FileToken} → IsFileCut text tokens → BeginsFile (lexemes_of text tokens) → ((g : Grammar) → ¬ (SpellsFile (lexemes_of text tokens) g)) →
       IsShallow (lexemes_of text tokens) → IsImpossible text (text_end text) None

@@ -1,6 +1,6 @@
 // The forms of Langium's grammar language that are left out.
 ghost use Rattle.std.specs.Prelude.{◌≡◌};
-ghost use Rattle.lw_syntax.specs.Forms.{form_of, form_of_symbol, is_hidden, is_name, is_in_head, is_in_rule, is_first_name, is_in_terminal, is_behind_type, last_token, begins_infix};
+ghost use Rattle.lw_syntax.specs.Forms.{form_told, form_of_symbol, is_hidden, is_name, is_in_head, is_in_rule, is_first_name, is_in_terminal, is_behind_type, last_token, begins_infix};
 ghost use Rattle.lw_syntax.specs.Steps.{sees};
 
 use crate::lexeme::{Lexeme, Reserved};
@@ -66,7 +66,7 @@ fn text_of(form: Form) -> &'static str {
 /// The form that a token tells which cannot follow, by the spot and the tokens before it.
 #[tactic(auto, unfolding(crate::specs::Steps::same_symbol))]
 pub(crate) fn form_of(spot: Spot, before: &[Lexeme], token: &Lexeme) -> Option<Form>
-    ensures { result ≡ form_of spot before.now token.now }
+    ensures { result ≡ form_told spot before.now token.now }
 {
     match token {
         Lexeme::Flagged(_) => Some(Form::RegexFlags),
