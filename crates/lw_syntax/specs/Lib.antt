@@ -1,6 +1,7 @@
 pub mod Lexemes
 pub mod Steps
 pub mod Spans
+pub mod PlacesWithin
 pub mod TypeSteps
 pub mod ValueSteps
 pub mod ElementSteps

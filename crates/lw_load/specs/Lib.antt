@@ -1,0 +1,4 @@
+pub mod Paths
+pub mod Loading
+pub mod LoadFaults
+pub mod Standing

@@ -1,0 +1,13 @@
+//! A grammar of one file or more: the walk over what files import, and the join of what they say.
+#![tactic(auto)]
+
+mod fault;
+mod limits;
+mod join;
+mod loader;
+mod paths;
+mod size;
+
+pub use fault::LoadFault;
+pub use limits::LARGEST_GRAMMAR;
+pub use loader::{Loaded, load};

@@ -1,0 +1,40 @@
+// The walk over the files of a grammar.
+ghost use Rattle.std.specs.Prelude.{◌≡◌, ◌≤◌, IfOk, IfErr, IfSome};
+ghost use Rattle.lw_grammar.specs.Size.{size};
+ghost use Rattle.lw_load.specs.declared.limits.TheConstants.{LARGEST_GRAMMAR};
+ghost use Rattle.lw_load.specs.declared.loader.Loaded.{Loaded};
+ghost use Rattle.lw_load.specs.Loading.{Loads};
+ghost use Rattle.lw_load.specs.LoadFaults.{Stops, IsOfFiles, CountsLoad};
+ghost use Rattle.lw_load.specs.Standing.{Stands};
+
+use crate::fault::LoadFault;
+use lw_base::{Items, Name};
+use lw_grammar::Grammar;
+use lw_io::Store;
+use std::alloc::Global;
+
+/// A grammar of one file or more, and the text of each file by its number, by which places are told.
+#[derive(Drop)]
+pub struct Loaded {
+    pub grammar: Grammar,
+    pub texts: Items<Name>,
+}
+
+/// The grammar that the root file and all that it imports say together.
+///
+/// Each file is read once: the root, then each import depth first in the order of the text. What a file
+/// says, and then how large the files are so far, is looked at before its imports are opened, so the first
+/// fault in that order is told. A chain of imports of any length takes no deeper stack. Nothing of this
+/// changes the store's files.
+pub fn load<F: Store>(alloc: Global, root: &Name, store: &mut F) -> Result<Loaded, LoadFault>
+    ensures loads { IfOk result (λ loaded. IfSome (F.files store.old) (λ files. Loads files root.now loaded)) }
+    ensures only { IfOk result (λ loaded. IfSome (F.files store.old) (λ files. (other : Loaded) → Loads files root.now other → other ≡ loaded)) }
+    ensures fits { IfOk result (λ loaded. size loaded.grammar ≤ LARGEST_GRAMMAR) }
+    ensures stand { IfOk result (λ loaded. Stands loaded.texts loaded.grammar) }
+    ensures fault { IfErr result (λ fault. IfSome (F.files store.old) (λ files. Stops files root.now fault)) }
+    ensures nothing { IfErr result (λ fault. IfSome (F.files store.old) (λ files. IsOfFiles fault → (other : Loaded) → ¬ Loads files root.now other)) }
+    ensures store { CountsLoad (F.count store.old) (F.count store.new) result }
+    ensures files { F.files store.new ≡ F.files store.old }
+{
+    Err(LoadFault::NoMemory)
+}
