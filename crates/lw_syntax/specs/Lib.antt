@@ -14,4 +14,5 @@ pub mod ParserRules
 pub mod TerminalRules
 pub mod Syntax
 pub mod Forms
+pub mod FormTexts
 pub mod Refusals

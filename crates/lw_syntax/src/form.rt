@@ -1,5 +1,6 @@
 // The forms of Langium's grammar language that are left out.
-ghost use Rattle.std.specs.Prelude.{◌≡◌};
+ghost use Rattle.std.specs.Prelude.{◌≡◌, Some};
+ghost use Rattle.lw_syntax.specs.FormTexts.{form_text};
 ghost use Rattle.lw_syntax.specs.Forms.{form_told, form_of_symbol, is_hidden, is_name, is_in_head, is_in_rule, is_first_name, is_in_terminal, is_behind_type, last_token, begins_infix};
 ghost use Rattle.lw_syntax.specs.Steps.{sees};
 
@@ -39,27 +40,34 @@ pub enum Form {
     InfixRule,
 }
 
-impl fmt::Display for Form {
-    fn fmt<W: fmt::Write>(&self, f: &mut fmt::Formatter<W>) -> fmt::Result {
-        f.write_str(text_of(*self))
+impl Form {
+    /// How messages name the form.
+    pub fn text(self) -> &'static str
+        ensures { result.now ≡ form_text self }
+    {
+        match self {
+            Form::UnorderedGroup => "unordered group",
+            Form::GuardOrParameter => "guard or parameter",
+            Form::Predicate => "predicate",
+            Form::Until => "until",
+            Form::Negation => "negation",
+            Form::Wildcard => "wildcard",
+            Form::Lookaround => "lookaround",
+            Form::WildcardFragment => "wildcard fragment",
+            Form::PropertyDefault => "property default",
+            Form::MultiReference => "multi-reference",
+            Form::RegexFlags => "regex flags",
+            Form::HiddenList => "hidden list",
+            Form::InfixRule => "infix rule",
+        }
     }
 }
 
-fn text_of(form: Form) -> &'static str {
-    match form {
-        Form::UnorderedGroup => "unordered group",
-        Form::GuardOrParameter => "guard or parameter",
-        Form::Predicate => "predicate",
-        Form::Until => "until",
-        Form::Negation => "negation",
-        Form::Wildcard => "wildcard",
-        Form::Lookaround => "lookaround",
-        Form::WildcardFragment => "wildcard fragment",
-        Form::PropertyDefault => "property default",
-        Form::MultiReference => "multi-reference",
-        Form::RegexFlags => "regex flags",
-        Form::HiddenList => "hidden list",
-        Form::InfixRule => "infix rule",
+impl fmt::Display for Form {
+    ghost output = { λ form. Some (form_text form) };
+
+    fn fmt<W: fmt::Write>(&self, f: &mut fmt::Formatter<W>) -> fmt::Result {
+        f.write_str(self.text())
     }
 }
 
