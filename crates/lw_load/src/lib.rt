@@ -7,6 +7,8 @@ mod join;
 mod loader;
 mod paths;
 mod size;
+#[cfg(test)]
+mod tests;
 
 pub use fault::LoadFault;
 pub use limits::LARGEST_GRAMMAR;
