@@ -1,6 +1,6 @@
 // The paths by which files of a grammar are found and compared.
-ghost use Rattle.std.specs.Prelude.{◌≡◌, ◌++◌, [], ◌∷◌, IfOk, OnOk, map, reverse};
-ghost use Rattle.lw_load.specs.Paths.{walked, import_path, back, walk_on, walk, folder, segments};
+ghost use Rattle.std.specs.Prelude.{◌≡◌, [], IfOk, OnOk, map, reverse, if◌then◌else◌};
+ghost use Rattle.lw_load.specs.Paths.{is_absolute, segments, back, walk_on, walk, walked, folder, extension, has_extension, import_path};
 
 use lw_base::{Name, NoMemory};
 use std::alloc::Global;
@@ -61,15 +61,21 @@ pub(crate) fn import_path(alloc: Global, importer: &Name, path: &Name) -> Result
     ensures { IfOk result (λ name. name ≡ import_path importer.now path.now) }
 {
     let path = path.text();
-    let mut whole = String::new(alloc);
-    if !path.starts_with('/') {
-        whole.push_str(folder(importer.text()))?;
-    }
-    whole.push_str(path)?;
-    if !path.ends_with(".langium") {
-        whole.push_str(".langium")?;
-    }
+    let start = start_of(importer.text(), path);
+    let extension = missing_extension(path);
+    let whole = format!(in alloc; "{start}{path}{extension}")?;
     walked(alloc, &Name::from_string(whole))
+}
+
+// What the path is relative to: the importer's folder, but nothing where it is absolute.
+fn start_of<'a>(importer: &'a str, path: &str) -> &'a str
+    ensures { result.now ≡ (if is_absolute path.now then [] else folder importer.now) }
+{
+    if path.starts_with('/') {
+        ""
+    } else {
+        folder(importer)
+    }
 }
 
 // The path up to and including its last slash.
@@ -79,5 +85,16 @@ fn folder(path: &str) -> &str
     match path.rfind('/') {
         Some(slash) => &path[..=slash],
         None => "",
+    }
+}
+
+// The extension, where the path leaves it out.
+fn missing_extension(path: &str) -> &'static str
+    ensures { result.now ≡ (if has_extension path.now then [] else extension) }
+{
+    if path.ends_with(".langium") {
+        ""
+    } else {
+        ".langium"
     }
 }
