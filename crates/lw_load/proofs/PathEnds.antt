@@ -1,11 +1,11 @@
 -- Where a path begins and ends: its first slash, its folder, its extension.
-use Rattle.std.proofs.Common.{◌≡◌, ◌≢◌, ◌∙◌, inl, inr, ℕ, suc, zero, ◌+◌, ◌<◌, Bool, true, false, cond, List, [], ◌∷◌, ◌++◌, append_assoc, append-nil, length, get_or, take, refl, sym, ap, subst, codes, eqb, bytes_eq, arith}
+use Rattle.std.proofs.Common.{◌≡◌, ◌≢◌, ◌∙◌, inl, inr, ℕ, suc, zero, ◌+◌, ◌<◌, Bool, true, false, cond, List, [], ◌∷◌, ◌++◌, append-nil, length, get_or, take, refl, sym, ap, ap₂, subst, codes, eqb, bytes_eq, arith}
 use Rattle.std.proofs.lemmas.Bool.{cases_Bool, ne_eqb, eq-eqb, cond-false}
 use Rattle.std.proofs.lemmas.Bool.Decides.{Decides-eqb, same_from_decides}
 use Rattle.std.proofs.lemmas.Slice.Eq.{bytes_eq-Decides, ends_is}
 use Rattle.std.specs.Bool.{Decides}
 use Rattle.std.specs.List.{ends_with}
-use Rattle.lw_load.specs.Paths.{is_absolute, folder, extension, has_extension, extended}
+use Rattle.lw_load.specs.Paths.{is_absolute, folder, extension, has_extension, extended, walked, import_path}
 
 -- ---- the first slash
 pub is_absolute-first : (path : List ℕ) → is_absolute path ≡ eqb (get_or path 0 0) 47
@@ -59,13 +59,13 @@ has_extension-ends path r e =
         ((λ yes. (take _ path, ends.0 yes)), λ h. ends.1 h.0 h.1)
 
 -- ---- the path of an import
+extended-parts : (path : List ℕ) → path ++ cond (has_extension path) [] extension ≡ extended path
+extended-parts path =
+    elim (has_extension path) as (λ b. path ++ cond b [] extension ≡ cond b path (path ++ extension)) [ true ↦ append-nil path | false ↦ refl ]
+
 -- what it is relative to, itself, and the extension where it leaves that out
-pub import_path-parts : (importer path : List ℕ) → cond (is_absolute path) [] (folder importer) ++ path ++ cond (has_extension path) [] extension ≡ cond (is_absolute path) (extended path) (folder importer ++ extended path)
-import_path-parts importer path =
-    elim (is_absolute path) as (λ a. cond a [] (folder importer) ++ path ++ cond (has_extension path) [] extension ≡ cond a (extended path) (folder importer ++ extended path)) [
-        true ↦ whole
-      | false ↦ append_assoc (folder importer) path _ ∙ ap (λ t. folder importer ++ t) whole
-    ]
-  where
-  whole : path ++ cond (has_extension path) [] extension ≡ extended path
-  whole = elim (has_extension path) as (λ b. path ++ cond b [] extension ≡ cond b path (path ++ extension)) [ true ↦ append-nil path | false ↦ refl ]
+pub import_path-parts : (importer path start missing : List ℕ) → start ≡ cond (is_absolute path) [] (folder importer) → missing ≡ cond (has_extension path) [] extension → walked (start ++ (path ++ missing)) ≡ import_path importer path
+import_path-parts importer path start missing from left =
+    let whole : path ++ missing ≡ extended path = ap (λ t. path ++ t) left ∙ extended-parts path in
+    ap walked (ap₂ (λ s t. s ++ t) from whole
+    ∙ elim (is_absolute path) as (λ a. cond a [] (folder importer) ++ extended path ≡ cond a (extended path) (folder importer ++ extended path)) [ true ↦ refl | false ↦ refl ])
