@@ -1,9 +1,8 @@
 -- Where a path begins and ends: its first slash, its folder, its extension.
-use Rattle.std.proofs.Common.{◌≡◌, ◌≢◌, ◌∙◌, inl, inr, ℕ, suc, zero, ◌+◌, ◌<◌, Bool, true, false, cond, List, [], ◌∷◌, ◌++◌, append-nil, length, get_or, take, refl, sym, ap, ap₂, subst, codes, eqb, bytes_eq, arith}
+use Rattle.std.proofs.Common.{◌≡◌, ◌≢◌, ◌∙◌, inl, inr, ℕ, suc, zero, ◌<◌, Bool, true, false, cond, List, [], ◌∷◌, ◌++◌, append-nil, length, get_or, take, refl, sym, ap, ap₂, eqb, bytes_eq, arith}
 use Rattle.std.proofs.lemmas.Bool.{cases_Bool, ne_eqb, eq-eqb, cond-false}
 use Rattle.std.proofs.lemmas.Bool.Decides.{Decides-eqb, same_from_decides}
 use Rattle.std.proofs.lemmas.Slice.Eq.{bytes_eq-Decides, ends_is}
-use Rattle.std.specs.Bool.{Decides}
 use Rattle.std.specs.List.{ends_with}
 use Rattle.lw_load.specs.Paths.{is_absolute, folder, extension, has_extension, extended, walked, import_path}
 
@@ -44,7 +43,7 @@ extension-stands : (path : List ℕ) → has_extension path ≡ true → EndsWit
 extension-stands [] e = cc
 extension-stands (c ∷ cs) e =
     elim (cases_Bool (bytes_eq (c ∷ cs) extension)) [
-        inl all ↦ ([], (bytes_eq-Decides (c ∷ cs) extension).0 all)
+      | inl all ↦ ([], (bytes_eq-Decides (c ∷ cs) extension).0 all)
       | inr some ↦
           let rest = extension-stands cs (sym (cond-false _ true (has_extension cs) some) ∙ e) in
           (c ∷ rest.0, ap (λ t. c ∷ t) rest.1)
@@ -55,8 +54,8 @@ pub has_extension-ends : (path : List ℕ) (r : Bool) → r ≡ ends_with eqb pa
 has_extension-ends path r e =
     let ends = ends_is Decides-eqb path extension r e in
     same_from_decides {P = EndsWithExtension path} _ _
-        (extension-stands path, λ h. ap has_extension h.1 ∙ extension-found h.0)
-        ((λ yes. (take _ path, ends.0 yes)), λ h. ends.1 h.0 h.1)
+    (extension-stands path, λ h. ap has_extension h.1 ∙ extension-found h.0)
+    ((λ yes. (take _ path, ends.0 yes)), λ h. ends.1 h.0 h.1)
 
 -- ---- the path of an import
 extended-parts : (path : List ℕ) → path ++ cond (has_extension path) [] extension ≡ extended path

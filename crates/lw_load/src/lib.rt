@@ -7,9 +7,10 @@ mod join;
 mod loader;
 mod paths;
 mod size;
-#[cfg(test)]
-mod tests;
 
 pub use fault::LoadFault;
 pub use limits::LARGEST_GRAMMAR;
 pub use loader::{Loaded, load};
+
+#[cfg(test)]
+mod tests;

@@ -1,4 +1,4 @@
-use Rattle.std.proofs.Common.{◌∙◌, [], sym, cond}
+use Rattle.std.proofs.Common.{◌∙◌, [], sym}
 use Rattle.std.proofs.lemmas.Bool.{cond-true, cond-false}
 use Rattle.std.proofs.lemmas.Str.Pattern.{ends_text}
 use Rattle.lw_load.specs.Paths.{extension}

@@ -1,4 +1,4 @@
-use Rattle.std.proofs.Common.{◌≡◌, ◌∙◌, ◌∷◌, sym, ap, codes, lit<}
+use Rattle.std.proofs.Common.{◌∙◌, ◌∷◌, ap, codes, lit<}
 use Rattle.std.specs.List.{join_by}
 use Rattle.lw_load.specs.Paths.{walked}
 use Rattle.lw_load.proofs.PathSegments.{walked_absolute, walked_relative}

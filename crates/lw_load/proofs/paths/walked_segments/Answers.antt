@@ -1,9 +1,9 @@
-use Rattle.std.proofs.Common.{◌≡◌, [], List, ℕ, sym, ap, ◌∙◌, lit<, map, reverse}
+use Rattle.std.proofs.Common.{◌≡◌, [], sym, ap, ◌∙◌, lit<, map, reverse}
 use Rattle.std.proofs.lemmas.Iterator.Consumers.{YieldsList-at, YieldsList-end}
 use Rattle.std.proofs.lemmas.Iterator.Splits.{YieldsList-from_str_split}
 use Rattle.std.proofs.lemmas.List.{reverse-reverse}
 use Rattle.std.specs.List.{fold}
-use Rattle.lw_load.specs.Paths.{walk, walk_on, segments}
+use Rattle.lw_load.specs.Paths.{walk_on, segments}
 use Rattle.lw_load.proofs.PathSegments.{segments-split, walk-fold}
 use Rattle.lw_load.proofs.paths.walked_segments.Goals as goal
 
