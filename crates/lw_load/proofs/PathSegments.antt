@@ -1,4 +1,4 @@
--- Segments of a path: where it is cut, how one by one is kept, and how they are joined.
+-- The segments of a path: how it is cut, which of them a walk keeps, and how these are joined.
 use Rattle.std.proofs.Common.{◌≡◌, ◌≢◌, ℕ, ◌+◌, ◌-◌, ◌<◌, Bool, true, false, cond, Some, length, get_or, take, arith, List, [], ◌∷◌, ◌++◌, map, reverse, append-nil, refl, sym, ap, ap₂, ◌∙◌, codes, eqb, bytes_eq, Bor}
 use Rattle.std.proofs.lemmas.Bool.{false_from_ne_true}
 use Rattle.std.proofs.lemmas.List.{reverse-append, map_push, take_all, take_more}
@@ -13,13 +13,13 @@ with_first-onto_first : (c : ℕ) (ss : List (List ℕ)) → with_first c ss ≡
 with_first-onto_first c [] = refl
 with_first-onto_first c (s ∷ ss) = refl
 
--- the segments are what stands between the slashes in std's words
+-- the segments are those that `split` gives
 pub segments-split : (path : List ℕ) → segments path ≡ slice_split (λ b. eqb b 47) path
 segments-split [] = refl
 segments-split (c ∷ cs) = rw (segments-split cs, with_first-onto_first c (slice_split (λ b. eqb b 47) cs))
 
 -- ---- walked
--- a walk keeps the segments one by one
+-- a walk is a fold over the segments
 pub walk-fold : (absolute : Bool) (kept ss : List (List ℕ)) → walk absolute kept ss ≡ reverse (fold (walk_on absolute) kept ss)
 walk-fold absolute kept [] = refl
 walk-fold absolute kept (s ∷ ss) = walk-fold absolute (walk_on absolute kept s) ss
@@ -57,7 +57,7 @@ slashed-cons : (s : Bor (List ℕ)) (ss : List (Bor (List ℕ))) → slashed (ma
 slashed-cons s [] = sym (append-nil s.now)
 slashed-cons s (t ∷ ss) = ap (λ rest. s.now ++ 47 ∷ rest) (slashed-cons t ss)
 
--- segments with slashes between them are the joined ones in std's words
+-- with slashes between them they are what `join` gives
 pub slashed-join : (ss : List (Bor (List ℕ))) → slashed (map (λ t. t.now) ss) ≡ join_by (λ t. t.now) (codes "/") ss
 slashed-join [] = refl
 slashed-join (s ∷ ss) = slashed-cons s ss
@@ -68,9 +68,10 @@ walked_is path absolute ss first kept =
     let same : is_absolute path ≡ absolute = is_absolute-first path ∙ sym first in
     rw same (ap (λ t. cond absolute (codes "/") [] ++ t) (sym (slashed-join ss) ∙ ap slashed kept))
 
--- where it begins with a slash, and where it does not
+-- where the path begins with a slash
 pub walked_absolute : (path : List ℕ) (absolute : Bool) (ss : List (Bor (List ℕ))) → absolute ≡ true → absolute ≡ eqb (get_or path 0 0) 47 → map (λ s. s.now) ss ≡ walk absolute [] (segments path) → 47 ∷ join_by (λ s. s.now) (codes "/") ss ≡ walked path
 walked_absolute path absolute ss is first kept = ap (λ a. cond a (codes "/") [] ++ join_by (λ s. s.now) (codes "/") ss) (sym is) ∙ walked_is path absolute ss first kept
 
+-- where it does not
 pub walked_relative : (path : List ℕ) (absolute : Bool) (ss : List (Bor (List ℕ))) → absolute ≡ false → absolute ≡ eqb (get_or path 0 0) 47 → map (λ s. s.now) ss ≡ walk absolute [] (segments path) → join_by (λ s. s.now) (codes "/") ss ≡ walked path
 walked_relative path absolute ss is first kept = ap (λ a. cond a (codes "/") [] ++ join_by (λ s. s.now) (codes "/") ss) (sym is) ∙ walked_is path absolute ss first kept
