@@ -1,0 +1,2 @@
+pub mod PathEnds
+pub mod PathSegments

@@ -11,3 +11,6 @@ mod size;
 pub use fault::LoadFault;
 pub use limits::LARGEST_GRAMMAR;
 pub use loader::{Loaded, load};
+
+#[cfg(test)]
+mod tests;
