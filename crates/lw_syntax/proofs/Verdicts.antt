@@ -1,5 +1,5 @@
 -- What a file says, and where it goes wrong, from what the reader's steps came to.
-use Rattle.std.proofs.Common.{ℕ, ◌≡◌, ◌≢◌, ◌+◌, true, false, List, [], ◌∷◌, ◌++◌, length, Option, Some, None, Ok, Err, refl, sym, ap, ◌∙◌, subst, arith, append_assoc, append-nil, inl, inr, ◌⊎◌}
+use Rattle.std.proofs.Common.{ℕ, ◌≡◌, ◌≢◌, ◌+◌, true, List, [], ◌∷◌, ◌++◌, length, Option, Some, None, Ok, Err, refl, sym, ap, ◌∙◌, subst, arith, append_assoc, append-nil, inl, inr, ◌⊎◌}
 use Rattle.std.specs.Prelude.{All}
 use Rattle.std.proofs.lemmas.List.{map-append}
 use Rattle.lw_base.specs.declared.token.Span.{Span}
@@ -18,21 +18,18 @@ use Rattle.lw_syntax.specs.declared.reader.ReadFault.TheVariants as fault
 use Rattle.lw_gramread.specs.FileCut.{IsFileCutTo, IsFileCut, IsFrontCut, EndsStray}
 use Rattle.lw_gramread.specs.Places.{IsPlace}
 use Rattle.lw_syntax.specs.Lexemes.{lexeme_of, lexemes_of}
-use Rattle.lw_syntax.specs.Syntax.{SpellsFile, openings, closings, IsShallow, Syntax}
-use Rattle.lw_syntax.specs.Forms.{BeginsFile, TellsOrNone, form_left}
+use Rattle.lw_syntax.specs.Syntax.{SpellsFile, openings, closings, Syntax}
+use Rattle.lw_syntax.specs.Forms.{form_left}
 use Rattle.lw_syntax.specs.Refusals.{IsImpossible, IsTooDeep, IsRefusal, front_of, place_or_end, Tells}
 use Rattle.lw_syntax.specs.PlacesWithin.{IsWithin, IsRefusalWithin}
-use Rattle.lw_syntax.specs.Steps.{Outcome}
 use Rattle.lw_syntax.specs.FileSteps.{file}
-use Rattle.lw_syntax.proofs.AgainFiles.{file_again, file_only}
+use Rattle.lw_syntax.proofs.AgainFiles.{file_only}
 use Rattle.lw_gramread.proofs.CutLemmas.{cut_same}
 use Rattle.lw_gramread.proofs.FrontCuts.{front_cut}
-use Rattle.lw_syntax.proofs.Machine.{AtStart, Stack, after, all_nullable, Verdict, Fine, Stuck, Deep, place}
-use Rattle.lw_syntax.proofs.At as at
-use Rattle.lw_syntax.proofs.At.{At}
+use Rattle.lw_syntax.proofs.Machine.{AtStart, Stack, after, all_nullable, Fine, place}
 use Rattle.lw_syntax.proofs.AtFiles.{file_at}
-use Rattle.lw_syntax.proofs.Reach.{reach, onward, reach_join, finishing, finished, StuckAt, DeepAt, stuck_at, deep_at, fine_at, fine_from, fine_room, same_stack, budget, counted, room, after_other, no_room_open}
-use Rattle.lw_syntax.proofs.Spelled.{FileAt, of_ok, of_unexpected, of_too_deep, spelled_reach, begins_reached, none_behind, not_spelled, cannot_follow, unfinished, shallow_of}
+use Rattle.lw_syntax.proofs.Reach.{reach, onward, reach_join, StuckAt, DeepAt, stuck_at, deep_at, fine_at, fine_room, budget, counted, after_other, no_room_open}
+use Rattle.lw_syntax.proofs.Spelled.{of_ok, of_unexpected, of_too_deep, begins_reached, none_behind, not_spelled, cannot_follow, unfinished, shallow_of}
 use Rattle.lw_syntax.proofs.Told.{told_exact, front_taken}
 use Rattle.lw_syntax.proofs.WithinFiles.{left_within}
 

@@ -1,5 +1,5 @@
 -- Places that are in a text: of tokens, of lists, of what runs over several tokens, and of the things that others hold.
-use Rattle.std.proofs.Common.{ℕ, ◌≡◌, ◌≤◌, zero, suc, List, [], ◌∷◌, ◌++◌, length, map, refl, sym, ap, ◌∙◌, subst, arith}
+use Rattle.std.proofs.Common.{ℕ, ◌≡◌, zero, suc, Bool, List, [], ◌∷◌, ◌++◌, map, refl, sym, subst, arith}
 use Rattle.std.specs.Prelude.{All}
 use Rattle.std.specs.List.{flat_map, AllByRecursion}
 use Rattle.std.proofs.lemmas.List.Elements.{All-head, All-tail}
@@ -14,12 +14,16 @@ use Rattle.lw_syntax.specs.declared.lexeme.Reserved.{Reserved}
 use Rattle.lw_syntax.specs.declared.lexeme.Lexeme.{Lexeme}
 use Rattle.lw_syntax.specs.Lexemes.{saying, lexeme_of, lexemes_of, place_of}
 use Rattle.lw_syntax.specs.OptionalTokens.{MayTake, MayTakeWord}
-use Rattle.lw_syntax.specs.Spans.{across, last_of, covering}
+use Rattle.lw_syntax.specs.Spans.{last_of, covering}
 use Rattle.lw_syntax.specs.PlacesWithin.{IsWithin}
 
 both : {X : Type 0} (P : X → Type 0) (xs ys : List X) → AllByRecursion P xs → AllByRecursion P ys → AllByRecursion P (xs ++ ys)
 both P [] ys h k = k
 both P (x ∷ xs) ys h k = (h.0, both P xs ys h.1 k)
+
+-- what one thing and what stands behind it give
+pub and_behind : {A B M R : Type 0} → A × M → (M → B × R) → (A × B) × R
+and_behind a f = let b = f a.1 in ((a.0, b.0), b.1)
 
 module _ (text : List ℕ) where
   abbrev pub AreWithin : List Span → Type 0
@@ -31,7 +35,7 @@ module _ (text : List ℕ) where
 
   -- ---- things that hold others
 
-  -- the places of each thing
+  -- over the places of a thing
   module _ {X : Type 0} (spans : X → List Span) where
     abbrev pub EachWithin : List X → Type 0
     EachWithin xs = AllByRecursion (λ x. AreWithin (spans x)) xs
@@ -39,6 +43,7 @@ module _ (text : List ℕ) where
     pub each_both : (xs ys : List X) → EachWithin xs → EachWithin ys → EachWithin (xs ++ ys)
     each_both xs ys h k = both (λ x. AreWithin (spans x)) xs ys h k
 
+    -- the places of all of them in a row
     pub all_of_each : (xs : List X) → EachWithin xs → AreWithin (flat_map spans xs)
     all_of_each [] h = tt
     all_of_each (x ∷ xs) h = both (IsWithin text) (spans x) (flat_map spans xs) h.0 (all_of_each xs h.1)
@@ -61,11 +66,11 @@ module _ (text : List ℕ) where
 
   -- ---- tokens that may be left out
 
-  pub may_within : {x : Symbol} {ts rest : List Lexeme} {b : _} → MayTake x ts rest b → TokensWithin ts → TokensWithin rest
+  pub may_within : {x : Symbol} {ts rest : List Lexeme} {b : Bool} → MayTake x ts rest b → TokensWithin ts → TokensWithin rest
   may_within MayTake.left_out h = h
   may_within MayTake.there h = h.1
 
-  pub word_within : {r : Reserved} {ts rest : List Lexeme} {b : _} → MayTakeWord r ts rest b → TokensWithin ts → TokensWithin rest
+  pub word_within : {r : Reserved} {ts rest : List Lexeme} {b : Bool} → MayTakeWord r ts rest b → TokensWithin ts → TokensWithin rest
   word_within MayTakeWord.left_out h = h
   word_within MayTakeWord.there h = h.1
 

@@ -1,5 +1,5 @@
 -- What a file spells stands in its text, and so does the place where a refusal tells that it goes wrong.
-use Rattle.std.proofs.Common.{ℕ, ◌≡◌, List, [], ◌∷◌, ◌++◌, length, subst, arith}
+use Rattle.std.proofs.Common.{ℕ, ◌≡◌, List, [], ◌∷◌, ◌++◌, subst, arith}
 use Rattle.std.specs.Prelude.{All}
 use Rattle.std.specs.List.{AllByRecursion}
 use Rattle.std.proofs.lemmas.List.Elements.{All-nil, All-push, All-from_recursion}
@@ -11,7 +11,7 @@ use Rattle.lw_gramread.specs.Places.{IsPlace}
 use Rattle.lw_syntax.specs.declared.lexeme.Lexeme.{Lexeme}
 use Rattle.lw_syntax.specs.declared.reader.file.Item.{Item}
 use Rattle.lw_syntax.specs.declared.reader.file.Item.TheVariants as item
-use Rattle.lw_syntax.specs.Lexemes.{lexemes_of, place_of}
+use Rattle.lw_syntax.specs.Lexemes.{lexemes_of}
 use Rattle.lw_syntax.specs.Syntax as syntax
 use Rattle.lw_syntax.specs.Syntax.{SpellsGrammarName, SpellsImports, SpellsItem, SpellsItems, SpellsFile, bare_grammar, with_item, with_items}
 use Rattle.lw_syntax.specs.Refusals.{place_or_end}

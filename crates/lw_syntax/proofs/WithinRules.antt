@@ -1,5 +1,6 @@
 -- What parser rules spell stands in the text, as their tokens do, and so do the tokens that are left.
-use Rattle.std.proofs.Common.{ℕ, ◌≡◌, ◌≤◌, Bool, List, [], ◌∷◌, length, map, Option, refl, sym, ap, ◌∙◌, subst, arith}
+use Rattle.std.proofs.Common.{ℕ, ◌≡◌, Bool, List, [], ◌∷◌, map, Option, refl, sym, ap, ◌∙◌, subst, arith}
+use Rattle.std.specs.List.{flat_map}
 use Rattle.lw_base.specs.declared.token.Span.{Span}
 use Rattle.lw_grammar.specs.declared.rule.Rule.{Rule}
 use Rattle.lw_grammar.specs.declared.rule.RuleResult.{RuleResult}
@@ -19,7 +20,7 @@ use Rattle.lw_syntax.specs.ParserRules as rules
 use Rattle.lw_syntax.specs.ParserRules.{SpellsCrossRule, SpellsValue, SpellsValues, SpellsMoreValues, SpellsActionType, SpellsPut, SpellsAction, SpellsMark, SpellsPart, SpellsElement, SpellsMoreElements, SpellsRow, SpellsMoreRows, SpellsChoice, SpellsResult, SpellsRule}
 use Rattle.lw_syntax.specs.Spans.{across, covering, span_of_layer, span_of, span_of_value_layer, span_of_value, group_of, choice_of, value_among}
 use Rattle.lw_syntax.specs.PlacesWithin.{IsWithin, value_layer_spans, value_spans, layer_spans, element_spans, result_spans, rule_spans}
-use Rattle.lw_syntax.proofs.Within.{AreWithin, TokensWithin, EachWithin, all_of_mapped, within_both, covering_within, word_within}
+use Rattle.lw_syntax.proofs.Within.{and_behind, AreWithin, TokensWithin, EachWithin, all_of_mapped, within_both, covering_within, word_within}
 
 module _ (text : List ℕ) where
   -- an empty place at the text's start
@@ -50,13 +51,15 @@ module _ (text : List ℕ) where
   values_themselves [] h = tt
   values_themselves (v ∷ vs) h = (value_itself v h.0, values_themselves vs h.1)
 
+  joined_values_within : (v : Value0) (vs : List Value0) → EachWithin text value_spans (v ∷ vs) →
+      AreWithin text (covering (map span_of_value (v ∷ vs)) ∷ flat_map (λ ss. ss) (map value_spans (v ∷ vs)))
+  joined_values_within v vs h = (covering_within text (span_of_value v) (map span_of_value vs) (values_themselves (v ∷ vs) h), all_of_mapped text value_spans (v ∷ vs) h)
+
   among_within : (vs : List Value0) → EachWithin text value_spans vs → AreWithin text (value_spans (value_among vs))
   unfolding value_among
   among_within [] h = value_by _ _ (value.outs-Choice [] (covering [])) (start_within, tt)
   among_within (v ∷ []) h = h.0
-  among_within (v ∷ w ∷ vs) h =
-      value_by _ _ (value.outs-Choice (v ∷ w ∷ vs) (covering (map span_of_value (v ∷ w ∷ vs))))
-      (covering_within text (span_of_value v) (map span_of_value (w ∷ vs)) (values_themselves (v ∷ w ∷ vs) h), all_of_mapped text value_spans (v ∷ w ∷ vs) h)
+  among_within (v ∷ w ∷ vs) h = value_by _ _ (value.outs-Choice (v ∷ w ∷ vs) (covering (map span_of_value (v ∷ w ∷ vs)))) (joined_values_within v (w ∷ vs) h)
 
   cross_rule_within : {ts rest : List Lexeme} {r : Option (List ℕ)} → SpellsCrossRule ts rest r → TokensWithin text ts → TokensWithin text rest
   cross_rule_within rules.by_name h = h
@@ -116,21 +119,21 @@ module _ (text : List ℕ) where
   elements_themselves [] h = tt
   elements_themselves (e ∷ es) h = (element_itself e h.0, elements_themselves es h.1)
 
+  joined_within : (e : Element) (es : List Element) → EachWithin text element_spans (e ∷ es) →
+      AreWithin text (covering (map span_of (e ∷ es)) ∷ flat_map (λ ss. ss) (map element_spans (e ∷ es)))
+  joined_within e es h = (covering_within text (span_of e) (map span_of es) (elements_themselves (e ∷ es) h), all_of_mapped text element_spans (e ∷ es) h)
+
   row_of_within : (es : List Element) → EachWithin text element_spans es → AreWithin text (element_spans (group_of es))
   unfolding group_of
   row_of_within [] h = element_by _ _ (element.outs-Group [] (covering [])) (start_within, tt)
   row_of_within (e ∷ []) h = h.0
-  row_of_within (e ∷ f ∷ es) h =
-      element_by _ _ (element.outs-Group (e ∷ f ∷ es) (covering (map span_of (e ∷ f ∷ es))))
-      (covering_within text (span_of e) (map span_of (f ∷ es)) (elements_themselves (e ∷ f ∷ es) h), all_of_mapped text element_spans (e ∷ f ∷ es) h)
+  row_of_within (e ∷ f ∷ es) h = element_by _ _ (element.outs-Group (e ∷ f ∷ es) (covering (map span_of (e ∷ f ∷ es)))) (joined_within e (f ∷ es) h)
 
   choice_of_within : (es : List Element) → EachWithin text element_spans es → AreWithin text (element_spans (choice_of es))
   unfolding choice_of
   choice_of_within [] h = element_by _ _ (element.outs-Choice [] (covering [])) (start_within, tt)
   choice_of_within (e ∷ []) h = h.0
-  choice_of_within (e ∷ f ∷ es) h =
-      element_by _ _ (element.outs-Choice (e ∷ f ∷ es) (covering (map span_of (e ∷ f ∷ es))))
-      (covering_within text (span_of e) (map span_of (f ∷ es)) (elements_themselves (e ∷ f ∷ es) h), all_of_mapped text element_spans (e ∷ f ∷ es) h)
+  choice_of_within (e ∷ f ∷ es) h = element_by _ _ (element.outs-Choice (e ∷ f ∷ es) (covering (map span_of (e ∷ f ∷ es)))) (joined_within e (f ∷ es) h)
 
   action_type_within : {ts rest : List Lexeme} {infers : Bool} {n : List ℕ} → SpellsActionType ts rest infers n → TokensWithin text ts → TokensWithin text rest
   action_type_within (rules.type_of m) h = (word_within text m h).1
@@ -167,29 +170,19 @@ module _ (text : List ℕ) where
 
     more_elements_within : {ts rest : List Lexeme} {es : List Element} → SpellsMoreElements ts rest es → TokensWithin text ts → EachWithin text element_spans es × TokensWithin text rest
     more_elements_within rules.no_element h = (tt, h)
-    more_elements_within (rules.element_and e others) h =
-        let r = element_within e h in
-        let q = more_elements_within others r.1 in
-        ((r.0, q.0), q.1)
+    more_elements_within (rules.element_and e others) h = and_behind (element_within e h) (more_elements_within others)
 
     row_within : {ts rest : List Lexeme} {e : Element} → SpellsRow ts rest e → TokensWithin text ts → AreWithin text (element_spans e) × TokensWithin text rest
     row_within (rules.row {e} {es} x others) h =
-        let r = element_within x h in
-        let q = more_elements_within others r.1 in
-        (row_of_within (e ∷ es) (r.0, q.0), q.1)
+        let r = and_behind (element_within x h) (more_elements_within others) in (row_of_within (e ∷ es) r.0, r.1)
 
     more_rows_within : {ts rest : List Lexeme} {es : List Element} → SpellsMoreRows ts rest es → TokensWithin text ts → EachWithin text element_spans es × TokensWithin text rest
     more_rows_within rules.no_row h = (tt, h)
-    more_rows_within (rules.row_and x others) h =
-        let r = row_within x h.1 in
-        let q = more_rows_within others r.1 in
-        ((r.0, q.0), q.1)
+    more_rows_within (rules.row_and x others) h = and_behind (row_within x h.1) (more_rows_within others)
 
     choice_within : {ts rest : List Lexeme} {e : Element} → SpellsChoice ts rest e → TokensWithin text ts → AreWithin text (element_spans e) × TokensWithin text rest
     choice_within (rules.choice {e} {es} x others) h =
-        let r = row_within x h in
-        let q = more_rows_within others r.1 in
-        (choice_of_within (e ∷ es) (r.0, q.0), q.1)
+        let r = and_behind (row_within x h) (more_rows_within others) in (choice_of_within (e ∷ es) r.0, r.1)
 
   -- ---- rules
 

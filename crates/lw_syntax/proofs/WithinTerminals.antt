@@ -12,7 +12,7 @@ use Rattle.lw_syntax.specs.TerminalRules as terminals
 use Rattle.lw_syntax.specs.TerminalRules.{SpellsTermMark, SpellsTermPart, SpellsTerm, SpellsMoreTerms, SpellsTermRow, SpellsMoreTermRows, SpellsTermChoice, SpellsTermHead, SpellsTerminal}
 use Rattle.lw_syntax.specs.Spans.{across, term_group_of, term_choice_of}
 use Rattle.lw_syntax.specs.PlacesWithin.{IsWithin, term_layer_spans, term_spans, terminal_spans}
-use Rattle.lw_syntax.proofs.Within.{AreWithin, TokensWithin, EachWithin, all_of_mapped}
+use Rattle.lw_syntax.proofs.Within.{and_behind, AreWithin, TokensWithin, EachWithin, all_of_mapped}
 
 module _ (text : List ℕ) where
   -- the places of an element, by its variant
@@ -53,29 +53,19 @@ module _ (text : List ℕ) where
 
     more_terms_within : {ts rest : List Lexeme} {es : List TermElement} → SpellsMoreTerms ts rest es → TokensWithin text ts → EachWithin text term_spans es × TokensWithin text rest
     more_terms_within terminals.no_term h = (tt, h)
-    more_terms_within (terminals.term_and t others) h =
-        let r = term_within t h in
-        let q = more_terms_within others r.1 in
-        ((r.0, q.0), q.1)
+    more_terms_within (terminals.term_and t others) h = and_behind (term_within t h) (more_terms_within others)
 
     row_within : {ts rest : List Lexeme} {e : TermElement} → SpellsTermRow ts rest e → TokensWithin text ts → AreWithin text (term_spans e) × TokensWithin text rest
     row_within (terminals.row {e} {es} t others) h =
-        let r = term_within t h in
-        let q = more_terms_within others r.1 in
-        (group_within (e ∷ es) (r.0, q.0), q.1)
+        let r = and_behind (term_within t h) (more_terms_within others) in (group_within (e ∷ es) r.0, r.1)
 
     more_rows_within : {ts rest : List Lexeme} {es : List TermElement} → SpellsMoreTermRows ts rest es → TokensWithin text ts → EachWithin text term_spans es × TokensWithin text rest
     more_rows_within terminals.no_row h = (tt, h)
-    more_rows_within (terminals.row_and t others) h =
-        let r = row_within t h.1 in
-        let q = more_rows_within others r.1 in
-        ((r.0, q.0), q.1)
+    more_rows_within (terminals.row_and t others) h = and_behind (row_within t h.1) (more_rows_within others)
 
     choice_within : {ts rest : List Lexeme} {e : TermElement} → SpellsTermChoice ts rest e → TokensWithin text ts → AreWithin text (term_spans e) × TokensWithin text rest
     choice_within (terminals.choice {e} {es} t others) h =
-        let r = row_within t h in
-        let q = more_rows_within others r.1 in
-        (alternatives_within (e ∷ es) (r.0, q.0), q.1)
+        let r = and_behind (row_within t h) (more_rows_within others) in (alternatives_within (e ∷ es) r.0, r.1)
 
   head_within : {ts rest : List Lexeme} {n : List ℕ} {s : Span} {fragment : Bool} {p : Primitive} → SpellsTermHead ts rest n s fragment p → TokensWithin text ts →
       IsWithin text s × TokensWithin text rest

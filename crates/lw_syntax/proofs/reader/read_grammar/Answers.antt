@@ -33,11 +33,9 @@ told c =
 same : (c : goal.After-drop-tokens-2) → lexemes_of c.args.text.now c.in_ok-tokens.tokens.items ≡ c.new-left.result
 same c = sym (c.new-left.ensures ∙ c.as_slice-2.ensures.value ∙ c.in_ok-lexemes.ensures ∙ ap (lexemes_of c.args.text.now) c.as_slice.ensures.value)
 
--- src/reader.rt:60:1
 pub returns-in-Ok-clause-says : goal.returns-in-Ok-clause-says
 returns-in-Ok-clause-says c = says c
 
--- src/reader.rt:60:1
 pub returns-in-Ok-clause-only : goal.returns-in-Ok-clause-only
 returns-in-Ok-clause-only c = λ other y. only_is c.args.text.now c.in-Ok.grammar other (says c) y
 
@@ -46,7 +44,6 @@ returns-in-Ok-clause-stand c =
     stands_within c.args.text.now c.in_ok-tokens.tokens.items c.in-Ok.grammar c.in_ok-tokens.ensures.places
     (read_is (lexemes_of c.args.text.now c.in_ok-tokens.tokens.items) c.in-Ok.grammar c.file.new.left (read c)).1
 
--- src/reader.rt:52:1
 pub returns-clause-refusal : goal.returns-clause-refusal
 returns-clause-refusal c =
     refusal_is c.args.text.now c.in_ok-tokens.tokens.items c.in_ok-tokens.ensures.cut c.in-Err.stop c.file.new.left c.fault_at.result (λ n. ap (file 64) (same c) ∙ c.in-Err.ensures.reads n) (told c)
@@ -55,7 +52,6 @@ pub returns-clause-place : goal.returns-clause-place
 returns-clause-place c =
     place_is c.args.text.now c.in_ok-tokens.tokens.items c.in_ok-tokens.ensures.cut c.in_ok-tokens.ensures.places c.in-Err.stop c.file.new.left c.fault_at.result (λ n. ap (file 64) (same c) ∙ c.in-Err.ensures.reads n) (told c)
 
--- src/reader.rt:52:1
 pub returns-clause-nothing : goal.returns-clause-nothing
 returns-clause-nothing c = λ n g.
     nothing_is c.args.text.now c.in_ok-tokens.tokens.items c.in_ok-tokens.ensures.cut c.in-Err.stop c.file.new.left c.fault_at.result (λ n. ap (file 64) (same c) ∙ c.in-Err.ensures.reads n) (told c) n g
