@@ -7,7 +7,7 @@ use Rattle.lw_load.specs.declared.fault.LoadFault.{LoadFault}
 use Rattle.lw_load.specs.declared.fault.LoadFault.TheVariants as loading
 use Rattle.lw_load.specs.declared.loader.Loaded.{Loaded}
 use Rattle.lw_load.specs.Loading.{Files, Loads}
-use Rattle.lw_load.specs.LoadFaults.{Stops}
+use Rattle.lw_load.specs.LoadFaults.{Stops, IsOfFiles}
 use Rattle.lw_lang.specs.Shape.{HasShape}
 use Rattle.lw_lang.specs.Obstacles.{HasObstacle, MatchesEmpty}
 use Rattle.lw_lang.specs.Refused.{FirstMatchesEmpty, IsToldBy, IsPatternRefused}
@@ -32,9 +32,15 @@ pub record IsClear (g : Grammar) : Type 0 where
 abbrev pub IsNotBuilt : Grammar → Type 0
 IsNotBuilt g = (¬ HasShape g) ⊎ HasObstacle g ⊎ FirstMatchesEmpty g
 
+-- the first fault of the files; unless the store failed, they say no grammar
+pub record IsNotLoaded (files : Files) (root : List ℕ) (found : LoadFault) : Type 0 where
+  pub stops : Stops files root found
+  pub told : found ≢ loading.NoMemory
+  pub nothing : IsOfFiles found → (other : Loaded) → ¬ Loads files root other
+
 -- why each fault comes, by the files and the text that the patterns refused last
 abbrev pub Causes : Files → List ℕ → Option (List ℕ) → CompileFault → Type 0
-Causes files root refused (Load found) = Stops files root found × (found ≢ loading.NoMemory)
+Causes files root refused (Load found) = IsNotLoaded files root found
 Causes files root refused Unbuilt = (g : Grammar) × HoldsGrammar files root g × IsNotBuilt g
 Causes files root refused (PatternRefused rule name at) =
     (g : Grammar) × (holds : HoldsGrammar files root g) × IsPatternRefused g holds.loaded.texts refused rule name at
