@@ -6,12 +6,12 @@ use Rattle.lw_load.specs.declared.fault.LoadFault.{LoadFault}
 use Rattle.lw_load.specs.declared.fault.LoadFault.TheVariants as loading
 use Rattle.lw_load.specs.declared.loader.Loaded.{Loaded}
 use Rattle.lw_load.specs.Loading.{Files, Loads}
-use Rattle.lw_load.specs.LoadFaults.{Stops, CountsLoad}
+use Rattle.lw_load.specs.LoadFaults.{Stops}
 use Rattle.lw_lang.specs.Shape.{HasShape}
 use Rattle.lw_lang.specs.Obstacles.{HasObstacle}
 use Rattle.lw_lang.specs.Refused.{IsToldBy, IsTried}
 use Rattle.lw_lang.specs.Language.{LanguageView}
-use Rattle.lw_lang.specs.Compiled.{HoldsGrammar, Causes, GrammarCauses, IsPatternFault, CountsStore, CountsPatterns, KeepsPatterns, of_load}
+use Rattle.lw_lang.specs.Compiled.{HoldsGrammar, Causes, GrammarCauses, IsPatternFault, of_load}
 use Rattle.lw_lang.specs.declared.fault.CompileFault.{CompileFault}
 use Rattle.lw_lang.specs.declared.fault.CompileFault.TheVariants as fault
 
@@ -36,57 +36,23 @@ module _ (g : Grammar) (texts : List (List ℕ)) (refused : Option (List ℕ)) w
 
 -- ---- a fault of loading, handed on
 
-causes_of_load : (found : LoadFault) (files : Files) (root : List ℕ) (refused : Option (List ℕ)) → Stops files root found → Causes files root refused (of_load found)
-causes_of_load loading.NoMemory files root refused stops = tt
-causes_of_load (loading.Absent p) files root refused stops = (stops, λ is. cc)
-causes_of_load (loading.NotUtf8 p) files root refused stops = (stops, λ is. cc)
-causes_of_load (loading.TooLong p) files root refused stops = (stops, λ is. cc)
-causes_of_load (loading.StoreFault p) files root refused stops = (stops, λ is. cc)
-causes_of_load (loading.Read p refusal at) files root refused stops = (stops, λ is. cc)
-causes_of_load (loading.TooLarge p) files root refused stops = (stops, λ is. cc)
+causes_of_load : (files : Files) (root : List ℕ) (refused : Option (List ℕ)) (found : LoadFault) → Stops files root found → Causes files root refused (of_load found)
+causes_of_load files root refused loading.NoMemory stops = tt
+causes_of_load files root refused (loading.Absent p) stops = (stops, λ is. cc)
+causes_of_load files root refused (loading.NotUtf8 p) stops = (stops, λ is. cc)
+causes_of_load files root refused (loading.TooLong p) stops = (stops, λ is. cc)
+causes_of_load files root refused (loading.StoreFault p) stops = (stops, λ is. cc)
+causes_of_load files root refused (loading.Read p refusal at) stops = (stops, λ is. cc)
+causes_of_load files root refused (loading.TooLarge p) stops = (stops, λ is. cc)
 
-counts_of_load : {T : Type 0} (found : LoadFault) (before now : ℕ) → CountsLoad {T = Loaded} before now (Err found) → CountsStore {T = T} before now (Err (of_load found))
-counts_of_load loading.NoMemory before now counts = counts
-counts_of_load (loading.Absent p) before now counts = counts
-counts_of_load (loading.NotUtf8 p) before now counts = counts
-counts_of_load (loading.TooLong p) before now counts = counts
-counts_of_load (loading.StoreFault p) before now counts = counts
-counts_of_load (loading.Read p refusal at) before now counts = counts
-counts_of_load (loading.TooLarge p) before now counts = counts
-
--- no fault of loading is one of the patterns
-no_pattern : {T : Type 0} (found : LoadFault) (count : ℕ) → CountsPatterns {T = T} count count (Err (of_load found))
-no_pattern loading.NoMemory count = refl
-no_pattern (loading.Absent p) count = refl
-no_pattern (loading.NotUtf8 p) count = refl
-no_pattern (loading.TooLong p) count = refl
-no_pattern (loading.StoreFault p) count = refl
-no_pattern (loading.Read p refusal at) count = refl
-no_pattern (loading.TooLarge p) count = refl
-
-keeps_pattern : {T : Type 0} (found : LoadFault) (last : Option (List ℕ)) → KeepsPatterns {T = T} last last (Err (of_load found))
-keeps_pattern loading.NoMemory last = refl
-keeps_pattern (loading.Absent p) last = refl
-keeps_pattern (loading.NotUtf8 p) last = refl
-keeps_pattern (loading.TooLong p) last = refl
-keeps_pattern (loading.StoreFault p) last = refl
-keeps_pattern (loading.Read p refusal at) last = refl
-keeps_pattern (loading.TooLarge p) last = refl
-
-module _ {T : Type 0} (found : LoadFault) (f : CompileFault) (is : f ≡ of_load found) where
-  pub load_causes : (told : Option Files) (root : List ℕ) (refused : Option (List ℕ)) → IfSome told (λ files. Stops files root found) →
-      IfSome told (λ files. Causes files root refused f)
-  load_causes None root refused stops = tt
-  load_causes (Some files) root refused stops = subst (Causes files root refused) (sym is) (causes_of_load found files root refused stops)
-
-  pub load_counts : (before now : ℕ) → CountsLoad {T = Loaded} before now (Err found) → CountsStore {T = T} before now (Err f)
-  load_counts before now counts = subst (λ f. CountsStore {T = T} before now (Err f)) (sym is) (counts_of_load found before now counts)
-
-  pub load_tries_no_pattern : (count : ℕ) → CountsPatterns {T = T} count count (Err f)
-  load_tries_no_pattern count = subst (λ f. CountsPatterns {T = T} count count (Err f)) (sym is) (no_pattern found count)
-
-  pub load_keeps_pattern : (last : Option (List ℕ)) → KeepsPatterns {T = T} last last (Err f)
-  load_keeps_pattern last = subst (λ f. KeepsPatterns {T = T} last last (Err f)) (sym is) (keeps_pattern found last)
+pub load_faults : {T : Type 0} (told : Option Files) (root : List ℕ) (refused : Option (List ℕ)) (found : LoadFault) (f : CompileFault) (r : Result T CompileFault) → r ≡ Err f →
+    of_load found ≡ f → IfSome told (λ files. Stops files root found) → IfErr r (λ f. IfSome told (λ files. Causes files root refused f))
+load_faults {T} told root refused found f r is same stops =
+    subst (λ (r : Result T CompileFault). IfErr r (λ f. IfSome told (λ files. Causes files root refused f))) (sym is) (by told stops)
+  where
+    by : (told : Option Files) → IfSome told (λ files. Stops files root found) → IfSome told (λ files. Causes files root refused f)
+    by None stops = tt
+    by (Some files) stops = subst (Causes files root refused) same (causes_of_load files root refused found stops)
 
 -- ---- a grammar that was loaded
 
@@ -123,12 +89,3 @@ module _ (told : Option Files) (root : List ℕ) (loaded : Loaded) (loads : IfSo
       IfOk r (λ language. IfSome told (λ files. HoldsGrammar files root language.grammar))
   built_holds (Ok language) is = holds_loaded language.grammar is
   built_holds (Err f) is = tt
-
--- no fault of a grammar is one of the store
-pub built_counts : {T : Type 0} (g : Grammar) (texts : List (List ℕ)) (refused : Option (List ℕ)) (before now : ℕ) (r : Result T CompileFault) →
-    IfErr r (GrammarCauses g texts refused) → now ≡ before → CountsStore before now r
-built_counts g texts refused before now (Ok x) cause same = same
-built_counts g texts refused before now (Err (fault.Load found)) cause same = absurd cause
-built_counts g texts refused before now (Err fault.Unbuilt) cause same = same
-built_counts g texts refused before now (Err (fault.PatternRefused rule name at)) cause same = same
-built_counts g texts refused before now (Err fault.NoMemory) cause same = same

@@ -1,12 +1,11 @@
 -- A pattern that is refused: whose it is, and how its terminal is told.
-use Rattle.std.proofs.Common.{◌≡◌, ◌≢◌, ℕ, zero, suc, ◌+◌, ◌^◌, ◌<◌, ◌≤◌, List, [], ◌∷◌, Some, None, IfSome, position, bytes_eq, length, get_or, take, slice_get, map, option_map, sum_by, All, AllPairs, Any, sym, ap, ◌∙◌, subst, arith}
+use Rattle.std.proofs.Common.{◌≡◌, ◌≢◌, ℕ, zero, suc, ◌+◌, ◌<◌, ◌≤◌, List, [], ◌∷◌, Some, None, IfSome, position, bytes_eq, length, get_or, take, slice_get, map, option_map, sum_by, All, AllPairs, Any, sym, ap, ◌∙◌, subst, arith}
 use Rattle.std.specs.List.{AllZip}
 use Rattle.std.proofs.lemmas.List.Elements.{All-nil, All-cons, All-head, All-tail, All-contains}
 use Rattle.std.proofs.lemmas.List.Quantifiers.{position-Some}
 use Rattle.std.proofs.lemmas.List.Sums.{sum_by-cons}
 use Rattle.std.proofs.lemmas.Slice.Eq.{bytes_eq-Decides}
 use Rattle.std.proofs.lemmas.Option.{slice_get-get_or, slice_get-map, slice_get_within, get_or_from_slice_get, same_Some}
-use Rattle.lw_base.specs.declared.limits.TheConstants.{LONGEST_TEXT}
 use Rattle.lw_grammar.specs.declared.grammar.Grammar.{Grammar}
 use Rattle.lw_grammar.specs.declared.rule.Rule.{Rule}
 use Rattle.lw_grammar.specs.declared.terminal.Terminal.{Terminal}
@@ -93,32 +92,31 @@ found_named terminals name place d is =
       subst (λ o. IfSome o (λ t. t.name ≡ name)) (sym (slice_get-get_or terminals place d found.0)) ((bytes_eq-Decides (get_or terminals place d).name name).0 found.1),
     )
 
--- the terminal at a place stands in the text of its file
+-- the terminal at a place
+pub at_its_place : (g : Grammar) (terminals : List Terminal) (place : ℕ) (terminal : Terminal) → terminals ≡ g.terminals → place < length terminals →
+    terminal ≡ get_or terminals place terminal → slice_get g.terminals place ≡ Some terminal
+at_its_place g terminals place terminal are inside is =
+    subst (λ ts. slice_get ts place ≡ Some terminal) are (slice_get-get_or terminals place terminal inside ∙ ap Some (sym is))
+
+-- it stands in the text of its file
 module _ (g : Grammar) (texts : List (List ℕ)) (stands : Stands texts g) (place : ℕ) (terminal : Terminal) (there : slice_get g.terminals place ≡ Some terminal) where
   terminal_in : AreIn texts terminal.file (terminal_spans terminal)
   terminal_in = All-contains (λ t. AreIn texts t.file (terminal_spans t)) g.terminals terminal stands.terminals (at_place g.terminals place there)
 
-  pub has_text : terminal.file < length texts
-  has_text = slice_get_within texts terminal.file terminal_in.text terminal_in.there
+  -- which is this one
+  module _ (text : List ℕ) (is : text ≡ get_or texts terminal.file text) (shown : List ℕ) (same : shown ≡ text) where
+    its_text : slice_get texts terminal.file ≡ Some shown
+    its_text = slice_get-get_or texts terminal.file text (slice_get_within texts terminal.file terminal_in.text terminal_in.there) ∙ ap Some (sym (same ∙ is))
 
-  pub its_text : (text : List ℕ) → text ≡ get_or texts terminal.file text → slice_get texts terminal.file ≡ Some text
-  its_text text is = slice_get-get_or texts terminal.file text has_text ∙ ap Some (sym is)
-
-  module _ (text : List ℕ) (at : slice_get texts terminal.file ≡ Some text) where
-    pub starts_within : terminal.span.start ≤ length text
+    pub starts_within : terminal.span.start ≤ length shown
     starts_within =
-        let same = same_Some terminal_in.text text (sym terminal_in.there ∙ at) in
-        subst (λ bs. terminal.span.start ≤ length bs) same (All-head (IsWithin terminal_in.text) terminal.span (term_spans terminal.body) terminal_in.within).0
+        subst (λ bs. terminal.span.start ≤ length bs) (same_Some terminal_in.text shown (sym terminal_in.there ∙ its_text))
+        (All-head (IsWithin terminal_in.text) terminal.span (term_spans terminal.body) terminal_in.within).0
 
-    pub is_short : length text < 2 ^ 32
-    is_short =
-        let short : length text ≤ LONGEST_TEXT = All-contains (λ bs. length bs ≤ LONGEST_TEXT) texts text stands.short (at_place texts terminal.file at) in
-        omega arith
-
-    -- and is told by it
-    pub told : (name : List ℕ) (rules : ℕ) (pos : Pos) → terminal.name ≡ name → rules ≡ length g.rules → IsPosition text terminal.span.start pos →
-        (t : Terminal) × (t.name ≡ name) × IsToldBy g texts t (record { 0 = rules + place }) name pos
-    told name rules pos named count begins = (
+    -- and the terminal is told by it
+    pub told : (name : List ℕ) (rules : ℕ) (at : Pos) → terminal.name ≡ name → rules ≡ length g.rules → IsPosition shown terminal.span.start at →
+        (t : Terminal) × (t.name ≡ name) × IsToldBy g texts t (record { 0 = rules + place }) name at
+    told name rules at named count begins = (
       terminal,
       named,
       record {
@@ -126,11 +124,17 @@ module _ (g : Grammar) (texts : List (List ℕ)) (stands : Stands texts g) (plac
         there = there;
         number = ap (λ n. n + place) count;
         named = sym named;
-        text = text;
-        file = at;
+        text = shown;
+        file = its_text;
         begins = begins;
       },
     )
+
+-- the name of the terminal that was found
+pub found_name : (terminals : List Terminal) (place : ℕ) (terminal : Terminal) (name : List ℕ) → place < length terminals → terminal ≡ get_or terminals place terminal →
+    IfSome (slice_get terminals place) (λ t. t.name ≡ name) → terminal.name ≡ name
+found_name terminals place terminal name inside is =
+    subst (λ o. IfSome o (λ t. t.name ≡ name) → terminal.name ≡ name) (sym (slice_get-get_or terminals place terminal inside ∙ ap Some (sym is))) (λ named. named)
 
 -- ---- what a grammar without the other conditions has
 
