@@ -6,7 +6,7 @@ use Rattle.lw_load.specs.declared.fault.LoadFault.{LoadFault}
 use Rattle.lw_load.specs.declared.fault.LoadFault.TheVariants as loading
 use Rattle.lw_load.specs.declared.loader.Loaded.{Loaded}
 use Rattle.lw_load.specs.Loading.{Files, Loads}
-use Rattle.lw_load.specs.LoadFaults.{Stops}
+use Rattle.lw_load.specs.LoadFaults.{Stops, IsOfFiles}
 use Rattle.lw_lang.specs.Shape.{HasShape}
 use Rattle.lw_lang.specs.Obstacles.{HasObstacle}
 use Rattle.lw_lang.specs.Refused.{IsToldBy, IsTried}
@@ -36,23 +36,27 @@ module _ (g : Grammar) (texts : List (List ℕ)) (refused : Option (List ℕ)) w
 
 -- ---- a fault of loading, handed on
 
-causes_of_load : (files : Files) (root : List ℕ) (refused : Option (List ℕ)) (found : LoadFault) → Stops files root found → Causes files root refused (of_load found)
-causes_of_load files root refused loading.NoMemory stops = tt
-causes_of_load files root refused (loading.Absent p) stops = (stops, λ is. cc)
-causes_of_load files root refused (loading.NotUtf8 p) stops = (stops, λ is. cc)
-causes_of_load files root refused (loading.TooLong p) stops = (stops, λ is. cc)
-causes_of_load files root refused (loading.StoreFault p) stops = (stops, λ is. cc)
-causes_of_load files root refused (loading.Read p refusal at) stops = (stops, λ is. cc)
-causes_of_load files root refused (loading.TooLarge p) stops = (stops, λ is. cc)
+module _ (files : Files) (root : List ℕ) (refused : Option (List ℕ)) where
+  causes_of_load : (found : LoadFault) → Stops files root found → (IsOfFiles found → (other : Loaded) → ¬ Loads files root other) →
+      Causes files root refused (of_load found)
+  causes_of_load loading.NoMemory stops nothing = tt
+  causes_of_load (loading.Absent p) stops nothing = record { stops = stops; told = λ is. cc; nothing = nothing }
+  causes_of_load (loading.NotUtf8 p) stops nothing = record { stops = stops; told = λ is. cc; nothing = nothing }
+  causes_of_load (loading.TooLong p) stops nothing = record { stops = stops; told = λ is. cc; nothing = nothing }
+  causes_of_load (loading.StoreFault p) stops nothing = record { stops = stops; told = λ is. cc; nothing = nothing }
+  causes_of_load (loading.Read p refusal at) stops nothing = record { stops = stops; told = λ is. cc; nothing = nothing }
+  causes_of_load (loading.TooLarge p) stops nothing = record { stops = stops; told = λ is. cc; nothing = nothing }
 
 pub load_faults : {T : Type 0} (told : Option Files) (root : List ℕ) (refused : Option (List ℕ)) (found : LoadFault) (f : CompileFault) (r : Result T CompileFault) → r ≡ Err f →
-    of_load found ≡ f → IfSome told (λ files. Stops files root found) → IfErr r (λ f. IfSome told (λ files. Causes files root refused f))
-load_faults {T} told root refused found f r is same stops =
-    subst (λ (r : Result T CompileFault). IfErr r (λ f. IfSome told (λ files. Causes files root refused f))) (sym is) (by told stops)
+    f ≡ of_load found → IfSome told (λ files. Stops files root found) → IfSome told (λ files. IsOfFiles found → (other : Loaded) → ¬ Loads files root other) →
+    IfErr r (λ f. IfSome told (λ files. Causes files root refused f))
+load_faults {T} told root refused found f r is same stops nothing =
+    subst (λ (r : Result T CompileFault). IfErr r (λ f. IfSome told (λ files. Causes files root refused f))) (sym is) (by told stops nothing)
   where
-    by : (told : Option Files) → IfSome told (λ files. Stops files root found) → IfSome told (λ files. Causes files root refused f)
-    by None stops = tt
-    by (Some files) stops = subst (Causes files root refused) same (causes_of_load files root refused found stops)
+    by : (told : Option Files) → IfSome told (λ files. Stops files root found) → IfSome told (λ files. IsOfFiles found → (other : Loaded) → ¬ Loads files root other) →
+        IfSome told (λ files. Causes files root refused f)
+    by None stops nothing = tt
+    by (Some files) stops nothing = subst (Causes files root refused) (sym same) (causes_of_load files root refused found stops nothing)
 
 -- ---- a grammar that was loaded
 
