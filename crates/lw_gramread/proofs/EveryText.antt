@@ -22,6 +22,10 @@ use Rattle.lw_gramread.proofs.StepLemmas.{key, symbol_of, symbol_of_spelling}
 use Rattle.lw_gramread.proofs.PlaceLemmas.{is_short, symbol_short}
 use Rattle.lw_gramread.proofs.CutLemmas.{placed, hidden_step, token_step, token_from}
 
+-- one of these stands there, or none does
+abbrev IsFound : {X : Type 0} → (X → Type 0) → Type 0
+IsFound {X} P = ((x : X) × P x) ⊎ ((x : X) → ¬ P x)
+
 cases_Option : (o : Option ℕ) → (o ≡ None) ⊎ ((n : ℕ) × (o ≡ Some n))
 cases_Option None = inl refl
 cases_Option (Some n) = inr (n, refl)
@@ -29,7 +33,7 @@ cases_Option (Some n) = inr (n, refl)
 -- ---- white space and comments
 
 -- a text begins with these two bytes or not
-begins_two : (t : List ℕ) (a b : ℕ) → ((r : List ℕ) × (t ≡ a ∷ b ∷ r)) ⊎ ((r : List ℕ) → t ≢ a ∷ b ∷ r)
+begins_two : (t : List ℕ) (a b : ℕ) → IsFound (λ r. t ≡ a ∷ b ∷ r)
 begins_two [] a b = inr (λ r e. cc)
 begins_two (x ∷ []) a b = inr (λ r e. cc)
 begins_two (x ∷ y ∷ ys) a b = elim (cases_eq x a) [
@@ -58,20 +62,25 @@ longer_end x xs here (HasEnd.first i r within ends least) = HasEnd.first (suc i)
 longer_end x xs here (HasEnd.none nowhere) =
     HasEnd.none (λ k within. none_behind x xs (suc (length xs)) here (λ j le. nowhere j (omega arith)) k (omega arith))
 
+none_in_nothing : (k : ℕ) → k ≤ 0 → HasNoEndAt [] k
+none_in_nothing k within r e =
+    let nothing : ◌≡◌ {A = List ℕ} [] (42 ∷ 47 ∷ r) = sym (drop_of_length-le [] (omega arith)) ∙ e in
+    cc
+
 first_end : (t : List ℕ) → HasEnd t
-first_end [] = HasEnd.none (λ k within r e. let nothing : ◌≡◌ {A = List ℕ} (drop k []) [] = drop_of_length-le [] (omega arith) in let f : ◌≡◌ {A = List ℕ} [] (42 ∷ 47 ∷ r) = sym nothing ∙ e in cc)
+first_end [] = HasEnd.none none_in_nothing
 first_end (x ∷ xs) = elim (begins_two (x ∷ xs) 42 47) [
   | inl ends ↦ HasEnd.first 0 ends.0 (omega arith) ends.1 (λ k within. absurd (omega arith))
   | inr here ↦ longer_end x xs here (first_end xs)
 ]
 
 block_or_none : (t after : List ℕ) (c : ℕ) → BeginsWith t c → is_whitespace c ≡ false → ((r : List ℕ) → t ≢ 47 ∷ 47 ∷ r) → t ≡ 47 ∷ 42 ∷ after → HasEnd after →
-    ((n : ℕ) × IsHidden t n) ⊎ ((n : ℕ) → ¬ IsHidden t n)
+    IsFound (IsHidden t)
 block_or_none t after c begun not_white no_line opened (HasEnd.first i r within ends least) = inl (i + 4, hidden_block t after r i opened within ends least)
 block_or_none t after c begun not_white no_line opened (HasEnd.none nowhere) =
     inr (hidden_none t c begun not_white no_line (λ rest e. subst (λ x. (i : ℕ) → i ≤ length x → HasNoEndAt x i) (opened_same t after rest opened e) nowhere))
 
-hidden_or_none : (t : List ℕ) (c : ℕ) → BeginsWith t c → ((n : ℕ) × IsHidden t n) ⊎ ((n : ℕ) → ¬ IsHidden t n)
+hidden_or_none : (t : List ℕ) (c : ℕ) → BeginsWith t c → IsFound (IsHidden t)
 hidden_or_none t c begun = elim (cases_Bool (is_whitespace c)) [
   | inl white ↦ inl (length (encode_utf8 c), IsHidden.white c begun white)
   | inr not_white ↦ elim (begins_two t 47 47) [
@@ -85,7 +94,7 @@ hidden_or_none t c begun = elim (cases_Bool (is_whitespace c)) [
 
 -- ---- words
 
-plain_or_none : (t : List ℕ) → ((n : ℕ) × IsPlainWord t n) ⊎ ((n : ℕ) → ¬ IsPlainWord t n)
+plain_or_none : (t : List ℕ) → IsFound (IsPlainWord t)
 plain_or_none [] = inr (λ n p. let e : [] ≡ p.first ∷ p.after = p.parts in cc)
 plain_or_none (c ∷ cs) = elim (cases_Bool (is_word_start c)) [
   | inl starts ↦ inl (1 + length (take_while is_word_part cs), record { first = c; after = cs; parts = refl; starts = starts; bytes = refl })
@@ -93,7 +102,7 @@ plain_or_none (c ∷ cs) = elim (cases_Bool (is_word_start c)) [
       inr (λ n p. let same : c ≡ p.first = (let e : c ∷ cs ≡ p.first ∷ p.after = p.parts in cc) in both_ways (is_word_start c) no_start (ap is_word_start same ∙ p.starts))
 ]
 
-word_or_none : (c : ℕ) (cs : List ℕ) → ((n : ℕ) × IsWord (c ∷ cs) n) ⊎ ((n : ℕ) → ¬ IsWord (c ∷ cs) n)
+word_or_none : (c : ℕ) (cs : List ℕ) → IsFound (IsWord (c ∷ cs))
 word_or_none c cs = elim (cases_eq c 94) [
   | inl mark ↦ elim (plain_or_none cs) [
     | inl word ↦ inl (1 + word.0, IsWord.marked cs (ap (λ x. x ∷ cs) mark) word.1)
@@ -107,13 +116,13 @@ word_or_none c cs = elim (cases_eq c 94) [
 
 -- ---- strings
 
-quoted_or_none : (c : ℕ) (cs : List ℕ) → (c ≡ 39) ⊎ (c ≡ 34) → ((n : ℕ) × IsString (c ∷ cs) n) ⊎ ((n : ℕ) → ¬ IsString (c ∷ cs) n)
+quoted_or_none : (c : ℕ) (cs : List ℕ) → (c ≡ 39) ⊎ (c ≡ 34) → IsFound (IsString (c ∷ cs))
 quoted_or_none c cs is_quote = elim (cases_Option (inside_end c 0 false cs)) [
   | inl opened ↦ inr (string_none (c ∷ cs) cs c refl opened)
   | inr closed ↦ inl (closed.0 + 2, string_some (c ∷ cs) cs c closed.0 refl is_quote closed.1)
 ]
 
-string_or_none : (c : ℕ) (cs : List ℕ) → ((n : ℕ) × IsString (c ∷ cs) n) ⊎ ((n : ℕ) → ¬ IsString (c ∷ cs) n)
+string_or_none : (c : ℕ) (cs : List ℕ) → IsFound (IsString (c ∷ cs))
 string_or_none c cs = elim (cases_eq c 39) [
   | inl single ↦ quoted_or_none c cs (inl single)
   | inr not_single ↦ elim (cases_eq c 34) [
@@ -152,12 +161,12 @@ regex_or_none c cs = elim (cases_eq c 47) [
 -- ---- symbols
 
 -- a symbol of n bytes with which the text begins, or that there is none
-sized_or_none : (t : List ℕ) (n : ℕ) → ((s : Symbol) × BeginsSpelling t (spelling s) × (length (spelling s) ≡ n)) ⊎ ((s : Symbol) → BeginsSpelling t (spelling s) → length (spelling s) ≢ n)
+sized_or_none : (t : List ℕ) (n : ℕ) → IsFound (λ s. BeginsSpelling t (spelling s) × (length (spelling s) ≡ n))
 sized_or_none t n = elim (cases_eq (length (spelling s)) n) [
-  | inr other ↦ inr (λ o begins size. other (ap (λ x. length (spelling x)) (same o begins size) ∙ size))
+  | inr other ↦ inr (λ o is. other (ap (λ x. length (spelling x)) (same o is.0 is.1) ∙ is.1))
   | inl size ↦ elim (cases_Bool (starts_with nat_eq t (spelling s))) [
-    | inl begins ↦ inl (s, begins, size)
-    | inr not_begun ↦ inr (λ o begins size. both_ways (starts_with nat_eq t (spelling s)) not_begun (subst (λ x. BeginsSpelling t (spelling x)) (sym (same o begins size)) begins))
+    | inl begins ↦ inl (s, (begins, size))
+    | inr not_begun ↦ inr (λ o is. both_ways (starts_with nat_eq t (spelling s)) not_begun (subst (λ x. BeginsSpelling t (spelling x)) (sym (same o is.0 is.1)) is.0))
   ]
 ]
   where
@@ -175,12 +184,12 @@ one_or_two (a ∷ []) short = inl refl
 one_or_two (a ∷ b ∷ []) short = inr refl
 one_or_two (a ∷ b ∷ c ∷ cs) short = cc
 
-symbol_or_none : (t : List ℕ) → ((s : Symbol) × IsSymbol t s) ⊎ ((s : Symbol) → ¬ IsSymbol t s)
+symbol_or_none : (t : List ℕ) → IsFound (IsSymbol t)
 symbol_or_none t = elim (sized_or_none t 2) [
-  | inl long ↦ inl (long.0, record { begins = long.1; longest = λ o begins. elim (sizes o) [ inl one ↦ omega (arith, one, long.2) | inr two ↦ omega (arith, two, long.2) ] })
+  | inl long ↦ inl (long.0, record { begins = long.1.0; longest = λ o begins. elim (sizes o) [ inl one ↦ omega (arith, one, long.1.1) | inr two ↦ omega (arith, two, long.1.1) ] })
   | inr no_long ↦ elim (sized_or_none t 1) [
-    | inl short ↦ inl (short.0, record { begins = short.1; longest = λ o begins. elim (sizes o) [ inl one ↦ omega (arith, one, short.2) | inr two ↦ absurd (no_long o begins two) ] })
-    | inr no_short ↦ inr (λ s is. elim (sizes s) [ inl one ↦ no_short s is.begins one | inr two ↦ no_long s is.begins two ])
+    | inl short ↦ inl (short.0, record { begins = short.1.0; longest = λ o begins. elim (sizes o) [ inl one ↦ omega (arith, one, short.1.1) | inr two ↦ absurd (no_long o (begins, two)) ] })
+    | inr no_short ↦ inr (λ s is. elim (sizes s) [ inl one ↦ no_short s (is.begins, one) | inr two ↦ no_long s (is.begins, two) ])
   ]
 ]
   where
@@ -241,11 +250,16 @@ module _ (text : List ℕ) (utf8 : IsUtf8 text) where
       let step = token_step text at n kind (drop at text) utf8 within (placed text at tokens utf8 cut).ends refl is in
       record { end = at + n; tokens = tokens ++ token_from at n kind ∷ []; behind = omega (arith, step.some); cut = IsFileCutTo.then cut within is }
 
+  at_end : (at : ℕ) (tokens : List FileToken) → IsFileCutTo text at tokens → length text ≤ at → IsFileCut text tokens
+  at_end at tokens cut over =
+      let same : at ≡ length text = omega (arith, (placed text at tokens utf8 cut).ends.0) in
+      subst (λ n. IsFileCutTo text n tokens) same cut
+
   -- a cut up to a place, behind which no more than so many bytes are left, goes on to the end
   to_end : (left at : ℕ) (tokens : List FileToken) → IsFileCutTo text at tokens → length text ≤ at + left → (all : List FileToken) × IsFileCut text all
-  to_end zero at tokens cut enough = (tokens, subst (λ n. IsFileCutTo text n tokens) (let e : at ≡ length text = omega (arith, (placed text at tokens utf8 cut).ends.0) in e) cut)
+  to_end zero at tokens cut enough = (tokens, at_end at tokens cut (omega arith))
   to_end (suc left) at tokens cut enough = elim (cases_lt at (length text)) [
-    | inr over ↦ (tokens, subst (λ n. IsFileCutTo text n tokens) (let e : at ≡ length text = omega (arith, (placed text at tokens utf8 cut).ends.0) in e) cut)
+    | inr over ↦ (tokens, at_end at tokens cut over)
     | inl within ↦
         let rest : IsUtf8 (drop at text) = IsUtf8-drop text at utf8 (placed text at tokens utf8 cut).ends in
         let on = next at tokens cut within (stands (drop at text) rest (omega (arith, length-drop at text))) in
