@@ -7,5 +7,5 @@ pub mod StepLemmas
 pub mod PlaceLemmas
 pub mod CutLemmas
 pub mod FrontCuts
+pub mod EveryText
 pub mod ValueLemmas
-pub mod Laws

@@ -149,13 +149,13 @@ regex_cut t flags n utf8 r =
     }
 
 -- the bytes of a symbol: one or two, and each is ASCII
-abbrev is_short : List ℕ → Bool
+abbrev pub is_short : List ℕ → Bool
 is_short [] = false
 is_short (a ∷ []) = nat_lt a 128
 is_short (a ∷ b ∷ []) = nat_lt b 128
 is_short (a ∷ b ∷ c ∷ cs) = false
 
-symbol_short : (s : Symbol) → is_short (spelling s) ≡ true
+pub symbol_short : (s : Symbol) → is_short (spelling s) ≡ true
 symbol_short DotDot = refl
 symbol_short PlusEquals = refl
 symbol_short QuestionEquals = refl

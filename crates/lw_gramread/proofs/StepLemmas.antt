@@ -8,7 +8,7 @@ use Rattle.lw_gramread.specs.declared.token.FileKind.{FileKind}
 use Rattle.lw_gramread.specs.declared.token.FileKind.TheVariants as kind
 use Rattle.lw_gramread.specs.Symbols.{BeginsSpelling, IsSymbol, spelling}
 use Rattle.lw_gramread.specs.FileTokens.{BeginsWith, IsHidden, IsWord, IsString, IsRegex, IsFileToken, is_word_start}
-use Rattle.std.proofs.lemmas.Bool.{ne_eqb, eqb-true, leb-true, cases_lt, lt-leb, le-leb, or_cases, and_parts, not-true, cases_cond, agree_below_at}
+use Rattle.std.proofs.lemmas.Bool.{ne_eqb, eqb-true, leb-true, cases_lt, lt-leb, le-leb, or_cases, or_parts, and_parts, not-true, cases_cond, agree_below_at}
 use Rattle.std.proofs.lemmas.Slice.Eq.{bytes_eq-Decides}
 use Rattle.lw_gramread.proofs.HiddenLemmas.{begins_same, begins_byte, some_begun}
 use Rattle.lw_gramread.proofs.WordLemmas.{word_same}
@@ -50,10 +50,6 @@ word_start_other b starts =
     let e : is_other b ≡ true = agree_below_at is_other (λ _. true) 128 b refl (word_start_ascii b starts) in
     let f : not true || not (is_whitespace b || (b == 47)) ≡ true = subst (λ x. not x || not (is_whitespace b || (b == 47)) ≡ true) starts e in
     not-true (is_whitespace b || (b == 47)) f
-
-or_parts : (x y : Bool) → (x || y) ≡ false → (x ≡ false) × (y ≡ false)
-or_parts true y h = cc
-or_parts false y h = (refl, h)
 
 plain_class : (b : ℕ) (bs : List ℕ) → is_word_start b ≡ true → class_of (b ∷ bs) ≡ 2
 plain_class b bs starts =
@@ -130,11 +126,11 @@ hidden_class t _ (IsHidden.block_comment inside after e least) = ap class_of e
 
 -- ---- one symbol
 
-abbrev key : List ℕ → ℕ
+abbrev pub key : List ℕ → ℕ
 key [] = 0
 key (b ∷ bs) = b + 256 * key bs
 
-abbrev symbol_of : ℕ → Symbol
+abbrev pub symbol_of : ℕ → Symbol
 symbol_of k =
     if k == 11822 then DotDot
     else if k == 15659 then PlusEquals
@@ -162,7 +158,7 @@ symbol_of k =
     else if k == 38 then Ampersand
     else Exclamation
 
-symbol_of_spelling : (s : Symbol) → symbol_of (key (spelling s)) ≡ s
+pub symbol_of_spelling : (s : Symbol) → symbol_of (key (spelling s)) ≡ s
 symbol_of_spelling DotDot = refl
 symbol_of_spelling PlusEquals = refl
 symbol_of_spelling QuestionEquals = refl

@@ -1,12 +1,12 @@
 -- What the tokens say.
-use Rattle.std.proofs.Common.{◌≡◌, ◌≢◌, ◌<◌, ◌≤◌, ℕ, suc, ◌+◌, List, [], ◌∷◌, ◌++◌, length, get_or, drop, refl, sym, ap, ◌∙◌, inl, inr, arith, length-append, append_assoc, encode_utf8, encode_utf8_all, chars, Bool, true, false, ◌==◌, nat_lt, IsUtf8, IsCharBoundary}
+use Rattle.std.proofs.Common.{◌≡◌, ◌≢◌, ◌<◌, ◌≤◌, ℕ, suc, ◌+◌, List, [], ◌∷◌, ◌++◌, length, get_or, drop, refl, sym, ap, ◌∙◌, inl, inr, arith, append_assoc, encode_utf8, encode_utf8_all, chars, Bool, true, false, ◌==◌, nat_lt, IsUtf8, IsCharBoundary}
 use Rattle.std.proofs.lemmas.Bool.{ne_eqb, ltb-true, cases_lt, agree_below_at}
 use Rattle.std.proofs.lemmas.List.{append-nil, drop_more}
 use Rattle.std.proofs.lemmas.Str.{inside_one, encode_ascii, encodes-chars, length-encode, len_utf8_bounds}
 use Rattle.std.proofs.Math.ListN.{drop_of_length-le}
-use Rattle.std.proofs.Math.Seq.{get_or-append_seam}
 use Rattle.lw_gramread.specs.Values.{word_name, escape, with_escapes_read}
-use Rattle.lw_gramread.proofs.PlaceLemmas.{behind_byte, before_ascii}
+use Rattle.lw_gramread.proofs.RegexLemmas.{with_backslash}
+use Rattle.lw_gramread.proofs.PlaceLemmas.{behind_byte}
 
 -- ---- words
 
@@ -21,11 +21,6 @@ pub inside_starts : (t rest : List ℕ) (b : ℕ) → IsUtf8 t → t ≡ b ∷ r
 inside_starts t rest b utf8 e ascii = behind_byte t [] rest b utf8 e ascii
 
 -- ---- escapes
-
--- what is left to read, behind a backslash or not
-abbrev pub behind : Bool → List ℕ → List ℕ
-behind true rest = 92 ∷ rest
-behind false rest = rest
 
 escape_above : (b : ℕ) → 128 ≤ b → escape b ≡ b
 escape_above b above =
@@ -75,7 +70,7 @@ read_pair c rest = elim (cases_lt c 128) [
 
 -- the loop: what is read of the first n characters, and whether a backslash is left
 pub record IsReadTo (text value : List ℕ) (n : ℕ) (escaped : Bool) : Type 0 where
-  pub so_far : value ++ with_escapes_read (behind escaped (encode_utf8_all (drop n (chars text)))) ≡ with_escapes_read text
+  pub so_far : value ++ with_escapes_read (with_backslash escaped (encode_utf8_all (drop n (chars text)))) ≡ with_escapes_read text
 
 module _ (text value : List ℕ) (n c : ℕ) (turn : (n < length (chars text)) × (c ≡ get_or (chars text) n c)) where
   left : encode_utf8_all (drop n (chars text)) ≡ encode_utf8 c ++ encode_utf8_all (drop (n + 1) (chars text))

@@ -1,5 +1,5 @@
 -- A text begins with at most one word.
-use Rattle.std.proofs.Common.{◌≡◌, ◌≢◌, ℕ, ◌+◌, List, [], ◌∷◌, length, take_while, true, false, sym, ap, ◌∙◌, subst}
+use Rattle.std.proofs.Common.{◌≡◌, ◌≢◌, ℕ, ◌+◌, List, ◌∷◌, length, take_while, true, false, sym, ap, ◌∙◌, subst}
 use Rattle.lw_gramread.specs.FileTokens.{IsWord, IsPlainWord, is_word_start, is_word_part}
 use Rattle.lw_gramread.specs.FileTokens.IsWord.{plain, marked}
 

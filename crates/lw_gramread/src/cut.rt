@@ -1,9 +1,8 @@
 // The cut of a grammar file into its tokens.
-ghost use Rattle.std.specs.Prelude.{◌≡◌, ℕ, ◌<◌, ◌≤◌, List, length, IfOk, All};
+ghost use Rattle.std.specs.Prelude.{ℕ, ◌<◌, ◌≤◌, length, IfOk, All};
 ghost use Rattle.lw_base.specs.declared.limits.TheConstants.{LONGEST_TEXT};
-ghost use Rattle.lw_gramread.specs.declared.token.FileToken.{FileToken};
 ghost use Rattle.lw_gramread.specs.FileTokens.{IsHidden, IsFileToken};
-ghost use Rattle.lw_gramread.specs.FileCut.{IsFileCut, IsFrontCut};
+ghost use Rattle.lw_gramread.specs.FileCut.{IsFrontCut};
 ghost use Rattle.lw_gramread.specs.Places.{IsPlace, IsOfKind};
 ghost use Rattle.lw_gramread.specs.Values.{part_of};
 
@@ -15,43 +14,6 @@ use crate::token::{FileKind, FileToken};
 use crate::word::word_length;
 use lw_base::{Name, NoMemory, Span};
 use std::alloc::Global;
-
-/// The tokens of a grammar file, in order. The text has at most 64 MiB.
-///
-/// A byte is read a fixed number of times, except behind a quote, a `/` or a `/*` that nothing closes:
-/// there the text is looked through to its end, or to the line's end behind a `/`, before the
-/// character is taken alone. Where one such character has been met, a reader refuses.
-///
-/// The one error is want of memory.
-pub fn file_tokens(alloc: Global, text: &Name) -> Result<Vec<FileToken>, NoMemory>
-    requires { length text.now ≤ LONGEST_TEXT }
-    ensures cut { IfOk result (λ tokens. IsFileCut text.now tokens.items) }
-    ensures only { IfOk result
-        (λ tokens. (other : List FileToken) → IsFileCut text.now other → other ≡ tokens.items) }
-    ensures places { IfOk result (λ tokens. All (λ t. IsPlace text.now t.span) tokens.items) }
-    ensures forms { IfOk result
-        (λ tokens. All (λ t. IsOfKind t.kind (part_of text.now t.span)) tokens.items) }
-{
-    let text = text.text();
-    let mut tokens = Vec::new(alloc);
-    let mut at = 0;
-    'cutting: while at < text.len() {
-        let rest = &text[at..];
-        match hidden_length(rest) {
-            Some(n) => at += n,
-            None => {
-                let (kind, n) = token_at(rest);
-                let span = Span {
-                    start: at as u32,
-                    end: (at + n) as u32,
-                };
-                tokens.push(FileToken { kind, span })?;
-                at += n;
-            }
-        }
-    }
-    Ok(tokens)
-}
 
 /// The tokens of a grammar file up to its end, or up to the first that is no token and can follow nowhere,
 /// with that one. The text has at most 64 MiB.
@@ -69,7 +31,7 @@ pub fn front_tokens(alloc: Global, text: &Name) -> Result<Vec<FileToken>, NoMemo
     let text = text.text();
     let mut tokens = Vec::new(alloc);
     let mut at = 0;
-    'front: while text.len() > at {
+    'front: while at < text.len() {
         let rest = &text[at..];
         match hidden_length(rest) {
             Some(n) => at += n,

@@ -1,15 +1,17 @@
 use crate::{
-    FileKind, FileToken, Symbol, file_tokens, is_reserved, read_escapes, regex_text, string_value,
+    FileKind, FileToken, Symbol, front_tokens, is_reserved, read_escapes, regex_text, string_value,
     word_name,
 };
 use lw_base::{Name, Span};
 use std::process::Abort;
 use std::test::Fail;
 
+// The cut of the text up to its end, or up to the first token that can follow nowhere. Where more stands behind that one, it
+// has a row of its own.
 fn cut_of(rt: &(impl Abort + AllocGlobal), text: &str, wanted: &[(FileKind, u32, u32)]) {
     let file = Name::from_text(rt.alloc(), text).expect(rt, "memory");
     assert!(rt; file.bytes().len() <= 67108864);
-    let tokens = file_tokens(rt.alloc(), &file).expect(rt, "memory");
+    let tokens = front_tokens(rt.alloc(), &file).expect(rt, "memory");
     assert_eq!(rt; tokens.len(), wanted.len(), "{text:?}");
     for (token, (kind, start, end)) in tokens.iter().zip(wanted) {
         let span = Span {
@@ -35,16 +37,9 @@ fn words_and_symbols(rt: HostRuntime) {
             (FileKind::Symbol(Symbol::Semicolon), 27, 28),
         ],
     );
-    cut_of(
-        &rt,
-        "^ ^9a",
-        &[
-            (FileKind::Other, 0, 1),
-            (FileKind::Other, 2, 3),
-            (FileKind::Other, 3, 4),
-            (FileKind::Word, 4, 5),
-        ],
-    );
+    cut_of(&rt, "^ ^9a", &[(FileKind::Other, 0, 1)]);
+    cut_of(&rt, "^9a", &[(FileKind::Other, 0, 1)]);
+    cut_of(&rt, "9a", &[(FileKind::Other, 0, 1)]);
     cut_of(
         &rt,
         "...+=?=?=>->-",
@@ -70,55 +65,54 @@ fn strings_and_regexes(rt: HostRuntime) {
             (FileKind::Text, 0, 6),
             (FileKind::Text, 7, 13),
             (FileKind::Other, 14, 15),
-            (FileKind::Word, 15, 16),
-            (FileKind::Other, 16, 17),
         ],
+    );
+    cut_of(
+        &rt,
+        "x\\\n",
+        &[(FileKind::Word, 0, 1), (FileKind::Other, 1, 2)],
     );
     cut_of(
         &rt,
         "'a\nb' 'no",
-        &[
-            (FileKind::Text, 0, 5),
-            (FileKind::Other, 6, 7),
-            (FileKind::Word, 7, 9),
-        ],
+        &[(FileKind::Text, 0, 5), (FileKind::Other, 6, 7)],
     );
     cut_of(
         &rt,
         "/[/\\]]*\\//gi /a\nb/",
+        &[(FileKind::Regex(2), 0, 12), (FileKind::Other, 13, 14)],
+    );
+    cut_of(
+        &rt,
+        "a\nb/",
         &[
-            (FileKind::Regex(2), 0, 12),
-            (FileKind::Other, 13, 14),
-            (FileKind::Word, 14, 15),
-            (FileKind::Word, 16, 17),
-            (FileKind::Other, 17, 18),
+            (FileKind::Word, 0, 1),
+            (FileKind::Word, 2, 3),
+            (FileKind::Other, 3, 4),
         ],
     );
 }
 
 #[test]
 fn what_is_passed_over(rt: HostRuntime) {
+    cut_of(&rt, "//x\r/*y*/ /*/ * */ /*/", &[(FileKind::Other, 19, 20)]);
     cut_of(
         &rt,
-        "//x\r/*y*/ /*/ * */ /*/",
+        "*/",
         &[
-            (FileKind::Other, 19, 20),
-            (FileKind::Symbol(Symbol::Star), 20, 21),
-            (FileKind::Other, 21, 22),
+            (FileKind::Symbol(Symbol::Star), 0, 1),
+            (FileKind::Other, 1, 2),
         ],
     );
-    cut_of(
-        &rt,
-        "€\u{a0}b//",
-        &[(FileKind::Other, 0, 3), (FileKind::Word, 5, 6)],
-    );
+    cut_of(&rt, "€\u{a0}b//", &[(FileKind::Other, 0, 3)]);
+    cut_of(&rt, "\u{a0}b//", &[(FileKind::Word, 2, 3)]);
 }
 
 // What each token of the text says, in order.
 fn says(rt: &(impl Abort + AllocGlobal), text: &str, wanted: &[&str]) {
     let file = Name::from_text(rt.alloc(), text).expect(rt, "memory");
     assert!(rt; file.bytes().len() <= 67108864);
-    let tokens = file_tokens(rt.alloc(), &file).expect(rt, "memory");
+    let tokens = front_tokens(rt.alloc(), &file).expect(rt, "memory");
     assert_eq!(rt; tokens.len(), wanted.len(), "{text:?}");
     for k in 0..tokens.len() {
         let token = tokens[k].text(&file);

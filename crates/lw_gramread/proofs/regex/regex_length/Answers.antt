@@ -1,6 +1,6 @@
-use Rattle.std.proofs.Common.{◌≡◌, ◌+◌, ◌∷◌, length, take_while, ap, sym, refl, ◌∙◌}
+use Rattle.std.proofs.Common.{◌≡◌, ◌+◌, ◌∷◌, length, take_while, ap, sym, refl, ◌∙◌, arith}
 use Rattle.std.specs.Char.{is_ascii_lowercase}
-use Rattle.lw_gramread.proofs.Answers.{slice_to_end}
+use Rattle.std.proofs.lemmas.Slice.{between_to_end}
 use Rattle.lw_gramread.proofs.RegexLemmas.{regex_none_open, regex_none_bare, regex_none_star, regex_some}
 use Rattle.lw_gramread.proofs.regex.regex_length.Goals as goal
 use Rattle.lw_gramread.proofs.regex.regex_length.Goals.{then-count-eq0-via-then-count-eq0, then-count-eq0-via-else-count-eq0+then-body-eq42}
@@ -22,4 +22,4 @@ pub returns : goal.returns
 returns c =
     let begins : c.args.rest.now ≡ c.in_ok-first.first.now ∷ c.in_ok-first.body.now = sym c.as_bytes.ensures.value ∙ c.in_ok-first.ensures.cases.0 in
     regex_some c.args.rest.now c.in_ok-first.body.now c.in_ok-first.first.now c.in_ok-count.count begins c.if-first-ne47.false c.in_ok-count.ensures c.if-count-eq0.false c.if-body-eq42.false _ _
-    (c.flag_count-flags.ensures ∙ ap (λ x. length (take_while is_ascii_lowercase x)) (slice_to_end (c.in_ok-count.count + 1) c.in_ok-first.body.now)) refl
+    (c.flag_count-flags.ensures ∙ ap (λ x. length (take_while is_ascii_lowercase x)) (between_to_end c.in_ok-first.body.now (c.in_ok-count.count + 1) (length c.in_ok-first.body.now) (omega arith))) refl
