@@ -1,5 +1,6 @@
 -- Where the things of a grammar stand: each in the text of its file.
 use Rattle.std.specs.Prelude.{ℕ, ◌≡◌, ◌≤◌, List, [], ◌∷◌, Some, length, slice_get, All}
+use Rattle.lw_base.specs.declared.limits.TheConstants.{LONGEST_TEXT}
 use Rattle.lw_base.specs.declared.token.Span.{Span}
 use Rattle.lw_grammar.specs.declared.grammar.Grammar.{Grammar}
 use Rattle.lw_syntax.specs.PlacesWithin.{rule_spans, terminal_spans, interface_spans, union_spans, IsWithin}
@@ -14,6 +15,7 @@ module _ (texts : List (List ℕ)) where
   -- at every depth
   pub record Stands (g : Grammar) : Type 0 where
     pub files : length texts ≡ length g.files
+    pub short : All (λ text. length text ≤ LONGEST_TEXT) texts
     pub rules : All (λ r. AreIn r.file (rule_spans r)) g.rules
     pub terminals : All (λ t. AreIn t.file (terminal_spans t)) g.terminals
     pub interfaces : All (λ i. AreIn i.file (interface_spans i)) g.interfaces
