@@ -5,8 +5,10 @@ mod fault;
 mod limits;
 mod join;
 mod loader;
+mod opening;
 mod paths;
 mod size;
+mod walk;
 
 pub use fault::LoadFault;
 pub use limits::LARGEST_GRAMMAR;
