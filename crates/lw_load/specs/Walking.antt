@@ -1,14 +1,13 @@
 -- How a walk over the files of a grammar goes on.
-use Rattle.std.specs.Prelude.{ℕ, ◌≡◌, ◌+◌, ◌≤◌, List, [], ◌∷◌, ◌++◌, Option, IfSome, map, reverse, Contains}
+use Rattle.std.specs.Prelude.{ℕ, ◌≡◌, ◌+◌, ◌≤◌, List, [], ◌∷◌, ◌++◌, Option, map, reverse, Contains}
 use Rattle.lw_grammar.specs.Size.{size}
 use Rattle.lw_syntax.specs.Syntax.{bare_grammar}
-use Rattle.lw_syntax.specs.PlacesWithin.{StandsWithin}
 use Rattle.lw_load.specs.declared.limits.TheConstants.{LARGEST_GRAMMAR}
 use Rattle.lw_load.specs.declared.opening.Opened.{Opened}
 use Rattle.lw_load.specs.declared.walk.Walk.{Walk}
 use Rattle.lw_load.specs.Paths.{walked, import_path}
-use Rattle.lw_load.specs.Loading.{Files, HoldsText, with_file}
-use Rattle.lw_load.specs.Opening.{SaysOnly}
+use Rattle.lw_load.specs.Loading.{Files, with_file}
+use Rattle.lw_load.specs.Opening.{IsFound}
 
 -- the file is put behind those that were loaded, and what it imports before all that waited
 pub record Adds (old : Walk) (file : Opened) (new : Walk) : Type 0 where
@@ -17,13 +16,6 @@ pub record Adds (old : Walk) (file : Opened) (new : Walk) : Type 0 where
   pub waiting : new.waiting.items ≡ old.waiting.items ++ reverse (map (λ i. import_path file.path i.path) file.says.imports)
   pub size : new.size ≡ old.size + size file.says
   pub fits : new.size ≤ LARGEST_GRAMMAR
-
--- the file was found at this path, and says what it says
-pub record IsFound (told : Option Files) (path : List ℕ) (file : Opened) : Type 0 where
-  pub found : file.path ≡ path
-  pub holds : IfSome told (λ files. HoldsText files path file.text)
-  pub says : SaysOnly file.text file.says
-  pub stands : StandsWithin file.text file.says
 
 -- the root was loaded
 pub record Begins (told : Option Files) (root : List ℕ) (walk : Walk) : Type 0 where

@@ -6,9 +6,8 @@ ghost use Rattle.lw_syntax.specs.declared.reader.ReadFault.TheVariants.{NoMemory
 ghost use Rattle.lw_syntax.specs.Syntax.{Syntax};
 ghost use Rattle.lw_syntax.specs.Refusals.{IsRefusal};
 ghost use Rattle.lw_syntax.specs.PlacesWithin.{StandsWithin, IsRefusalWithin};
-ghost use Rattle.lw_load.specs.Loading.{HoldsText};
 ghost use Rattle.lw_load.specs.LoadFaults.{CountsLoad, place_of_refusal};
-ghost use Rattle.lw_load.specs.Opening.{SaysOnly, IsUnreadable, CannotLoad};
+ghost use Rattle.lw_load.specs.Opening.{SaysOnly, IsFound, IsUnreadable, CannotLoad};
 
 use crate::fault::LoadFault;
 use lw_base::Name;
@@ -28,10 +27,7 @@ pub(crate) struct Opened {
 
 /// Reads the file at this path, and what it says.
 pub(crate) fn open<F: Store>(alloc: Global, path: Name, store: &mut F) -> Result<Opened, LoadFault>
-    ensures path { IfOk result (λ file. file.path ≡ path) }
-    ensures holds { IfOk result (λ file. IfSome (F.files store.old) (λ files. HoldsText files path file.text)) }
-    ensures says { IfOk result (λ file. SaysOnly file.text file.says) }
-    ensures stands { IfOk result (λ file. StandsWithin file.text file.says) }
+    ensures found { IfOk result (IsFound (F.files store.old) path) }
     ensures fault { IfErr result (λ fault. IfSome (F.files store.old) (λ files. (before : ℕ) → CannotLoad files before path fault)) }
     ensures store { CountsLoad (F.count store.old) (F.count store.new) result }
     ensures files { F.files store.new ≡ F.files store.old }

@@ -68,11 +68,11 @@ impl Walk {
         ensures store { CountsLoad (F.count store.old) (F.count store.new) result }
         ensures files { F.files store.new ≡ F.files store.old }
     {
-        if mark(&mut self.seen, path.copy(alloc)?)? {
-            let file = open(alloc, path, store)?;
-            self.add(alloc, file)?;
+        if !mark(&mut self.seen, path.copy(alloc)?)? {
+            return Ok(());
         }
-        Ok(())
+        let file = open(alloc, path, store)?;
+        self.add(alloc, file)
     }
 
     /// Puts the file behind those that were loaded, where they are not too large with it.
