@@ -14,11 +14,6 @@ pub mod FlatRow
 pub mod FlatObstacles
 pub mod BuildLemmas
 pub mod FlatMade
-pub mod SmallTokens
-pub mod SmallWalks
-pub mod SmallOnly
-pub mod SmallShape
-pub mod SmallSteps
 pub mod CompileLemmas
 pub mod Refusals
 pub mod PlainParts

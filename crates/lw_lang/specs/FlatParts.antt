@@ -15,7 +15,6 @@ use Rattle.lw_tokens.specs.Patterns.{unescaped, as_pattern}
 use Rattle.lw_terminals.specs.declared.source.TerminalSource.{TerminalSource}
 use Rattle.lw_lang.specs.Obstacles.{IsBlank, names}
 use Rattle.lw_grammar.specs.declared.grammar.Grammar.{Grammar}
-use Rattle.lw_grammar.specs.Size.{size}
 
 -- whether a body is a row of parts
 abbrev pub layer_is_group : Element-F Element → Bool
@@ -86,16 +85,14 @@ AreKindsOf keywords terminals parts row = AllZip (λ part kind. kind_of keywords
 abbrev pub HasNoKind : List (List ℕ) → List TerminalSource → List Element → Type 0
 HasNoKind keywords terminals parts = Any (λ part. kind_of keywords terminals part ≡ None) parts
 
--- what a grammar has before there are kinds: an assignment among these parts, a size that is read, and names that differ
+-- what a grammar has before there are kinds: an assignment among these parts, and names that differ
 pub record HasSoundNames (g : Grammar) (parts : List Element) : Type 0 where
   pub assigns : 0 < count_by (λ part. is_some (part_call part)) parts
-  pub sized : size g ≤ 65535
   pub differ : AllPairs (λ a b. a ≢ b) (names g)
 
 -- it lacks one of them
 pub data HasUnsoundNames (g : Grammar) (parts : List Element) : Type 0 where
   assigns_nothing : count_by (λ part. is_some (part_call part)) parts ≡ 0 → HasUnsoundNames g parts
-  too_large : 65535 < size g → HasUnsoundNames g parts
   repeats : HasRepeat (names g) → HasUnsoundNames g parts
 
 -- keywords and terminals that a language may have

@@ -1,4 +1,3 @@
-pub mod Small
 pub mod Shape
 pub mod Obstacles
 pub mod Refused
@@ -9,4 +8,3 @@ pub mod Language
 pub mod Prepared
 pub mod Ready
 pub mod Compiled
-pub mod SmallStates

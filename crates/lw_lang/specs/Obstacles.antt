@@ -10,7 +10,6 @@ use Rattle.lw_grammar.specs.declared.terminal.Terminal.{Terminal}
 use Rattle.lw_grammar.specs.Leaves.{leaves, keywords_in, Assign}
 use Rattle.lw_grammar.specs.Reached.{RuleCalls}
 use Rattle.lw_grammar.specs.Kinds.{Kinds, AreKinds, kind_count}
-use Rattle.lw_grammar.specs.Size.{size}
 use Rattle.lw_tokens.specs.Patterns.{TerminalPattern}
 use Rattle.lw_tokens.specs.Matching.{match_length}
 
@@ -37,7 +36,6 @@ module _ (g : Grammar) where
     blank_keyword : (rule : Rule) (text : List ℕ) → Contains g.rules rule → Contains (keywords_in rule.body) text → IsBlank text → HasObstacle
     too_many_terminals : (kinds : Kinds) → AreKinds g kinds → 32 < length kinds.terminals → HasObstacle
     too_many_kinds : (kinds : Kinds) → AreKinds g kinds → 256 < kind_count kinds → HasObstacle
-    too_large : 65535 < size g → HasObstacle
     long_pattern : (pattern : List ℕ) → HasKindPattern pattern → 1000 < length pattern → HasObstacle
 
   -- a pattern of a kind matches the empty text

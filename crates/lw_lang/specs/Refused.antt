@@ -10,6 +10,7 @@ use Rattle.lw_text.specs.declared.place.Pos.{Pos}
 use Rattle.lw_tokens.specs.Matching.{match_length}
 use Rattle.lw_tokens.specs.Patterns.{TerminalPattern}
 use Rattle.lw_terminals.specs.Made.{IsUsable}
+use Rattle.lw_lang.specs.Shape.{HasShape}
 use Rattle.lw_lang.specs.Obstacles.{HasObstacle}
 
 module _ (g : Grammar) where
@@ -30,18 +31,22 @@ module _ (g : Grammar) where
   abbrev pub FirstMatchesEmpty : Type 0
   FirstMatchesEmpty = (terminal : Terminal) × (pattern : List ℕ) × IsTried terminal pattern × (match_length pattern [] ≡ Some 0)
 
-  module _ (text : List ℕ) where
+  -- where the texts of the grammar's files are these
+  module _ (texts : List (List ℕ)) where
     -- The terminal by its number among the rules and terminals, of which the rules come first, by its name, and by where its
-    -- name begins in the text of the root file.
+    -- name begins in the text of its file.
     pub record IsToldBy (terminal : Terminal) (rule : RuleId) (name : List ℕ) (at : Pos) : Type 0 where
       pub place : ℕ
       pub there : slice_get g.terminals place ≡ Some terminal
       pub number : rule.0 ≡ length g.rules + place
       pub named : name ≡ terminal.name
+      pub text : List ℕ
+      pub file : slice_get texts terminal.file ≡ Some text
       pub begins : IsPosition text terminal.span.start at
 
     -- none of the other conditions holds, the text refused last is the first pattern that is not made, and its terminal is told
     pub record IsPatternRefused (refused : Option (List ℕ)) (rule : RuleId) (name : List ℕ) (at : Pos) : Type 0 where
+      pub shape : HasShape g
       pub clear : ¬ HasObstacle g
       pub terminal : Terminal
       pub pattern : List ℕ

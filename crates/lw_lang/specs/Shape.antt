@@ -1,4 +1,4 @@
--- The shape of the grammars that are built so far: one entry rule that is a row of keywords and `=` assignments of calls,
+-- The shape of the grammars that are built so far: one file, in which one entry rule is a row of keywords and `=` assignments of calls,
 -- terminals that are one regular expression each, and nothing else.
 use Rattle.std.specs.Prelude.{ℕ, ◌≡◌, ◌≢◌, List, [], ◌∷◌, true, false, All}
 use Rattle.lw_base.specs.declared.token.Span.{Span}
@@ -11,6 +11,7 @@ use Rattle.lw_grammar.specs.declared.rule.Value0.{Value0, out-Value0}
 use Rattle.lw_grammar.specs.declared.rule.Value0.TheOpen as value
 use Rattle.lw_grammar.specs.declared.rule.Op.TheVariants.{One}
 use Rattle.lw_grammar.specs.declared.terminal.Terminal.{Terminal}
+use Rattle.lw_grammar.specs.declared.terminal.Primitive.TheVariants.{Text}
 use Rattle.lw_grammar.specs.declared.terminal.TermElement.{out-TermElement}
 use Rattle.lw_grammar.specs.declared.terminal.TermElement.TheOpen as term
 
@@ -27,11 +28,17 @@ layer_parts _ e = e ∷ []
 abbrev pub parts_of : Element → List Element
 parts_of e = layer_parts (out-Element e) e
 
--- a terminal that is one regular expression
-abbrev pub IsPlainTerminal : Terminal → Type 0
-IsPlainTerminal t = (t.is_fragment ≡ false) × (text : List ℕ) × (s : Span) × (out-TermElement t.body ≡ term.Pattern text s)
+-- a terminal that is one regular expression, and gives its text
+pub record IsPlainTerminal (t : Terminal) : Type 0 where
+  pub whole : t.is_fragment ≡ false
+  pub gives : t.gives ≡ Text
+  pub text : List ℕ
+  pub span : Span
+  pub pattern : out-TermElement t.body ≡ term.Pattern text span
 
 pub record HasShape (g : Grammar) : Type 0 where
+  pub file : List ℕ
+  pub alone : g.files ≡ file ∷ []
   pub rule : Rule
   pub only : g.rules ≡ rule ∷ []
   pub entry : rule.is_entry ≡ true

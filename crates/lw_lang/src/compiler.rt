@@ -1,30 +1,32 @@
 // From a grammar file to a language.
-ghost use Rattle.std.specs.Prelude.{◌≡◌, ◌+◌, ◌≤◌, ◌<◌, length, slice_get, IfOk, IfErr, IfSome, All, Any, bytes_eq, map, position};
-ghost use Rattle.lw_base.specs.declared.limits.TheConstants.{LONGEST_TEXT};
-ghost use Rattle.lw_lang.specs.Compiled.{SaysOnly, HoldsGrammar, IsClear, Causes, FileCauses, GrammarCauses, NothingSaid, IsUnbuiltAt, StandsIn, IsPatternFault, CountsStore, CountsPatterns, KeepsPatterns};
+ghost use Rattle.std.specs.Prelude.{◌≡◌, ◌+◌, ◌≤◌, ◌<◌, length, slice_get, IfOk, IfErr, IfSome, Any, bytes_eq, map, position};
+ghost use Rattle.lw_load.specs.declared.limits.TheConstants.{LARGEST_GRAMMAR};
+ghost use Rattle.lw_load.specs.Standing.{Stands};
+ghost use Rattle.lw_lang.specs.Compiled.{HoldsGrammar, IsClear, Causes, GrammarCauses, IsPatternFault, CountsStore, CountsPatterns, KeepsPatterns};
 ghost use Rattle.lw_lang.specs.Obstacles.{HasObstacle};
 ghost use Rattle.lw_lang.specs.Flat.{IsFlat, IsReady};
 ghost use Rattle.lw_grammar.specs.KindTexts.{AreKindTexts};
+ghost use Rattle.lw_grammar.specs.Size.{size};
 ghost use Rattle.lw_lang.specs.Shape.{HasShape};
 
 use crate::fault::CompileFault;
 use crate::flat::{Flat, FlatFault, make_flat};
 use crate::language::Language;
-use crate::small::{SmallFault, read_small};
-use lw_base::{Name, NoMemory, RuleId, Span};
+use crate::shape::has_shape;
+use lw_base::{Name, NoMemory, RuleId};
 use lw_grammar::{Grammar, Terminal};
-use lw_gramread::file_tokens;
-use lw_io::{Found, Patterns, Store};
+use lw_io::{Patterns, Store};
+use lw_load::load;
 use lw_terminals::{MakeTokensFault, TerminalSource, TokenSet};
 use lw_text::position;
 use std::alloc::Global;
 
-/// Reads the root file of a grammar, and makes it ready. `k` is how many kinds the reader may look
-/// ahead; grammars that are built so far need none.
+/// Loads the root file of a grammar with all that it imports, and makes the grammar ready. `k` is how many
+/// kinds the reader may look ahead; grammars that are built so far need none.
 ///
-/// The file is read once, then its tokens are read as a grammar, its conditions are looked at, and the
-/// patterns of its terminals are made in the order of kinds: the first that is refused or matches the
-/// empty text decides. Nothing of this changes the store's files.
+/// The files are loaded first, then the grammar's shape and its conditions are looked at, and the patterns
+/// of its terminals are made in the order of kinds: the first that is refused or matches the empty text
+/// decides. Nothing of this changes the store's files.
 pub fn compile<F: Store, P: Patterns>(
     alloc: Global,
     root: &Name,
@@ -35,9 +37,10 @@ pub fn compile<F: Store, P: Patterns>(
     requires least { 1 ≤ _k }
     requires most { _k ≤ 3 }
 
-    // What is compiled is what the file says, and none of the conditions holds.
+    // What is compiled is what the files say, and none of the conditions holds.
     ensures holds { IfOk result (λ language. IfSome (F.files store.old) (λ files. HoldsGrammar files root.now language.grammar)) }
     ensures clear { IfOk result (λ language. IsClear language.grammar) }
+    ensures fits { IfOk result (λ language. size language.grammar ≤ LARGEST_GRAMMAR) }
     ensures texts { IfOk result (λ language. AreKindTexts language.grammar language.texts) }
 
     // Each fault comes by its cause.
@@ -47,82 +50,32 @@ pub fn compile<F: Store, P: Patterns>(
     ensures last { KeepsPatterns (P.last_refused patterns.old) (P.last_refused patterns.new) result }
     ensures files { F.files store.new ≡ F.files store.old }
 {
-    let path = root.copy(alloc)?;
-    match store.read(alloc, root) {
-        Found::Text(file) => compile_file(alloc, root, &file, patterns),
-        Found::Absent => Err(CompileFault::Absent(path)),
-        Found::NotUtf8 => Err(CompileFault::NotUtf8(path)),
-        Found::TooLong => Err(CompileFault::TooLong(path)),
-        Found::Failed => Err(CompileFault::StoreFault(path)),
-        Found::NoMemory => Err(CompileFault::NoMemory),
-    }
+    let loaded = load(alloc, root, store)?;
+    build(alloc, loaded.grammar, loaded.texts.as_slice(), patterns)
 }
 
-// The language of a grammar file.
-fn compile_file<P: Patterns>(
-    alloc: Global,
-    root: &Name,
-    file: &Name,
-    patterns: &mut P,
-) -> Result<Language, CompileFault>
-    requires { length file.now ≤ LONGEST_TEXT }
-    ensures says { IfOk result (λ language. SaysOnly root.now file.now language.grammar) }
-    ensures clear { IfOk result (λ language. IsClear language.grammar) }
-    ensures texts { IfOk result (λ language. AreKindTexts language.grammar language.texts) }
-    ensures fault { IfErr result (FileCauses root.now file.now (P.last_refused patterns.new)) }
-    ensures patterns { CountsPatterns (P.count patterns.old) (P.count patterns.new) result }
-    ensures last { KeepsPatterns (P.last_refused patterns.old) (P.last_refused patterns.new) result }
-{
-    let grammar = grammar_of(alloc, root, file)?;
-    build(alloc, file, grammar, patterns)
-}
-
-// The grammar that a file says.
-fn grammar_of(alloc: Global, root: &Name, file: &Name) -> Result<Grammar, CompileFault>
-    requires { length file.now ≤ LONGEST_TEXT }
-    ensures says { IfOk result (SaysOnly root.now file.now) }
-    ensures shape { IfOk result HasShape }
-    ensures stand { IfOk result (λ grammar. All (StandsIn file.now) grammar.terminals) }
-    ensures fault { IfErr result (NothingSaid root.now file.now) }
-{
-    let tokens = file_tokens(alloc, file)?;
-    match read_small(alloc, root, file, &tokens) {
-        Ok(grammar) => Ok(grammar),
-        Err(SmallFault::Unexpected(span)) => Err(unbuilt(file, span)),
-        Err(SmallFault::NoMemory) => Err(CompileFault::NoMemory),
-    }
-}
-
-// The fault of a file that is not built, told at this place.
-fn unbuilt(file: &Name, span: Span) -> CompileFault
-    requires within { span.start ≤ length file.now }
-    requires short { length file.now ≤ LONGEST_TEXT }
-    ensures { IsUnbuiltAt file.now span result }
-{
-    let at = position(file.text(), span.start as usize);
-    CompileFault::Unbuilt(span, at)
-}
-
-// Makes a grammar ready, whose file this is.
+// Makes a grammar ready, the texts of whose files are these.
 fn build<P: Patterns>(
     alloc: Global,
-    file: &Name,
     grammar: Grammar,
+    texts: &[Name],
     patterns: &mut P,
 ) -> Result<Language, CompileFault>
-    requires shape { HasShape grammar }
-    requires stand { All (StandsIn file.now) grammar.terminals }
-    requires short { length file.now ≤ LONGEST_TEXT }
+    requires fits { size grammar ≤ LARGEST_GRAMMAR }
+    requires stand { Stands texts.now grammar }
     ensures grammar { IfOk result (λ language. language.grammar ≡ grammar) }
     ensures clear { IfOk result (λ language. IsClear language.grammar) }
     ensures texts { IfOk result (λ language. AreKindTexts language.grammar language.texts) }
-    ensures fault { IfErr result (GrammarCauses grammar file.now (P.last_refused patterns.new)) }
+    ensures fault { IfErr result (GrammarCauses grammar texts.now (P.last_refused patterns.new)) }
     ensures patterns { CountsPatterns (P.count patterns.old) (P.count patterns.new) result }
     ensures last { KeepsPatterns (P.last_refused patterns.old) (P.last_refused patterns.new) result }
 {
+    if !has_shape(&grammar) {
+        return Err(CompileFault::Unbuilt);
+    }
     match make_flat(alloc, &grammar) {
-        Ok(flat) => language_of(alloc, file, grammar, flat, patterns),
-        Err(FlatFault::Obstacle) => Err(unbuilt(file, Span { start: 0, end: 0 })),
+        Ok(flat) => language_of(alloc, grammar, texts, flat, patterns),
+        Err(FlatFault::Obstacle) => Err(CompileFault::Unbuilt),
         Err(FlatFault::NoMemory) => Err(CompileFault::NoMemory),
     }
 }
@@ -130,21 +83,21 @@ fn build<P: Patterns>(
 // Makes the patterns of a flat grammar, and the language of them.
 fn language_of<P: Patterns>(
     alloc: Global,
-    file: &Name,
     grammar: Grammar,
+    texts: &[Name],
     flat: Flat,
     patterns: &mut P,
 ) -> Result<Language, CompileFault>
     requires shape { HasShape grammar }
-    requires stand { All (StandsIn file.now) grammar.terminals }
-    requires short { length file.now ≤ LONGEST_TEXT }
+    requires fits { size grammar ≤ LARGEST_GRAMMAR }
+    requires stand { Stands texts.now grammar }
     requires flat { IsFlat grammar flat }
     requires ready { IsReady flat }
     requires clear { ¬ HasObstacle grammar }
     ensures grammar { IfOk result (λ language. language.grammar ≡ grammar) }
     ensures clear { IfOk result (λ language. IsClear language.grammar) }
     ensures texts { IfOk result (λ language. AreKindTexts language.grammar language.texts) }
-    ensures fault { IfErr result (GrammarCauses grammar file.now (P.last_refused patterns.new)) }
+    ensures fault { IfErr result (GrammarCauses grammar texts.now (P.last_refused patterns.new)) }
     ensures patterns { CountsPatterns (P.count patterns.old) (P.count patterns.new) result }
     ensures last { KeepsPatterns (P.last_refused patterns.old) (P.last_refused patterns.new) result }
 {
@@ -156,8 +109,8 @@ fn language_of<P: Patterns>(
     let mut names = names_of(alloc, &terminals)?;
     match TokenSet::make(alloc, keywords, terminals, patterns) {
         Ok(tokens) => Ok(Language::new(grammar, tokens, row)),
-        Err(MakeTokensFault::EmptyMatch(_)) => Err(unbuilt(file, Span { start: 0, end: 0 })),
-        Err(MakeTokensFault::Refused(i)) => Err(refused(file, &grammar, names.swap_remove(i))),
+        Err(MakeTokensFault::EmptyMatch(_)) => Err(CompileFault::Unbuilt),
+        Err(MakeTokensFault::Refused(i)) => Err(refused(&grammar, texts, names.swap_remove(i))),
         Err(MakeTokensFault::NoMemory) => Err(CompileFault::NoMemory),
     }
 }
@@ -174,18 +127,19 @@ fn names_of(alloc: Global, terminals: &[TerminalSource]) -> Result<Vec<Name>, No
 }
 
 // The fault of the terminal of this name, whose pattern was refused: its number behind the rules, its
-// name, and where its name stands.
-fn refused(file: &Name, grammar: &Grammar, name: Name) -> CompileFault
+// name, and where its name stands in its file.
+fn refused(grammar: &Grammar, texts: &[Name], name: Name) -> CompileFault
     requires named { Any (λ terminal. terminal.name ≡ name) grammar.now.terminals }
     requires few { length grammar.now.rules + length grammar.now.terminals ≤ 65535 }
-    requires stand { All (StandsIn file.now) grammar.now.terminals }
-    requires short { length file.now ≤ LONGEST_TEXT }
-    ensures { IsPatternFault grammar.now file.now name result }
+    requires stand { Stands texts.now grammar.now }
+    ensures { IsPatternFault grammar.now texts.now name result }
 {
     let terminals = grammar.terminals.as_slice();
     let place = place_of(terminals, &name);
     let number = grammar.rules.len() + place;
-    let at = position(file.text(), terminals[place].span.start as usize);
+    let terminal = &terminals[place];
+    let text = texts[terminal.file as usize].text();
+    let at = position(text, terminal.span.start as usize);
     CompileFault::PatternRefused(RuleId(number as u16), name, at)
 }
 

@@ -19,7 +19,7 @@ mod flat_terminals;
 mod flat_tests;
 mod language;
 mod recogniser;
-mod small;
+mod shape;
 
 pub use compiler::compile;
 pub use fault::CompileFault;

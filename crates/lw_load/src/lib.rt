@@ -1,9 +1,22 @@
-//! A grammar of one file or more: the walk over what files import, and the join of what they say.
+//! Which grammar a root file says with all that it imports: the walk over the files, and the join of what they say.
+//!
+//! Its model: a file that is loaded has an address, a text, and what that says (`lw_syntax`). The files come in load
+//! order: the root, then each import depth first in the order of the text, each file once. The grammar has the things
+//! of all files, each with the number of its file. The definitions stand in `specs/`:
+//!
+//! - `Paths.antt`: the path that an import names.
+//! - `Loading.antt`: which files are loaded, in which order, and how they are joined.
+//! - `LoadFaults.antt`: why none are, the first fault in that order.
+//! - `Standing.antt`: in which file's text each thing stands.
+//!
+//! It promises that [`load`] gives the grammar of a root file and no other, or the first fault, and then the files say
+//! none; that the grammar is not larger than [`LARGEST_GRAMMAR`]; and that each place in it is in the text of its file, so
+//! that whoever finds something wrong can tell where.
 #![tactic(auto)]
 
 mod fault;
-mod limits;
 mod join;
+mod limits;
 mod loader;
 mod opening;
 mod paths;
@@ -13,3 +26,6 @@ mod walk;
 pub use fault::LoadFault;
 pub use limits::LARGEST_GRAMMAR;
 pub use loader::{Loaded, load};
+
+#[cfg(test)]
+mod tests;
