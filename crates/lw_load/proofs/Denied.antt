@@ -34,13 +34,14 @@ text_told None path text answer = tt
 text_told (Some files) path text answer = text_held files path text answer
 
 -- and a file that says something
-pub found_told : (told : Option Files) (path text : List ℕ) (r : Result Opened LoadFault) → AnswersFile told path (Text text) → IfOk r (λ file. file.path ≡ path) →
+pub found_told : (told : Option Files) (path text : List ℕ) (r : Result Opened LoadFault) → AnswersFile told path (Text text) → length text ≤ LONGEST_TEXT → IfOk r (λ file. file.path ≡ path) →
     IfOk r (λ file. file.text ≡ text) → IfOk r (λ file. SaysOnly text file.says) → IfOk r (λ file. StandsWithin text file.says) → IfOk r (IsFound told path)
-found_told told path text (Err e) answer found same says stands = tt
-found_told told path text (Ok file) answer found same says stands = record {
+found_told told path text (Err e) answer short found same says stands = tt
+found_told told path text (Ok file) answer short found same says stands = record {
   found = found;
   holds = subst (λ t. IfSome told (λ files. HoldsText files path t)) (sym same) (text_told told path text answer);
   says = subst (λ t. SaysOnly t file.says) (sym same) says;
+  short = subst (λ t. length t ≤ LONGEST_TEXT) (sym same) short;
   stands = subst (λ t. StandsWithin t file.says) (sym same) stands;
 }
 

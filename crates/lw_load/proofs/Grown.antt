@@ -1,8 +1,9 @@
 -- A grammar with one more file: how large it is, and where its things stand.
-use Rattle.std.proofs.Common.{ℕ, suc, ◌≡◌, ◌+◌, ◌<◌, List, [], ◌∷◌, ◌++◌, Some, length, map, sum_by, slice_get, All, refl, sym, ap, ◌∙◌, subst, arith, length-append}
+use Rattle.std.proofs.Common.{ℕ, zero, suc, ◌≡◌, ◌+◌, ◌≤◌, List, [], ◌∷◌, ◌++◌, Some, length, map, sum_by, slice_get, All, refl, sym, ap, ◌∙◌, subst, arith, length-append}
 use Rattle.std.proofs.lemmas.List.{length-map}
-use Rattle.std.proofs.lemmas.List.Elements.{All-nil, All-cons, All-append, All-map, All-weaker}
+use Rattle.std.proofs.lemmas.List.Elements.{All-nil, All-cons, All-append, All-push, All-map, All-weaker}
 use Rattle.std.proofs.lemmas.List.Sums.{sum_by-append, sum_by-cons}
+use Rattle.lw_base.specs.declared.limits.TheConstants.{LONGEST_TEXT}
 use Rattle.lw_base.specs.declared.token.Span.{Span}
 use Rattle.lw_grammar.specs.declared.grammar.Grammar.{Grammar}
 use Rattle.lw_grammar.specs.declared.grammar.Import.{Import}
@@ -54,7 +55,7 @@ size_grown g path says =
 module _ (texts : List (List ℕ)) (text : List ℕ) where
   found_still : (xs : List (List ℕ)) (k : ℕ) (x : List ℕ) → slice_get xs k ≡ Some x → slice_get (xs ++ text ∷ []) k ≡ Some x
   found_still [] k x e = cc
-  found_still (y ∷ ys) 0 x e = e
+  found_still (y ∷ ys) zero x e = e
   found_still (y ∷ ys) (suc k) x e = found_still ys k x e
 
   found_last : (xs : List (List ℕ)) → slice_get (xs ++ text ∷ []) (length xs) ≡ Some text
@@ -79,9 +80,10 @@ module _ (texts : List (List ℕ)) (text : List ℕ) where
         (λ x w. here (file (as_here x)) (same ∙ sym (numbered x)) (spans (as_here x)) (subst (All (IsWithin text)) (sym (kept x)) w)) ys news))
 
   -- all stands where it stood, and what a file says in the last of the texts
-  pub stands_grown : (g : Grammar) (path : List ℕ) (says : Grammar) → Stands texts g → StandsWithin text says → Stands (texts ++ text ∷ []) (with_file g path says)
-  stands_grown g path says s w = record {
+  pub stands_grown : (g : Grammar) (path : List ℕ) (says : Grammar) → length text ≤ LONGEST_TEXT → Stands texts g → StandsWithin text says → Stands (texts ++ text ∷ []) (with_file g path says)
+  stands_grown g path says small s w = record {
     files = length-append texts (text ∷ []) ∙ ap (λ n. n + 1) s.files ∙ sym (length-append g.files (path ∷ []));
+    short = All-push (λ t. length t ≤ LONGEST_TEXT) texts text s.short small;
     rules = all_here n s.files (λ (r : Rule). r.file) rule_spans (λ r. record r { file = n }) (λ r. refl) (λ r. refl) g.rules says.rules s.rules w.rules;
     terminals = all_here n s.files (λ (t : Terminal). t.file) terminal_spans (λ t. record t { file = n }) (λ t. refl) (λ t. refl) g.terminals says.terminals s.terminals w.terminals;
     interfaces = all_here n s.files (λ (i : Interface). i.file) interface_spans (λ i. record i { file = n }) (λ i. refl) (λ i. refl) g.interfaces says.interfaces s.interfaces w.interfaces;
@@ -96,4 +98,4 @@ module _ (texts : List (List ℕ)) (text : List ℕ) where
 
 -- a grammar that declares nothing
 pub stands_bare : (name : List ℕ) → Stands [] (bare_grammar name [])
-stands_bare name = record { files = refl; rules = All-nil _; terminals = All-nil _; interfaces = All-nil _; unions = All-nil _; imports = All-nil _ }
+stands_bare name = record { files = refl; short = All-nil _; rules = All-nil _; terminals = All-nil _; interfaces = All-nil _; unions = All-nil _; imports = All-nil _ }

@@ -1,5 +1,6 @@
 -- What is known of a file that was opened, and of one that could not be.
-use Rattle.std.specs.Prelude.{ℕ, ◌≡◌, ◌≢◌, ◌+◌, ◌<◌, List, Option, IfSome}
+use Rattle.std.specs.Prelude.{ℕ, ◌≡◌, ◌≢◌, ◌+◌, ◌<◌, ◌≤◌, List, length, Option, IfSome}
+use Rattle.lw_base.specs.declared.limits.TheConstants.{LONGEST_TEXT}
 use Rattle.lw_grammar.specs.declared.grammar.Grammar.{Grammar}
 use Rattle.lw_grammar.specs.Size.{size}
 use Rattle.lw_syntax.specs.declared.reader.ReadFault.TheVariants as reading
@@ -24,6 +25,7 @@ pub record IsFound (told : Option Files) (path : List ℕ) (file : Opened) : Typ
   pub found : file.path ≡ path
   pub holds : IfSome told (λ files. HoldsText files path file.text)
   pub says : SaysOnly file.text file.says
+  pub short : length file.text ≤ LONGEST_TEXT
   pub stands : StandsWithin file.text file.says
 
 -- why a text that the file at this path holds was not read

@@ -14,5 +14,5 @@ returns-in-Text-clause-store g c = unread_counts _ _ c.args.path c.in-Text.text 
 
 pub returns-in-Text-clause-found : goal.returns-in-Text-clause-found
 returns-in-Text-clause-found g c =
-    found_told (g.F.Store.files c.args.store.now) c.args.path c.in-Text.text c.grammar_in.result c.in-Text.ensures.found c.grammar_in.ensures.path c.grammar_in.ensures.text c.grammar_in.ensures.says
+    found_told (g.F.Store.files c.args.store.now) c.args.path c.in-Text.text c.grammar_in.result c.in-Text.ensures.found c.in-Text.ensures.limit c.grammar_in.ensures.path c.grammar_in.ensures.text c.grammar_in.ensures.says
     c.grammar_in.ensures.stands
