@@ -282,3 +282,25 @@ module _ (files : Files) (root : List ℕ) (walk : Walk) (way : IsOnWay files ro
   way_only other loads =
       let same = leads_only files leads_over loads.loaded loads.visits in
       same_loaded (loads.grammar ∙ ap joined same ∙ sym way.after.whole) (loads.texts ∙ ap (map (λ f. f.text)) same ∙ sym way.after.texts)
+
+-- ---- where the store may tell its files
+
+pub told_begins : (told : Option Files) (root : List ℕ) (walk : Walk) → Begins told root walk → IfSome told (λ files. IsOnWay files root walk)
+told_begins None root walk b = tt
+told_begins (Some files) root walk b = way_begins files root walk b
+
+pub told_goes : (told : Option Files) (root path : List ℕ) (old now new : Walk) → IfSome told (λ files. IsOnWay files root old) → Takes old path now → Goes told path now new →
+    IfSome told (λ files. IsOnWay files root new)
+told_goes None root path old now new way takes goes = tt
+told_goes (Some files) root path old now new way takes goes = way_goes files root path old now way takes new goes
+
+pub told_stops : (told : Option Files) (root path : List ℕ) (old now : Walk) (found : LoadFault) → IfSome told (λ files. IsOnWay files root old) → Takes old path now →
+    (found ≢ NoMemory → ¬ Contains now.seen.keys path) → IfSome told (λ files. CannotLoad files now.size path found) → IfSome told (λ files. Stops files root found)
+told_stops None root path old now found way takes first why = tt
+told_stops (Some files) root path old now found way takes first why = way_stops files root path old now way takes found first why
+
+pub told_nowhere : (told : Option Files) (root path : List ℕ) (old now : Walk) (found : LoadFault) → IfSome told (λ files. IsOnWay files root old) → Takes old path now →
+    (found ≢ NoMemory → ¬ Contains now.seen.keys path) → IfSome told (λ files. CannotLoad files now.size path found) →
+    IfSome told (λ files. IsOfFiles found → (other : Loaded) → ¬ Loads files root other)
+told_nowhere None root path old now found way takes first why = tt
+told_nowhere (Some files) root path old now found way takes first why = way_nowhere files root path old now way takes found first why
