@@ -1,12 +1,12 @@
 -- That a run is told by its status, from what its work came to.
-use Rattle.std.proofs.Common.{◌≡◌, ◌⊎◌, inl, inr, ℕ, List, [], Option, Some, None, Result, Ok, Err, IfSome, refl, sym, ap, subst, ◌∙◌, arith, take, length, Contains, ⊎_elim, IsUtf8}
-use Rattle.std.proofs.lemmas.Option.{same_Some, slice_get_within, get_or_from_slice_get}
+use Rattle.std.proofs.Common.{◌≡◌, ◌⊎◌, inl, inr, ℕ, List, Option, Some, None, Result, Ok, Err, IfSome, refl, sym, subst, ◌∙◌, take, Contains}
+use Rattle.std.proofs.lemmas.Option.{slice_get_within, get_or_from_slice_get}
 use Rattle.lw_grammar.specs.declared.grammar.Grammar.{Grammar}
-use Rattle.lw_lang.specs.Small.{SaysSmall}
-use Rattle.lw_lang.specs.Obstacles.{HasObstacle, MatchesEmpty}
+use Rattle.lw_load.specs.declared.fault.LoadFault.{LoadFault}
+use Rattle.lw_load.specs.declared.fault.LoadFault.TheVariants as loading
+use Rattle.lw_lang.specs.Obstacles.{MatchesEmpty}
 use Rattle.lw_lang.specs.Refused.{FirstMatchesEmpty}
-use Rattle.lw_lang.specs.Compiled as compiled
-use Rattle.lw_lang.specs.Compiled.{HoldsGrammar, IsClear, Causes}
+use Rattle.lw_lang.specs.Compiled.{HoldsGrammar, IsClear, IsNotLoaded, IsNotBuilt, Causes}
 use Rattle.lw_lang.specs.declared.fault.CompileFault.{CompileFault}
 use Rattle.lw_lang.specs.declared.fault.CompileFault.TheVariants as fault
 use Rattle.langbench.specs.declared.report.Verdict.{Verdict}
@@ -17,8 +17,8 @@ use Rattle.langbench.specs.Checked.{Checked, ok_line}
 use Rattle.langbench.specs.Checking as checking
 use Rattle.langbench.specs.Checking.{Files, CheckComesTo, CheckDone, most_read}
 use Rattle.langbench.specs.Run.{Faults, NoneRose, count_of, Work, Ends, ChecksAll}
-use Rattle.langbench.specs.Stops.{Object, TheSource, TheSink, TheStore, ThePatterns, Counts, EndsWith, fault_code}
-use Rattle.langbench.proofs.Grammars.{says_same, same_grammar, same_text}
+use Rattle.langbench.specs.Stops.{Object, TheSource, TheSink, TheStore, ThePatterns, Counts, EndsWith, fault_code, load_code}
+use Rattle.langbench.proofs.Grammars.{same_grammar}
 
 -- the counts of all objects, by an outcome
 abbrev pub CountsAll : Faults → Result Verdict Stop → Type 0
@@ -41,20 +41,25 @@ matches_empty g (terminal, pattern, tried, matches) =
 
 -- where the path holds a grammar that is built and nothing fails, memory alone can be wanting
 module _ (files : Files) (path : List ℕ) (refused : Option (List ℕ)) (faults : Faults) (g : Grammar) (holds : HoldsGrammar files path g) (clear : IsClear g) (none : NoneRose faults) where
+  -- it is loaded, unless the store failed
+  loaded : (found : LoadFault) → IsNotLoaded files path found → CountsAll faults (Err (stop.Grammar (fault.Load found))) → load_code found ≡ 7
+  loaded (loading.Absent p) cause counts = absurd (cause.nothing tt holds.loaded holds.loads)
+  loaded (loading.NotUtf8 p) cause counts = absurd (cause.nothing tt holds.loaded holds.loads)
+  loaded (loading.TooLong p) cause counts = absurd (cause.nothing tt holds.loaded holds.loads)
+  loaded (loading.StoreFault p) cause counts = absurd (none TheStore (counts TheStore).rose)
+  loaded (loading.Read p found at) cause counts = absurd (cause.nothing tt holds.loaded holds.loads)
+  loaded (loading.TooLarge p) cause counts = absurd (cause.nothing tt holds.loaded holds.loads)
+  loaded loading.NoMemory cause counts = refl
+
+  -- and built
+  built : IsNotBuilt g → ⊥
+  built (inl shape) = shape clear.shape
+  built (inr (inl obstacle)) = clear.clear obstacle
+  built (inr (inr matches)) = clear.filled (matches_empty g matches)
+
   pub only_memory : (found : CompileFault) → Causes files path refused found → CountsAll faults (Err (stop.Grammar found)) → fault_code found ≡ 7
-  only_memory (fault.Absent p) cause counts = absurd (let none_some = sym cause.1 ∙ holds.holds.held in cc)
-  only_memory (fault.NotUtf8 p) cause counts =
-      absurd (let same : cause.1.0 ≡ holds.text = same_Some _ _ (sym cause.1.1 ∙ holds.holds.held) in cause.1.3 (subst IsUtf8 (sym same) holds.holds.utf8))
-  only_memory (fault.TooLong p) cause counts =
-      absurd (let same : cause.1.0 ≡ holds.text = same_Some _ _ (sym cause.1.1 ∙ holds.holds.held) in omega (arith, cause.1.2, holds.holds.short, ap length same))
-  only_memory (fault.StoreFault p) cause counts = absurd (none TheStore (counts TheStore).rose)
-  only_memory (fault.Unbuilt s at) cause counts = absurd (unbuilt cause.2)
-    where
-      unbuilt : compiled.IsNotBuilt path cause.0 s → ⊥
-      unbuilt (compiled.says_nothing nothing tokens cut unexpected) = nothing g (subst (λ t. SaysSmall path t g) (sym (same_text files path g holds cause.0 cause.1)) holds.says.says)
-      unbuilt (compiled.has_condition h says condition at_start) =
-          let same : h ≡ g = says_same files path g holds cause.0 h cause.1 says.says in
-          ⊎_elim (λ o. clear.0 (subst HasObstacle same o)) (λ m. clear.1 (matches_empty g (subst FirstMatchesEmpty same m))) condition
+  only_memory (fault.Load found) cause counts = loaded found cause counts
+  only_memory fault.Unbuilt cause counts = absurd (built (subst IsNotBuilt (same_grammar files path g holds cause.0 cause.1) cause.2))
   only_memory (fault.PatternRefused rule name at) cause counts = absurd (none ThePatterns (counts ThePatterns).rose)
   only_memory fault.NoMemory cause counts = refl
 

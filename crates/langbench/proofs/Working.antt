@@ -31,11 +31,8 @@ reads_nothing before after kept = ([], omega arith, Consumes-kept before before 
 module _ (files : Files) (path held : List ℕ) (refused after old new : Option (List ℕ)) where
   -- where no grammar is built nothing is read
   unbuilt : (found : CompileFault) → Causes files path refused found → Keeps (Some held) after → Keeps old new → CheckComesTo files path held refused after old new (Err (stop_of_fault found))
-  unbuilt (fault.Absent p) cause unread keeps = (cause, unread, keeps)
-  unbuilt (fault.NotUtf8 p) cause unread keeps = (cause, unread, keeps)
-  unbuilt (fault.TooLong p) cause unread keeps = (cause, unread, keeps)
-  unbuilt (fault.StoreFault p) cause unread keeps = (cause, unread, keeps)
-  unbuilt (fault.Unbuilt s at) cause unread keeps = (cause, unread, keeps)
+  unbuilt (fault.Load found) cause unread keeps = (cause, unread, keeps)
+  unbuilt fault.Unbuilt cause unread keeps = (cause, unread, keeps)
   unbuilt (fault.PatternRefused rule name at) cause unread keeps = (cause, unread, keeps)
   unbuilt fault.NoMemory cause unread keeps = inl (reads_nothing (Some held) after unread, keeps)
 

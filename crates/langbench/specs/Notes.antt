@@ -6,6 +6,11 @@ use Rattle.std.specs.Fmt.{decimal}
 use Rattle.lw_frame.specs.declared.fault.FrameFault.{FrameFault}
 use Rattle.lw_frame.specs.declared.fault.FrameFault.TheVariants as frame
 use Rattle.lw_text.specs.declared.place.Pos.{Pos}
+use Rattle.lw_syntax.specs.FormTexts.{form_text}
+use Rattle.lw_syntax.specs.declared.reader.ReadFault.{ReadFault}
+use Rattle.lw_syntax.specs.declared.reader.ReadFault.TheVariants as refusal
+use Rattle.lw_load.specs.declared.fault.LoadFault.{LoadFault}
+use Rattle.lw_load.specs.declared.fault.LoadFault.TheVariants as loading
 use Rattle.lw_lang.specs.declared.fault.CompileFault.{CompileFault}
 use Rattle.lw_lang.specs.declared.fault.CompileFault.TheVariants as fault
 use Rattle.langbench.specs.declared.report.Verdict.{Verdict}
@@ -50,13 +55,31 @@ placed_line path at what = file_line (path ++ codes ":" ++ printed at) what
 abbrev pub refused_text : List ℕ → List ℕ
 refused_text name = codes "terminal " ++ name ++ codes ": pattern refused"
 
+-- what is wrong with a grammar as a whole is told at the start of the file that the words name
+abbrev pub whole_line : List ℕ → List ℕ → List ℕ
+whole_line path what = placed_line path (record { line = 0; character = 0 }) what
+
+-- how a file that says no grammar was refused
+abbrev pub refusal_text : ReadFault → List ℕ
+refusal_text (refusal.Unexpected s) = codes "unexpected token"
+refusal_text (refusal.LeftOut s form) = codes "left out: " ++ form_text form
+refusal_text (refusal.TooDeep s) = codes "too deep"
+refusal_text refusal.NoMemory = codes "out of memory"
+
+-- why the files of the grammar at this path were not loaded
+abbrev pub load_line : List ℕ → LoadFault → List ℕ
+load_line path (loading.Absent p) = file_line p (codes "absent")
+load_line path (loading.NotUtf8 p) = file_line p (codes "not UTF-8")
+load_line path (loading.TooLong p) = file_line p (codes "too long")
+load_line path (loading.StoreFault p) = file_line p (codes "failed")
+load_line path (loading.Read p found at) = placed_line p at (refusal_text found)
+load_line path (loading.TooLarge p) = whole_line path (codes "grammar too large")
+load_line path loading.NoMemory = memory_line
+
 -- a fault of the grammar at this path
 abbrev pub fault_line : List ℕ → CompileFault → List ℕ
-fault_line path (fault.Absent p) = file_line p (codes "absent")
-fault_line path (fault.NotUtf8 p) = file_line p (codes "not UTF-8")
-fault_line path (fault.TooLong p) = file_line p (codes "too long")
-fault_line path (fault.StoreFault p) = file_line p (codes "failed")
-fault_line path (fault.Unbuilt s at) = placed_line path at (codes "not built")
+fault_line path (fault.Load found) = load_line path found
+fault_line path fault.Unbuilt = whole_line path (codes "not built")
 fault_line path (fault.PatternRefused rule name at) = placed_line path at (refused_text name)
 fault_line path fault.NoMemory = memory_line
 

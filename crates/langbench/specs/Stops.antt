@@ -5,6 +5,8 @@ use Rattle.lw_io.specs.declared.whole.ReadFault.{ReadFault}
 use Rattle.lw_io.specs.declared.whole.ReadFault.TheVariants as reading
 use Rattle.lw_io.specs.declared.whole.WriteFault.{WriteFault}
 use Rattle.lw_io.specs.declared.whole.WriteFault.TheVariants as writing
+use Rattle.lw_load.specs.declared.fault.LoadFault.{LoadFault}
+use Rattle.lw_load.specs.declared.fault.LoadFault.TheVariants as loading
 use Rattle.lw_lang.specs.declared.fault.CompileFault.{CompileFault}
 use Rattle.lw_lang.specs.declared.fault.CompileFault.TheVariants as fault
 use Rattle.langbench.specs.declared.report.Verdict.{Verdict}
@@ -27,22 +29,31 @@ pub data Blame : Type 0 where
 
 -- THE TABLE
 
+-- a fault of loading
+abbrev pub load_code : LoadFault → ℕ
+load_code (loading.Absent path) = 6
+load_code (loading.NotUtf8 path) = 6
+load_code (loading.TooLong path) = 6
+load_code (loading.StoreFault path) = 6
+load_code (loading.Read path found at) = 3
+load_code (loading.TooLarge path) = 3
+load_code loading.NoMemory = 7
+
+abbrev pub load_blame : LoadFault → Blame
+load_blame (loading.StoreFault path) = One TheStore
+load_blame loading.NoMemory = Unsaid
+load_blame _ = Nobody
+
 -- a fault of the grammar
 abbrev pub fault_code : CompileFault → ℕ
-fault_code (fault.Absent path) = 6
-fault_code (fault.NotUtf8 path) = 6
-fault_code (fault.TooLong path) = 6
-fault_code (fault.StoreFault path) = 6
-fault_code (fault.Unbuilt s at) = 3
+fault_code (fault.Load found) = load_code found
+fault_code fault.Unbuilt = 3
 fault_code (fault.PatternRefused rule name at) = 3
 fault_code fault.NoMemory = 7
 
 abbrev pub fault_blame : CompileFault → Blame
-fault_blame (fault.Absent path) = Nobody
-fault_blame (fault.NotUtf8 path) = Nobody
-fault_blame (fault.TooLong path) = Nobody
-fault_blame (fault.StoreFault path) = One TheStore
-fault_blame (fault.Unbuilt s at) = Nobody
+fault_blame (fault.Load found) = load_blame found
+fault_blame fault.Unbuilt = Nobody
 fault_blame (fault.PatternRefused rule name at) = One ThePatterns
 fault_blame fault.NoMemory = Unsaid
 

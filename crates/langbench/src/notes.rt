@@ -2,7 +2,7 @@
 ghost use Rattle.std.specs.Prelude.{◌≡◌, IfOk, IfSome, IsTrue, string_bytes};
 ghost use Rattle.std.specs.Option.{option_copied};
 ghost use Rattle.lw_io.specs.Causes.{Rose};
-ghost use Rattle.langbench.specs.Notes.{file_line, placed_line, refused_text, fault_line, frame_line, IsStopLine, NotesPart, NotesStop};
+ghost use Rattle.langbench.specs.Notes.{file_line, placed_line, whole_line, refusal_text, load_line, refused_text, fault_line, frame_line, IsStopLine, NotesPart, NotesStop};
 
 use crate::place::printed;
 use crate::stop::Stop;
@@ -10,6 +10,8 @@ use lw_base::{Name, NoMemory};
 use lw_frame::FrameFault;
 use lw_io::{Sink, WriteFault, write_all};
 use lw_lang::CompileFault;
+use lw_load::LoadFault;
+use lw_syntax::ReadFault;
 use lw_text::Pos;
 use std::alloc::Global;
 
@@ -82,14 +84,56 @@ fn fault_line(alloc: Global, path: &Name, fault: &CompileFault) -> Result<String
     ensures { IfOk result (λ line. string_bytes line ≡ fault_line path.now fault.now) }
 {
     match fault {
-        CompileFault::Absent(file) => file_line(alloc, file, "absent"),
-        CompileFault::NotUtf8(file) => file_line(alloc, file, "not UTF-8"),
-        CompileFault::TooLong(file) => file_line(alloc, file, "too long"),
-        CompileFault::StoreFault(file) => file_line(alloc, file, "failed"),
-        CompileFault::Unbuilt(_, at) => placed_line(alloc, path, *at, "not built"),
+        CompileFault::Load(found) => load_line(alloc, path, found),
+        CompileFault::Unbuilt => whole_line(alloc, path, "not built"),
         CompileFault::PatternRefused(_, name, at) => refused_line(alloc, path, name, *at),
         CompileFault::NoMemory => Ok(String::from_str(alloc, "out of memory\n")?),
     }
+}
+
+fn load_line(alloc: Global, path: &Name, fault: &LoadFault) -> Result<String, NoMemory>
+    ensures { IfOk result (λ line. string_bytes line ≡ load_line path.now fault.now) }
+{
+    match fault {
+        LoadFault::Absent(file) => file_line(alloc, file, "absent"),
+        LoadFault::NotUtf8(file) => file_line(alloc, file, "not UTF-8"),
+        LoadFault::TooLong(file) => file_line(alloc, file, "too long"),
+        LoadFault::StoreFault(file) => file_line(alloc, file, "failed"),
+        LoadFault::Read(file, found, at) => {
+            let what = refusal_text(alloc, *found)?;
+            placed_line(alloc, file, *at, what.as_str())
+        }
+        LoadFault::TooLarge(_) => whole_line(alloc, path, "grammar too large"),
+        LoadFault::NoMemory => Ok(String::from_str(alloc, "out of memory\n")?),
+    }
+}
+
+// How a file that says no grammar was refused.
+fn refusal_text(alloc: Global, found: ReadFault) -> Result<String, NoMemory>
+    ensures { IfOk result (λ text. string_bytes text ≡ refusal_text found) }
+{
+    let text = match found {
+        ReadFault::Unexpected(_) => "unexpected token",
+        ReadFault::LeftOut(_, form) => return Ok(format!(in alloc; "left out: {form}")?),
+        ReadFault::TooDeep(_) => "too deep",
+        ReadFault::NoMemory => "out of memory",
+    };
+    Ok(String::from_str(alloc, text)?)
+}
+
+// `PATH:1:1: WHAT`
+fn whole_line(alloc: Global, path: &Name, what: &str) -> Result<String, NoMemory>
+    ensures { IfOk result (λ line. string_bytes line ≡ whole_line path.now what.now) }
+{
+    placed_line(
+        alloc,
+        path,
+        Pos {
+            line: 0,
+            character: 0,
+        },
+        what,
+    )
 }
 
 // `PATH: WHAT`

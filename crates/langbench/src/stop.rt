@@ -1,12 +1,13 @@
 // Why a run stops before its work is done.
 ghost use Rattle.std.specs.Prelude.{◌≡◌};
-ghost use Rattle.langbench.specs.Stops.{code_of, fault_code, stop_of_read, stop_of_write, stop_of_fault};
+ghost use Rattle.langbench.specs.Stops.{code_of, fault_code, load_code, stop_of_read, stop_of_write, stop_of_fault};
 ghost use Rattle.langbench.specs.declared.stop.Stop.TheVariants.{Memory as memory};
 
 use lw_base::NoMemory;
 use lw_frame::FrameFault;
 use lw_io::{ReadFault, WriteFault};
 use lw_lang::CompileFault;
+use lw_load::LoadFault;
 
 /// Why a run stops, one variant for each cause.
 #[derive(Drop)]
@@ -49,12 +50,23 @@ fn fault_code(fault: &CompileFault) -> u8
     ensures { result ≡ fault_code fault.now }
 {
     match fault {
-        CompileFault::Absent(_)
-        | CompileFault::NotUtf8(_)
-        | CompileFault::TooLong(_)
-        | CompileFault::StoreFault(_) => 6,
-        CompileFault::Unbuilt(_, _) | CompileFault::PatternRefused(_, _, _) => 3,
+        CompileFault::Load(found) => load_code(found),
+        CompileFault::Unbuilt | CompileFault::PatternRefused(_, _, _) => 3,
         CompileFault::NoMemory => 7,
+    }
+}
+
+// The status that each fault of loading ends with.
+fn load_code(fault: &LoadFault) -> u8
+    ensures { result ≡ load_code fault.now }
+{
+    match fault {
+        LoadFault::Absent(_)
+        | LoadFault::NotUtf8(_)
+        | LoadFault::TooLong(_)
+        | LoadFault::StoreFault(_) => 6,
+        LoadFault::Read(_, _, _) | LoadFault::TooLarge(_) => 3,
+        LoadFault::NoMemory => 7,
     }
 }
 

@@ -20,6 +20,10 @@ const FACES: &str = "grammar G entry A: 'x' v=E; hidden terminal WS: /\\s+/; ter
 
 const CHOICE: &str = "grammar F entry A: 'a' | 'b';";
 
+const IMPORTS: &str = "grammar I import './j' entry A: 'a' b=B;";
+
+const IMPORTED: &[u8] = b"grammar J import './i.langium' B: 'b' name=ID; terminal ID: /[a-z]+/;";
+
 const UNPATTERNED: &str = "[_a-zA-Z][\\w_]*";
 
 const USAGE: &str =
@@ -41,12 +45,15 @@ pub(crate) const NOTHING: Failing = Failing {
     file: 0,
 };
 
-// What a run is handed beside the bytes of its source: its words, the grammar at its path, the sizes of the
-// pieces that are read, what fails, and the text that the patterns refuse.
+// What a run is handed beside the bytes of its source: its words, the path of the grammar's file and what it
+// holds, what `j.langium` holds, the sizes of the pieces that are read, what fails, and the text that the
+// patterns refuse.
 #[derive(Clone, Copy)]
 pub(crate) struct Setting<'a> {
     pub words: &'a [&'a str],
+    pub path: &'a str,
     pub grammar: Option<&'a str>,
+    pub imported: Option<&'a [u8]>,
     pub pieces: &'a [u32],
     pub failing: Failing,
     pub refused: &'a str,
@@ -55,7 +62,9 @@ pub(crate) struct Setting<'a> {
 pub(crate) fn setting_of<'a>(words: &'a [&'a str], grammar: Option<&'a str>) -> Setting<'a> {
     Setting {
         words,
+        path: PATH,
         grammar,
+        imported: None,
         pieces: &[],
         failing: NOTHING,
         refused: "none",
@@ -80,12 +89,18 @@ fn names(alloc: Global, words: &[&str]) -> Result<Vec<Name>, NoMemory> {
     Ok(names)
 }
 
-// The store that holds the grammar at its path.
+fn file(alloc: Global, path: &str, bytes: &[u8]) -> Result<(Name, Vec<u8>), NoMemory> {
+    Ok((Name::from_text(alloc, path)?, bytes.to_vec(alloc)?))
+}
+
+// The store that holds the grammar's files.
 fn store_of(alloc: Global, setting: &Setting) -> Result<MemStore, NoMemory> {
     let mut files = Vec::new(alloc);
     if let Some(grammar) = setting.grammar {
-        let bytes = grammar.as_bytes().to_vec(alloc)?;
-        files.push((Name::from_text(alloc, PATH)?, bytes))?;
+        files.push(file(alloc, setting.path, grammar.as_bytes())?)?;
+    }
+    if let Some(imported) = setting.imported {
+        files.push(file(alloc, "j.langium", imported)?)?;
     }
     Ok(MemStore::new(files, vec![in alloc; setting.failing.file]?))
 }
@@ -235,7 +250,7 @@ fn runs_stop_with_a_note(rt: HostRuntime) -> Result<(), Fail> {
             "none",
             3,
             "",
-            "f.langium:1:24: not built\n",
+            "f.langium:1:1: not built\n",
         ),
         (absent, FLAT, NOTHING, "none", 6, "", "g.langium: absent\n"),
         (
@@ -338,6 +353,88 @@ fn runs_stop_with_a_note(rt: HostRuntime) -> Result<(), Fail> {
     Ok(())
 }
 
+// The grammar's file is at the first path, and the last but two is the number of the call of the store that fails.
+#[test]
+fn grammars_that_are_not_loaded_are_told(rt: HostRuntime) -> Result<(), Fail> {
+    for (path, grammar, imported, file, code, note) in [
+        (
+            "g.langium",
+            "grammar G entry A: x=ID & y=ID;",
+            None,
+            0,
+            3,
+            "g.langium:1:25: left out: unordered group\n",
+        ),
+        (
+            "g.langium",
+            "grammar G terminal T: /a/i;",
+            None,
+            0,
+            3,
+            "g.langium:1:23: left out: regex flags\n",
+        ),
+        (
+            "g.langium",
+            "grammar G entry A 'a';",
+            None,
+            0,
+            3,
+            "g.langium:1:19: unexpected token\n",
+        ),
+        (
+            "g.langium",
+            "grammar G entry A: (((((((((((((((((((((((((((((((((((((((((((((((((((((((((((((((((",
+            None,
+            0,
+            3,
+            "g.langium:1:84: too deep\n",
+        ),
+        ("i.langium", IMPORTS, None, 0, 6, "j.langium: absent\n"),
+        (
+            "i.langium",
+            IMPORTS,
+            Some(b"\xFF".as_slice()),
+            0,
+            6,
+            "j.langium: not UTF-8\n",
+        ),
+        (
+            "i.langium",
+            IMPORTS,
+            Some(b"grammar J import './i.langium' B 'b';".as_slice()),
+            0,
+            3,
+            "j.langium:1:34: unexpected token\n",
+        ),
+        (
+            "i.langium",
+            IMPORTS,
+            Some(IMPORTED),
+            0,
+            3,
+            "i.langium:1:1: not built\n",
+        ),
+        (
+            "i.langium",
+            IMPORTS,
+            Some(IMPORTED),
+            2,
+            6,
+            "j.langium: failed\n",
+        ),
+    ] {
+        let setting = Setting {
+            words: &["check", path],
+            path,
+            imported,
+            failing: Failing { file, ..NOTHING },
+            ..setting_of(&[], Some(grammar))
+        };
+        ends_as(&rt, rt.alloc(), &setting, b"", code, "", note)?;
+    }
+    Ok(())
+}
+
 // Notes for which there is never memory.
 #[derive(Drop)]
 struct NoRoom {
@@ -362,7 +459,6 @@ impl Sink for NoRoom {
 }
 
 // The status is 7 then, and no second note is tried.
-
 #[test]
 fn a_note_without_memory_is_the_last(rt: HostRuntime) -> Result<(), Fail> {
     let alloc = rt.alloc();

@@ -50,8 +50,8 @@ module _ (g : Grammar) (shape : HasShape g) (flat : Flat) (is : IsFlat g flat) w
   one_pattern : (terminal : Terminal) (p q : List ℕ) → Contains is.of.terminals terminal → TerminalPattern g terminal p → TerminalPattern g terminal q → p ≡ q
   one_pattern terminal p q in' tp tq =
       let plain : IsPlainTerminal terminal = All-contains IsPlainTerminal g.terminals terminal shape.terminals (kind_there terminal in') in
-      let written : option_map unescaped (as_pattern (out-TermElement terminal.body)) ≡ Some (unescaped plain.1) = ap (λ f. option_map unescaped (as_pattern f)) plain.3 in
-      pattern_once g terminal (unescaped plain.1) written p tp ∙ sym (pattern_once g terminal (unescaped plain.1) written q tq)
+      let written : option_map unescaped (as_pattern (out-TermElement terminal.body)) ≡ Some (unescaped plain.text) = ap (λ f. option_map unescaped (as_pattern f)) plain.pattern in
+      pattern_once g terminal (unescaped plain.text) written p tp ∙ sym (pattern_once g terminal (unescaped plain.text) written q tq)
 
   pub none_empty : AreUsable flat.terminals.items → MatchesEmpty g → ⊥
   none_empty usable empty =

@@ -106,7 +106,7 @@ module _ (g : Grammar) (rule : Rule) (shape : HasShape g) (only : g.rules ≡ ru
     }
 
     whole : (t : ℕ) (terminal : Terminal) → slice_get g.terminals t ≡ Some terminal → terminal.is_fragment ≡ false
-    whole t terminal at = (All-contains IsPlainTerminal g.terminals terminal shape.terminals (at_place g.terminals t at)).0
+    whole t terminal at = (All-contains IsPlainTerminal g.terminals terminal shape.terminals (at_place g.terminals t at)).whole
 
     passes_kind : (t : ℕ) (terminal : Terminal) → slice_get g.terminals t ≡ Some terminal → is_kind (called rule) terminal ≡ true → IsKindTerminal g t
     passes_kind t terminal at = by terminal.is_hidden refl (stands_in terminal.name (called rule)) refl

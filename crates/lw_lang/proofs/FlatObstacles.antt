@@ -73,7 +73,6 @@ module _ (g : Grammar) (rule : Rule) (shape : HasShape g) (only : g.rules ≡ ru
       let found = assigned rule.body plain p op v s (subst (λ b. Contains (leaves b) (Assign p op v s)) (sym is) in_leaves) in
       let some = counted (λ part. is_some (part_call part)) (parts_of rule.body) found.2 found.3 (ap is_some found.4) in
       absurd (omega (arith, some, none)))
-  names_obstacle (flat.too_large over) = obstacle.too_large over
   names_obstacle (flat.repeats (i, j, name, below, at_i, at_j)) = obstacle.same_names i j name below at_i at_j
 
   -- with the kinds, and what matchers are made from
@@ -172,7 +171,6 @@ module _ (g : Grammar) (rule : Rule) (shape : HasShape g) (only : g.rules ≡ ru
       is_clear (obstacle.too_many_kinds kinds theirs many) =
           let settled = kinds_settled g rule shape only sound.differ kinds theirs in
           omega (arith, ap length settled.0, ap length settled.1, zip_length IsPlainSource of.terminals terminals tied, limits.few_kinds)
-      is_clear (obstacle.too_large over) = omega (arith, sound.sized)
       is_clear (obstacle.long_pattern pattern (kinds, theirs, terminal, listed, its) long) =
           let settled = kinds_settled g rule shape only sound.differ kinds theirs in
           let found = zip_left IsPlainSource of.terminals terminals terminal tied (subst (λ ts. Contains ts terminal) settled.1 listed) in

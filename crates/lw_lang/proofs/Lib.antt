@@ -6,7 +6,6 @@ pub mod ReadLemmas
 pub mod Unescaping
 pub mod Zips
 pub mod FlatTexts
-pub mod FlatSize
 pub mod Lists
 pub mod FlatLeaves
 pub mod FlatKinds

@@ -20,12 +20,14 @@ pub parts_of_group : (parts : List Element) (s : Span) → parts_of (Group parts
 parts_of_group parts s = ap (λ f. layer_parts f (Group parts s)) (outs-Group parts s)
 
 -- a grammar of one rule that is a row of some plain parts
-pub shaped : (g : Grammar) (rule : Rule) (parts : List Element) (s : Span) → g.rules ≡ rule ∷ [] → rule.is_entry ≡ true → rule.file ≡ 0 → rule.is_fragment ≡ false →
+pub shaped : (g : Grammar) (file : List ℕ) (rule : Rule) (parts : List Element) (s : Span) → g.files ≡ file ∷ [] → g.rules ≡ rule ∷ [] → rule.is_entry ≡ true → rule.file ≡ 0 → rule.is_fragment ≡ false →
     rule.result ≡ Own → rule.body ≡ Group parts s → All IsPlainPart parts → 0 < length parts → All IsPlainTerminal g.terminals → g.interfaces ≡ [] → g.unions ≡ [] →
     g.imports ≡ [] → HasShape g
-shaped g rule parts s only entry root whole own body plain some terminals no_interfaces no_unions no_imports =
+shaped g file rule parts s alone only entry root whole own body plain some terminals no_interfaces no_unions no_imports =
     let are : parts_of rule.body ≡ parts = ap parts_of body ∙ parts_of_group parts s in
     record {
+      file = file;
+      alone = alone;
       rule = rule;
       only = only;
       entry = entry;

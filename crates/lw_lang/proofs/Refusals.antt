@@ -1,66 +1,31 @@
 -- A pattern that is refused: whose it is, and how its terminal is told.
-use Rattle.std.proofs.Common.{◌≡◌, ◌≢◌, ℕ, zero, suc, ◌+◌, ◌<◌, ◌≤◌, List, [], ◌∷◌, ◌++◌, Some, None, IfSome, position, bytes_eq, length, get_or, take, slice_get, map, option_map, All, AllPairs, Any, sym, ap, ◌∙◌, subst, arith}
+use Rattle.std.proofs.Common.{◌≡◌, ◌≢◌, ℕ, zero, suc, ◌+◌, ◌<◌, ◌≤◌, List, [], ◌∷◌, Some, None, IfSome, position, bytes_eq, length, get_or, take, slice_get, map, option_map, sum_by, All, AllPairs, Any, sym, ap, ◌∙◌, subst, arith}
 use Rattle.std.specs.List.{AllZip}
-use Rattle.std.proofs.lemmas.List.Elements.{All-nil, All-cons, All-head, All-tail}
+use Rattle.std.proofs.lemmas.List.Elements.{All-nil, All-cons, All-head, All-tail, All-contains}
 use Rattle.std.proofs.lemmas.List.Quantifiers.{position-Some}
+use Rattle.std.proofs.lemmas.List.Sums.{sum_by-cons}
 use Rattle.std.proofs.lemmas.Slice.Eq.{bytes_eq-Decides}
 use Rattle.std.proofs.lemmas.Option.{slice_get-get_or, slice_get-map, slice_get_within, get_or_from_slice_get, same_Some}
 use Rattle.lw_grammar.specs.declared.grammar.Grammar.{Grammar}
+use Rattle.lw_grammar.specs.declared.rule.Rule.{Rule}
 use Rattle.lw_grammar.specs.declared.terminal.Terminal.{Terminal}
-use Rattle.lw_grammar.specs.Size.{size}
-use Rattle.lw_gramread.specs.declared.token.FileToken.{FileToken}
-use Rattle.lw_gramread.specs.Places.{IsPlace}
+use Rattle.lw_grammar.specs.Size.{size, element_size, term_size}
 use Rattle.lw_text.specs.Position.{IsPosition}
 use Rattle.lw_text.specs.declared.place.Pos.{Pos}
+use Rattle.lw_syntax.specs.PlacesWithin.{IsWithin, terminal_spans, term_spans}
+use Rattle.lw_load.specs.declared.limits.TheConstants.{LARGEST_GRAMMAR}
+use Rattle.lw_load.specs.Standing.{Stands, AreIn}
 use Rattle.lw_terminals.specs.declared.source.TerminalSource.{TerminalSource}
 use Rattle.lw_terminals.specs.Made.{AreUsable, IsUsable}
 use Rattle.lw_terminals.specs.Made as made
 use Rattle.lw_lang.specs.Shape.{HasShape}
-use Rattle.lw_lang.specs.Small as small
-use Rattle.lw_lang.specs.Small.{IsSmallTerminal, AreSmallTerminals, IsSmall}
-use Rattle.lw_lang.specs.Obstacles.{HasObstacle, names, same_names, too_large}
+use Rattle.lw_lang.specs.Obstacles.{HasObstacle, names, same_names}
 use Rattle.lw_lang.specs.Refused.{HasUsablePattern, IsTried, IsToldBy}
-use Rattle.lw_lang.specs.Compiled.{StandsIn}
 use Rattle.lw_lang.specs.Flat.{IsSource, IsFlat}
 use Rattle.lw_lang.specs.declared.flat.Flat.{Flat}
 use Rattle.lw_lang.proofs.Lists.{place_of, at_place, has_position, zip_at}
 use Rattle.lw_lang.proofs.FlatKinds.{one_of_name}
-use Rattle.lw_lang.proofs.FlatSize.{size_flat}
 use Rattle.lw_lang.proofs.BuildLemmas.{kind_there}
-
--- ---- names stand in the file
-
-module _ (file : List ℕ) where
-  abbrev StandsAt : FileToken → Type 0
-  StandsAt t = IsPlace file t.span
-
-  -- the second and the third of the tokens
-  second : (a b : FileToken) (ts : List FileToken) → All StandsAt (a ∷ b ∷ ts) → b.span.start ≤ length file
-  second a b ts all =
-      let at : IsPlace file b.span = All-head StandsAt b ts (All-tail StandsAt a (b ∷ ts) all) in omega (arith, at.not_empty, at.within)
-
-  terminal_stands : {ts : List FileToken} {terminal : Terminal} → IsSmallTerminal file ts terminal → All StandsAt ts → StandsIn file terminal
-  terminal_stands (small.shown {mark} {word} {colon} {regex} {end} m w c r d) all = second mark word (colon ∷ regex ∷ end ∷ []) all
-  terminal_stands (small.hidden {hide} {mark} {word} {colon} {regex} {end} h m w c r d) all =
-      second mark word (colon ∷ regex ∷ end ∷ []) (All-tail StandsAt hide (mark ∷ word ∷ colon ∷ regex ∷ end ∷ []) all)
-
-  -- what holds of all holds of the first and of the last of them
-  all_left : (ts us : List FileToken) → All StandsAt (ts ++ us) → All StandsAt ts
-  all_left [] us all = All-nil StandsAt
-  all_left (t ∷ ts) us all = All-cons StandsAt t ts (All-head StandsAt t (ts ++ us) all) (all_left ts us (All-tail StandsAt t (ts ++ us) all))
-
-  all_right : (ts us : List FileToken) → All StandsAt (ts ++ us) → All StandsAt us
-  all_right [] us all = all
-  all_right (t ∷ ts) us all = all_right ts us (All-tail StandsAt t (ts ++ us) all)
-
-  terminals_stand : {ts : List FileToken} {terminals : List Terminal} → AreSmallTerminals file ts terminals → All StandsAt ts → All (StandsIn file) terminals
-  terminals_stand small.none all = All-nil (StandsIn file)
-  terminals_stand (small.more {ts} {us} {terminal} {terminals} x xs) all =
-      All-cons (StandsIn file) terminal terminals (terminal_stands x (all_left ts us all)) (terminals_stand xs (all_right ts us all))
-
-  pub stand : (path : List ℕ) (tokens : List FileToken) (g : Grammar) → IsSmall file path tokens g → All StandsAt tokens → All (StandsIn file) g.terminals
-  stand path tokens g (small.small t0 t1 t2 t3 t4 end name rule_name ts us parts terminals h0 h1 h2 h3 h4 h5 h6 said) all =
-      terminals_stand said (All-tail StandsAt end us (all_right (t0 ∷ t1 ∷ t2 ∷ t3 ∷ t4 ∷ ts) (end ∷ us) all))
 
 -- ---- the terminal whose pattern is tried
 
@@ -127,23 +92,49 @@ found_named terminals name place d is =
       subst (λ o. IfSome o (λ t. t.name ≡ name)) (sym (slice_get-get_or terminals place d found.0)) ((bytes_eq-Decides (get_or terminals place d).name name).0 found.1),
     )
 
--- the terminal at a place, told
-pub told : (g : Grammar) (text shown name : List ℕ) (terminals : List Terminal) (place rules : ℕ) (terminal : Terminal) (at : Pos) → terminals ≡ g.terminals →
-    place < length terminals → IfSome (slice_get terminals place) (λ t. t.name ≡ name) → terminal ≡ get_or terminals place terminal → rules ≡ length g.rules →
-    shown ≡ text → IsPosition shown (get_or terminals place terminal).span.start at → (t : Terminal) × (t.name ≡ name) × IsToldBy g text t (record { 0 = rules + place }) name at
-told g text shown name terminals place rules terminal at are inside named is count same begins =
-    let there : slice_get terminals place ≡ Some terminal = slice_get-get_or terminals place terminal inside ∙ ap (λ t. Some t) (sym is) in
-    let its : terminal.name ≡ name = subst (λ o. IfSome o (λ t. t.name ≡ name)) there named in (
+-- the terminal at a place
+pub at_its_place : (g : Grammar) (terminals : List Terminal) (place : ℕ) (terminal : Terminal) → terminals ≡ g.terminals → place < length terminals →
+    terminal ≡ get_or terminals place terminal → slice_get g.terminals place ≡ Some terminal
+at_its_place g terminals place terminal are inside is =
+    subst (λ ts. slice_get ts place ≡ Some terminal) are (slice_get-get_or terminals place terminal inside ∙ ap Some (sym is))
+
+-- it stands in the text of its file
+module _ (g : Grammar) (texts : List (List ℕ)) (stands : Stands texts g) (place : ℕ) (terminal : Terminal) (there : slice_get g.terminals place ≡ Some terminal) where
+  terminal_in : AreIn texts terminal.file (terminal_spans terminal)
+  terminal_in = All-contains (λ t. AreIn texts t.file (terminal_spans t)) g.terminals terminal stands.terminals (at_place g.terminals place there)
+
+  -- which is this one
+  module _ (text : List ℕ) (is : text ≡ get_or texts terminal.file text) (shown : List ℕ) (same : shown ≡ text) where
+    its_text : slice_get texts terminal.file ≡ Some shown
+    its_text = slice_get-get_or texts terminal.file text (slice_get_within texts terminal.file terminal_in.text terminal_in.there) ∙ ap Some (sym (same ∙ is))
+
+    pub starts_within : terminal.span.start ≤ length shown
+    starts_within =
+        subst (λ bs. terminal.span.start ≤ length bs) (same_Some terminal_in.text shown (sym terminal_in.there ∙ its_text))
+        (All-head (IsWithin terminal_in.text) terminal.span (term_spans terminal.body) terminal_in.within).0
+
+    -- and the terminal is told by it
+    pub told : (name : List ℕ) (rules : ℕ) (at : Pos) → terminal.name ≡ name → rules ≡ length g.rules → IsPosition shown terminal.span.start at →
+        (t : Terminal) × (t.name ≡ name) × IsToldBy g texts t (record { 0 = rules + place }) name at
+    told name rules at named count begins = (
       terminal,
-      its,
+      named,
       record {
         place = place;
-        there = subst (λ ts. slice_get ts place ≡ Some terminal) are there;
+        there = there;
         number = ap (λ n. n + place) count;
-        named = sym its;
-        begins = subst (λ bs. IsPosition bs terminal.span.start at) same (subst (λ (t : Terminal). IsPosition shown t.span.start at) (sym is) begins);
+        named = sym named;
+        text = shown;
+        file = its_text;
+        begins = begins;
       },
     )
+
+-- the name of the terminal that was found
+pub found_name : (terminals : List Terminal) (place : ℕ) (terminal : Terminal) (name : List ℕ) → place < length terminals → terminal ≡ get_or terminals place terminal →
+    IfSome (slice_get terminals place) (λ t. t.name ≡ name) → terminal.name ≡ name
+found_name terminals place terminal name inside is =
+    subst (λ o. IfSome o (λ t. t.name ≡ name) → terminal.name ≡ name) (sym (slice_get-get_or terminals place terminal inside ∙ ap Some (sym is))) (λ named. named)
 
 -- ---- what a grammar without the other conditions has
 
@@ -164,15 +155,14 @@ module _ (g : Grammar) (shape : HasShape g) (clear : HasObstacle g → ⊥) wher
           equal i j (λ below. one_of_name g shape.rule shape shape.only names_differ i j x y below at_i at_j same)
           (λ below. one_of_name g shape.rule shape shape.only names_differ j i y x below at_j at_i (sym same))
 
-  -- the rules and terminals can be numbered
-  pub few : length g.rules + length g.terminals ≤ 65535
-  few =
-      let one : length g.rules ≡ 1 = ap length shape.only in
-      let whole = size_flat g shape.rule shape shape.only in
-      omega (arith, one, whole, within)
-    where
-      bounded : (n : ℕ) → (65535 < n → ⊥) → n ≤ 65535
-      bounded n not_above = omega arith
+-- the rules and terminals of a grammar that is not too large can be numbered
+module _ {X : Type 0} (part : X → ℕ) where
+  each_counts : (xs : List X) → length xs ≤ sum_by (λ x. 1 + part x) xs
+  each_counts [] = omega arith
+  each_counts (x ∷ xs) = omega (arith, each_counts xs, sum_by-cons (λ x. 1 + part x) x xs)
 
-      within : size g ≤ 65535
-      within = bounded (size g) (λ over. clear (too_large over))
+pub few : (g : Grammar) → size g ≤ LARGEST_GRAMMAR → length g.rules + length g.terminals ≤ 65535
+few g fits =
+    let rules = each_counts (λ (rule : Rule). element_size rule.body) g.rules in
+    let terminals = each_counts (λ (terminal : Terminal). term_size terminal.body) g.terminals in
+    omega (arith, rules, terminals, fits)

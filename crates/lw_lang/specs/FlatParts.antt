@@ -1,11 +1,11 @@
 -- What a row's parts read, which terminals are kinds beside it, and the kind that each part reads.
-use Rattle.std.specs.Prelude.{ℕ, ◌≡◌, ◌+◌, ◌||◌, ◌&&◌, List, Option, Some, None, Bool, true, false, not, ◌<◌, ◌≤◌, ◌≢◌, All, Any, AllPairs, count_by, is_some, length, slice_get, position, option_map, option_and_then, bytes_eq}
+use Rattle.std.specs.Prelude.{ℕ, ◌≡◌, ◌+◌, ◌||◌, ◌&&◌, List, Option, Some, None, Bool, not, ◌<◌, ◌≤◌, ◌≢◌, All, Any, AllPairs, count_by, is_some, length, slice_get, position, option_map, option_and_then, bytes_eq}
 use Rattle.std.specs.List.{filter_map, list_any, AllZip}
 use Rattle.std.specs.declared.vec.Vec.{Vec}
 use Rattle.std.specs.declared.alloc.Global.{Global}
 use Rattle.lw_base.specs.declared.numbers.KindId.{KindId}
 use Rattle.lw_grammar.specs.declared.rule.Element.{Element, out-Element}
-use Rattle.lw_grammar.specs.declared.rule.Element.TheOpen.{Element-F, Keyword, Assign, Group}
+use Rattle.lw_grammar.specs.declared.rule.Element.TheOpen.{Element-F, Keyword, Assign}
 use Rattle.lw_grammar.specs.declared.rule.Value0.{Value0, out-Value0}
 use Rattle.lw_grammar.specs.declared.rule.Value0.TheOpen as value
 use Rattle.lw_grammar.specs.declared.rule.Value0.TheOpen.{Value0-F}
@@ -15,14 +15,6 @@ use Rattle.lw_tokens.specs.Patterns.{unescaped, as_pattern}
 use Rattle.lw_terminals.specs.declared.source.TerminalSource.{TerminalSource}
 use Rattle.lw_lang.specs.Obstacles.{IsBlank, names}
 use Rattle.lw_grammar.specs.declared.grammar.Grammar.{Grammar}
-
--- whether a body is a row of parts
-abbrev pub layer_is_group : Element-F Element → Bool
-layer_is_group (Group parts s) = true
-layer_is_group _ = false
-
-abbrev pub is_group : Element → Bool
-is_group body = layer_is_group (out-Element body)
 
 -- the text of a part that is a keyword
 abbrev pub layer_keyword : Element-F Element → Option (List ℕ)

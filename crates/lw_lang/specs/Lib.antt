@@ -1,4 +1,5 @@
 pub mod Shape
+pub mod ShapeParts
 pub mod Obstacles
 pub mod Refused
 pub mod Rows

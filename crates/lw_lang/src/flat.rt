@@ -1,6 +1,5 @@
 // A grammar whose one rule is a row of keywords and assignments of calls.
 ghost use Rattle.std.specs.Prelude.{◌≡◌, ◌≢◌, ◌<◌, ◌↔◌, ◌∷◌, [], IsTrue, IsOk, IfOk, OnOk, IsErrOf, MatchBool, AllPairs, Any, length, is_some, count_by};
-ghost use Rattle.lw_grammar.specs.Size.{size};
 ghost use Rattle.lw_lang.specs.Shape.{HasShape};
 ghost use Rattle.lw_lang.specs.Obstacles.{HasObstacle, names, IsBlank};
 ghost use Rattle.lw_lang.specs.Flat.{IsFlat, IsReady};
@@ -8,7 +7,7 @@ ghost use Rattle.lw_lang.specs.FlatParts.{part_call, HasRepeat, AreWithinLimits,
 ghost use Rattle.std.specs.List.{IsDistinct};
 ghost use Rattle.std.specs.Str.{bytes_eq};
 
-use crate::flat_parts::{call, is_group, keywords, parts};
+use crate::flat_parts::{call, keywords, parts};
 use crate::flat_row::row;
 use crate::flat_terminals::sources;
 use indexmap::IndexSet;
@@ -16,9 +15,6 @@ use lw_base::{KindId, Name, NoMemory};
 use lw_grammar::{Element, Grammar, Rule};
 use lw_terminals::TerminalSource;
 use std::alloc::{AllocError, AllocFailed, Global};
-
-/// The size of the largest grammar that is read.
-const LARGEST_SIZE: usize = 65_535;
 
 const MOST_TERMINALS: usize = 32;
 
@@ -76,7 +72,7 @@ impl<T: Drop> From<AllocFailed<T>> for FlatFault {
 ///
 /// It is refused exactly where something keeps it from being built: no part is an assignment, two
 /// names are equal, a called name is no visible terminal's, a keyword is empty or begins with white
-/// space, or there are more kinds, a larger grammar or a longer pattern than are read.
+/// space, or there are more kinds or a longer pattern than are read.
 pub(crate) fn make_flat(alloc: Global, g: &Grammar) -> Result<Flat, FlatFault>
     requires { HasShape g.now }
     ensures flat { IfOk result (IsFlat g.now) }
@@ -102,17 +98,13 @@ fn into_list(alloc: Global, names: IndexSet<Name>) -> Result<Vec<Name>, NoMemory
     Ok(names.into_iter().collect(alloc)?)
 }
 
-/// What is looked at before there are kinds: that a part is an assignment, the size, and that names
-/// differ.
+/// What is looked at before there are kinds: that a part is an assignment, and that names differ.
 fn check_names(alloc: Global, g: &Grammar, parts: &[Element]) -> Result<(), FlatFault>
     requires { HasShape g.now }
     ensures ok { OnOk result (HasSoundNames g.now parts.now) }
     ensures obstacle { IsErrOf result FlatFault.Obstacle → HasUnsoundNames g.now parts.now }
 {
-    if assignments(parts) == 0 || is_too_large(g) {
-        return Err(FlatFault::Obstacle);
-    }
-    if has_same_names(alloc, g)? {
+    if assignments(parts) == 0 || has_same_names(alloc, g)? {
         return Err(FlatFault::Obstacle);
     }
     Ok(())
@@ -168,19 +160,6 @@ fn assignments(parts: &[Element]) -> usize
         }
     }
     count
-}
-
-/// Whether the grammar is larger than what is read: its rule, its row, each part with the value that
-/// it assigns, and each terminal with its pattern.
-fn is_too_large(g: &Grammar) -> bool
-    requires { HasShape g.now }
-    ensures { IsTrue result ↔ (65535 < size g.now) }
-{
-    let body = &rule(g).body;
-    let row = usize::from(is_group(body));
-    let parts = parts(body);
-    let terminals = g.terminals.as_slice();
-    1 + row + parts.len() + assignments(parts) + 2 * terminals.len() > LARGEST_SIZE
 }
 
 /// Whether two of the names of rules and terminals are equal.

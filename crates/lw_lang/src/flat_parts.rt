@@ -3,7 +3,7 @@ ghost use Rattle.std.specs.Prelude.{◌≡◌, [], IfOk};
 ghost use Rattle.std.specs.Option.{option_copied};
 ghost use Rattle.lw_grammar.specs.Kinds.{first_uses};
 ghost use Rattle.lw_lang.specs.Shape.{parts_of};
-ghost use Rattle.lw_lang.specs.FlatParts.{is_group, part_keyword, part_call, row_keywords, row_calls};
+ghost use Rattle.lw_lang.specs.FlatParts.{part_keyword, part_call, row_keywords, row_calls};
 
 use indexmap::IndexSet;
 use lw_base::{Name, NoMemory};
@@ -19,13 +19,6 @@ pub(crate) fn parts(body: &Element) -> &[Element]
         Element::Group(parts, _) => parts.as_slice(),
         _ => slice::from_ref(body),
     }
-}
-
-/// Whether a body is a row of parts.
-pub(crate) fn is_group(body: &Element) -> bool
-    ensures { result ≡ is_group body.now }
-{
-    matches!(body, Element::Group(_, _))
 }
 
 /// The text of a part that is a keyword.

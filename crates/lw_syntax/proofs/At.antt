@@ -40,12 +40,6 @@ pub either_way : {P : Type 0} (c : Bool) → (c ≡ true → P) → (c ≡ false
 either_way true f g = f refl
 either_way false f g = g refl
 
--- a test of what comes next
-pub tested : {X : Type 0} {v : Verdict} {k : List Lexeme → Verdict} {P : List Lexeme → X → Type 0} (b : Bool) {r s : Outcome X} → (b ≡ true → At v k P r) → (b ≡ false → At v k P s) →
-    At v k P (cond b r s)
-tested true f g = f refl
-tested false f g = g refl
-
 pub is_symbol : (y x : Symbol) → same_symbol y x ≡ true → y ≡ x
 unfolding same_symbol
 is_symbol y x e = same_true the_symbol.the_type (search rules) y x e

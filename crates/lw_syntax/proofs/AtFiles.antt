@@ -5,7 +5,6 @@ use Rattle.lw_gramread.specs.declared.token.Symbol.TheVariants as sign
 use Rattle.lw_syntax.specs.declared.lexeme.Reserved.TheVariants as word
 use Rattle.lw_syntax.specs.declared.lexeme.Lexeme.{Lexeme}
 use Rattle.lw_syntax.specs.declared.lexeme.Lexeme.TheVariants.{Word, Text, Regex, Flagged, Sign, Other}
-use Rattle.lw_syntax.specs.declared.reader.left.Spot.TheVariants as spot
 use Rattle.lw_syntax.specs.declared.reader.file.Item.{Item}
 use Rattle.lw_syntax.specs.ParserRules.{SpellsRule}
 use Rattle.lw_syntax.specs.RuleSteps.{rule}

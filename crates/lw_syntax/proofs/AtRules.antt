@@ -385,9 +385,6 @@ module _ (d : ℕ) (ok : ElementAt d) (others : List Sym) (loop : Sym) (k : List
     (on_element : (ts : List Lexeme) → begins_element ts ≡ true → place d InRule (loop ∷ others) ts ≡ place d InRule (want.Element ∷ loop ∷ others) ts)
     (on_bar : (s : Span) (ts : List Lexeme) → place d InRule (loop ∷ others) (Sign sign.Bar s ∷ ts) ≡ place d InRule (want.Element ∷ loop ∷ others) ts)
     (leaves : (ts : List Lexeme) → begins_element ts ≡ false → sees sign.Bar ts ≡ false → place d InRule (loop ∷ others) ts ≡ k ts) where
-  abbrev NoElement : List Lexeme → Type 0
-  NoElement ts = begins_element ts ≡ false
-
   more_elements_turns : Turns begins_element (one (element_in (values_inside d) (choice_inside d))) (place d InRule (loop ∷ others)) (place d InRule (loop ∷ others))
       (λ ts. Unit {0}) (λ ts. begins_element ts ≡ false) SpellsMoreElements
   more_elements_turns = record {

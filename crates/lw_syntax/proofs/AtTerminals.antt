@@ -8,7 +8,6 @@ use Rattle.lw_gramread.specs.declared.token.Symbol.TheVariants as sign
 use Rattle.lw_syntax.specs.declared.lexeme.Reserved.TheVariants as word
 use Rattle.lw_syntax.specs.declared.lexeme.Lexeme.{Lexeme}
 use Rattle.lw_syntax.specs.declared.lexeme.Lexeme.TheVariants.{Word, Text, Regex, Flagged, Sign, Other}
-use Rattle.lw_syntax.specs.declared.reader.left.Spot.TheVariants as spot
 use Rattle.lw_syntax.specs.TerminalRules as terms
 use Rattle.lw_syntax.specs.TerminalRules.{SpellsTermMark, SpellsTermPart, SpellsTerm, SpellsMoreTerms, SpellsTermRow, SpellsMoreTermRows, SpellsTermChoice, SpellsTermHead, SpellsTerminal}
 use Rattle.lw_syntax.specs.Spans.{term_group_of, term_choice_of}

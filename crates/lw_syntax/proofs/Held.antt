@@ -1,12 +1,12 @@
 -- The stack inside an item: what keeps it there until the item is finished.
-use Rattle.std.proofs.Common.{ℕ, ◌≡◌, Bool, true, false, cond, ◌||◌, List, [], ◌∷◌, ◌++◌, Option, Some, None, is_some, refl, sym, ap, ◌∙◌, subst, append-nil}
+use Rattle.std.proofs.Common.{◌≡◌, Bool, true, false, cond, ◌||◌, List, [], ◌∷◌, ◌++◌, Some, None, is_some, refl, sym, ap, ◌∙◌, subst, append-nil}
 use Rattle.lw_gramread.specs.declared.token.Symbol.TheVariants as sign
 use Rattle.lw_syntax.specs.declared.lexeme.Reserved.TheVariants as word
 use Rattle.lw_syntax.specs.declared.lexeme.Lexeme.{Lexeme}
-use Rattle.lw_syntax.specs.Steps.{sees_word, sees_name, sees_text, sees_regex, sees_primitive, next_operator}
+use Rattle.lw_syntax.specs.Steps.{sees_word, sees_name, sees_text, sees_primitive, next_operator}
 use Rattle.lw_syntax.specs.ElementSteps.{begins_element}
 use Rattle.lw_syntax.specs.TerminalSteps.{begins_term}
-use Rattle.lw_syntax.proofs.Machine.{Sym, Want, WantWord, WantName, WantFeature, May, Above, NamesOpen, Attributes, Single, TypeEnd, AttributeMembers, AttributeEnd, MembersClose, Value, ValuesClose, CrossEnd, Element, RowsEnd, RowsClose, Card, AfterWord, Operator, ActionType, PutEnd, PutOperator, Term, TermsEnd, Bottom, InType, InRule, InTerminal, Stack, Wanted, is, is_reserved, followed, element_begin, term_begin, card, begin, nullable, all_nullable, pushed, after}
+use Rattle.lw_syntax.proofs.Machine.{Sym, Want, WantWord, WantName, WantFeature, May, Above, NamesOpen, Attributes, Single, TypeEnd, AttributeMembers, AttributeEnd, MembersClose, Value, ValuesClose, CrossEnd, Element, RowsEnd, RowsClose, Card, AfterWord, Operator, ActionType, PutEnd, PutOperator, TermsEnd, Bottom, InType, InRule, InTerminal, Stack, Wanted, is, is_reserved, followed, element_begin, term_begin, card, begin, nullable, all_nullable, pushed, after}
 use Rattle.lw_syntax.proofs.Reach.{same_stack}
 
 -- what may stand above the symbol that ends an item

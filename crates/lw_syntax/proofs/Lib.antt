@@ -15,4 +15,9 @@ pub mod Held
 pub mod Spelled
 pub mod Stands
 pub mod Told
+pub mod Within
+pub mod WithinTypes
+pub mod WithinRules
+pub mod WithinTerminals
+pub mod WithinFiles
 pub mod Verdicts

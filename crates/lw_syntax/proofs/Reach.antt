@@ -33,12 +33,6 @@ reach_join b wants (x ∷ xs) ys = chain (after b wants x) (λ m. reach_join m.b
 
 -- ---- a stack can be finished
 
-nowhere : Span
-nowhere = record { start = 0; end = 0 }
-
-a_name : Lexeme
-a_name = Word [] None (record { start = 0; end = 0 })
-
 abbrev sign_of : Symbol → Lexeme
 sign_of x = Sign x (record { start = 0; end = 0 })
 

@@ -1,33 +1,20 @@
 -- Which tokens spell a file, and which begin one, from the stack behind them.
-use Rattle.std.proofs.Common.{ℕ, ◌≡◌, ◌≢◌, ◌+◌, true, false, List, [], ◌∷◌, ◌++◌, length, Option, Some, None, Ok, Err, refl, sym, ap, ◌∙◌, subst, arith, append_assoc, append-nil, inl, inr, ◌⊎◌}
-use Rattle.std.proofs.lemmas.List.{map-append}
-use Rattle.lw_base.specs.declared.token.Span.{Span}
+use Rattle.std.proofs.Common.{ℕ, ◌≡◌, true, false, List, [], ◌∷◌, ◌++◌, length, Some, None, Ok, Err, refl, sym, ap, ◌∙◌, subst, arith, append_assoc}
 use Rattle.lw_grammar.specs.declared.grammar.Grammar.{Grammar}
-use Rattle.lw_gramread.specs.declared.token.FileKind.TheVariants as kind
-use Rattle.lw_gramread.specs.declared.token.FileToken.{FileToken}
-use Rattle.lw_gramread.specs.declared.token.Symbol.TheVariants as sign
 use Rattle.lw_syntax.specs.declared.lexeme.Lexeme.{Lexeme}
-use Rattle.lw_syntax.specs.declared.lexeme.Lexeme.TheVariants.{Sign, Other}
 use Rattle.lw_syntax.specs.declared.reader.left.Spot.{Spot}
 use Rattle.lw_syntax.specs.declared.reader.left.Stop.{Stop}
 use Rattle.lw_syntax.specs.declared.reader.left.Stop.TheVariants as stop
-use Rattle.lw_syntax.specs.declared.reader.ReadFault.{ReadFault}
-use Rattle.lw_syntax.specs.declared.reader.ReadFault.TheVariants as fault
-use Rattle.lw_gramread.specs.FileCut.{IsFileCutTo, IsFileCut, IsFrontCut, EndsStray}
-use Rattle.lw_syntax.specs.Lexemes.{lexeme_of, lexemes_of}
-use Rattle.lw_syntax.specs.Syntax.{SpellsFile, openings, closings, IsShallow, Syntax}
-use Rattle.lw_syntax.specs.Forms.{BeginsFile, TellsOrNone, form_left}
-use Rattle.lw_syntax.specs.Refusals.{IsImpossible, IsTooDeep, IsRefusal, place_or_end, Tells}
+use Rattle.lw_syntax.specs.Syntax.{SpellsFile, IsShallow}
+use Rattle.lw_syntax.specs.Forms.{BeginsFile}
 use Rattle.lw_syntax.specs.Steps.{Outcome}
 use Rattle.lw_syntax.specs.FileSteps.{file}
-use Rattle.lw_syntax.proofs.AgainFiles.{file_again, file_only}
-use Rattle.lw_gramread.proofs.CutLemmas.{cut_same}
-use Rattle.lw_gramread.proofs.FrontCuts.{front_cut}
+use Rattle.lw_syntax.proofs.AgainFiles.{file_again}
 use Rattle.lw_syntax.proofs.Machine.{AtStart, Stack, after, all_nullable, Verdict, Fine, Stuck, Deep, place}
 use Rattle.lw_syntax.proofs.At as at
 use Rattle.lw_syntax.proofs.At.{At}
 use Rattle.lw_syntax.proofs.AtFiles.{file_at}
-use Rattle.lw_syntax.proofs.Reach.{reach, onward, reach_join, finishing, finished, StuckAt, DeepAt, stuck_at, deep_at, fine_at, fine_from, fine_room, same_stack, budget, counted, room, after_other, no_room_open}
+use Rattle.lw_syntax.proofs.Reach.{reach, onward, reach_join, finishing, finished, fine_at, fine_from, same_stack, budget, room}
 
 abbrev pub FileAt : List Lexeme → Verdict → Outcome Grammar → Type 0
 FileAt ts v r = At v (λ rest. Fine) (λ rest g. (rest ≡ []) × SpellsFile ts g) r

@@ -1,14 +1,13 @@
 -- Where in a file a stack stands: between its items, or in one of them, and what was read of that.
-use Rattle.std.proofs.Common.{ℕ, ◌≡◌, Bool, true, false, cond, List, [], ◌∷◌, ◌++◌, length, Option, Some, None, is_some, refl, sym, ap, ◌∙◌, subst, arith, append_assoc, append-nil, inl, inr, ◌⊎◌}
+use Rattle.std.proofs.Common.{ℕ, ◌≡◌, Bool, true, false, cond, List, [], ◌∷◌, ◌++◌, Option, Some, None, is_some, refl, sym, ap, ◌∙◌, subst, append_assoc, append-nil, inl, inr, ◌⊎◌}
 use Rattle.lw_base.specs.declared.token.Span.{Span}
 use Rattle.lw_grammar.specs.declared.grammar.Grammar.{Grammar}
 use Rattle.lw_grammar.specs.declared.terminal.Primitive.{Primitive}
 use Rattle.lw_grammar.specs.declared.rule.RuleResult.{RuleResult}
 use Rattle.lw_gramread.specs.declared.token.Symbol.TheVariants as sign
-use Rattle.lw_syntax.specs.declared.lexeme.Reserved.{Reserved}
 use Rattle.lw_syntax.specs.declared.lexeme.Reserved.TheVariants as word
 use Rattle.lw_syntax.specs.declared.lexeme.Lexeme.{Lexeme}
-use Rattle.lw_syntax.specs.declared.lexeme.Lexeme.TheVariants.{Word, Text, Regex, Flagged, Sign, Other}
+use Rattle.lw_syntax.specs.declared.lexeme.Lexeme.TheVariants.{Word, Sign}
 use Rattle.lw_syntax.specs.Lexemes.{primitive_of}
 use Rattle.lw_syntax.specs.OptionalTokens.{MayTakeWord}
 use Rattle.lw_syntax.specs.ParserRules as rules
@@ -16,7 +15,7 @@ use Rattle.lw_syntax.specs.ParserRules.{SpellsResult}
 use Rattle.lw_syntax.specs.Syntax.{SpellsFile}
 use Rattle.lw_syntax.specs.Forms.{Unfinished, BeginsRule, BeginsTerminal, BeginsInterface, RuleHead}
 use Rattle.lw_syntax.specs.Steps.{same_symbol, same_reserved}
-use Rattle.lw_syntax.proofs.Machine.{Sym, Want, WantName, May, Above, Element, RowsEnd, RuleName, ResultColon, TypedColon, Returned, TerminalName, Term, TermsEnd, Bottom, AtStart, AtImports, AtItems, InType, InRule, InTerminal, Stack, Wanted, begin, nullable, all_nullable, pushed, after, item_begin, bottom_begin}
+use Rattle.lw_syntax.proofs.Machine.{Sym, WantName, May, Above, Element, RowsEnd, RuleName, ResultColon, TypedColon, Returned, TerminalName, Term, TermsEnd, Bottom, AtStart, AtImports, AtItems, InType, InRule, InTerminal, Stack, Wanted, begin, nullable, all_nullable, pushed, after, item_begin, bottom_begin}
 use Rattle.lw_syntax.proofs.Reach.{reach, onward, reach_join, same_stack}
 use Rattle.lw_syntax.proofs.Held.{held, over, held_or_over, held_solid, over_nullable, keeps, stays}
 use Rattle.lw_syntax.proofs.Spelled.{whole_spelled, unfinished}
@@ -144,7 +143,8 @@ split_last (x ∷ xs) (y ∷ ys) zs u e = from (split_last xs ys zs u (cc e))
 
 -- ---- what was read of an item
 
-abbrev NotWhole : List Lexeme → Type 0
+-- no grammar is said by these tokens alone
+abbrev pub NotWhole : List Lexeme → Type 0
 NotWhole ts = (g : Grammar) → ¬ SpellsFile ts g
 
 unfinished_one : (before : List Lexeme) (t : Lexeme) (g : Grammar) → SpellsFile before g → NotWhole (before ++ t ∷ []) → Unfinished (before ++ t ∷ []) (t ∷ [])

@@ -1,37 +1,33 @@
 -- The form that the reader tells by the spot is the one that the table says.
-use Rattle.std.proofs.Common.{ℕ, ◌≡◌, ◌≢◌, ◌+◌, ◌-◌, ◌≤◌, Bool, true, false, cond, ◌&&◌, List, [], ◌∷◌, ◌++◌, length, take, drop, Option, Some, None, is_some, refl, sym, ap, ◌∙◌, subst, arith, codes, bytes_eq, append_assoc, inl, inr, ◌⊎◌}
+use Rattle.std.proofs.Common.{ℕ, ◌≡◌, ◌≢◌, ◌-◌, Bool, true, false, cond, ◌&&◌, List, [], ◌∷◌, ◌++◌, length, take, drop, Option, Some, None, refl, sym, ap, ◌∙◌, subst, arith, codes, append_assoc}
 use Rattle.std.proofs.Math.Seq.{drop-append_seam}
 use Rattle.std.proofs.lemmas.List.{length-append, length-drop, take-append-drop}
 use Rattle.std.proofs.lemmas.Slice.Eq.{bytes_eq-Decides}
 use Rattle.lw_base.specs.declared.token.Span.{Span}
-use Rattle.lw_grammar.specs.declared.grammar.Grammar.{Grammar}
 use Rattle.lw_grammar.specs.declared.rule.RuleResult.{RuleResult}
-use Rattle.lw_grammar.specs.declared.terminal.Primitive.{Primitive}
 use Rattle.lw_gramread.specs.declared.token.Symbol.{Symbol}
 use Rattle.lw_gramread.specs.declared.token.Symbol.TheVariants as sign
 use Rattle.lw_syntax.specs.declared.lexeme.Reserved.{Reserved}
 use Rattle.lw_syntax.specs.declared.lexeme.Reserved.TheVariants as word
 use Rattle.lw_syntax.specs.declared.lexeme.Lexeme.{Lexeme}
-use Rattle.lw_syntax.specs.declared.lexeme.Lexeme.TheVariants.{Word, Text, Regex, Flagged, Sign, Other}
+use Rattle.lw_syntax.specs.declared.lexeme.Lexeme.TheVariants.{Word, Flagged, Sign}
 use Rattle.lw_syntax.specs.declared.form.Form.{Form}
 use Rattle.lw_syntax.specs.declared.form.Form.TheVariants as form
 use Rattle.lw_syntax.specs.declared.reader.left.Spot.{Spot}
 use Rattle.lw_syntax.specs.declared.reader.left.Spot.TheVariants as spot
-use Rattle.lw_syntax.specs.Lexemes.{primitive_of}
 use Rattle.lw_syntax.specs.OptionalTokens.{MayTakeWord}
 use Rattle.lw_syntax.specs.ParserRules as rules
 use Rattle.lw_syntax.specs.ParserRules.{SpellsResult}
-use Rattle.lw_syntax.specs.Syntax.{SpellsFile}
 use Rattle.lw_syntax.specs.Forms.{BeginsFile, Unfinished, BeginsRule, BeginsTerminal, BeginsInterface, RuleHead, HasLast, TellsForm, TellsOrNone, is_name, is_in_head, is_in_rule, is_first_name, is_in_terminal, is_behind_type, last_token, begins_infix, is_hidden, form_of_symbol, form_told}
 use Rattle.lw_syntax.specs.Refusals.{front_of}
 use Rattle.lw_syntax.specs.Steps.{sees, sees_reserved, same_symbol, same_reserved}
-use Rattle.lw_syntax.proofs.Machine.{Sym, Want, WantWord, WantName, WantFeature, May, Above, NamesOpen, Attributes, Single, TypeEnd, AttributeMembers, AttributeEnd, MembersEnd, MembersClose, Value, ValuesClose, CrossEnd, Element, RowsEnd, RowsClose, Card, AfterWord, Operator, ActionType, PutEnd, PutOperator, ResultColon, NameColon, TypedColon, RuleName, Returned, TerminalName, Term, TermsEnd, AfterText, Bottom, AtStart, AtImports, AtItems, InType, InRule, InTerminal, Stack, Wanted, begin, nullable, all_nullable, pushed, after, item_begin, bottom_begin, bottom_spot, type_spot, head_spot, name_spot, spot_of}
-use Rattle.lw_syntax.proofs.At.{either_way, Seen, comes, comes_not, seen}
+use Rattle.lw_syntax.proofs.Machine.{Sym, Want, WantWord, WantName, WantFeature, May, Above, NamesOpen, Attributes, Single, TypeEnd, AttributeMembers, AttributeEnd, MembersEnd, MembersClose, Value, ValuesClose, CrossEnd, Element, RowsEnd, RowsClose, Card, AfterWord, Operator, ActionType, PutEnd, PutOperator, ResultColon, NameColon, TypedColon, RuleName, TerminalName, Term, TermsEnd, AfterText, Bottom, AtStart, AtImports, InType, InRule, InTerminal, Stack, all_nullable, pushed, after, item_begin, bottom_begin, bottom_spot, type_spot, head_spot, name_spot, spot_of}
+use Rattle.lw_syntax.proofs.At.{Seen, comes, comes_not, seen}
 use Rattle.lw_syntax.proofs.Reach.{reach, onward, reach_join, same_stack}
 use Rattle.lw_syntax.proofs.AgainTypes.{symbol_itself}
-use Rattle.lw_syntax.proofs.Held.{held, closing, inner, both, over, stays}
+use Rattle.lw_syntax.proofs.Held.{held, over, stays}
 use Rattle.lw_syntax.proofs.Spelled.{spelled_reach, begins_reached, whole_spelled}
-use Rattle.lw_syntax.proofs.Stands.{Body, Heads, State, is_item, loose, state, next}
+use Rattle.lw_syntax.proofs.Stands.{Body, Heads, State, NotWhole, state, next}
 
 -- ---- lists
 
@@ -292,9 +288,6 @@ two false d e = absurd (cc e)
 
 -- what is told stands in the table
 module _ (front : List Lexeme) (m : Stack) (t : Lexeme) (ts : List Lexeme) (reached : reach AtStart [] front ≡ Some m) where
-  abbrev here : Spot
-  here = spot_of m.bottom m.wants (t ∷ ts)
-
   in_rule : is_in_rule (spot_of m.bottom m.wants (t ∷ ts)) ≡ true → InRuleHere front m.wants
   in_rule e = rule_here front m.bottom m.wants (state front m reached) (in_rule_spot m.bottom m.wants (t ∷ ts) e)
 
@@ -577,9 +570,6 @@ type_stack first _ _ rules.own = (record { bottom = InRule; wants = ResultColon 
 type_stack first _ _ rules.returns = (record { bottom = InRule; wants = TypedColon ∷ Body }, refl, λ left. refl)
 type_stack first _ _ (rules.gives e) = (record { bottom = InRule; wants = TypedColon ∷ Body }, rw e refl, λ left. refl)
 type_stack first _ _ rules.infers = (record { bottom = InRule; wants = TypedColon ∷ Body }, refl, λ left. refl)
-
-abbrev NotWhole : List Lexeme → Type 0
-NotWhole ts = (g : Grammar) → ¬ SpellsFile ts g
 
 -- a stack inside an item stays there until the item is whole
 runs : (inside whole read : List Lexeme) (k m : Stack) → reach AtStart [] (whole ++ read) ≡ Some k → all_nullable k.wants ≡ false →

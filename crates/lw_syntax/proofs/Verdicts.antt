@@ -1,5 +1,6 @@
 -- What a file says, and where it goes wrong, from what the reader's steps came to.
-use Rattle.std.proofs.Common.{ℕ, ◌≡◌, ◌≢◌, ◌+◌, true, false, List, [], ◌∷◌, ◌++◌, length, Option, Some, None, Ok, Err, refl, sym, ap, ◌∙◌, subst, arith, append_assoc, append-nil, inl, inr, ◌⊎◌}
+use Rattle.std.proofs.Common.{ℕ, ◌≡◌, ◌≢◌, ◌+◌, true, List, [], ◌∷◌, ◌++◌, length, Option, Some, None, Ok, Err, refl, sym, ap, ◌∙◌, subst, arith, append_assoc, append-nil, inl, inr, ◌⊎◌}
+use Rattle.std.specs.Prelude.{All}
 use Rattle.std.proofs.lemmas.List.{map-append}
 use Rattle.lw_base.specs.declared.token.Span.{Span}
 use Rattle.lw_grammar.specs.declared.grammar.Grammar.{Grammar}
@@ -15,22 +16,22 @@ use Rattle.lw_syntax.specs.declared.reader.left.Stop.TheVariants as stop
 use Rattle.lw_syntax.specs.declared.reader.ReadFault.{ReadFault}
 use Rattle.lw_syntax.specs.declared.reader.ReadFault.TheVariants as fault
 use Rattle.lw_gramread.specs.FileCut.{IsFileCutTo, IsFileCut, IsFrontCut, EndsStray}
+use Rattle.lw_gramread.specs.Places.{IsPlace}
 use Rattle.lw_syntax.specs.Lexemes.{lexeme_of, lexemes_of}
-use Rattle.lw_syntax.specs.Syntax.{SpellsFile, openings, closings, IsShallow, Syntax}
-use Rattle.lw_syntax.specs.Forms.{BeginsFile, TellsOrNone, form_left}
+use Rattle.lw_syntax.specs.Syntax.{SpellsFile, openings, closings, Syntax}
+use Rattle.lw_syntax.specs.Forms.{form_left}
 use Rattle.lw_syntax.specs.Refusals.{IsImpossible, IsTooDeep, IsRefusal, front_of, place_or_end, Tells}
-use Rattle.lw_syntax.specs.Steps.{Outcome}
+use Rattle.lw_syntax.specs.PlacesWithin.{IsWithin, IsRefusalWithin}
 use Rattle.lw_syntax.specs.FileSteps.{file}
-use Rattle.lw_syntax.proofs.AgainFiles.{file_again, file_only}
+use Rattle.lw_syntax.proofs.AgainFiles.{file_only}
 use Rattle.lw_gramread.proofs.CutLemmas.{cut_same}
 use Rattle.lw_gramread.proofs.FrontCuts.{front_cut}
-use Rattle.lw_syntax.proofs.Machine.{AtStart, Stack, after, all_nullable, Verdict, Fine, Stuck, Deep, place}
-use Rattle.lw_syntax.proofs.At as at
-use Rattle.lw_syntax.proofs.At.{At}
+use Rattle.lw_syntax.proofs.Machine.{AtStart, Stack, after, all_nullable, Fine, place}
 use Rattle.lw_syntax.proofs.AtFiles.{file_at}
-use Rattle.lw_syntax.proofs.Reach.{reach, onward, reach_join, finishing, finished, StuckAt, DeepAt, stuck_at, deep_at, fine_at, fine_from, fine_room, same_stack, budget, counted, room, after_other, no_room_open}
-use Rattle.lw_syntax.proofs.Spelled.{FileAt, of_ok, of_unexpected, of_too_deep, spelled_reach, begins_reached, none_behind, not_spelled, cannot_follow, unfinished, shallow_of}
+use Rattle.lw_syntax.proofs.Reach.{reach, onward, reach_join, StuckAt, DeepAt, stuck_at, deep_at, fine_at, fine_room, budget, counted, after_other, no_room_open}
+use Rattle.lw_syntax.proofs.Spelled.{of_ok, of_unexpected, of_too_deep, begins_reached, none_behind, not_spelled, cannot_follow, unfinished, shallow_of}
 use Rattle.lw_syntax.proofs.Told.{told_exact, front_taken}
+use Rattle.lw_syntax.proofs.WithinFiles.{left_within}
 
 stray_lexeme : (text : List ℕ) (t : FileToken) → t.kind ≡ kind.Other → lexeme_of text t ≡ Other t.span
 stray_lexeme text t e = rw e refl
@@ -53,13 +54,17 @@ all_cut text tokens m cut e = by cut.2
     by (inl same) = subst (λ at. IsFileCutTo text at tokens) same cut.1
     by (inr stray) = absurd (cc (sym (stray_none text tokens stray) ∙ e))
 
--- what was read is what the text says
+-- what was read is what the tokens spell
+pub read_is : (ts : List Lexeme) (g : Grammar) (rest : List Lexeme) → file 64 ts ≡ Ok (g, rest) → (place 64 AtStart [] ts ≡ Fine) × SpellsFile ts g
+read_is ts g rest e = of_ok ts (place 64 AtStart [] ts) (file 64 ts) (file_at 64 ts) g rest e
+
+-- and what the text says
 pub says_is : (text : List ℕ) (tokens : List FileToken) (g : Grammar) (rest : List Lexeme) → IsFrontCut text tokens → file 64 (lexemes_of text tokens) ≡ Ok (g, rest) → Syntax text g
 says_is text tokens g rest cut e =
     record { tokens = tokens; cut = all_cut text tokens m.0 cut m.1; spells = r.1; shallow = shallow_of (lexemes_of text tokens) n.0 n.1 }
   where
     r : (place 64 AtStart [] (lexemes_of text tokens) ≡ Fine) × SpellsFile (lexemes_of text tokens) g
-    r = of_ok (lexemes_of text tokens) (place 64 AtStart [] (lexemes_of text tokens)) (file 64 (lexemes_of text tokens)) (file_at 64 (lexemes_of text tokens)) g rest e
+    r = read_is (lexemes_of text tokens) g rest e
 
     m : (m : Stack) × (reach AtStart [] (lexemes_of text tokens) ≡ Some m) × (all_nullable m.wants ≡ true)
     m = fine_at (lexemes_of text tokens) 64 AtStart [] r.0
@@ -133,6 +138,18 @@ module _ (text : List ℕ) (tokens : List FileToken) (cut : IsFrontCut text toke
   refusal_is stop.TooDeep left (fault.TooDeep p) e h = subst (IsTooDeep text) (sym h) (deep_from left (deep_of left (e (λ x. cc x))))
   refusal_is s left fault.NoMemory e h = tt
   refusal_is _ left _ e h = absurd h
+
+  -- where the tokens are in the text, so is the place that the code tells
+  pub place_is : All (λ t. IsPlace text t.span) tokens → (s : Stop) (left : List Lexeme) (f : ReadFault) → (s ≢ stop.NoMemory → file 64 (lexemes_of text tokens) ≡ Err (s, left)) →
+      Tells s (place_or_end text left) (λ spot. form_left spot (front_of (lexemes_of text tokens) left) left) f → IsRefusalWithin text f
+  place_is places (stop.Unexpected spot) left (fault.Unexpected p) e h =
+      let s = stuck_of spot left (e (λ x. cc x)) in subst (IsWithin text) (sym h.0) (left_within text tokens s.front left places s.parts)
+  place_is places (stop.Unexpected spot) left (fault.LeftOut p form) e h =
+      let s = stuck_of spot left (e (λ x. cc x)) in subst (IsWithin text) (sym h.0) (left_within text tokens s.front left places s.parts)
+  place_is places stop.TooDeep left (fault.TooDeep p) e h =
+      let d = deep_of left (e (λ x. cc x)) in subst (IsWithin text) (sym h) (left_within text tokens d.front left places d.parts)
+  place_is places s left fault.NoMemory e h = tt
+  place_is places _ left _ e h = absurd h
 
   -- the tokens of a text go on from those that were cut
   goes_on : (all : List FileToken) → IsFileCut text all → (more : List Lexeme) × (lexemes_of text all ≡ lexemes_of text tokens ++ more)

@@ -10,10 +10,12 @@
 //!   parser rule, a terminal.
 //! - `Syntax.antt`: what spells a file, and which grammar a text says.
 //! - `Forms.antt`: which form that is left out a token tells; `Refusals.antt`: where a file goes wrong.
+//! - `PlacesWithin.antt`: that all places of what a file says are in its text.
 //!
 //! It promises that [`read_grammar`] gives the grammar that a text says, and that it says no other; and else
 //! the first token that cannot follow those before it, or the first parenthesis that is opened inside 64
-//! others. A token that tells a form which is left out is told with that form, and no other is.
+//! others. A token that tells a form which is left out is told with that form, and no other is. All places
+//! that it gives are in the text.
 //!
 //! `Steps.antt` and the files of steps beside it are the reader's own way through a file; the lemmas show
 //! that what it comes to is what the rules say.

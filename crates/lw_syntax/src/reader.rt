@@ -9,6 +9,7 @@ ghost use Rattle.lw_syntax.specs.Lexemes.{lexemes_of, place_of};
 ghost use Rattle.lw_syntax.specs.Syntax.{Syntax};
 ghost use Rattle.lw_syntax.specs.Forms.{form_left};
 ghost use Rattle.lw_syntax.specs.Refusals.{IsRefusal, Tells, front_of, place_or_end, text_end};
+ghost use Rattle.lw_syntax.specs.PlacesWithin.{StandsWithin, IsRefusalWithin};
 
 use crate::form::{Form, form_of};
 use crate::lexeme::{Lexeme, lexeme_of};
@@ -56,7 +57,9 @@ pub fn read_grammar(alloc: Global, text: &Name) -> Result<Grammar, ReadFault>
     ensures says { IfOk result (Syntax text.now) }
     ensures only { IfOk result
         (λ grammar. (other : Grammar) → Syntax text.now other → other ≡ grammar) }
+    ensures stand { IfOk result (StandsWithin text.now) }
     ensures refusal { IfErr result (IsRefusal text.now) }
+    ensures place { IfErr result (IsRefusalWithin text.now) }
     ensures nothing { IfErr result
         (λ fault. fault ≢ no_memory → (grammar : Grammar) → ¬ Syntax text.now grammar) }
 {

@@ -1,10 +1,8 @@
-use Rattle.std.proofs.Common.{Err, inl, ap, rules}
-use Rattle.lw_lang.proofs.CompileLemmas.{condition_causes}
+use Rattle.std.proofs.Common.{Err, inl, inr, ap, rules}
 use Rattle.lw_lang.proofs.compiler.build.Goals as goal
 
 pub language_of-requires-clause-clear : goal.language_of-requires-clause-clear
 language_of-requires-clause-clear g c = c.in-Ok.ensures.clear (search rules)
 
 pub returns-in-Err-Obstacle-clause-fault : goal.returns-in-Err-Obstacle-clause-fault
-returns-in-Err-Obstacle-clause-fault g c =
-    condition_causes c.args.grammar c.args.file.now _ c.unbuilt.result c.unbuilt.ensures (inl (c.in-Err-Obstacle.ensures.obstacle (ap Err c.in-Err-Obstacle.field-0-is)))
+returns-in-Err-Obstacle-clause-fault g c = inr (inl (c.in-Err-Obstacle.ensures.obstacle (ap Err c.in-Err-Obstacle.field-0-is)))
