@@ -13,7 +13,7 @@ use crate::fault::LoadFault;
 use lw_base::Name;
 use lw_grammar::Grammar;
 use lw_io::{Found, Store};
-use lw_syntax::ReadFault;
+use lw_syntax::{ReadFault, read_grammar};
 use lw_text::position;
 use std::alloc::Global;
 
@@ -51,7 +51,7 @@ fn grammar_in(alloc: Global, path: Name, text: Name) -> Result<Opened, LoadFault
     ensures stands { IfOk result (λ file. StandsWithin text file.says) }
     ensures fault { IfErr result (IsUnreadable path text) }
 {
-    match read(alloc, &text) {
+    match read_grammar(alloc, &text) {
         Ok(says) => Ok(Opened { path, text, says }),
         Err(fault) => Err(refusal(path, &text, fault)),
     }
@@ -82,17 +82,4 @@ fn place_of(fault: ReadFault) -> usize
         }
         ReadFault::NoMemory => 0,
     }
-}
-
-fn read(alloc: Global, text: &Name) -> Result<Grammar, ReadFault>
-    requires { length text.now ≤ LONGEST_TEXT }
-    ensures says { IfOk result (Syntax text.now) }
-    ensures only { IfOk result (λ grammar. (other : Grammar) → Syntax text.now other → other ≡ grammar) }
-    ensures stand { IfOk result (StandsWithin text.now) }
-    ensures refusal { IfErr result (IsRefusal text.now) }
-    ensures nothing { IfErr result
-        (λ fault. fault ≢ no_memory → (grammar : Grammar) → ¬ Syntax text.now grammar) }
-    ensures place { IfErr result (IsRefusalWithin text.now) }
-{
-    Err(ReadFault::NoMemory)
 }
