@@ -74,10 +74,6 @@ module _ (path : List ℕ) (old now : Walk) (keeps : Keeps old) (takes : Takes o
   few_imports : length now.whole.imports ≤ 65535
   few_imports = omega (arith, imports_counted now.whole, takes.size, keeps.size, keeps.fits, ap size takes.whole)
 
-  -- its file has a number
-  pub few_files : length now.whole.files ≤ 65535
-  few_files = omega (arith, few_imports, was_waiting, keeps.room, ap (λ g. length g.files) takes.whole, ap (λ g. length g.imports) takes.whole)
-
   pub keeps_goes : (told : Option Files) (new : Walk) → Goes told path now new → Keeps new
   keeps_goes told new (Goes.known had same) = record {
     size = same.size ∙ takes.size ∙ keeps.size ∙ sym (ap size (same.whole ∙ takes.whole));

@@ -5,21 +5,21 @@ use Rattle.lw_load.specs.LoadFaults.{ComesTo}
 
 module _ (files : Files) where
   -- visits in turn
-  pub visits_join : {xs ys : List Address} {before inside after : List LoadedFile} → Visits files before xs inside → Visits files inside ys after →
+  visits_join : {xs ys : List Address} {before inside after : List LoadedFile} → Visits files before xs inside → Visits files inside ys after →
       Visits files before (xs ++ ys) after
   visits_join Visits.none q = q
   visits_join (Visits.known h p) q = Visits.known h (visits_join p q)
   visits_join (Visits.opened o p r) q = Visits.opened o p (visits_join r q)
 
   -- and back
-  pub visits_split : (xs ys : List Address) {before after : List LoadedFile} → Visits files before (xs ++ ys) after →
+  visits_split : (xs ys : List Address) {before after : List LoadedFile} → Visits files before (xs ++ ys) after →
       (inside : List LoadedFile) × Visits files before xs inside × Visits files inside ys after
   visits_split [] ys p = (_, Visits.none, p)
   visits_split (x ∷ xs) ys (Visits.known h p) = let r = visits_split xs ys p in (r.0, Visits.known h r.1, r.2)
   visits_split (x ∷ xs) ys (Visits.opened o p q) = let r = visits_split xs ys q in (r.0, Visits.opened o p r.1, r.2)
 
   -- what comes next among the first addresses, or behind them
-  pub comes_split : (xs ys : List Address) {before now : List LoadedFile} {at : Address} → ComesTo files before (xs ++ ys) now at →
+  comes_split : (xs ys : List Address) {before now : List LoadedFile} {at : Address} → ComesTo files before (xs ++ ys) now at →
       ComesTo files before xs now at ⊎ ((inside : List LoadedFile) × Visits files before xs inside × ComesTo files inside ys now at)
   comes_split [] ys p = inr (_, Visits.none, p)
   comes_split (x ∷ xs) ys (ComesTo.next fresh) = inl (ComesTo.next fresh)

@@ -70,7 +70,7 @@ among_at [] address k h e = absurd (omega (arith, h))
 among_at (f ∷ fs) address zero h e = (zero, f, omega arith, refl, e)
 among_at (f ∷ fs) address (suc k) h e = let r = among_at fs address k (omega (arith, h)) e in (suc r.0, r.1, omega (arith, r.2), r.3, r.4)
 
-pub among_seen : (fs : List LoadedFile) (address : Address) → Contains (map (λ f. f.address.compared) fs) address.compared → IsAmong fs address
+among_seen : (fs : List LoadedFile) (address : Address) → Contains (map (λ f. f.address.compared) fs) address.compared → IsAmong fs address
 among_seen fs address h = among_at fs address h.0 h.1 h.2
 
 -- and back
@@ -80,7 +80,7 @@ seen_at [] address k f h e same = absurd (omega (arith, h))
 seen_at (g ∷ gs) address zero f h e same = (omega arith, ap (λ x. x.address.compared) e ∙ same)
 seen_at (g ∷ gs) address (suc k) f h e same = let r = seen_at gs address k f (omega (arith, h)) e same in (omega (arith, r.0), r.1)
 
-pub seen_among : (fs : List LoadedFile) (address : Address) → IsAmong fs address → Contains (map (λ f. f.address.compared) fs) address.compared
+seen_among : (fs : List LoadedFile) (address : Address) → IsAmong fs address → Contains (map (λ f. f.address.compared) fs) address.compared
 seen_among fs address h = let r = seen_at fs address h.0 h.1 h.2 h.3 h.4 in (h.0, r.0, r.1)
 
 -- ---- files put in
@@ -167,7 +167,7 @@ same_loaded {a = a} {g = g} e h = ap (λ x. grammar_with x a.texts) e ∙ ap (λ
 -- ---- the walk
 
 -- the root was loaded
-pub way_begins : (files : Files) (root : List ℕ) (walk : Walk) → Begins (Some files) root walk → IsOnWay files root walk
+way_begins : (files : Files) (root : List ℕ) (walk : Walk) → Begins (Some files) root walk → IsOnWay files root walk
 way_begins files root walk b = record {
   first = f;
   more = [];
@@ -214,7 +214,7 @@ module _ (files : Files) (root path : List ℕ) (old now : Walk) (way : IsOnWay 
   fresh_taken : ¬ Contains now.seen.keys path → ¬ IsAmong (way.first ∷ way.more) (import_address path)
   fresh_taken new = λ h. new (subst (λ ps. Contains ps path) (sym after_taken.seen) (seen_among (way.first ∷ way.more) (import_address path) h))
 
-  pub way_goes : (new : Walk) → Goes (Some files) path now new → IsOnWay files root new
+  way_goes : (new : Walk) → Goes (Some files) path now new → IsOnWay files root new
   way_goes new (Goes.known had same) = record {
     first = way.first;
     more = way.more;
@@ -244,7 +244,7 @@ module _ (files : Files) (root path : List ℕ) (old now : Walk) (way : IsOnWay 
       waits = sym (ap addresses adds.waiting ∙ imports_wait (import_address path) file is.found now.waiting.items)
 
   -- or its file cannot be loaded
-  pub way_stops : (found : LoadFault) → (found ≢ NoMemory → ¬ Contains now.seen.keys path) → CannotLoad files now.size path found → Stops files root found
+  way_stops : (found : LoadFault) → (found ≢ NoMemory → ¬ Contains now.seen.keys path) → CannotLoad files now.size path found → Stops files root found
   way_stops found first why =
       stops_at files root found
       (λ other. record {
@@ -254,7 +254,7 @@ module _ (files : Files) (root path : List ℕ) (old now : Walk) (way : IsOnWay 
        fails = why.fails other (way.first ∷ way.more) (sym after_taken.size);
      })
 
-  pub way_nowhere : (found : LoadFault) → (found ≢ NoMemory → ¬ Contains now.seen.keys path) → CannotLoad files now.size path found → IsOfFiles found →
+  way_nowhere : (found : LoadFault) → (found ≢ NoMemory → ¬ Contains now.seen.keys path) → CannotLoad files now.size path found → IsOfFiles found →
       (other : Loaded) → ¬ Loads files root other
   way_nowhere found first why told other = λ loads.
       leads_nowhere files (fresh_taken (first (is_other found told)))

@@ -1,4 +1,4 @@
-use Rattle.std.proofs.Common.{◌≡◌, ◌∷◌, [], ◌++◌, Contains, refl, ◌∙◌}
+use Rattle.std.proofs.Common.{ℕ, List, refl, ◌∙◌}
 use Rattle.std.proofs.lemmas.Result.{IfErr-weaker, on_ok_weaker}
 use Rattle.lw_load.specs.Walking.{Adds, Goes}
 use Rattle.lw_load.proofs.Seen.{seen_before, seen_first}
@@ -9,7 +9,7 @@ pub returns-then-not-branch-clause-goes : goal.returns-then-not-branch-clause-go
 returns-then-not-branch-clause-goes g c =
     let seen = c.args.self.now.seen.keys in
     let had = seen_before seen c.mark.new.seen.keys c.in_ok-copy.field-0 c.args.path c.in_ok-copy.ensures c.in_ok-mark.field-0 c.if-not-branch.true c.in_ok-mark.ensures.new c.in_ok-mark.ensures.keys in
-    Goes.known had.0 (record { whole = refl; texts = refl; seen = had.1; waiting = refl; size = refl })
+    Goes.known had.0 (record { whole = refl; texts = refl; seen = had.1; waiting = refl {A = List (List ℕ)}; size = refl })
 
 pub returns-clause-goes : goal.returns-clause-goes
 returns-clause-goes g c =
