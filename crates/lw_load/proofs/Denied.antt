@@ -79,13 +79,16 @@ unread_counts before now path text (Err _) why same = absurd why
 too_large : (files : Files) (before : ℕ) (path : List ℕ) (file : Opened) → IsFound (Some files) path file → LARGEST_GRAMMAR < before + size file.says →
     CannotLoad files before path (TooLarge path)
 too_large files before path file is large = record {
-  fails = λ _ loaded same. (refl, record {
-    text = file.text;
-    says = file.says;
-    holds = is.holds;
-    syntax_ = is.says.says;
-    large = subst (λ n. LARGEST_GRAMMAR < n + size file.says) (sym same) large;
-  });
+  fails = λ _ loaded same. (
+    refl,
+    record {
+      text = file.text;
+      says = file.says;
+      holds = is.holds;
+      syntax_ = is.says.says;
+      large = subst (λ n. LARGEST_GRAMMAR < n + size file.says) (sym same) large;
+    },
+  );
   large = λ _ text g holds says.
       let same = is.says.only g (subst (λ t. Syntax t g) (same_text files path file.text text is.holds holds) says) in
       subst (λ h. LARGEST_GRAMMAR < before + size h) (sym same) large;

@@ -34,7 +34,7 @@ size_grown g path says =
     (sum_joined (λ rule. 1 + element_size rule.body) (λ (r : Rule). record r { file = n }) (λ r. refl) g.rules says.rules)
     (sum_joined (λ terminal. 1 + term_size terminal.body) (λ (t : Terminal). record t { file = n }) (λ t. refl) g.terminals says.terminals)
     (sum_joined (λ interface. 1 + sum_by (λ attribute. 1 + length attribute.members) interface.attributes) (λ (i : Interface). record i { file = n }) (λ i. refl) g.interfaces
-     says.interfaces)
+    says.interfaces)
     (sum_joined (λ union. 1 + length union.members) (λ (u : UnionDef). record u { file = n }) (λ u. refl) g.unions says.unions)
   where
     n : ℕ
@@ -76,8 +76,8 @@ module _ (texts : List (List ℕ)) (text : List ℕ) where
       All-append (λ x. AreIn (texts ++ text ∷ []) (file x) (spans x)) xs (map as_here ys)
       (All-weaker (λ x. AreIn texts (file x) (spans x)) (λ x. AreIn (texts ++ text ∷ []) (file x) (spans x)) (λ x a. still (file x) (spans x) a) xs olds)
       (All-map (λ x. AreIn (texts ++ text ∷ []) (file x) (spans x)) as_here ys
-       (All-weaker (λ x. All (IsWithin text) (spans x)) (λ x. AreIn (texts ++ text ∷ []) (file (as_here x)) (spans (as_here x)))
-        (λ x w. here (file (as_here x)) (same ∙ sym (numbered x)) (spans (as_here x)) (subst (All (IsWithin text)) (sym (kept x)) w)) ys news))
+      (All-weaker (λ x. All (IsWithin text) (spans x)) (λ x. AreIn (texts ++ text ∷ []) (file (as_here x)) (spans (as_here x)))
+      (λ x w. here (file (as_here x)) (same ∙ sym (numbered x)) (spans (as_here x)) (subst (All (IsWithin text)) (sym (kept x)) w)) ys news))
 
   -- all stands where it stood, and what a file says in the last of the texts
   pub stands_grown : (g : Grammar) (path : List ℕ) (says : Grammar) → length text ≤ LONGEST_TEXT → Stands texts g → StandsWithin text says → Stands (texts ++ text ∷ []) (with_file g path says)
@@ -89,8 +89,8 @@ module _ (texts : List (List ℕ)) (text : List ℕ) where
     interfaces = all_here n s.files (λ (i : Interface). i.file) interface_spans (λ i. record i { file = n }) (λ i. refl) (λ i. refl) g.interfaces says.interfaces s.interfaces w.interfaces;
     unions = all_here n s.files (λ (u : UnionDef). u.file) union_spans (λ u. record u { file = n }) (λ u. refl) (λ u. refl) g.unions says.unions s.unions w.unions;
     imports =
-    all_here n s.files (λ (i : Import). i.file) (λ i. i.span ∷ []) (λ i. record { path = import_path path i.path; file = n; span = i.span }) (λ i. refl) (λ i. refl) g.imports
-    says.imports s.imports (All-weaker (λ i. IsWithin text i.span) (λ i. All (IsWithin text) (i.span ∷ [])) (λ i v. All-cons (IsWithin text) i.span [] v (All-nil (IsWithin text))) says.imports w.imports);
+        all_here n s.files (λ (i : Import). i.file) (λ i. i.span ∷ []) (λ i. record { path = import_path path i.path; file = n; span = i.span }) (λ i. refl) (λ i. refl) g.imports
+        says.imports s.imports (All-weaker (λ i. IsWithin text i.span) (λ i. All (IsWithin text) (i.span ∷ [])) (λ i v. All-cons (IsWithin text) i.span [] v (All-nil (IsWithin text))) says.imports w.imports);
   }
     where
       n : ℕ

@@ -61,9 +61,16 @@ keeps_begins told root walk b = record {
   size = size_added told root b.empty walk b.file b.is b.adds (b.size ∙ sym (ap size b.whole));
   fits = b.adds.fits;
   stands = stands_added told root b.empty walk b.file b.is b.adds
-  (subst (λ ts. Stands ts b.empty.whole) (sym b.texts) (subst (Stands []) (sym b.whole) (stands_bare b.file.says.name)));
-  room = omega (arith, files_added told root b.empty walk b.file b.is b.adds, imports_added told root b.empty walk b.file b.is b.adds,
-         waiting_added told root b.empty walk b.file b.is b.adds, ap (λ g. length g.files) b.whole, ap (λ g. length g.imports) b.whole, ap length b.waiting);
+      (subst (λ ts. Stands ts b.empty.whole) (sym b.texts) (subst (Stands []) (sym b.whole) (stands_bare b.file.says.name)));
+  room = omega (
+    arith,
+    files_added told root b.empty walk b.file b.is b.adds,
+    imports_added told root b.empty walk b.file b.is b.adds,
+    waiting_added told root b.empty walk b.file b.is b.adds,
+    ap (λ g. length g.files) b.whole,
+    ap (λ g. length g.imports) b.whole,
+    ap length b.waiting,
+  );
 }
 
 -- a path was taken from those that wait
@@ -85,9 +92,17 @@ module _ (path : List ℕ) (old now : Walk) (keeps : Keeps old) (takes : Takes o
     size = size_added told path now new file is adds (takes.size ∙ keeps.size ∙ sym (ap size takes.whole));
     fits = adds.fits;
     stands = stands_added told path now new file is adds
-    (subst (λ ts. Stands ts now.whole) (sym takes.texts) (subst (Stands old.texts) (sym takes.whole) keeps.stands));
-    room = omega (arith, files_added told path now new file is adds, imports_added told path now new file is adds, waiting_added told path now new file is adds, was_waiting,
-           keeps.room, ap (λ g. length g.files) takes.whole, ap (λ g. length g.imports) takes.whole);
+        (subst (λ ts. Stands ts now.whole) (sym takes.texts) (subst (Stands old.texts) (sym takes.whole) keeps.stands));
+    room = omega (
+      arith,
+      files_added told path now new file is adds,
+      imports_added told path now new file is adds,
+      waiting_added told path now new file is adds,
+      was_waiting,
+      keeps.room,
+      ap (λ g. length g.files) takes.whole,
+      ap (λ g. length g.imports) takes.whole,
+    );
   }
 
   -- fewer can come than before
@@ -95,5 +110,14 @@ module _ (path : List ℕ) (old now : Walk) (keeps : Keeps old) (takes : Takes o
   fewer_left told new (Goes.known had same) =
       omega (arith, few_imports, was_waiting, ap length same.waiting, ap (λ g. length g.imports) same.whole, ap (λ g. length g.imports) takes.whole)
   fewer_left told new (Goes.opened file first is adds seen) =
-      omega (arith, imports_added told path now new file is adds, waiting_added told path now new file is adds, was_waiting, few_imports, ap (λ g. length g.imports) takes.whole,
-      imports_counted new.whole, (keeps_goes told new (Goes.opened file first is adds seen)).size, adds.fits)
+      omega (
+        arith,
+        imports_added told path now new file is adds,
+        waiting_added told path now new file is adds,
+        was_waiting,
+        few_imports,
+        ap (λ g. length g.imports) takes.whole,
+        imports_counted new.whole,
+        (keeps_goes told new (Goes.opened file first is adds seen)).size,
+        adds.fits,
+      )

@@ -96,7 +96,7 @@ imports_wait address file same waiting =
     addresses_more waiting (map (λ (i : Import). import_path file.path i.path) file.says.imports) ∙
     ap (λ others. others ++ addresses waiting)
     (map-map import_address (λ (i : Import). import_path file.path i.path) file.says.imports ∙
-     ap (λ p. map (λ (i : Import). import_address (import_path p i.path)) file.says.imports) same)
+    ap (λ p. map (λ (i : Import). import_address (import_path p i.path)) file.says.imports) same)
 
 abbrev file_of : Address → List ℕ → Grammar → LoadedFile
 file_of address text says = record { address = address; text = text; says = says }
@@ -131,8 +131,8 @@ module _ (first : LoadedFile) (more : List LoadedFile) (address : Address) (old 
   after_added : IsAfter (first ∷ more) old → IsAfter ((first ∷ more) ++ as_loaded address file ∷ []) new
   after_added a = record {
     whole =
-    adds.whole ∙ ap (λ g. with_file g file.path file.says) a.whole ∙ ap (λ p. with_file (joined (first ∷ more)) p file.says) same ∙
-    sym (with_files_last (with_file (bare_grammar first.says.name []) first.address.path first.says) more (as_loaded address file));
+        adds.whole ∙ ap (λ g. with_file g file.path file.says) a.whole ∙ ap (λ p. with_file (joined (first ∷ more)) p file.says) same ∙
+        sym (with_files_last (with_file (bare_grammar first.says.name []) first.address.path first.says) more (as_loaded address file));
     texts = adds.texts ∙ ap (λ ts. ts ++ file.text ∷ []) a.texts ∙ sym (map-append (λ (f : LoadedFile). f.text) (first ∷ more) (as_loaded address file ∷ []));
     seen = seen ∙ ap (λ ps. ps ++ address.compared ∷ []) a.seen ∙ sym (map-append (λ (f : LoadedFile). f.address.compared) (first ∷ more) (as_loaded address file ∷ []));
     size = adds.size ∙ ap (λ n. n + size file.says) a.size ∙ sym (size_with (first ∷ more) (as_loaded address file));
@@ -225,16 +225,16 @@ module _ (files : Files) (root path : List ℕ) (old now : Walk) (way : IsOnWay 
       size = same.size ∙ after_taken.size;
     };
     leads =
-    subst (λ ps. Leads files root (way.first ∷ way.more) (addresses ps)) (sym same.waiting)
-    (leads_known files (among_seen (way.first ∷ way.more) (import_address path) (subst (λ ps. Contains ps path) after_taken.seen had)) leads_on);
+        subst (λ ps. Leads files root (way.first ∷ way.more) (addresses ps)) (sym same.waiting)
+        (leads_known files (among_seen (way.first ∷ way.more) (import_address path) (subst (λ ps. Contains ps path) after_taken.seen had)) leads_on);
   }
   way_goes new (Goes.opened file first is adds seen) = record {
     first = way.first;
     more = way.more ++ as_loaded (import_address path) file ∷ [];
     after = after_added way.first way.more (import_address path) now new file is.found adds seen after_taken;
     leads =
-    subst (Leads files root ((way.first ∷ way.more) ++ as_loaded (import_address path) file ∷ [])) waits
-    (leads_opened files opens (opened_only files (way.first ∷ way.more) (import_address path) file (fresh_taken first) is) leads_on);
+        subst (Leads files root ((way.first ∷ way.more) ++ as_loaded (import_address path) file ∷ [])) waits
+        (leads_opened files opens (opened_only files (way.first ∷ way.more) (import_address path) file (fresh_taken first) is) leads_on);
   }
     where
       opens : Opens files (way.first ∷ way.more) (import_address path) (as_loaded (import_address path) file)
@@ -248,11 +248,11 @@ module _ (files : Files) (root path : List ℕ) (old now : Walk) (way : IsOnWay 
   way_stops found first why =
       stops_at files root found
       (λ other. record {
-       loaded = way.first ∷ way.more;
-       address = import_address path;
-       comes = leads_next files (fresh_taken (first other)) leads_on;
-       fails = why.fails other (way.first ∷ way.more) (sym after_taken.size);
-     })
+        loaded = way.first ∷ way.more;
+        address = import_address path;
+        comes = leads_next files (fresh_taken (first other)) leads_on;
+        fails = why.fails other (way.first ∷ way.more) (sym after_taken.size);
+      })
 
   way_nowhere : (found : LoadFault) → (found ≢ NoMemory → ¬ Contains now.seen.keys path) → CannotLoad files now.size path found → IsOfFiles found →
       (other : Loaded) → ¬ Loads files root other

@@ -44,7 +44,10 @@ fn walked_paths(rt: HostRuntime) -> Result<(), Fail> {
 #[test]
 fn each_file_once_in_load_order(rt: HostRuntime) -> Result<(), Fail> {
     let files = [
-        ("a/./g.langium", "grammar G import './b' import './c' R: 'r' x=T;"),
+        (
+            "a/./g.langium",
+            "grammar G import './b' import './c' R: 'r' x=T;",
+        ),
         ("a/c.langium", "import 'b' terminal T: /t/;"),
         ("a/b.langium", "import './d' import 'g' interface B {}"),
         ("a/d.langium", "type D = 'd';"),
@@ -83,7 +86,10 @@ fn first_fault_in_load_order(rt: HostRuntime) -> Result<(), Fail> {
 fn store_of(alloc: Global, files: &[(&str, &str)]) -> Result<MemStore, Fail> {
     let mut held = Vec::new(alloc);
     for (path, text) in files {
-        held.push((Name::from_text(alloc, path)?, text.as_bytes().to_vec(alloc)?))?;
+        held.push((
+            Name::from_text(alloc, path)?,
+            text.as_bytes().to_vec(alloc)?,
+        ))?;
     }
     Ok(MemStore::new(held, Vec::new(alloc)))
 }

@@ -39,7 +39,11 @@ pub(crate) struct Walk {
 
 impl Walk {
     /// Loads the root.
-    pub(crate) fn begin<F: Store>(alloc: Global, root: &Name, store: &mut F) -> Result<Walk, LoadFault>
+    pub(crate) fn begin<F: Store>(
+        alloc: Global,
+        root: &Name,
+        store: &mut F,
+    ) -> Result<Walk, LoadFault>
         ensures begins { IfOk result (Begins (F.files store.old) root.now) }
         ensures fault { IfErr result (λ fault. IfSome (F.files store.old) (λ files. CannotLoad files 0 root.now fault)) }
         ensures store { CountsLoad (F.count store.old) (F.count store.new) result }
@@ -60,7 +64,12 @@ impl Walk {
     }
 
     /// Loads the file at this path, unless it was loaded.
-    pub(crate) fn visit<F: Store>(&mut self, alloc: Global, path: Name, store: &mut F) -> Result<(), LoadFault>
+    pub(crate) fn visit<F: Store>(
+        &mut self,
+        alloc: Global,
+        path: Name,
+        store: &mut F,
+    ) -> Result<(), LoadFault>
         requires { length self.old.whole.files ≤ 65535 }
         ensures goes { OnOk result (Goes (F.files store.old) path self.old self.new) }
         ensures fresh { IfErr result (λ fault. fault ≢ no_memory → ¬ Contains self.old.seen.keys path) }
@@ -102,7 +111,12 @@ impl Walk {
         ensures seen { self.new.seen.keys ≡ self.old.seen.keys }
         ensures size { self.new.size ≡ self.old.size }
     {
-        put_imports(alloc, &mut self.waiting, &file.path, file.says.imports.as_slice())?;
+        put_imports(
+            alloc,
+            &mut self.waiting,
+            &file.path,
+            file.says.imports.as_slice(),
+        )?;
         self.texts.push(file.text)?;
         join(alloc, &mut self.whole, file.path, file.says)
     }

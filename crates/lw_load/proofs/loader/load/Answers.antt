@@ -46,8 +46,8 @@ walking-preserved g c =
     record {
       keeps = keeps_goes c.in-Some.path old now c.walking.invariant.keeps takes (g.F.Store.files c.walking.store) c.visit.new.self c.in_ok-visit.ensures.goes;
       way =
-      told_goes (g.F.Store.files c.args.store.now) c.args.root.now c.in-Some.path old now c.visit.new.self c.walking.invariant.way takes
-      (subst (λ told. Goes told c.in-Some.path now c.visit.new.self) c.walking.invariant.files c.in_ok-visit.ensures.goes);
+          told_goes (g.F.Store.files c.args.store.now) c.args.root.now c.in-Some.path old now c.visit.new.self c.walking.invariant.way takes
+          (subst (λ told. Goes told c.in-Some.path now c.visit.new.self) c.walking.invariant.files c.in_ok-visit.ensures.goes);
       files = c.in_ok-visit.ensures.files ∙ c.walking.invariant.files;
       count = c.in_ok-visit.ensures.store ∙ c.walking.invariant.count;
     }

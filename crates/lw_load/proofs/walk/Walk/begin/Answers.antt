@@ -32,6 +32,6 @@ returns-clause-begins g c = record {
   size = refl;
   adds = c.in_ok-add.ensures.adds;
   seen = c.in_ok-add.ensures.seen
-  ∙ seen_alone c.new-seen.result.keys c.mark.new.seen.keys c.in_ok-walked.field-0 (nil_from_length _ c.new-seen.ensures.len) c.in_ok-mark.field-0 c.in_ok-mark.ensures.new c.in_ok-mark.ensures.keys
-  ∙ ap (λ path. path ∷ []) c.in_ok-walked.ensures;
+      ∙ seen_alone c.new-seen.result.keys c.mark.new.seen.keys c.in_ok-walked.field-0 (nil_from_length _ c.new-seen.ensures.len) c.in_ok-mark.field-0 c.in_ok-mark.ensures.new c.in_ok-mark.ensures.keys
+      ∙ ap (λ path. path ∷ []) c.in_ok-walked.ensures;
 }

@@ -18,7 +18,7 @@ returns-clause-goes g c =
     let new = seen_first seen c.mark.new.seen.keys c.in_ok-copy.field-0 c.args.path c.in_ok-copy.ensures c.in_ok-mark.field-0 c.if-not-branch.false c.in_ok-mark.ensures.new c.in_ok-mark.ensures.keys in
     on_ok_weaker c.add.result
     (λ adds. Goes.opened file new.0 c.in_ok-file.ensures.found
-     (record { whole = adds.whole; texts = adds.texts; waiting = adds.waiting; size = adds.size; fits = adds.fits }) (c.add.ensures.seen ∙ new.1)) c.add.ensures.adds
+    (record { whole = adds.whole; texts = adds.texts; waiting = adds.waiting; size = adds.size; fits = adds.fits }) (c.add.ensures.seen ∙ new.1)) c.add.ensures.adds
 
 pub returns-clause-fault : goal.returns-clause-fault
 returns-clause-fault g c =
