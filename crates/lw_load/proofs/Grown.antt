@@ -15,7 +15,7 @@ use Rattle.lw_grammar.specs.Size.{size, element_size, term_size}
 use Rattle.lw_syntax.specs.Syntax.{bare_grammar}
 use Rattle.lw_syntax.specs.PlacesWithin.{StandsWithin, IsWithin, rule_spans, terminal_spans, interface_spans, union_spans}
 use Rattle.lw_load.specs.Paths.{import_path}
-use Rattle.lw_load.specs.Loading.{with_file, rules_in, terminals_in, interfaces_in, unions_in, imports_in}
+use Rattle.lw_load.specs.Loading.{with_file, imports_in}
 use Rattle.lw_load.specs.Standing.{AreIn, Stands}
 
 -- ---- sizes

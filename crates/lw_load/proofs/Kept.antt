@@ -1,15 +1,13 @@
 -- What a walk keeps whatever the store tells: sizes, places, and how many paths can come yet.
-use Rattle.std.proofs.Common.{ℕ, ◌≡◌, ◌+◌, ◌-◌, ◌<◌, ◌≤◌, List, [], ◌∷◌, ◌++◌, Option, length, map, reverse, refl, sym, ap, ◌∙◌, subst, arith, length-append}
+use Rattle.std.proofs.Common.{ℕ, ◌≡◌, ◌+◌, ◌-◌, ◌<◌, ◌≤◌, List, [], ◌∷◌, ◌++◌, Option, length, map, reverse, sym, ap, ◌∙◌, subst, arith, length-append}
 use Rattle.std.proofs.lemmas.List.{length-map, length-reverse}
 use Rattle.lw_grammar.specs.declared.grammar.Grammar.{Grammar}
-use Rattle.lw_grammar.specs.declared.grammar.Import.{Import}
 use Rattle.lw_grammar.specs.Size.{size}
-use Rattle.lw_syntax.specs.Syntax.{bare_grammar}
 use Rattle.lw_load.specs.declared.limits.TheConstants.{LARGEST_GRAMMAR}
 use Rattle.lw_load.specs.declared.opening.Opened.{Opened}
 use Rattle.lw_load.specs.declared.walk.Walk.{Walk}
 use Rattle.lw_load.specs.Paths.{import_path}
-use Rattle.lw_load.specs.Loading.{Files, with_file, imports_in}
+use Rattle.lw_load.specs.Loading.{Files, imports_in}
 use Rattle.lw_load.specs.Standing.{Stands}
 use Rattle.lw_load.specs.Opening.{IsFound}
 use Rattle.lw_load.specs.Walking.{Adds, Begins, Goes}

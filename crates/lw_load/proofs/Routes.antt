@@ -1,5 +1,5 @@
 -- One list of addresses that wait stands for visits within visits.
-use Rattle.std.proofs.Common.{ℕ, ◌≡◌, List, [], ◌∷◌, ◌++◌, ◌⊎◌, inl, inr, refl, sym, subst}
+use Rattle.std.proofs.Common.{ℕ, ◌≡◌, List, [], ◌∷◌, ◌++◌, ◌⊎◌, inl, inr, refl, subst}
 use Rattle.lw_load.specs.Loading.{Files, Address, LoadedFile, root_address, imports_of, IsAmong, Opens, Visits}
 use Rattle.lw_load.specs.LoadFaults.{ComesTo}
 

@@ -1,8 +1,7 @@
 -- How far a walk has come: which files were loaded, and what waits.
-use Rattle.std.proofs.Common.{ℕ, zero, suc, ◌≡◌, ◌≢◌, ◌+◌, ◌-◌, ◌<◌, ◌≤◌, List, [], ◌∷◌, ◌++◌, Option, Some, None, IfSome, Contains, length, map, reverse, sum_by, get_or, refl, sym, ap, ◌∙◌, subst, arith, length-append, append-nil, inl, inr, ◌⊎◌}
-use Rattle.std.specs.List.{Any}
+use Rattle.std.proofs.Common.{ℕ, zero, suc, ◌≡◌, ◌≢◌, ◌+◌, ◌<◌, ◌≤◌, List, [], ◌∷◌, ◌++◌, Option, Some, None, IfSome, Contains, length, map, reverse, get_or, refl, sym, ap, ◌∙◌, subst, arith}
 use Rattle.std.proofs.lemmas.List.{map-append, reverse-append, reverse-reverse}
-use Rattle.std.proofs.lemmas.List.Sums.{sum_by-append, sum_by_push}
+use Rattle.std.proofs.lemmas.List.Sums.{sum_by_push}
 use Rattle.std.proofs.lemmas.Simd.{map-map}
 use Rattle.lw_grammar.specs.declared.grammar.Grammar.{Grammar}
 use Rattle.lw_grammar.specs.declared.grammar.Import.{Import}
@@ -14,11 +13,11 @@ use Rattle.lw_load.specs.declared.fault.LoadFault.TheVariants.{Absent, NotUtf8, 
 use Rattle.lw_load.specs.declared.loader.Loaded.{Loaded}
 use Rattle.lw_load.specs.declared.opening.Opened.{Opened}
 use Rattle.lw_load.specs.declared.walk.Walk.{Walk}
-use Rattle.lw_load.specs.Paths.{walked, import_path}
-use Rattle.lw_load.specs.Loading.{Files, Address, root_address, import_address, LoadedFile, imports_of, IsAmong, size_of_all, HoldsText, Opens, Visits, with_file, with_files, joined, Loads}
-use Rattle.lw_load.specs.LoadFaults.{ComesTo, FailsAt, StopsAt, Stops, IsOfFiles}
-use Rattle.lw_load.specs.Opening.{SaysOnly, IsFound, CannotLoad}
-use Rattle.lw_load.specs.Walking.{Adds, Begins, IsAsFar, Goes}
+use Rattle.lw_load.specs.Paths.{import_path}
+use Rattle.lw_load.specs.Loading.{Files, Address, root_address, import_address, LoadedFile, imports_of, IsAmong, size_of_all, Opens, with_file, with_files, joined, Loads}
+use Rattle.lw_load.specs.LoadFaults.{ComesTo, StopsAt, Stops, IsOfFiles}
+use Rattle.lw_load.specs.Opening.{IsFound, CannotLoad}
+use Rattle.lw_load.specs.Walking.{Adds, Begins, Goes}
 use Rattle.lw_load.proofs.Denied.{same_text}
 use Rattle.lw_load.proofs.Routes.{Leads, leads_root, leads_known, leads_opened, leads_end, leads_only, leads_next, leads_nowhere}
 

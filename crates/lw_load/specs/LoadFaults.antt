@@ -3,7 +3,6 @@
 use Rattle.std.specs.Prelude.{ℕ, ◌≡◌, ◌≢◌, ◌+◌, ◌≤◌, ◌<◌, List, [], ◌∷◌, ◌++◌, Some, None, Result, Err, length}
 use Rattle.std.specs.Str.{IsUtf8}
 use Rattle.lw_base.specs.declared.limits.TheConstants.{LONGEST_TEXT}
-use Rattle.lw_base.specs.declared.token.Span.{Span}
 use Rattle.lw_grammar.specs.declared.grammar.Grammar.{Grammar}
 use Rattle.lw_grammar.specs.Size.{size}
 use Rattle.lw_io.specs.Causes.{Faulted}

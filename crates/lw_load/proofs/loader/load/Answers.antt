@@ -1,10 +1,10 @@
-use Rattle.std.proofs.Common.{◌≡◌, [], IfSome, refl, sym, ap, ◌∙◌, subst, arith}
+use Rattle.std.proofs.Common.{IfSome, refl, ◌∙◌, subst, arith}
 use Rattle.std.proofs.lemmas.List.{nil_from_length}
 use Rattle.std.proofs.lemmas.Option.{IfSome_then}
 use Rattle.std.proofs.lemmas.Result.{err_from_is_err_and}
 use Rattle.lw_load.specs.declared.walk.Walk.{Walk}
 use Rattle.lw_load.specs.Opening.{CannotLoad}
-use Rattle.lw_load.specs.Walking.{Begins, Goes}
+use Rattle.lw_load.specs.Walking.{Goes}
 use Rattle.lw_load.proofs.Kept.{keeps_begins, keeps_goes, fewer_left}
 use Rattle.lw_load.proofs.Ways.{Takes, told_begins, told_goes, told_stops, told_nowhere, root_stops, root_nowhere, way_ends, way_only}
 use Rattle.lw_load.proofs.loader.load.Goals as goal

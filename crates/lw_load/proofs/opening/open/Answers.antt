@@ -1,4 +1,3 @@
-use Rattle.std.proofs.lemmas.Option.{IfSome_then}
 use Rattle.std.proofs.lemmas.Result.{IfErr-weaker}
 use Rattle.lw_load.specs.Opening.{IsUnreadable}
 use Rattle.lw_load.proofs.Denied.{text_told, found_told, unread_told, unread_counts}

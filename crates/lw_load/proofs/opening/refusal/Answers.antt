@@ -1,7 +1,6 @@
-use Rattle.std.proofs.Common.{◌≡◌, ◌≢◌, ℕ, refl, sym, ap, ◌∙◌, subst, rules}
+use Rattle.std.proofs.Common.{◌≢◌, refl, subst, rules}
 use Rattle.lw_syntax.specs.declared.reader.ReadFault.TheVariants.{NoMemory}
 use Rattle.lw_text.specs.Position.{IsPosition}
-use Rattle.lw_load.specs.LoadFaults.{place_of_refusal}
 use Rattle.lw_load.proofs.opening.refusal.Goals as goal
 
 pub returns : goal.returns

@@ -1,9 +1,8 @@
-use Rattle.std.proofs.Common.{◌≡◌, [], ◌∷◌, refl, ap, subst, ◌∙◌}
+use Rattle.std.proofs.Common.{[], ◌∷◌, refl, ap, subst, ◌∙◌}
 use Rattle.std.proofs.lemmas.List.{nil_from_length}
 use Rattle.std.proofs.lemmas.Result.{err_from_is_err_and}
 use Rattle.lw_load.specs.declared.walk.Walk.{Walk}
 use Rattle.lw_load.specs.Opening.{IsFound}
-use Rattle.lw_load.specs.Walking.{Begins}
 use Rattle.lw_load.proofs.Seen.{seen_alone}
 use Rattle.lw_load.proofs.Denied.{too_large_told, too_large_counts}
 use Rattle.lw_load.proofs.walk.Walk.begin.Goals as goal

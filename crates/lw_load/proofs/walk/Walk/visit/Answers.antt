@@ -1,6 +1,6 @@
 use Rattle.std.proofs.Common.{ℕ, List, refl, ◌∙◌}
 use Rattle.std.proofs.lemmas.Result.{IfErr-weaker, on_ok_weaker}
-use Rattle.lw_load.specs.Walking.{Adds, Goes}
+use Rattle.lw_load.specs.Walking.{Goes}
 use Rattle.lw_load.proofs.Seen.{seen_before, seen_first}
 use Rattle.lw_load.proofs.Denied.{too_large_told}
 use Rattle.lw_load.proofs.walk.Walk.visit.Goals as goal
