@@ -2,3 +2,5 @@ pub mod Paths
 pub mod Loading
 pub mod LoadFaults
 pub mod Standing
+pub mod Opening
+pub mod Walking

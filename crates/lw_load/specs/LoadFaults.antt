@@ -3,7 +3,6 @@
 use Rattle.std.specs.Prelude.{ℕ, ◌≡◌, ◌≢◌, ◌+◌, ◌≤◌, ◌<◌, List, [], ◌∷◌, ◌++◌, Some, None, Result, Err, length}
 use Rattle.std.specs.Str.{IsUtf8}
 use Rattle.lw_base.specs.declared.limits.TheConstants.{LONGEST_TEXT}
-use Rattle.lw_base.specs.declared.token.Span.{Span}
 use Rattle.lw_grammar.specs.declared.grammar.Grammar.{Grammar}
 use Rattle.lw_grammar.specs.Size.{size}
 use Rattle.lw_io.specs.Causes.{Faulted}
@@ -18,6 +17,13 @@ use Rattle.lw_load.specs.declared.fault.LoadFault.{LoadFault}
 use Rattle.lw_load.specs.declared.fault.LoadFault.TheVariants.{Absent, NotUtf8, TooLong, StoreFault, Read, TooLarge, NoMemory}
 use Rattle.lw_load.specs.Loading.{Files, Address, root_address, LoadedFile, imports_of, IsAmong, size_of_all, HoldsText, Opens, Visits}
 
+-- where a refusal stands in its file
+abbrev pub place_of_refusal : ReadFault → ℕ
+place_of_refusal (reading.Unexpected s) = s.start
+place_of_refusal (reading.LeftOut s form) = s.start
+place_of_refusal (reading.TooDeep s) = s.start
+place_of_refusal reading.NoMemory = 0
+
 module _ (files : Files) where
   -- The files of these addresses are loaded in turn, each with all that it imports, behind those that were loaded before, up to the file of
   -- the last argument, which comes next; the one before it is what was loaded till then.
@@ -29,13 +35,6 @@ module _ (files : Files) where
         ComesTo (before ++ f ∷ []) (imports_of f) now at → ComesTo before (address ∷ others) now at
     behind : {before inside now : List LoadedFile} {address at : Address} {others : List Address} {f : LoadedFile} → Opens files before address f →
         Visits files (before ++ f ∷ []) (imports_of f) inside → ComesTo inside others now at → ComesTo before (address ∷ others) now at
-
-  -- where a refusal stands in its file
-  abbrev pub place_of_refusal : ReadFault → ℕ
-  place_of_refusal (reading.Unexpected s) = s.start
-  place_of_refusal (reading.LeftOut s form) = s.start
-  place_of_refusal (reading.TooDeep s) = s.start
-  place_of_refusal reading.NoMemory = 0
 
   -- the file holds a text that says no grammar, and this is where it goes wrong
   pub record IsUnread (path : List ℕ) (found : ReadFault) (text : List ℕ) : Type 0 where

@@ -8,6 +8,7 @@
 //! - `Loading.antt`: which files are loaded, in which order, and how they are joined.
 //! - `LoadFaults.antt`: why none are, the first fault in that order.
 //! - `Standing.antt`: in which file's text each thing stands.
+//! - `Opening.antt`, `Walking.antt`: how the walk opens a file, and goes on.
 //!
 //! It promises that [`load`] gives the grammar of a root file and no other, or the first fault, and then the files say
 //! none; that the grammar is not larger than [`LARGEST_GRAMMAR`]; and that each place in it is in the text of its file, so
@@ -18,8 +19,10 @@ mod fault;
 mod join;
 mod limits;
 mod loader;
+mod opening;
 mod paths;
 mod size;
+mod walk;
 
 pub use fault::LoadFault;
 pub use limits::LARGEST_GRAMMAR;

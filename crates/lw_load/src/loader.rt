@@ -8,6 +8,7 @@ ghost use Rattle.lw_load.specs.LoadFaults.{Stops, IsOfFiles, CountsLoad};
 ghost use Rattle.lw_load.specs.Standing.{Stands};
 
 use crate::fault::LoadFault;
+use crate::walk::Walk;
 use lw_base::{Items, Name};
 use lw_grammar::Grammar;
 use lw_io::Store;
@@ -36,5 +37,12 @@ pub fn load<F: Store>(alloc: Global, root: &Name, store: &mut F) -> Result<Loade
     ensures store { CountsLoad (F.count store.old) (F.count store.new) result }
     ensures files { F.files store.new ≡ F.files store.old }
 {
-    Err(LoadFault::NoMemory)
+    let mut walk = Walk::begin(alloc, root, store)?;
+    'walking: while let Some(path) = walk.waiting.pop() {
+        walk.visit(alloc, path, store)?;
+    }
+    Ok(Loaded {
+        grammar: walk.whole,
+        texts: walk.texts,
+    })
 }

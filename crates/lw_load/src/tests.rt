@@ -1,5 +1,8 @@
 use crate::paths::{import_path, walked};
+use crate::{LoadFault, load};
 use lw_base::Name;
+use lw_io::MemStore;
+use std::alloc::Global;
 use std::test::Fail;
 
 #[test]
@@ -36,4 +39,57 @@ fn walked_paths(rt: HostRuntime) -> Result<(), Fail> {
         assert_eq!(rt; walked(rt.alloc(), &path)?.text(), wanted);
     }
     Ok(())
+}
+
+#[test]
+fn each_file_once_in_load_order(rt: HostRuntime) -> Result<(), Fail> {
+    let files = [
+        (
+            "a/./g.langium",
+            "grammar G import './b' import './c' R: 'r' x=T;",
+        ),
+        ("a/c.langium", "import 'b' terminal T: /t/;"),
+        ("a/b.langium", "import './d' import 'g' interface B {}"),
+        ("a/d.langium", "type D = 'd';"),
+    ];
+    let mut store = store_of(rt.alloc(), files.as_slice())?;
+    let root = Name::from_text(rt.alloc(), "a/./g.langium")?;
+    let loaded = load(rt.alloc(), &root, &mut store).ok().ok_or("a grammar")?;
+    let paths = ["a/./g.langium", "a/b.langium", "a/d.langium", "a/c.langium"];
+    assert_eq!(rt; loaded.grammar.files.len(), paths.len());
+    for (file, wanted) in loaded.grammar.files.as_slice().iter().zip(paths) {
+        assert_eq!(rt; file.text(), wanted);
+    }
+    Ok(())
+}
+
+#[test]
+fn first_fault_in_load_order(rt: HostRuntime) -> Result<(), Fail> {
+    let files = [
+        ("g.langium", "import './b' import './absent'"),
+        ("b.langium", "import './c'"),
+        ("c.langium", "type\nD 'd';"),
+    ];
+    let mut store = store_of(rt.alloc(), files.as_slice())?;
+    let root = Name::from_text(rt.alloc(), "g.langium")?;
+    match load(rt.alloc(), &root, &mut store) {
+        Err(LoadFault::Read(path, _, at)) => {
+            assert_eq!(rt; path.text(), "c.langium");
+            assert_eq!(rt; (at.line, at.character), (1, 2));
+        }
+        _ => return Err("a fault of reading".into()),
+    }
+    Ok(())
+}
+
+/// The files of these paths and texts.
+fn store_of(alloc: Global, files: &[(&str, &str)]) -> Result<MemStore, Fail> {
+    let mut held = Vec::new(alloc);
+    for (path, text) in files {
+        held.push((
+            Name::from_text(alloc, path)?,
+            text.as_bytes().to_vec(alloc)?,
+        ))?;
+    }
+    Ok(MemStore::new(held, Vec::new(alloc)))
 }
