@@ -6,7 +6,8 @@ use Rattle.std.proofs.KnownBytes.{Keeps-refl}
 use Rattle.langbench.specs.declared.report.Verdict.{Verdict}
 use Rattle.langbench.specs.declared.stop.Stop.{Stop}
 use Rattle.langbench.specs.declared.stop.Stop.TheVariants as stop
-use Rattle.langbench.specs.Checking.{CheckComesTo, Files, IsCaused}
+use Rattle.lw_load.specs.Loading.{Files}
+use Rattle.langbench.specs.Checking.{CheckComesTo, IsCaused}
 use Rattle.langbench.specs.Run.{Work, ComesTo}
 use Rattle.langbench.specs.Serving.{ServeComesTo}
 use Rattle.langbench.specs.Stops.{TheSource, TheSink, TheStore, ThePatterns}

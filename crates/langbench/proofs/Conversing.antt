@@ -20,7 +20,8 @@ use Rattle.langbench.specs.declared.report.Verdict.TheVariants.{Whole, Broken}
 use Rattle.langbench.specs.declared.stop.Stop.{Stop}
 use Rattle.langbench.specs.declared.stop.Stop.TheVariants as stop
 use Rattle.lw_lang.specs.Compiled.{HoldsGrammar, IsClear}
-use Rattle.langbench.specs.Checking.{Files, IsCaused}
+use Rattle.lw_load.specs.Loading.{Files}
+use Rattle.langbench.specs.Checking.{IsCaused}
 use Rattle.langbench.specs.Stops.{Counts, TheSink, TheStore}
 use Rattle.langbench.specs.Serving.{WritesPart, Conversed, OfGrammar, ServeComesTo}
 use Rattle.langbench.specs.Talking as talking

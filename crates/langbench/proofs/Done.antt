@@ -19,7 +19,7 @@ use Rattle.langbench.specs.declared.report.Verdict.{Verdict}
 use Rattle.langbench.specs.declared.report.Verdict.TheVariants.{Whole, Broken}
 use Rattle.langbench.specs.declared.stop.Stop.{Stop}
 use Rattle.langbench.specs.declared.stop.Stop.TheVariants as stop
-use Rattle.langbench.specs.Checking.{Files}
+use Rattle.lw_load.specs.Loading.{Files}
 use Rattle.langbench.specs.Run.{Faults, NoneRose, Work, Ends, ServesAll}
 use Rattle.langbench.specs.Serving as serving
 use Rattle.langbench.specs.Serving.{Talked, OfGrammar, ServeComesTo, ServeDone, IsSession, WentWrong}

@@ -15,7 +15,8 @@ use Rattle.langbench.specs.declared.stop.Stop.{Stop}
 use Rattle.langbench.specs.declared.stop.Stop.TheVariants as stop
 use Rattle.langbench.specs.Checked.{Checked, ok_line}
 use Rattle.langbench.specs.Checking as checking
-use Rattle.langbench.specs.Checking.{Files, CheckComesTo, CheckDone, most_read}
+use Rattle.lw_load.specs.Loading.{Files}
+use Rattle.langbench.specs.Checking.{CheckComesTo, CheckDone, most_read}
 use Rattle.langbench.specs.Run.{Faults, NoneRose, count_of, Work, Ends, ChecksAll}
 use Rattle.langbench.specs.Stops.{Object, TheSource, TheSink, TheStore, ThePatterns, Counts, EndsWith, fault_code, load_code}
 use Rattle.langbench.proofs.Grammars.{same_grammar}

@@ -7,7 +7,7 @@ use Rattle.lw_reading.specs.Laws.{HasNoEmptyKeyword}
 use Rattle.lw_reading.proofs.OneKinds.{filled_rules}
 use Rattle.lw_conversation.specs.Standing.{beginning}
 use Rattle.lw_conversation.proofs.OneOutcome.{one_outcome}
-use Rattle.langbench.specs.Checking.{Files}
+use Rattle.lw_load.specs.Loading.{Files}
 use Rattle.langbench.specs.Serving.{HasOneOutcome}
 
 -- whatever grammar the path holds is the one that it holds

@@ -14,7 +14,8 @@ use Rattle.langbench.specs.declared.stop.Stop.{Stop}
 use Rattle.langbench.specs.declared.stop.Stop.TheVariants as stop
 use Rattle.langbench.specs.Checked.{ok_line}
 use Rattle.langbench.specs.Reports.{IsReport, IsVerdict}
-use Rattle.langbench.specs.Checking.{Files, Prints, ReadsDocument, ReadsPart, StopsReading, CheckComesTo, WritesSome, most_read}
+use Rattle.lw_load.specs.Loading.{Files}
+use Rattle.langbench.specs.Checking.{Prints, ReadsDocument, ReadsPart, StopsReading, CheckComesTo, WritesSome, most_read}
 use Rattle.langbench.specs.Stops.{stop_of_fault}
 use Rattle.langbench.proofs.Grammars.{filled}
 use Rattle.langbench.proofs.OneOutput.{one_output}

@@ -4,16 +4,13 @@ use Rattle.std.specs.Io.KnownBytes.{Appends, Consumes, Keeps}
 use Rattle.lw_base.specs.declared.limits.TheConstants.{LONGEST_DOCUMENT}
 use Rattle.lw_grammar.specs.declared.grammar.Grammar as plain
 use Rattle.lw_io.specs.Whole.{TakesFewer, WritesFront}
+use Rattle.lw_load.specs.Loading.{Files}
 use Rattle.lw_lang.specs.Compiled.{HoldsGrammar, IsClear, Causes}
 use Rattle.langbench.specs.declared.report.Verdict.{Verdict}
 use Rattle.langbench.specs.declared.report.Verdict.TheVariants.{Whole, Broken}
 use Rattle.langbench.specs.declared.stop.Stop.{Stop}
 use Rattle.langbench.specs.declared.stop.Stop.TheVariants.{Words, Grammar, Read, Write, Memory, Frames, Limit}
 use Rattle.langbench.specs.Checked.{Checked, ok_line}
-
--- the files by path
-abbrev pub Files : Type 0
-Files = List (List ℕ × List ℕ)
 
 -- how many bytes of a document are read at most: one more than it may have
 abbrev pub most_read : ℕ

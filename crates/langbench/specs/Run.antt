@@ -8,7 +8,8 @@ use Rattle.lw_rpc.specs.declared.reply.Reply.{Reply}
 use Rattle.langbench.specs.declared.report.Verdict.{Verdict}
 use Rattle.langbench.specs.declared.stop.Stop.{Stop}
 use Rattle.langbench.specs.declared.stop.Stop.TheVariants.{Words}
-use Rattle.langbench.specs.Checking.{Files, CheckComesTo, CheckDone, IsCaused}
+use Rattle.lw_load.specs.Loading.{Files}
+use Rattle.langbench.specs.Checking.{CheckComesTo, CheckDone, IsCaused}
 use Rattle.langbench.specs.Notes.{NotesOutcome, NotesOutcomePart}
 use Rattle.langbench.specs.Serving.{ServeComesTo, ServeDone, IsSession}
 use Rattle.langbench.specs.Stops.{Object, TheSource, TheSink, TheStore, ThePatterns, Counts, EndsWith}

@@ -17,7 +17,8 @@ use Rattle.langbench.specs.declared.report.Verdict.{Verdict}
 use Rattle.langbench.specs.declared.report.Verdict.TheVariants.{Whole, Broken}
 use Rattle.langbench.specs.declared.stop.Stop.{Stop}
 use Rattle.langbench.specs.declared.stop.Stop.TheVariants as stop
-use Rattle.langbench.specs.Checking.{Files}
+use Rattle.lw_load.specs.Loading.{Files}
+
 
 -- a front of the bytes was written, which may be all of them
 abbrev pub WritesPart : Option (List ℕ) → Option (List ℕ) → List ℕ → Type 0

@@ -14,8 +14,8 @@ use Rattle.lw_load.specs.declared.loader.Loaded.{Loaded}
 use Rattle.lw_load.specs.declared.opening.Opened.{Opened}
 use Rattle.lw_load.specs.declared.walk.Walk.{Walk}
 use Rattle.lw_load.specs.Paths.{import_path}
-use Rattle.lw_load.specs.Loading.{Files, Address, root_address, import_address, LoadedFile, imports_of, IsAmong, size_of_all, Opens, with_file, with_files, joined, Loads}
-use Rattle.lw_load.specs.LoadFaults.{ComesTo, StopsAt, Stops, IsOfFiles}
+use Rattle.lw_load.specs.Loading.{Files, Address, root_address, import_address, LoadedFile, imports_of, IsAmong, size_of_all, LoadsNext, with_file, with_files, as_one, Loads}
+use Rattle.lw_load.specs.LoadFaults.{ArrivesAt, StopsAt, Stops, IsOfFiles}
 use Rattle.lw_load.specs.Opening.{IsFound, CannotLoad}
 use Rattle.lw_load.specs.Walking.{Adds, Begins, Goes}
 use Rattle.lw_load.proofs.Denied.{same_text}
@@ -27,7 +27,7 @@ addresses waiting = map import_address (reverse waiting)
 
 -- what was loaded, as the walk has it
 pub record IsAfter (loaded : List LoadedFile) (walk : Walk) : Type 0 where
-  pub whole : walk.whole ≡ joined loaded
+  pub whole : walk.whole ≡ as_one loaded
   pub texts : walk.texts ≡ map (λ f. f.text) loaded
   pub seen : walk.seen.keys ≡ map (λ f. f.address.compared) loaded
   pub size : walk.size ≡ size_of_all loaded
@@ -110,7 +110,7 @@ size_with loaded f = sum_by_push (λ g. size g.says) loaded f
 
 -- it is opened, and nothing else at its address
 module _ (files : Files) (loaded : List LoadedFile) (address : Address) (file : Opened) (fresh : ¬ IsAmong loaded address) (is : IsFound (Some files) address.path file) where
-  is_opened : size_of_all loaded + size file.says ≤ LARGEST_GRAMMAR → Opens files loaded address (as_loaded address file)
+  is_opened : size_of_all loaded + size file.says ≤ LARGEST_GRAMMAR → LoadsNext files loaded address (as_loaded address file)
   is_opened fits = record {
     fresh = fresh;
     found = refl;
@@ -119,7 +119,7 @@ module _ (files : Files) (loaded : List LoadedFile) (address : Address) (file : 
     fits = subst (λ n. n ≤ LARGEST_GRAMMAR) (sym (size_with loaded (as_loaded address file))) fits;
   }
 
-  opened_only : (g : LoadedFile) → Opens files loaded address g → g ≡ as_loaded address file
+  opened_only : (g : LoadedFile) → LoadsNext files loaded address g → g ≡ as_loaded address file
   opened_only g o =
       let text = same_text files address.path file.text g.text is.holds o.holds in
       same_file o.found text (is.says.only g.says (subst (λ t. Syntax t g.says) text o.says))
@@ -130,7 +130,7 @@ module _ (first : LoadedFile) (more : List LoadedFile) (address : Address) (old 
   after_added : IsAfter (first ∷ more) old → IsAfter ((first ∷ more) ++ as_loaded address file ∷ []) new
   after_added a = record {
     whole =
-        adds.whole ∙ ap (λ g. with_file g file.path file.says) a.whole ∙ ap (λ p. with_file (joined (first ∷ more)) p file.says) same ∙
+        adds.whole ∙ ap (λ g. with_file g file.path file.says) a.whole ∙ ap (λ p. with_file (as_one (first ∷ more)) p file.says) same ∙
         sym (with_files_last (with_file (bare_grammar first.says.name []) first.address.path first.says) more (as_loaded address file));
     texts = adds.texts ∙ ap (λ ts. ts ++ file.text ∷ []) a.texts ∙ sym (map-append (λ (f : LoadedFile). f.text) (first ∷ more) (as_loaded address file ∷ []));
     seen = seen ∙ ap (λ ps. ps ++ address.compared ∷ []) a.seen ∙ sym (map-append (λ (f : LoadedFile). f.address.compared) (first ∷ more) (as_loaded address file ∷ []));
@@ -153,7 +153,7 @@ is_other found told = λ e. subst IsOfFiles e told
 
 -- no file is opened where none can be loaded
 cannot_open : (files : Files) (loaded : List LoadedFile) (address : Address) (before : ℕ) (found : LoadFault) → before ≡ size_of_all loaded →
-    CannotLoad files before address.path found → IsOfFiles found → (f : LoadedFile) → ¬ Opens files loaded address f
+    CannotLoad files before address.path found → IsOfFiles found → (f : LoadedFile) → ¬ LoadsNext files loaded address f
 cannot_open files loaded address before found same why told f = λ o.
     omega (arith, same, why.large told f.text f.says o.holds o.says, size_with loaded f, o.fits)
 
@@ -191,7 +191,7 @@ way_begins files root walk b = record {
     size_first : walk.size ≡ size_of_all (f ∷ [])
     size_first = omega (arith, b.adds.size, b.size, size_with [] f)
 
-    opens : Opens files [] address f
+    opens : LoadsNext files [] address f
     opens = is_opened files [] address b.file none b.is (omega (arith, b.adds.size, b.size, b.adds.fits))
 
     waits : imports_of f ++ [] ≡ addresses walk.waiting.items
@@ -236,7 +236,7 @@ module _ (files : Files) (root path : List ℕ) (old now : Walk) (way : IsOnWay 
         (leads_opened files opens (opened_only files (way.first ∷ way.more) (import_address path) file (fresh_taken first) is) leads_on);
   }
     where
-      opens : Opens files (way.first ∷ way.more) (import_address path) (as_loaded (import_address path) file)
+      opens : LoadsNext files (way.first ∷ way.more) (import_address path) (as_loaded (import_address path) file)
       opens = is_opened files (way.first ∷ way.more) (import_address path) file (fresh_taken first) is (omega (arith, adds.size, adds.fits, after_taken.size))
 
       waits : imports_of (as_loaded (import_address path) file) ++ addresses now.waiting.items ≡ addresses new.waiting.items
@@ -263,7 +263,7 @@ module _ (files : Files) (root path : List ℕ) (old now : Walk) (way : IsOnWay 
 pub root_stops : (files : Files) (root : List ℕ) (found : LoadFault) → CannotLoad files 0 root found → Stops files root found
 root_stops files root found why =
     stops_at files root found
-    (λ other. record { loaded = []; address = root_address root; comes = ComesTo.next (λ h. omega (arith, h.2)); fails = why.fails other [] refl })
+    (λ other. record { loaded = []; address = root_address root; comes = ArrivesAt.next (λ h. omega (arith, h.2)); fails = why.fails other [] refl })
 
 pub root_nowhere : (files : Files) (root : List ℕ) (found : LoadFault) → CannotLoad files 0 root found → IsOfFiles found → (other : Loaded) → ¬ Loads files root other
 root_nowhere files root found why told other = λ loads.
@@ -280,7 +280,7 @@ module _ (files : Files) (root : List ℕ) (walk : Walk) (way : IsOnWay files ro
   pub way_only : (other : Loaded) → Loads files root other → other ≡ record { grammar = walk.whole; texts = walk.texts }
   way_only other loads =
       let same = leads_only files leads_over loads.loaded loads.visits in
-      same_loaded (loads.grammar ∙ ap joined same ∙ sym way.after.whole) (loads.texts ∙ ap (map (λ f. f.text)) same ∙ sym way.after.texts)
+      same_loaded (loads.grammar ∙ ap as_one same ∙ sym way.after.whole) (loads.texts ∙ ap (map (λ f. f.text)) same ∙ sym way.after.texts)
 
 -- ---- where the store may tell its files
 

@@ -15,7 +15,7 @@ use Rattle.lw_syntax.specs.Syntax.{Syntax}
 use Rattle.lw_load.specs.declared.limits.TheConstants.{LARGEST_GRAMMAR}
 use Rattle.lw_load.specs.declared.fault.LoadFault.{LoadFault}
 use Rattle.lw_load.specs.declared.fault.LoadFault.TheVariants.{Absent, NotUtf8, TooLong, StoreFault, Read, TooLarge, NoMemory}
-use Rattle.lw_load.specs.Loading.{Files, Address, root_address, LoadedFile, imports_of, IsAmong, size_of_all, HoldsText, Opens, Visits}
+use Rattle.lw_load.specs.Loading.{Files, Address, root_address, LoadedFile, imports_of, IsAmong, size_of_all, HoldsText, LoadsNext, Visits}
 
 -- where a refusal stands in its file
 abbrev pub place_of_refusal : ReadFault → ℕ
@@ -27,14 +27,14 @@ place_of_refusal reading.NoMemory = 0
 module _ (files : Files) where
   -- The files of these addresses are loaded in turn, each with all that it imports, behind those that were loaded before, up to the file of
   -- the last argument, which comes next; the one before it is what was loaded till then.
-  pub data ComesTo : List LoadedFile → List Address → List LoadedFile → Address → Type 0 where
-    next : {before : List LoadedFile} {address : Address} {others : List Address} → ¬ IsAmong before address → ComesTo before (address ∷ others) before address
-    known : {before now : List LoadedFile} {address at : Address} {others : List Address} → IsAmong before address → ComesTo before others now at →
-        ComesTo before (address ∷ others) now at
-    within : {before now : List LoadedFile} {address at : Address} {others : List Address} {f : LoadedFile} → Opens files before address f →
-        ComesTo (before ++ f ∷ []) (imports_of f) now at → ComesTo before (address ∷ others) now at
-    behind : {before inside now : List LoadedFile} {address at : Address} {others : List Address} {f : LoadedFile} → Opens files before address f →
-        Visits files (before ++ f ∷ []) (imports_of f) inside → ComesTo inside others now at → ComesTo before (address ∷ others) now at
+  pub data ArrivesAt : List LoadedFile → List Address → List LoadedFile → Address → Type 0 where
+    next : {before : List LoadedFile} {address : Address} {others : List Address} → ¬ IsAmong before address → ArrivesAt before (address ∷ others) before address
+    known : {before now : List LoadedFile} {address at : Address} {others : List Address} → IsAmong before address → ArrivesAt before others now at →
+        ArrivesAt before (address ∷ others) now at
+    within : {before now : List LoadedFile} {address at : Address} {others : List Address} {f : LoadedFile} → LoadsNext files before address f →
+        ArrivesAt (before ++ f ∷ []) (imports_of f) now at → ArrivesAt before (address ∷ others) now at
+    behind : {before inside now : List LoadedFile} {address at : Address} {others : List Address} {f : LoadedFile} → LoadsNext files before address f →
+        Visits files (before ++ f ∷ []) (imports_of f) inside → ArrivesAt inside others now at → ArrivesAt before (address ∷ others) now at
 
   -- the file holds a text that says no grammar, and this is where it goes wrong
   pub record IsUnread (path : List ℕ) (found : ReadFault) (text : List ℕ) : Type 0 where
@@ -65,7 +65,7 @@ module _ (files : Files) where
   pub record StopsAt (root : List ℕ) (found : LoadFault) : Type 0 where
     pub loaded : List LoadedFile
     pub address : Address
-    pub comes : ComesTo [] (root_address root ∷ []) loaded address
+    pub comes : ArrivesAt [] (root_address root ∷ []) loaded address
     pub fails : FailsAt loaded address.path found
 
   abbrev pub Stops : List ℕ → LoadFault → Type 0

@@ -57,7 +57,7 @@ pub record HoldsText (files : Files) (path text : List ℕ) : Type 0 where
 
 module _ (files : Files) where
   -- behind those that were loaded, the file of this address says a grammar, and with it the grammar is not too large
-  pub record Opens (loaded : List LoadedFile) (address : Address) (f : LoadedFile) : Type 0 where
+  pub record LoadsNext (loaded : List LoadedFile) (address : Address) (f : LoadedFile) : Type 0 where
     pub fresh : ¬ IsAmong loaded address
     pub found : f.address ≡ address
     pub holds : HoldsText files address.path f.text
@@ -69,7 +69,7 @@ module _ (files : Files) where
     none : {loaded : List LoadedFile} → Visits loaded [] loaded
     known : {before after : List LoadedFile} {address : Address} {others : List Address} → IsAmong before address → Visits before others after →
         Visits before (address ∷ others) after
-    opened : {before inside after : List LoadedFile} {address : Address} {others : List Address} {f : LoadedFile} → Opens before address f →
+    opened : {before inside after : List LoadedFile} {address : Address} {others : List Address} {f : LoadedFile} → LoadsNext before address f →
         Visits (before ++ f ∷ []) (imports_of f) inside → Visits inside others after → Visits before (address ∷ others) after
 
 -- things of a file, with its number
@@ -105,14 +105,14 @@ abbrev pub with_files : Grammar → List LoadedFile → Grammar
 with_files g [] = g
 with_files g (f ∷ fs) = with_files (with_file g f.address.path f.says) fs
 
--- the files joined; the grammar has the root's name
-abbrev pub joined : List LoadedFile → Grammar
-joined [] = bare_grammar [] []
-joined (f ∷ fs) = with_files (bare_grammar f.says.name []) (f ∷ fs)
+-- the files as one grammar, which has the root's name
+abbrev pub as_one : List LoadedFile → Grammar
+as_one [] = bare_grammar [] []
+as_one (f ∷ fs) = with_files (bare_grammar f.says.name []) (f ∷ fs)
 
 -- what the root file and all that it imports say together, and the text of each file by its number
 pub record Loads (files : Files) (root : List ℕ) (result : Loaded) : Type 0 where
   pub loaded : List LoadedFile
   pub visits : Visits files [] (root_address root ∷ []) loaded
-  pub grammar : result.grammar ≡ joined loaded
+  pub grammar : result.grammar ≡ as_one loaded
   pub texts : result.texts ≡ map (λ f. f.text) loaded

@@ -41,9 +41,39 @@ fn walked_paths(rt: HostRuntime) -> Result<(), Fail> {
     Ok(())
 }
 
+// The files of the root, in load order, are these.
+fn loads(
+    rt: &HostRuntime,
+    root: &str,
+    files: &[(&str, &str)],
+    paths: &[&str],
+) -> Result<(), Fail> {
+    let mut store = store_of(rt.alloc(), files)?;
+    let root = Name::from_text(rt.alloc(), root)?;
+    let loaded = load(rt.alloc(), &root, &mut store).ok().ok_or("a grammar")?;
+    assert_eq!(rt; loaded.grammar.files.len(), paths.len());
+    for (file, wanted) in loaded.grammar.files.as_slice().iter().zip(paths) {
+        assert_eq!(rt; file.text(), *wanted);
+    }
+    Ok(())
+}
+
 #[test]
 fn each_file_once_in_load_order(rt: HostRuntime) -> Result<(), Fail> {
-    let files = [
+    let circle = [
+        ("i.langium", "grammar I import './j' entry A: 'a' b=B;"),
+        (
+            "j.langium",
+            "grammar J import './i.langium' B: 'b' name=ID; terminal ID: /[a-z]+/; hidden terminal WS: /\\s+/;",
+        ),
+    ];
+    loads(
+        &rt,
+        "i.langium",
+        circle.as_slice(),
+        ["i.langium", "j.langium"].as_slice(),
+    )?;
+    let deep = [
         (
             "a/./g.langium",
             "grammar G import './b' import './c' R: 'r' x=T;",
@@ -52,15 +82,8 @@ fn each_file_once_in_load_order(rt: HostRuntime) -> Result<(), Fail> {
         ("a/b.langium", "import './d' import 'g' interface B {}"),
         ("a/d.langium", "type D = 'd';"),
     ];
-    let mut store = store_of(rt.alloc(), files.as_slice())?;
-    let root = Name::from_text(rt.alloc(), "a/./g.langium")?;
-    let loaded = load(rt.alloc(), &root, &mut store).ok().ok_or("a grammar")?;
-    let paths = ["a/./g.langium", "a/b.langium", "a/d.langium", "a/c.langium"];
-    assert_eq!(rt; loaded.grammar.files.len(), paths.len());
-    for (file, wanted) in loaded.grammar.files.as_slice().iter().zip(paths) {
-        assert_eq!(rt; file.text(), wanted);
-    }
-    Ok(())
+    let order = ["a/./g.langium", "a/b.langium", "a/d.langium", "a/c.langium"];
+    loads(&rt, "a/./g.langium", deep.as_slice(), order.as_slice())
 }
 
 #[test]
