@@ -19,7 +19,6 @@ use Rattle.langbench.specs.declared.stop.Stop.{Stop}
 use Rattle.langbench.specs.declared.stop.Stop.TheVariants as stop
 use Rattle.lw_load.specs.Loading.{Files}
 
-
 -- a front of the bytes was written, which may be all of them
 abbrev pub WritesPart : Option (List ℕ) → Option (List ℕ) → List ℕ → Type 0
 WritesPart old new bytes = (count : ℕ) × (count ≤ length bytes) × Appends old new (take count bytes)

@@ -16,9 +16,7 @@ pub(crate) fn has_shape(g: &Grammar) -> bool
     let [rule] = g.rules.as_slice() else {
         return false;
     };
-    is_plain_rule(rule)
-        && is_one_file_of_rules(g)
-        && are_plain_terminals(g.terminals.as_slice())
+    is_plain_rule(rule) && is_one_file_of_rules(g) && are_plain_terminals(g.terminals.as_slice())
 }
 
 /// Whether the rule is the entry of the root file, and is a row of plain parts.
@@ -32,10 +30,7 @@ fn is_plain_rule(rule: &Rule) -> bool
 fn is_root_entry(rule: &Rule) -> bool
     ensures { IsTrue result ↔ IsRootEntry rule.now }
 {
-    rule.is_entry
-        && rule.file == 0
-        && !rule.is_fragment
-        && matches!(rule.result, RuleResult::Own)
+    rule.is_entry && rule.file == 0 && !rule.is_fragment && matches!(rule.result, RuleResult::Own)
 }
 
 /// Whether these are some parts, and each is plain.
@@ -65,19 +60,14 @@ fn is_plain_part(part: &Element) -> bool
 fn is_one_file_of_rules(g: &Grammar) -> bool
     ensures { IsTrue result ↔ IsOneFileOfRules g.now }
 {
-    g.files.len() == 1
-        && g.interfaces.is_empty()
-        && g.unions.is_empty()
-        && g.imports.is_empty()
+    g.files.len() == 1 && g.interfaces.is_empty() && g.unions.is_empty() && g.imports.is_empty()
 }
 
 /// Whether each of the terminals is plain.
 fn are_plain_terminals(terminals: &[Terminal]) -> bool
     ensures { IsTrue result ↔ All IsPlainTerminal terminals.now }
 {
-    terminals
-        .iter()
-        .all(|terminal| is_plain_terminal(terminal))
+    terminals.iter().all(|terminal| is_plain_terminal(terminal))
 }
 
 /// Whether a terminal is no fragment, gives its text, and is one regular expression.

@@ -42,12 +42,7 @@ fn walked_paths(rt: HostRuntime) -> Result<(), Fail> {
 }
 
 // The files of the root, in load order, are these.
-fn loads(
-    rt: &HostRuntime,
-    root: &str,
-    files: &[(&str, &str)],
-    paths: &[&str],
-) -> Result<(), Fail> {
+fn loads(rt: &HostRuntime, root: &str, files: &[(&str, &str)], paths: &[&str]) -> Result<(), Fail> {
     let mut store = store_of(rt.alloc(), files)?;
     let root = Name::from_text(rt.alloc(), root)?;
     let loaded = load(rt.alloc(), &root, &mut store).ok().ok_or("a grammar")?;
