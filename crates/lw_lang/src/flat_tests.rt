@@ -74,7 +74,7 @@ fn terminals(
     Ok(made)
 }
 
-/// A grammar whose entry rule has this name and these parts.
+/// A grammar of one file, whose entry rule has this name and these parts.
 fn grammar(
     alloc: Global,
     name: &str,
@@ -95,9 +95,11 @@ fn grammar(
     };
     let mut rules = Vec::new(alloc);
     rules.push(rule)?;
+    let mut files = Vec::new(alloc);
+    files.push(Name::from_text(alloc, "f.langium")?)?;
     Ok(Grammar {
         name: Name::from_text(alloc, "F")?,
-        files: Items::new(alloc),
+        files: Items::from_vec(files),
         rules: Items::from_vec(rules),
         terminals: Items::from_vec(terminals(alloc, table)?),
         interfaces: Items::new(alloc),

@@ -1,12 +1,13 @@
-//! A grammar made ready: a grammar file becomes a language, and a text is read by it.
+//! A grammar made ready: a root file and all that it imports become a language, and a text is read by it.
 //!
-//! [`compile`] reads the root file of a grammar through a store, and answers the [`Language`] of what
-//! the file says, or the one cause why there is none. [`Language::read`] says what a text reads as, exactly
-//! as `specs/Reading.antt` of `lw_reading` does. A language is seen as its grammar and the texts by which
-//! messages name its kinds.
+//! [`compile`] loads the root file of a grammar with all that it imports through a store (`lw_load`), and answers the
+//! [`Language`] of what the files say together, or the one cause why there is none. [`Language::read`] says what a text
+//! reads as, exactly as `specs/Reading.antt` of `lw_reading` does. A language is seen as its grammar and the texts by
+//! which messages name its kinds.
 //!
-//! The grammar files that are built so far are those of `specs/Small.antt`, with none of the conditions of
-//! `specs/Obstacles.antt`. Their one rule has one row of kinds, so reading is a walk along that row.
+//! Any grammar is loaded. Those of the shape of `specs/Shape.antt` with none of the conditions of `specs/Obstacles.antt`
+//! are made ready: their one rule has one row of kinds, so reading is a walk along that row. Any other is
+//! [`CompileFault::Unbuilt`], which has no place of its own and is told at the start of the root file.
 #![tactic(auto)]
 
 mod compiler;

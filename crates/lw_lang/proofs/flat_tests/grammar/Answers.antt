@@ -20,7 +20,9 @@ returns c =
       result = Own;
       body = Group parts nowhere;
     } in
-    shaped _ rule parts nowhere (c.from_vec-2.ensures ∙ c.in_ok-push.ensures.items ∙ ap (λ rs. rs ++ rule ∷ []) c.new-rules.ensures.items) refl refl refl refl refl
+    let file = c.in_ok-from_text-2.field-0 in
+    shaped _ file rule parts nowhere (c.from_vec-2.ensures ∙ c.in_ok-push-2.ensures.items ∙ ap (λ fs. fs ++ file ∷ []) c.new-files.ensures.items)
+    (c.from_vec-3.ensures ∙ c.in_ok-push.ensures.items ∙ ap (λ rs. rs ++ rule ∷ []) c.new-rules.ensures.items) refl refl refl refl refl
     (subst (All IsPlainPart) (sym c.from_vec.ensures) c.in_ok-elements.ensures.plain)
     (subst (λ es. 0 < length es) (sym c.from_vec.ensures) (subst (λ n. 0 < n) (sym c.in_ok-elements.ensures.some) c.requires))
-    (subst (All IsPlainTerminal) (sym c.from_vec-3.ensures) c.in_ok-terminals.ensures) c.new-2.ensures c.new-3.ensures c.new-4.ensures
+    (subst (All IsPlainTerminal) (sym c.from_vec-4.ensures) c.in_ok-terminals.ensures) c.new.ensures c.new-2.ensures c.new-3.ensures
