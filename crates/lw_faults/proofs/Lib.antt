@@ -1,1 +1,3 @@
 pub mod Sorted
+pub mod Every
+pub mod ReadLemmas
