@@ -1,3 +1,4 @@
 pub mod Sorted
 pub mod Every
 pub mod ReadLemmas
+pub mod StepLemmas
