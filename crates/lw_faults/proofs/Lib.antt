@@ -2,3 +2,8 @@ pub mod Sorted
 pub mod Every
 pub mod ReadLemmas
 pub mod StepLemmas
+pub mod WorkedReads
+pub mod RecursionWorked
+pub mod PartLemmas
+pub mod AloneLemmas
+pub mod ReadsWorked

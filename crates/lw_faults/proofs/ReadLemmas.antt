@@ -58,8 +58,11 @@ module _ (g : Grammar) where
   can_read {e} {f} {n} is does = read.reads (subst (λ x. ReadsLayer g x n) (sym is) (to_layer f n does))
 
   -- ---- by a row
-  row_reads : {e : Element} {es : List Element} {n : ℕ} → ReadsAll g (e ∷ es) n → (m : ℕ) × (k : ℕ) × Reads g e m × ReadsAll g es k × (n ≡ m + k)
+  pub row_reads : {e : Element} {es : List Element} {n : ℕ} → ReadsAll g (e ∷ es) n → (m : ℕ) × (k : ℕ) × Reads g e m × ReadsAll g es k × (n ≡ m + k)
   row_reads (read.more {m} {n} first others) = (m, n, first, others, refl)
+
+  pub row_ends : {n : ℕ} → ReadsAll g [] n → n ≡ 0
+  row_ends read.none = refl
 
   -- what reads nothing is made of what reads nothing
   pub row_of_none : {e : Element} {es : List Element} → ReadsAll g (e ∷ es) 0 → Reads g e 0 × ReadsAll g es 0

@@ -11,3 +11,4 @@ pub mod Properties
 pub mod Circles
 pub mod BadCalls
 pub mod Faults
+pub mod Worked

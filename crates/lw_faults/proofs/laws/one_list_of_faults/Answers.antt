@@ -3,8 +3,5 @@ use Rattle.lw_faults.specs.Faults.{IsTypeFault, IsCheckFault}
 use Rattle.lw_faults.proofs.Sorted.{one_list}
 use Rattle.lw_faults.proofs.laws.one_list_of_faults.Goals as goal
 
-pub returns-clause-types : goal.returns-clause-types
-returns-clause-types c g = one_list (IsTypeFault g)
-
-pub returns-clause-checks : goal.returns-clause-checks
-returns-clause-checks c g = one_list (IsCheckFault g)
+pub returns : goal.returns
+returns c = record { types = λ g. one_list (IsTypeFault g); checks = λ g. one_list (IsCheckFault g) }

@@ -1,0 +1,110 @@
+-- Grammars that are written out, of which the laws say which fault they have and where, and which they have not. A place is written
+-- where it is told; the others are nowhere. Each grammar has `terminal ID: /[a-z]+/;` behind what its comment shows.
+use Rattle.std.specs.Prelude.{ℕ, ◌≡◌, List, [], ◌∷◌, Some, None, true, false, codes}
+use Rattle.lw_base.specs.declared.token.Span.{Span}
+use Rattle.lw_grammar.specs.declared.grammar.Grammar.{Grammar}
+use Rattle.lw_grammar.specs.declared.rule.Rule.{Rule}
+use Rattle.lw_grammar.specs.declared.rule.RuleResult.TheVariants.{Own}
+use Rattle.lw_grammar.specs.declared.rule.Op.TheVariants.{One}
+use Rattle.lw_grammar.specs.declared.rule.Element.{Element}
+use Rattle.lw_grammar.specs.declared.rule.Element.TheVariants.{Keyword, Call, Assign, Group, Choice, Maybe, Many}
+use Rattle.lw_grammar.specs.declared.rule.Value0.TheVariants as value
+use Rattle.lw_grammar.specs.declared.terminal.Terminal.{Terminal}
+use Rattle.lw_grammar.specs.declared.terminal.TermElement.TheVariants.{Pattern}
+use Rattle.lw_grammar.specs.declared.terminal.Primitive.TheVariants.{Text}
+
+-- ---- what the laws say of a fault
+
+-- it is found here, and nowhere else
+abbrev pub StandsAlone : (ℕ → Span → List ℕ → Type 0) → ℕ → Span → List ℕ → Type 0
+StandsAlone IsFault file s name = IsFault file s name × ((f : ℕ) (t : Span) (n : List ℕ) → IsFault f t n → (f ≡ file) × (t ≡ s) × (n ≡ name))
+
+-- it is not found
+abbrev pub StandsNowhere : (ℕ → Span → List ℕ → Type 0) → Type 0
+StandsNowhere IsFault = (file : ℕ) (s : Span) (name : List ℕ) → ¬ IsFault file s name
+
+-- ---- parts
+
+abbrev pub place : ℕ → ℕ → Span
+place start end = record { start = start; end = end }
+
+abbrev pub nowhere : Span
+nowhere = place 0 0
+
+abbrev pub word : List ℕ → Element
+word text = Keyword text nowhere
+
+-- a property and the rule or terminal that it is put in by, as `x=ID`
+abbrev pub puts : List ℕ → List ℕ → Element
+puts p name = Assign p One (value.Call name nowhere) nowhere
+
+abbrev pub named_rule : List ℕ → Span → Element → Rule
+named_rule name s body = record { name = name; file = 0; span = s; is_entry = false; is_fragment = false; result = Own; body = body }
+
+abbrev pub entry_rule : List ℕ → Span → Element → Rule
+entry_rule name s body = record (named_rule name s body) { is_entry = true }
+
+abbrev pub fragment_rule : List ℕ → Span → Element → Rule
+fragment_rule name s body = record (named_rule name s body) { is_fragment = true }
+
+abbrev pub id_terminal : Terminal
+id_terminal = record { name = codes "ID"; file = 0; span = nowhere; is_hidden = false; is_fragment = false; gives = Text; body = Pattern (codes "[a-z]+") nowhere }
+
+abbrev pub rules_alone : List Rule → Grammar
+rules_alone rules = record { name = codes "G"; files = []; rules = rules; terminals = id_terminal ∷ []; interfaces = []; unions = []; imports = [] }
+
+-- ---- left recursion, behind a call of a fragment:
+--     grammar G entry A: v='q' | F a=A 'x'; fragment F: z=ID?;
+
+abbrev pub recursive_row : List Element
+recursive_row = Call (codes "F") nowhere ∷ puts (codes "a") (codes "A") ∷ word (codes "x") ∷ []
+
+abbrev pub recursive_ways : List Element
+recursive_ways = Assign (codes "v") One (value.Keyword (codes "q") nowhere) nowhere ∷ Group recursive_row nowhere ∷ []
+
+abbrev pub recursive_rule : Rule
+recursive_rule = entry_rule (codes "A") (place 16 17) (Choice recursive_ways nowhere)
+
+abbrev pub behind_fragment : Element → Grammar
+behind_fragment body = rules_alone (recursive_rule ∷ fragment_rule (codes "F") nowhere body ∷ [])
+
+-- with `z=ID?`, and with `z=ID`
+abbrev pub left_recursive : Grammar
+left_recursive = behind_fragment (Maybe (puts (codes "z") (codes "ID")) nowhere)
+
+abbrev pub right_recursive : Grammar
+right_recursive = behind_fragment (puts (codes "z") (codes "ID"))
+
+-- ---- a rule that reads nothing: grammar G entry A: b=B; B: x=ID?;
+
+abbrev pub x_id : Element
+x_id = puts (codes "x") (codes "ID")
+
+abbrev pub calling_rule : Rule
+calling_rule = entry_rule (codes "A") nowhere (puts (codes "b") (codes "B"))
+
+abbrev pub called_rule : Element → Rule
+called_rule body = named_rule (codes "B") (place 24 25) body
+
+abbrev pub calling_b : Element → Grammar
+calling_b body = rules_alone (calling_rule ∷ called_rule body ∷ [])
+
+-- a rule alone: grammar G entry A: ..;
+abbrev pub alone : Element → Grammar
+alone body = rules_alone (entry_rule (codes "A") (place 16 17) body ∷ [])
+
+-- ---- what is repeated reads nothing: grammar G entry A: (x=ID?)*;
+
+abbrev pub repeating : Element → Grammar
+repeating body = alone (Many body (place 19 27))
+
+-- ---- a rule without an end: grammar G entry A: 'x' a=A;
+
+abbrev pub endless_row : Element → List Element
+endless_row again = word (codes "x") ∷ again ∷ []
+
+abbrev pub a_a : Element
+a_a = puts (codes "a") (codes "A")
+
+abbrev pub endless : Element → Grammar
+endless again = alone (Group (endless_row again) nowhere)
