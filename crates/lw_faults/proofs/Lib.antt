@@ -7,3 +7,5 @@ pub mod RecursionWorked
 pub mod PartLemmas
 pub mod AloneLemmas
 pub mod ReadsWorked
+pub mod WorkedSteps
+pub mod ActsWorked

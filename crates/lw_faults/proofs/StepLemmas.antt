@@ -25,6 +25,16 @@ every_append : {X : Type 0} (P : X → Type 0) (xs ys : List X) → Every P xs �
 every_append P [] ys one other = other
 every_append P (x ∷ xs) ys one other = (one.0, every_append P xs ys one.1 other)
 
+-- this holds of each step of a way and of those before it
+abbrev pub EachStep : (List Step → Step → Type 0) → List Step → List Step → Type 0
+EachStep P done [] = Unit {0}
+EachStep P done (x ∷ xs) = P done x × EachStep P (done ++ x ∷ []) xs
+
+at_place : (P : List Step → Step → Type 0) (done before after : List Step) (at : Step) → EachStep P done (before ++ at ∷ after) → P (done ++ before) at
+at_place P done [] after at all = subst (λ xs. P xs at) (sym (append-nil done)) all.0
+at_place P done (x ∷ before) after at all =
+    subst (λ xs. P xs at) (append_assoc done (x ∷ []) before) (at_place P (done ++ x ∷ []) before after at all.1)
+
 pub at_its_number : {X : Type 0} (xs : List X) (i : ℕ) (x : X) → slice_get xs i ≡ Some x → Contains xs x
 at_its_number xs i x is = (i, slice_get_within xs i x is, get_or_from_slice_get xs i x x is)
 
@@ -147,15 +157,7 @@ module _ (g : Grammar) where
       every_of IsWritten (before ++ at ∷ is.after) at (written is.within (λ l has. has) is.goes)
       (Contains-append_right before (at ∷ is.after) at (0, omega arith, refl))
 
-  -- ---- each step of a way, and those before it
-  abbrev pub EachStep : (List Step → Step → Type 0) → List Step → List Step → Type 0
-  EachStep P done [] = Unit {0}
-  EachStep P done (x ∷ xs) = P done x × EachStep P (done ++ x ∷ []) xs
-
-  at_place : (P : List Step → Step → Type 0) (done before after : List Step) (at : Step) → EachStep P done (before ++ at ∷ after) → P (done ++ before) at
-  at_place P done [] after at all = subst (λ xs. P xs at) (sym (append-nil done)) all.0
-  at_place P done (x ∷ before) after at all =
-      subst (λ xs. P xs at) (append_assoc done (x ∷ []) before) (at_place P (done ++ x ∷ []) before after at all.1)
+  -- ---- the ways of a rule
 
   -- on each way through the rule this holds of each step and those before it
   abbrev pub HoldsOnWays : (List Step → Step → Type 0) → Rule → Type 0

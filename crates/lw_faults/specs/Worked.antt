@@ -7,8 +7,9 @@ use Rattle.lw_grammar.specs.declared.rule.Rule.{Rule}
 use Rattle.lw_grammar.specs.declared.rule.RuleResult.TheVariants.{Own}
 use Rattle.lw_grammar.specs.declared.rule.Op.TheVariants.{One}
 use Rattle.lw_grammar.specs.declared.rule.Element.{Element}
-use Rattle.lw_grammar.specs.declared.rule.Element.TheVariants.{Keyword, Call, Assign, Group, Choice, Maybe, Many}
+use Rattle.lw_grammar.specs.declared.rule.Element.TheVariants.{Keyword, Call, Assign, Act, Group, Choice, Maybe, Many}
 use Rattle.lw_grammar.specs.declared.rule.Value0.TheVariants as value
+use Rattle.lw_grammar.specs.declared.rule.Action.{Action}
 use Rattle.lw_grammar.specs.declared.terminal.Terminal.{Terminal}
 use Rattle.lw_grammar.specs.declared.terminal.TermElement.TheVariants.{Pattern}
 use Rattle.lw_grammar.specs.declared.terminal.Primitive.TheVariants.{Text}
@@ -108,3 +109,51 @@ a_a = puts (codes "a") (codes "A")
 
 abbrev pub endless : Element → Grammar
 endless again = alone (Group (endless_row again) nowhere)
+
+-- ---- actions: grammar G entry A: x=ID {infer B};
+
+abbrev pub makes_b : Span → Action
+makes_b s = record { infers = true; type_name = codes "B"; put = None; span = s }
+
+-- `{infer B.p=current}`
+abbrev pub takes_b : Span → Action
+takes_b s = record (makes_b s) { put = Some (codes "p", false) }
+
+-- two parts in a row, and nothing else
+abbrev pub both : Element → Element → List Element
+both one other = one ∷ other ∷ []
+
+abbrev pub row : Element → Element → Grammar
+row one other = alone (Group (both one other) nowhere)
+
+-- grammar G entry A: ({infer B} 'x')*;
+abbrev pub action_and_word : Element
+action_and_word = Group (both (Act (makes_b (place 20 29))) (word (codes "x"))) nowhere
+
+-- grammar G entry A: x=ID F; fragment F: {infer B};
+abbrev pub calls_f : Rule
+calls_f = entry_rule (codes "A") nowhere (Group (both x_id (Call (codes "F") nowhere)) nowhere)
+
+abbrev pub acts_f : Rule
+acts_f = fragment_rule (codes "F") nowhere (Act (makes_b (place 39 48)))
+
+abbrev pub acts_in_fragment : Grammar
+acts_in_fragment = rules_alone (calls_f ∷ acts_f ∷ [])
+
+-- ---- calls of a rule that makes nodes: grammar G entry A: x=ID B; B: y=ID;
+
+abbrev pub node_rule : Rule
+node_rule = named_rule (codes "B") nowhere (puts (codes "y") (codes "ID"))
+
+abbrev pub with_node : Element → Grammar
+with_node body = rules_alone (entry_rule (codes "A") nowhere body ∷ node_rule ∷ [])
+
+abbrev pub node_behind : List Element
+node_behind = both x_id (Call (codes "B") (place 24 25))
+
+abbrev pub node_before : List Element
+node_before = both (Call (codes "B") nowhere) x_id
+
+-- grammar G entry A: (B 'x')*; B: y=ID;
+abbrev pub node_and_word : Element
+node_and_word = Group (both (Call (codes "B") (place 20 21)) (word (codes "x"))) nowhere
