@@ -9,3 +9,4 @@ pub mod AloneLemmas
 pub mod ReadsWorked
 pub mod WorkedSteps
 pub mod ActsWorked
+pub mod CallsWorked
