@@ -10,3 +10,8 @@ pub mod ReadsWorked
 pub mod WorkedSteps
 pub mod ActsWorked
 pub mod CallsWorked
+pub mod LineageLemmas
+pub mod PutLemmas
+pub mod PropertiesWorked
+pub mod MixedWorked
+pub mod BelowWorked

@@ -1,18 +1,25 @@
 -- Grammars that are written out, of which the laws say which fault they have and where, and which they have not. A place is written
 -- where it is told; the others are nowhere. Each grammar has `terminal ID: /[a-z]+/;` behind what its comment shows.
-use Rattle.std.specs.Prelude.{ℕ, ◌≡◌, List, [], ◌∷◌, Some, None, true, false, codes}
+use Rattle.std.specs.Prelude.{ℕ, ◌≡◌, List, [], ◌∷◌, Some, None, Bool, true, false, codes}
 use Rattle.lw_base.specs.declared.token.Span.{Span}
 use Rattle.lw_grammar.specs.declared.grammar.Grammar.{Grammar}
 use Rattle.lw_grammar.specs.declared.rule.Rule.{Rule}
-use Rattle.lw_grammar.specs.declared.rule.RuleResult.TheVariants.{Own}
+use Rattle.lw_grammar.specs.declared.rule.RuleResult.TheVariants.{Own, Returns}
+use Rattle.lw_grammar.specs.declared.rule.Op.{Op}
 use Rattle.lw_grammar.specs.declared.rule.Op.TheVariants.{One}
 use Rattle.lw_grammar.specs.declared.rule.Element.{Element}
 use Rattle.lw_grammar.specs.declared.rule.Element.TheVariants.{Keyword, Call, Assign, Act, Group, Choice, Maybe, Many}
+use Rattle.lw_grammar.specs.declared.rule.Value0.{Value0}
 use Rattle.lw_grammar.specs.declared.rule.Value0.TheVariants as value
 use Rattle.lw_grammar.specs.declared.rule.Action.{Action}
 use Rattle.lw_grammar.specs.declared.terminal.Terminal.{Terminal}
 use Rattle.lw_grammar.specs.declared.terminal.TermElement.TheVariants.{Pattern}
 use Rattle.lw_grammar.specs.declared.terminal.Primitive.TheVariants.{Text}
+use Rattle.lw_grammar.specs.declared.declared_types.Interface.{Interface}
+use Rattle.lw_grammar.specs.declared.declared_types.Attribute.{Attribute}
+use Rattle.lw_grammar.specs.declared.declared_types.UnionDef.{UnionDef}
+use Rattle.lw_grammar.specs.declared.declared_types.Member.{Member}
+use Rattle.lw_grammar.specs.declared.declared_types.Member.TheVariants.{Named, Plain}
 
 -- ---- what the laws say of a fault
 
@@ -157,3 +164,65 @@ node_before = both (Call (codes "B") nowhere) x_id
 -- grammar G entry A: (B 'x')*; B: y=ID;
 abbrev pub node_and_word : Element
 node_and_word = Group (both (Call (codes "B") (place 20 21)) (word (codes "x"))) nowhere
+
+-- ---- declared types: grammar G interface I { x: string } entry A returns I: y=ID;
+
+abbrev pub interface_of : List ℕ → List (List ℕ × Span) → List Attribute → Interface
+interface_of name above attributes = record { name = name; file = 0; span = nowhere; above = above; attributes = attributes }
+
+-- the attribute `x: T` or `x: T[]`
+abbrev pub x_attribute : Bool → Member → Attribute
+x_attribute list member = record { name = codes "x"; span = nowhere; optional = false; list = list; members = member ∷ [] }
+
+abbrev pub i_interface : Bool → Member → Interface
+i_interface list member = interface_of (codes "I") [] (x_attribute list member ∷ [])
+
+abbrev pub returning_rule : List ℕ → Element → Rule
+returning_rule type_name body = record (entry_rule (codes "A") nowhere body) { result = Returns type_name nowhere }
+
+abbrev pub returning : List Interface → List UnionDef → List ℕ → Element → Grammar
+returning interfaces unions type_name body = record (rules_alone (returning_rule type_name body ∷ [])) { interfaces = interfaces; unions = unions }
+
+-- an interface with one attribute, and an assignment
+abbrev pub with_attribute : Bool → Member → Element → Grammar
+with_attribute list member body = returning (i_interface list member ∷ []) [] (codes "I") body
+
+-- grammar G interface I { x: string } interface J extends I {} entry A returns J: x=ID;
+abbrev pub j_interface : Interface
+j_interface = interface_of (codes "J") ((codes "I", nowhere) ∷ []) []
+
+abbrev pub extended : Element → Grammar
+extended body = returning (i_interface false (Plain Text) ∷ j_interface ∷ []) [] (codes "J") body
+
+-- grammar G interface I { x: string } type U = I; entry A returns U: x=ID;
+abbrev pub u_union : UnionDef
+u_union = record { name = codes "U"; file = 0; span = nowhere; members = Named (codes "I") nowhere ∷ [] }
+
+abbrev pub united : Element → Grammar
+united body = returning (i_interface false (Plain Text) ∷ []) (u_union ∷ []) (codes "U") body
+
+-- what is put in, and where it stands
+abbrev pub x_by : Op → Value0 → Span → Element
+x_by op v s = Assign (codes "x") op v s
+
+abbrev pub id_call : Value0
+id_call = value.Call (codes "ID") nowhere
+
+abbrev pub i_reference : Value0
+i_reference = value.Cross (codes "I") (Some (codes "ID")) nowhere
+
+-- ---- a property of an inferred type, put in twice: grammar G entry A: x=ID x+=ID;
+
+abbrev pub twice : Op → Op → Span → Grammar
+twice first second s = row (x_by first id_call (place 19 23)) (x_by second id_call s)
+
+-- ---- a type that is not below: grammar G interface T {} interface S {} entry A returns T: {S};
+
+abbrev pub s_interface : List (List ℕ × Span) → Interface
+s_interface above = interface_of (codes "S") above []
+
+abbrev pub s_action : Span → Action
+s_action s = record { infers = false; type_name = codes "S"; put = None; span = s }
+
+abbrev pub making_s : List (List ℕ × Span) → Span → Grammar
+making_s above s = returning (interface_of (codes "T") [] [] ∷ s_interface above ∷ []) [] (codes "T") (Act (s_action s))

@@ -1,12 +1,17 @@
 // What a reader may expect of the faults of a grammar, and where they are in grammars that are written out.
-ghost use Rattle.std.specs.Prelude.{◌≡◌, List, codes};
+ghost use Rattle.std.specs.Prelude.{◌≡◌, [], ◌∷◌, List, true, false, codes};
 ghost use Rattle.lw_base.specs.declared.token.Span.{Span};
-ghost use Rattle.lw_grammar.specs.declared.rule.Element.TheVariants.{Call, Act, Group, Maybe, Many};
+ghost use Rattle.lw_grammar.specs.declared.rule.Element.TheVariants.{Call, Assign, Act, Group, Maybe, Many};
+ghost use Rattle.lw_grammar.specs.declared.rule.Op.TheVariants.{One, Add, Flag};
+ghost use Rattle.lw_grammar.specs.declared.rule.Value0.TheVariants as value;
+ghost use Rattle.lw_grammar.specs.declared.terminal.Primitive.TheVariants.{Text, Boolean};
+ghost use Rattle.lw_grammar.specs.declared.declared_types.Member.TheVariants.{Plain, Refers};
 ghost use Rattle.lw_grammar.specs.declared.fault.GrammarFault.{GrammarFault};
 ghost use Rattle.lw_grammar.specs.declared.grammar.Grammar.{Grammar};
 ghost use Rattle.lw_faults.specs.Derivations.{LeftRecursion, ReadsNothing, RepeatsNothing, NeverEnds};
 ghost use Rattle.lw_faults.specs.Faults.{AreTypeFaults, AreCheckFaults};
-ghost use Rattle.lw_faults.specs.Worked.{StandsAlone, StandsNowhere, place, nowhere, left_recursive, right_recursive, x_id, calling_b, alone, repeating, a_a, endless, word, makes_b, takes_b, row, action_and_word, acts_in_fragment, with_node, node_behind, node_before, node_and_word};
+ghost use Rattle.lw_faults.specs.Worked.{StandsAlone, StandsNowhere, place, nowhere, left_recursive, right_recursive, x_id, calling_b, alone, repeating, a_a, endless, word, makes_b, takes_b, row, action_and_word, acts_in_fragment, with_node, node_behind, node_before, node_and_word, puts, with_attribute, extended, united, x_by, id_call, i_reference, twice, making_s};
+ghost use Rattle.lw_faults.specs.Properties.{UnknownProperty, WrongPropertyForm, MixedProperty, NotASubtype};
 ghost use Rattle.lw_faults.specs.Misplaced.{MisplacedAction, MisplacedCall};
 
 /// A grammar has one list of faults in each phase.
@@ -60,4 +65,39 @@ pub fn misplaced_calls()
     ensures repeated { StandsAlone (MisplacedCall (with_node (Many node_and_word nowhere))) 0 (place 20 21) (codes "B") }
     ensures optional { StandsNowhere (MisplacedCall (with_node (Maybe node_and_word nowhere))) }
     ensures token { (s : Span) → StandsNowhere (MisplacedCall (row x_id (Call (codes "ID") s))) }
+{}
+
+/// A declared type has the properties that it and what it extends declare. A union has none.
+pub fn unknown_properties()
+    ensures undeclared { StandsAlone (UnknownProperty (with_attribute false (Plain Text) (Assign (codes "y") One id_call (place 55 59)))) 0 (place 55 59) (codes "y") }
+    ensures declared { (s : Span) → StandsNowhere (UnknownProperty (with_attribute false (Plain Text) (x_by One id_call s))) }
+    ensures extended { (s : Span) → StandsNowhere (UnknownProperty (extended (x_by One id_call s))) }
+    ensures union_ { StandsAlone (UnknownProperty (united (x_by One id_call (place 67 71)))) 0 (place 67 71) (codes "x") }
+{}
+
+/// What is put into a declared property has its form: a list by `+=`, `boolean` by `?=`, and what is referred to by a cross-reference.
+pub fn property_forms()
+    ensures one_into_list { StandsAlone (WrongPropertyForm (with_attribute true (Plain Text) (x_by One id_call (place 57 61)))) 0 (place 57 61) (codes "x") }
+    ensures added_to_list { (s : Span) → StandsNowhere (WrongPropertyForm (with_attribute true (Plain Text) (x_by Add id_call s))) }
+    ensures added_to_one { StandsAlone (WrongPropertyForm (with_attribute false (Plain Text) (x_by Add id_call (place 55 60)))) 0 (place 55 60) (codes "x") }
+    ensures one { (s : Span) → StandsNowhere (WrongPropertyForm (with_attribute false (Plain Text) (x_by One id_call s))) }
+    ensures flag_into_text { StandsAlone (WrongPropertyForm (with_attribute false (Plain Text) (x_by Flag (value.Keyword (codes "k") nowhere) (place 55 61)))) 0 (place 55 61) (codes "x") }
+    ensures flag { (s : Span) → StandsNowhere (WrongPropertyForm (with_attribute false (Plain Boolean) (x_by Flag (value.Keyword (codes "k") nowhere) s))) }
+    ensures text_for_reference { StandsAlone (WrongPropertyForm (with_attribute false (Refers (codes "I") nowhere) (x_by One id_call (place 51 55)))) 0 (place 51 55) (codes "x") }
+    ensures reference_for_text { StandsAlone (WrongPropertyForm (with_attribute false (Plain Text) (x_by One i_reference (place 55 63)))) 0 (place 55 63) (codes "x") }
+    ensures reference { (s : Span) → StandsNowhere (WrongPropertyForm (with_attribute false (Refers (codes "I") nowhere) (x_by One i_reference s))) }
+{}
+
+/// A property of an inferred type is a list each time that something is put into it, or never.
+pub fn mixed_properties()
+    ensures one_then_list { StandsAlone (MixedProperty (twice One Add (place 24 29))) 0 (place 24 29) (codes "x") }
+    ensures list_then_one { StandsAlone (MixedProperty (twice Add One (place 25 29))) 0 (place 25 29) (codes "x") }
+    ensures ones { StandsNowhere (MixedProperty (twice One One (place 24 28))) }
+    ensures lists { StandsNowhere (MixedProperty (twice Add Add (place 25 30))) }
+{}
+
+/// A rule that returns a declared type makes nodes of it and of what is below it.
+pub fn types_that_are_not_below()
+    ensures apart { StandsAlone (NotASubtype (making_s [] (place 59 62))) 0 (place 59 62) (codes "S") }
+    ensures below { (s : Span) → StandsNowhere (NotASubtype (making_s ((codes "T", nowhere) ∷ []) s)) }
 {}
