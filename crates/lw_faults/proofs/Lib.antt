@@ -15,3 +15,6 @@ pub mod PutLemmas
 pub mod PropertiesWorked
 pub mod MixedWorked
 pub mod BelowWorked
+pub mod TermLemmas
+pub mod CircularTypesWorked
+pub mod CircularCallsWorked

@@ -13,7 +13,8 @@ use Rattle.lw_grammar.specs.declared.rule.Value0.{Value0}
 use Rattle.lw_grammar.specs.declared.rule.Value0.TheVariants as value
 use Rattle.lw_grammar.specs.declared.rule.Action.{Action}
 use Rattle.lw_grammar.specs.declared.terminal.Terminal.{Terminal}
-use Rattle.lw_grammar.specs.declared.terminal.TermElement.TheVariants.{Pattern}
+use Rattle.lw_grammar.specs.declared.terminal.TermElement.{TermElement}
+use Rattle.lw_grammar.specs.declared.terminal.TermElement.TheVariants as term
 use Rattle.lw_grammar.specs.declared.terminal.Primitive.TheVariants.{Text}
 use Rattle.lw_grammar.specs.declared.declared_types.Interface.{Interface}
 use Rattle.lw_grammar.specs.declared.declared_types.Attribute.{Attribute}
@@ -56,7 +57,7 @@ abbrev pub fragment_rule : List ℕ → Span → Element → Rule
 fragment_rule name s body = record (named_rule name s body) { is_fragment = true }
 
 abbrev pub id_terminal : Terminal
-id_terminal = record { name = codes "ID"; file = 0; span = nowhere; is_hidden = false; is_fragment = false; gives = Text; body = Pattern (codes "[a-z]+") nowhere }
+id_terminal = record { name = codes "ID"; file = 0; span = nowhere; is_hidden = false; is_fragment = false; gives = Text; body = term.Pattern (codes "[a-z]+") nowhere }
 
 abbrev pub rules_alone : List Rule → Grammar
 rules_alone rules = record { name = codes "G"; files = []; rules = rules; terminals = id_terminal ∷ []; interfaces = []; unions = []; imports = [] }
@@ -226,3 +227,52 @@ s_action s = record { infers = false; type_name = codes "S"; put = None; span = 
 
 abbrev pub making_s : List (List ℕ × Span) → Span → Grammar
 making_s above s = returning (interface_of (codes "T") [] [] ∷ s_interface above ∷ []) [] (codes "T") (Act (s_action s))
+
+-- ---- types alone: grammar G interface A extends B {} interface B extends A {}
+
+abbrev pub types_alone : List Interface → List UnionDef → Grammar
+types_alone interfaces unions = record (rules_alone []) { interfaces = interfaces; unions = unions }
+
+-- an interface that extends one other, or none
+abbrev pub extending : List ℕ → Span → List (List ℕ × Span) → Interface
+extending name s above = record (interface_of name above []) { span = s }
+
+abbrev pub extends : List ℕ → List (List ℕ × Span)
+extends name = (name, nowhere) ∷ []
+
+abbrev pub a_extending : List (List ℕ × Span) → Interface
+a_extending above = extending (codes "A") (place 20 21) above
+
+abbrev pub b_extending : List (List ℕ × Span) → Interface
+b_extending above = extending (codes "B") (place 45 46) above
+
+-- grammar G type U = U;
+abbrev pub union_of : Member → UnionDef
+union_of member = record { name = codes "U"; file = 0; span = place 15 16; members = member ∷ [] }
+
+-- ---- a fragment or a terminal that calls itself:
+--     grammar G entry A: F; fragment F: 'x' F?;
+--     grammar G entry A: x=ID; terminal T: 'a' T?;
+
+abbrev pub f_caller : Rule
+f_caller = entry_rule (codes "A") nowhere (Call (codes "F") nowhere)
+
+abbrev pub x_and : List ℕ → Element
+x_and name = Group (both (word (codes "x")) (Maybe (Call name nowhere) nowhere)) nowhere
+
+-- with `'x' F?`, or with `'x' A?`
+abbrev pub fragment_calling : List ℕ → Grammar
+fragment_calling name = rules_alone (f_caller ∷ fragment_rule (codes "F") (place 31 32) (x_and name) ∷ [])
+
+abbrev pub a_and : List ℕ → List TermElement
+a_and name = term.Literal (codes "a") nowhere ∷ term.Maybe (term.Call name nowhere) ∷ []
+
+abbrev pub t_terminal : TermElement → Terminal
+t_terminal body = record id_terminal { name = codes "T"; span = place 34 35; body = body }
+
+abbrev pub with_terminal : TermElement → Grammar
+with_terminal body = record (alone x_id) { terminals = id_terminal ∷ t_terminal body ∷ [] }
+
+-- with `'a' T?`, or with `'a' ID?`
+abbrev pub terminal_calling : List ℕ → Grammar
+terminal_calling name = with_terminal (term.Group (a_and name))

@@ -5,12 +5,13 @@ ghost use Rattle.lw_grammar.specs.declared.rule.Element.TheVariants.{Call, Assig
 ghost use Rattle.lw_grammar.specs.declared.rule.Op.TheVariants.{One, Add, Flag};
 ghost use Rattle.lw_grammar.specs.declared.rule.Value0.TheVariants as value;
 ghost use Rattle.lw_grammar.specs.declared.terminal.Primitive.TheVariants.{Text, Boolean};
-ghost use Rattle.lw_grammar.specs.declared.declared_types.Member.TheVariants.{Plain, Refers};
+ghost use Rattle.lw_grammar.specs.declared.declared_types.Member.TheVariants.{Named, Plain, Refers, Literal};
 ghost use Rattle.lw_grammar.specs.declared.fault.GrammarFault.{GrammarFault};
 ghost use Rattle.lw_grammar.specs.declared.grammar.Grammar.{Grammar};
 ghost use Rattle.lw_faults.specs.Derivations.{LeftRecursion, ReadsNothing, RepeatsNothing, NeverEnds};
 ghost use Rattle.lw_faults.specs.Faults.{AreTypeFaults, AreCheckFaults};
-ghost use Rattle.lw_faults.specs.Worked.{StandsAlone, StandsNowhere, place, nowhere, left_recursive, right_recursive, x_id, calling_b, alone, repeating, a_a, endless, word, makes_b, takes_b, row, action_and_word, acts_in_fragment, with_node, node_behind, node_before, node_and_word, puts, with_attribute, extended, united, x_by, id_call, i_reference, twice, making_s};
+ghost use Rattle.lw_faults.specs.Worked.{StandsAlone, StandsNowhere, place, nowhere, left_recursive, right_recursive, x_id, calling_b, alone, repeating, a_a, endless, word, makes_b, takes_b, row, action_and_word, acts_in_fragment, with_node, node_behind, node_before, node_and_word, puts, with_attribute, extended, united, x_by, id_call, i_reference, twice, making_s, types_alone, extends, a_extending, b_extending, union_of, fragment_calling, terminal_calling};
+ghost use Rattle.lw_faults.specs.Circles.{CircularType, CircularCall};
 ghost use Rattle.lw_faults.specs.Properties.{UnknownProperty, WrongPropertyForm, MixedProperty, NotASubtype};
 ghost use Rattle.lw_faults.specs.Misplaced.{MisplacedAction, MisplacedCall};
 
@@ -100,4 +101,24 @@ pub fn mixed_properties()
 pub fn types_that_are_not_below()
     ensures apart { StandsAlone (NotASubtype (making_s [] (place 59 62))) 0 (place 59 62) (codes "S") }
     ensures below { (s : Span) → StandsNowhere (NotASubtype (making_s ((codes "T", nowhere) ∷ []) s)) }
+{}
+
+/// No interface extends itself or what is no interface, and no union is a member of itself.
+pub fn circular_types()
+    ensures itself { StandsAlone (CircularType (types_alone (a_extending (extends (codes "A")) ∷ []) [])) 0 (place 20 21) (codes "A") }
+    ensures first_of_two { CircularType (types_alone (a_extending (extends (codes "B")) ∷ b_extending (extends (codes "A")) ∷ []) []) 0 (place 20 21) (codes "A") }
+    ensures second_of_two { CircularType (types_alone (a_extending (extends (codes "B")) ∷ b_extending (extends (codes "A")) ∷ []) []) 0 (place 45 46) (codes "B") }
+    ensures other { StandsNowhere (CircularType (types_alone (a_extending (extends (codes "B")) ∷ b_extending [] ∷ []) [])) }
+    ensures union_ { StandsAlone (CircularType (types_alone [] (union_of (Named (codes "U") nowhere) ∷ []))) 0 (place 15 16) (codes "U") }
+    ensures references { StandsNowhere (CircularType (types_alone [] (union_of (Refers (codes "U") nowhere) ∷ []))) }
+    ensures no_interface { StandsAlone (CircularType (types_alone (a_extending (extends (codes "U")) ∷ []) (union_of (Literal (codes "a")) ∷ []))) 0 (place 20 21) (codes "A") }
+    ensures unknown { StandsNowhere (CircularType (types_alone (a_extending (extends (codes "Z")) ∷ []) [])) }
+{}
+
+/// No fragment calls itself through fragments, and no terminal calls itself. A fragment may call a rule that calls it.
+pub fn circular_calls()
+    ensures fragment_ { StandsAlone (CircularCall (fragment_calling (codes "F"))) 0 (place 31 32) (codes "F") }
+    ensures through_a_rule { StandsNowhere (CircularCall (fragment_calling (codes "A"))) }
+    ensures terminal { StandsAlone (CircularCall (terminal_calling (codes "T"))) 0 (place 34 35) (codes "T") }
+    ensures other_terminal { StandsNowhere (CircularCall (terminal_calling (codes "ID"))) }
 {}

@@ -1,0 +1,15 @@
+-- What each type needs is written out.
+use Rattle.lw_faults.proofs.CircularTypesWorked.{itself, first_of_two, second_of_two, other, union_itself, references, no_interface, unknown}
+use Rattle.lw_faults.proofs.laws.circular_types.Goals as goal
+
+pub returns : goal.returns
+returns c = record {
+  itself = itself;
+  first_of_two = first_of_two;
+  second_of_two = second_of_two;
+  other = other;
+  union_ = union_itself;
+  references = references;
+  no_interface = no_interface;
+  unknown = unknown;
+}
