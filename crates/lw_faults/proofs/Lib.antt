@@ -18,3 +18,6 @@ pub mod BelowWorked
 pub mod TermLemmas
 pub mod CircularTypesWorked
 pub mod CircularCallsWorked
+pub mod NodeLemmas
+pub mod EntriesWorked
+pub mod DataTypesWorked

@@ -4,6 +4,7 @@ use Rattle.std.specs.Prelude.{ℕ, ◌≡◌, List, [], ◌∷◌, Some, None, B
 use Rattle.lw_base.specs.declared.token.Span.{Span}
 use Rattle.lw_grammar.specs.declared.grammar.Grammar.{Grammar}
 use Rattle.lw_grammar.specs.declared.rule.Rule.{Rule}
+use Rattle.lw_grammar.specs.declared.rule.RuleResult.{RuleResult}
 use Rattle.lw_grammar.specs.declared.rule.RuleResult.TheVariants.{Own, Returns}
 use Rattle.lw_grammar.specs.declared.rule.Op.{Op}
 use Rattle.lw_grammar.specs.declared.rule.Op.TheVariants.{One}
@@ -276,3 +277,26 @@ with_terminal body = record (alone x_id) { terminals = id_terminal ∷ t_termina
 -- with `'a' T?`, or with `'a' ID?`
 abbrev pub terminal_calling : List ℕ → Grammar
 terminal_calling name = with_terminal (term.Group (a_and name))
+
+-- ---- entries: grammar G entry A: x=ID; entry B: y=ID;
+
+abbrev pub in_file : ℕ → Rule → Rule
+in_file file rule = record rule { file = file }
+
+abbrev pub b_entry : Rule
+b_entry = entry_rule (codes "B") (place 31 32) (puts (codes "y") (codes "ID"))
+
+abbrev pub a_entry : Rule
+a_entry = entry_rule (codes "A") (place 16 17) x_id
+
+-- grammar G entry fragment A: x=ID;
+abbrev pub entry_fragment : Rule
+entry_fragment = record (fragment_rule (codes "A") (place 25 26) x_id) { is_entry = true }
+
+abbrev pub id_element : Element
+id_element = Call (codes "ID") nowhere
+
+-- ---- what a rule says of its type: grammar G entry A returns string: x=ID;
+
+abbrev pub resulting : RuleResult → List UnionDef → Element → Grammar
+resulting result unions body = record (rules_alone (record (entry_rule (codes "A") (place 16 17) body) { result = result } ∷ [])) { unions = unions }

@@ -4,13 +4,16 @@ ghost use Rattle.lw_base.specs.declared.token.Span.{Span};
 ghost use Rattle.lw_grammar.specs.declared.rule.Element.TheVariants.{Call, Assign, Act, Group, Maybe, Many};
 ghost use Rattle.lw_grammar.specs.declared.rule.Op.TheVariants.{One, Add, Flag};
 ghost use Rattle.lw_grammar.specs.declared.rule.Value0.TheVariants as value;
+ghost use Rattle.lw_grammar.specs.declared.rule.RuleResult.TheVariants.{Returns, Gives, Infers};
 ghost use Rattle.lw_grammar.specs.declared.terminal.Primitive.TheVariants.{Text, Boolean};
 ghost use Rattle.lw_grammar.specs.declared.declared_types.Member.TheVariants.{Named, Plain, Refers, Literal};
 ghost use Rattle.lw_grammar.specs.declared.fault.GrammarFault.{GrammarFault};
 ghost use Rattle.lw_grammar.specs.declared.grammar.Grammar.{Grammar};
 ghost use Rattle.lw_faults.specs.Derivations.{LeftRecursion, ReadsNothing, RepeatsNothing, NeverEnds};
 ghost use Rattle.lw_faults.specs.Faults.{AreTypeFaults, AreCheckFaults};
-ghost use Rattle.lw_faults.specs.Worked.{StandsAlone, StandsNowhere, place, nowhere, left_recursive, right_recursive, x_id, calling_b, alone, repeating, a_a, endless, word, makes_b, takes_b, row, action_and_word, acts_in_fragment, with_node, node_behind, node_before, node_and_word, puts, with_attribute, extended, united, x_by, id_call, i_reference, twice, making_s, types_alone, extends, a_extending, b_extending, union_of, fragment_calling, terminal_calling};
+ghost use Rattle.lw_faults.specs.Worked.{StandsAlone, StandsNowhere, place, nowhere, left_recursive, right_recursive, x_id, calling_b, alone, repeating, a_a, endless, word, makes_b, takes_b, row, action_and_word, acts_in_fragment, with_node, node_behind, node_before, node_and_word, puts, with_attribute, extended, united, x_by, id_call, i_reference, twice, making_s, types_alone, extends, a_extending, b_extending, union_of, fragment_calling, terminal_calling, rules_alone, named_rule, in_file, a_entry, b_entry, entry_fragment, id_element, resulting};
+ghost use Rattle.lw_faults.specs.Entries.{NoEntry, SecondEntry, EntryMakesNoNode};
+ghost use Rattle.lw_faults.specs.DataTypes.{MixedDataTypeRule};
 ghost use Rattle.lw_faults.specs.Circles.{CircularType, CircularCall};
 ghost use Rattle.lw_faults.specs.Properties.{UnknownProperty, WrongPropertyForm, MixedProperty, NotASubtype};
 ghost use Rattle.lw_faults.specs.Misplaced.{MisplacedAction, MisplacedCall};
@@ -121,4 +124,26 @@ pub fn circular_calls()
     ensures through_a_rule { StandsNowhere (CircularCall (fragment_calling (codes "A"))) }
     ensures terminal { StandsAlone (CircularCall (terminal_calling (codes "T"))) 0 (place 34 35) (codes "T") }
     ensures other_terminal { StandsNowhere (CircularCall (terminal_calling (codes "ID"))) }
+{}
+
+/// The root file has one entry rule, which makes a node. What an imported file marks as an entry is none.
+pub fn entries()
+    ensures none { StandsAlone (NoEntry (rules_alone (named_rule (codes "A") nowhere x_id ∷ []))) 0 nowhere (codes "G") }
+    ensures imported { StandsAlone (NoEntry (rules_alone (in_file 1 a_entry ∷ []))) 0 nowhere (codes "G") }
+    ensures one { StandsNowhere (NoEntry (rules_alone (a_entry ∷ []))) }
+    ensures two { StandsAlone (SecondEntry (rules_alone (a_entry ∷ b_entry ∷ []))) 0 (place 31 32) (codes "B") }
+    ensures one_imported { StandsNowhere (SecondEntry (rules_alone (a_entry ∷ in_file 1 b_entry ∷ []))) }
+    ensures text { StandsAlone (EntryMakesNoNode (alone id_element)) 0 (place 16 17) (codes "A") }
+    ensures fragment_ { StandsAlone (EntryMakesNoNode (rules_alone (entry_fragment ∷ []))) 0 (place 25 26) (codes "A") }
+    ensures node { StandsNowhere (EntryMakesNoNode (alone x_id)) }
+{}
+
+/// A rule that returns a primitive type makes no nodes; a data type rule infers no type, and returns none of nodes.
+pub fn data_types()
+    ensures nodes_as_text { StandsAlone (MixedDataTypeRule (resulting (Gives Text) [] x_id)) 0 (place 16 17) (codes "A") }
+    ensures text { StandsNowhere (MixedDataTypeRule (resulting (Gives Text) [] id_element)) }
+    ensures inferred { StandsAlone (MixedDataTypeRule (resulting (Infers (codes "B") nowhere) [] id_element)) 0 (place 16 17) (codes "A") }
+    ensures inferred_node { StandsNowhere (MixedDataTypeRule (resulting (Infers (codes "B") nowhere) [] x_id)) }
+    ensures nodes_by_union { StandsAlone (MixedDataTypeRule (resulting (Returns (codes "U") nowhere) (union_of (Named (codes "A") nowhere) ∷ []) id_element)) 0 (place 16 17) (codes "A") }
+    ensures texts_by_union { StandsNowhere (MixedDataTypeRule (resulting (Returns (codes "U") nowhere) (union_of (Literal (codes "a")) ∷ []) id_element)) }
 {}
