@@ -21,3 +21,6 @@ pub mod CircularCallsWorked
 pub mod NodeLemmas
 pub mod EntriesWorked
 pub mod DataTypesWorked
+pub mod AssignLemmas
+pub mod BadCallsWorked
+pub mod AssignmentsWorked

@@ -300,3 +300,27 @@ id_element = Call (codes "ID") nowhere
 
 abbrev pub resulting : RuleResult → List UnionDef → Element → Grammar
 resulting result unions body = record (rules_alone (record (entry_rule (codes "A") (place 16 17) body) { result = result } ∷ [])) { unions = unions }
+
+-- ---- calls: grammar G entry A: x=T; hidden terminal T: /a/;
+
+abbrev pub x_value : Value0 → Element
+x_value v = x_by One v nowhere
+
+-- the terminal is hidden or not, and a fragment or not
+abbrev pub calling_terminal : Bool → Bool → Grammar
+calling_terminal is_hidden is_fragment = record (alone (x_value (value.Call (codes "T") (place 21 22)))) {
+  terminals = id_terminal ∷ record (t_terminal (term.Pattern (codes "a") nowhere)) { is_hidden = is_hidden; is_fragment = is_fragment } ∷ [];
+}
+
+-- grammar G entry A: x=[A:B]; B: y=ID;
+abbrev pub crossing : Element → Grammar
+crossing body =
+    rules_alone
+    (entry_rule (codes "A") nowhere (x_value (value.Cross (codes "A") (Some (codes "B")) (place 21 26))) ∷ named_rule (codes "B") nowhere body ∷ [])
+
+-- grammar G entry A: x?=B; B: y=ID;
+abbrev pub assigning : Op → Span → Rule → Grammar
+assigning op s rule = rules_alone (entry_rule (codes "A") nowhere (x_by op (value.Call rule.name nowhere) s) ∷ rule ∷ [])
+
+abbrev pub y_id : Element
+y_id = puts (codes "y") (codes "ID")

@@ -6,12 +6,14 @@ ghost use Rattle.lw_grammar.specs.declared.rule.Op.TheVariants.{One, Add, Flag};
 ghost use Rattle.lw_grammar.specs.declared.rule.Value0.TheVariants as value;
 ghost use Rattle.lw_grammar.specs.declared.rule.RuleResult.TheVariants.{Returns, Gives, Infers};
 ghost use Rattle.lw_grammar.specs.declared.terminal.Primitive.TheVariants.{Text, Boolean};
+ghost use Rattle.lw_grammar.specs.declared.terminal.TermElement.TheVariants as term;
 ghost use Rattle.lw_grammar.specs.declared.declared_types.Member.TheVariants.{Named, Plain, Refers, Literal};
 ghost use Rattle.lw_grammar.specs.declared.fault.GrammarFault.{GrammarFault};
 ghost use Rattle.lw_grammar.specs.declared.grammar.Grammar.{Grammar};
 ghost use Rattle.lw_faults.specs.Derivations.{LeftRecursion, ReadsNothing, RepeatsNothing, NeverEnds};
 ghost use Rattle.lw_faults.specs.Faults.{AreTypeFaults, AreCheckFaults};
-ghost use Rattle.lw_faults.specs.Worked.{StandsAlone, StandsNowhere, place, nowhere, left_recursive, right_recursive, x_id, calling_b, alone, repeating, a_a, endless, word, makes_b, takes_b, row, action_and_word, acts_in_fragment, with_node, node_behind, node_before, node_and_word, puts, with_attribute, extended, united, x_by, id_call, i_reference, twice, making_s, types_alone, extends, a_extending, b_extending, union_of, fragment_calling, terminal_calling, rules_alone, named_rule, in_file, a_entry, b_entry, entry_fragment, id_element, resulting};
+ghost use Rattle.lw_faults.specs.Worked.{StandsAlone, StandsNowhere, place, nowhere, left_recursive, right_recursive, x_id, calling_b, alone, repeating, a_a, endless, word, makes_b, takes_b, row, action_and_word, acts_in_fragment, with_node, node_behind, node_before, node_and_word, puts, with_attribute, extended, united, x_by, id_call, i_reference, twice, making_s, types_alone, extends, a_extending, b_extending, union_of, fragment_calling, terminal_calling, rules_alone, named_rule, in_file, a_entry, b_entry, entry_fragment, id_element, resulting, with_terminal, calling_terminal, crossing, assigning, y_id, node_rule, fragment_rule};
+ghost use Rattle.lw_faults.specs.BadCalls.{BadCall, BadAssignment};
 ghost use Rattle.lw_faults.specs.Entries.{NoEntry, SecondEntry, EntryMakesNoNode};
 ghost use Rattle.lw_faults.specs.DataTypes.{MixedDataTypeRule};
 ghost use Rattle.lw_faults.specs.Circles.{CircularType, CircularCall};
@@ -146,4 +148,26 @@ pub fn data_types()
     ensures inferred_node { StandsNowhere (MixedDataTypeRule (resulting (Infers (codes "B") nowhere) [] x_id)) }
     ensures nodes_by_union { StandsAlone (MixedDataTypeRule (resulting (Returns (codes "U") nowhere) (union_of (Named (codes "A") nowhere) ∷ []) id_element)) 0 (place 16 17) (codes "A") }
     ensures texts_by_union { StandsNowhere (MixedDataTypeRule (resulting (Returns (codes "U") nowhere) (union_of (Literal (codes "a")) ∷ []) id_element)) }
+{}
+
+/// A rule calls no terminal that is hidden or a fragment, a terminal no rule; a range goes up, and a cross-reference reads no node.
+pub fn bad_calls()
+    ensures hidden { StandsAlone (BadCall (calling_terminal true false)) 0 (place 21 22) (codes "T") }
+    ensures fragment_ { StandsAlone (BadCall (calling_terminal false true)) 0 (place 21 22) (codes "T") }
+    ensures token { StandsNowhere (BadCall (calling_terminal false false)) }
+    ensures of_rule { StandsAlone (BadCall (with_terminal (term.Call (codes "A") (place 37 38)))) 0 (place 37 38) (codes "A") }
+    ensures of_terminal { StandsNowhere (BadCall (with_terminal (term.Call (codes "ID") nowhere))) }
+    ensures down { StandsAlone (BadCall (with_terminal (term.Range (codes "b") (codes "a") (place 37 45)))) 0 (place 37 45) (codes "T") }
+    ensures two_characters { StandsAlone (BadCall (with_terminal (term.Range (codes "ab") (codes "c") (place 37 46)))) 0 (place 37 46) (codes "T") }
+    ensures one_character { StandsNowhere (BadCall (with_terminal (term.Range (codes "a") (codes "a") nowhere))) }
+    ensures to_node { StandsAlone (BadCall (crossing y_id)) 0 (place 21 26) (codes "B") }
+    ensures to_text { StandsNowhere (BadCall (crossing id_element)) }
+{}
+
+/// No flag is put in by a rule that makes nodes, and nothing by a fragment.
+pub fn bad_assignments()
+    ensures flag_by_node { StandsAlone (BadAssignment (assigning Flag (place 19 23) node_rule)) 0 (place 19 23) (codes "x") }
+    ensures node { (s : Span) → StandsNowhere (BadAssignment (assigning One s node_rule)) }
+    ensures flag_by_text { (s : Span) → StandsNowhere (BadAssignment (assigning Flag s (named_rule (codes "B") nowhere id_element))) }
+    ensures fragment_ { StandsAlone (BadAssignment (assigning One (place 19 22) (fragment_rule (codes "F") nowhere y_id))) 0 (place 19 22) (codes "x") }
 {}
