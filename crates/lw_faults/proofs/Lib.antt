@@ -24,3 +24,6 @@ pub mod DataTypesWorked
 pub mod AssignLemmas
 pub mod BadCallsWorked
 pub mod AssignmentsWorked
+pub mod NamesWorked
+pub mod NameRulesWorked
+pub mod SizesWorked

@@ -1,6 +1,6 @@
 -- Grammars that are written out, of which the laws say which fault they have and where, and which they have not. A place is written
 -- where it is told; the others are nowhere. Each grammar has `terminal ID: /[a-z]+/;` behind what its comment shows.
-use Rattle.std.specs.Prelude.{ℕ, ◌≡◌, List, [], ◌∷◌, Some, None, Bool, true, false, codes}
+use Rattle.std.specs.Prelude.{ℕ, ◌≡◌, List, [], ◌∷◌, replicate, Some, None, Bool, true, false, codes}
 use Rattle.lw_base.specs.declared.token.Span.{Span}
 use Rattle.lw_grammar.specs.declared.grammar.Grammar.{Grammar}
 use Rattle.lw_grammar.specs.declared.rule.Rule.{Rule}
@@ -324,3 +324,25 @@ assigning op s rule = rules_alone (entry_rule (codes "A") nowhere (x_by op (valu
 
 abbrev pub y_id : Element
 y_id = puts (codes "y") (codes "ID")
+
+-- ---- names: grammar G entry A: x=ID; A: y=ID;
+
+abbrev pub behind_a : List ℕ → Grammar
+behind_a name = rules_alone (a_entry ∷ named_rule name (place 25 26) y_id ∷ [])
+
+-- grammar G interface A {} entry A: x=ID;
+abbrev pub beside_interface : List ℕ → Grammar
+beside_interface name = record (rules_alone (entry_rule (codes "A") (place 31 32) x_id ∷ [])) { interfaces = interface_of name [] [] ∷ [] }
+
+-- `{B}`, an action that infers no type
+abbrev pub makes_declared : List ℕ → Span → Action
+makes_declared name s = record { infers = false; type_name = name; put = None; span = s }
+
+-- grammar G entry A: x=[A];
+abbrev pub by_its_name : Span → Element
+by_its_name s = x_value (value.Cross (codes "A") None s)
+
+-- ---- many rules, and one terminal
+
+abbrev pub many_rules : ℕ → Grammar
+many_rules n = rules_alone (replicate n a_entry)

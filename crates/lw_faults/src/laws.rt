@@ -1,5 +1,5 @@
 // What a reader may expect of the faults of a grammar, and where they are in grammars that are written out.
-ghost use Rattle.std.specs.Prelude.{◌≡◌, [], ◌∷◌, List, true, false, codes};
+ghost use Rattle.std.specs.Prelude.{◌≡◌, [], ◌∷◌, List, Some, true, false, codes};
 ghost use Rattle.lw_base.specs.declared.token.Span.{Span};
 ghost use Rattle.lw_grammar.specs.declared.rule.Element.TheVariants.{Call, Assign, Act, Group, Maybe, Many};
 ghost use Rattle.lw_grammar.specs.declared.rule.Op.TheVariants.{One, Add, Flag};
@@ -12,9 +12,10 @@ ghost use Rattle.lw_grammar.specs.declared.fault.GrammarFault.{GrammarFault};
 ghost use Rattle.lw_grammar.specs.declared.grammar.Grammar.{Grammar};
 ghost use Rattle.lw_faults.specs.Derivations.{LeftRecursion, ReadsNothing, RepeatsNothing, NeverEnds};
 ghost use Rattle.lw_faults.specs.Faults.{AreTypeFaults, AreCheckFaults};
-ghost use Rattle.lw_faults.specs.Worked.{StandsAlone, StandsNowhere, place, nowhere, left_recursive, right_recursive, x_id, calling_b, alone, repeating, a_a, endless, word, makes_b, takes_b, row, action_and_word, acts_in_fragment, with_node, node_behind, node_before, node_and_word, puts, with_attribute, extended, united, x_by, id_call, i_reference, twice, making_s, types_alone, extends, a_extending, b_extending, union_of, fragment_calling, terminal_calling, rules_alone, named_rule, in_file, a_entry, b_entry, entry_fragment, id_element, resulting, with_terminal, calling_terminal, crossing, assigning, y_id, node_rule, fragment_rule};
+ghost use Rattle.lw_faults.specs.Worked.{StandsAlone, StandsNowhere, place, nowhere, left_recursive, right_recursive, x_id, calling_b, alone, repeating, a_a, endless, word, makes_b, takes_b, row, action_and_word, acts_in_fragment, with_node, node_behind, node_before, node_and_word, puts, with_attribute, extended, united, x_by, id_call, i_reference, twice, making_s, types_alone, extends, a_extending, b_extending, union_of, fragment_calling, terminal_calling, rules_alone, named_rule, in_file, a_entry, b_entry, entry_fragment, id_element, resulting, with_terminal, calling_terminal, crossing, assigning, y_id, node_rule, fragment_rule, x_value, behind_a, beside_interface, makes_declared, by_its_name, many_rules};
+ghost use Rattle.lw_faults.specs.Names.{Duplicate, UnknownRule, UnknownType, NoNameRule};
 ghost use Rattle.lw_faults.specs.BadCalls.{BadCall, BadAssignment};
-ghost use Rattle.lw_faults.specs.Entries.{NoEntry, SecondEntry, EntryMakesNoNode};
+ghost use Rattle.lw_faults.specs.Entries.{NoEntry, SecondEntry, EntryMakesNoNode, TooManyRules};
 ghost use Rattle.lw_faults.specs.DataTypes.{MixedDataTypeRule};
 ghost use Rattle.lw_faults.specs.Circles.{CircularType, CircularCall};
 ghost use Rattle.lw_faults.specs.Properties.{UnknownProperty, WrongPropertyForm, MixedProperty, NotASubtype};
@@ -170,4 +171,37 @@ pub fn bad_assignments()
     ensures node { (s : Span) → StandsNowhere (BadAssignment (assigning One s node_rule)) }
     ensures flag_by_text { (s : Span) → StandsNowhere (BadAssignment (assigning Flag s (named_rule (codes "B") nowhere id_element))) }
     ensures fragment_ { StandsAlone (BadAssignment (assigning One (place 19 22) (fragment_rule (codes "F") nowhere y_id))) 0 (place 19 22) (codes "x") }
+{}
+
+/// A name is declared once, and an inferred type is none that is declared.
+pub fn duplicates()
+    ensures rule { StandsAlone (Duplicate (behind_a (codes "A"))) 0 (place 25 26) (codes "A") }
+    ensures other_rule { StandsNowhere (Duplicate (behind_a (codes "B"))) }
+    ensures inferred { StandsAlone (Duplicate (beside_interface (codes "A"))) 0 (place 31 32) (codes "A") }
+    ensures other_type { StandsNowhere (Duplicate (beside_interface (codes "B"))) }
+{}
+
+/// What is called is a rule or a terminal. In a cross-reference the place is that of the whole.
+pub fn unknown_rules()
+    ensures value { StandsAlone (UnknownRule (alone (x_value (value.Call (codes "B") (place 21 22))))) 0 (place 21 22) (codes "B") }
+    ensures crossed { StandsAlone (UnknownRule (alone (x_value (value.Cross (codes "A") (Some (codes "B")) (place 21 26))))) 0 (place 21 26) (codes "B") }
+    ensures terminal { StandsNowhere (UnknownRule (alone x_id)) }
+{}
+
+/// A type that is named is declared, or inferred somewhere.
+pub fn unknown_types()
+    ensures nowhere_inferred { StandsAlone (UnknownType (alone (Act (makes_declared (codes "B") (place 19 22))))) 0 (place 19 22) (codes "B") }
+    ensures inferred { (s : Span) → StandsNowhere (UnknownType (alone (Act (makes_declared (codes "A") s)))) }
+{}
+
+/// A cross-reference that names no rule is to a type whose nodes have names.
+pub fn name_rules()
+    ensures nameless { StandsAlone (NoNameRule (alone (by_its_name (place 21 24)))) 0 (place 21 24) (codes "A") }
+    ensures named { (s : Span) → StandsNowhere (NoNameRule (row (puts (codes "name") (codes "ID")) (by_its_name s))) }
+{}
+
+/// Rules, terminals and actions are at most 1,024.
+pub fn sizes()
+    ensures too_many { StandsAlone (TooManyRules (many_rules 1024)) 0 nowhere (codes "G") }
+    ensures most { StandsNowhere (TooManyRules (many_rules 1023)) }
 {}
