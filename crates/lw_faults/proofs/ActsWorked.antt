@@ -1,5 +1,5 @@
 -- Actions that stand where they may not, and the same where they may.
-use Rattle.std.proofs.Common.{◌≡◌, ◌≢◌, ℕ, zero, suc, List, [], ◌∷◌, ◌++◌, Some, None, Bool, true, false, codes, Contains, ◌⊎◌, inl, inr, refl, sym, ap, ◌∙◌, subst, arith, true≢false}
+use Rattle.std.proofs.Common.{◌≡◌, ◌≢◌, ℕ, List, [], ◌∷◌, Some, None, Bool, false, codes, Contains, ◌⊎◌, inl, inr, refl, sym, subst, arith}
 use Rattle.std.proofs.lemmas.Option.{none-some}
 use Rattle.lw_base.specs.declared.token.Span.{Span}
 use Rattle.lw_grammar.specs.declared.grammar.Grammar.{Grammar}
@@ -19,7 +19,7 @@ use Rattle.lw_faults.specs.Misplaced.{MisplacedAction, simple, current}
 use Rattle.lw_faults.specs.Worked.{StandsAlone, StandsNowhere, place, nowhere, word, x_id, makes_b, takes_b, both, alone, row, action_and_word, calls_f, acts_f, acts_in_fragment}
 use Rattle.lw_faults.proofs.Every.{Every, every_of, differ, first_here, first_later, meant}
 use Rattle.lw_faults.proofs.AloneLemmas.{the_rule}
-use Rattle.lw_faults.proofs.StepLemmas.{EachStep, HoldsOnWays, HasWay, what_goes, can_go, fragment_goes, holds_behind, ways_of_one, step_written, IsWritten}
+use Rattle.lw_faults.proofs.StepLemmas.{EachStep, HoldsOnWays, HasWay, what_goes, can_go, holds_behind, ways_of_one, step_written, IsWritten}
 use Rattle.lw_faults.proofs.WorkedSteps.{word_way, assign_way, act_way, pair_way, word_goes, assign_goes, act_goes, pair_goes}
 
 -- ---- how actions are looked at
@@ -103,7 +103,7 @@ module _ (s : Span) where
   pub behind : StandsAlone (MisplacedAction (row x_id makes)) 0 s (codes "A")
   behind = (
     simple (R x_id makes) (R x_id makes) (step (R x_id makes) x_leaf ∷ []) (makes_b s)
-    (row_behind x_id makes x_leaf (leaf.Act (makes_b s)) (assign_goes _) (act_goes _)) refl not_empty,
+        (row_behind x_id makes x_leaf (leaf.Act (makes_b s)) (assign_goes _) (act_goes _)) refl not_empty,
     pair_acts x_id makes s x_leaf (leaf.Act (makes_b s)) (simp leaf_equations) tt (refl, refl, refl),
   )
 
@@ -116,7 +116,7 @@ module _ (s : Span) where
   pub takes_none : StandsAlone (MisplacedAction (row takes x_id)) 0 s (codes "A")
   takes_none = (
     current (R takes x_id) (R takes x_id) (takes_b s) (codes "p", false)
-    (row_ahead takes x_id (leaf.Act (takes_b s)) x_leaf (act_goes _) (assign_goes _)) refl,
+        (row_ahead takes x_id (leaf.Act (takes_b s)) x_leaf (act_goes _) (assign_goes _)) refl,
     pair_acts takes x_id s (leaf.Act (takes_b s)) x_leaf (simp leaf_equations) (refl, refl, refl) tt,
   )
 
@@ -149,9 +149,9 @@ repeated = (
     after = [];
     goes = can_go (alone (Many action_and_word nowhere)) (outs-Many action_and_word nowhere) (steps.repeated (steps.again once (steps.again once steps.stop)));
   })
-  refl not_empty,
+      refl not_empty,
   only_act (alone (Many action_and_word nowhere)) 0 (place 20 29) (codes "A")
-  (subst (Every (ActsAt 0 (place 20 29) (codes "A") M)) (sym many_leaves) ((refl, refl, refl), (tt, tt)), tt),
+      (subst (Every (ActsAt 0 (place 20 29) (codes "A") M)) (sym many_leaves) ((refl, refl, refl), (tt, tt)), tt),
 )
 
 abbrev N : Rule
@@ -196,9 +196,8 @@ in_fragment = (
     after = [];
     goes = pair_goes acts_in_fragment (assign_goes _) f_goes;
   })
-  refl not_empty,
-  only_act acts_in_fragment 0 (place 39 48) (codes "F")
-  (
+      refl not_empty,
+  only_act acts_in_fragment 0 (place 39 48) (codes "F") (
     subst (Every (ActsAt 0 (place 39 48) (codes "F") calls_f)) (sym calls_leaves) (tt, (tt, tt)),
     (subst (Every (ActsAt 0 (place 39 48) (codes "F") acts_f)) (sym acts_leaves) ((refl, refl, refl), tt), tt),
   ),

@@ -1,7 +1,6 @@
 -- The grammar of one rule: its entry, its names and its rules.
 use Rattle.std.proofs.Common.{◌≡◌, ℕ, zero, suc, Some, codes, slice_get, refl}
 use Rattle.std.proofs.lemmas.Option.{none-some, same_Some}
-use Rattle.lw_grammar.specs.declared.grammar.Grammar.{Grammar}
 use Rattle.lw_grammar.specs.declared.rule.Rule.{Rule}
 use Rattle.lw_grammar.specs.declared.rule.Element.{Element}
 use Rattle.lw_grammar.specs.Named.{IsRule, IsEntry, declared_rule, declared_terminal}

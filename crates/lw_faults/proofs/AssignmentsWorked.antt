@@ -1,5 +1,5 @@
 -- Assignments of what cannot be put in so, and those beside them.
-use Rattle.std.proofs.Common.{◌≡◌, ℕ, List, [], ◌∷◌, true, codes, Contains, ◌⊎◌, inl, inr, refl, sym, ap, ◌∙◌, subst, arith, true≢false}
+use Rattle.std.proofs.Common.{◌≡◌, ℕ, List, [], ◌∷◌, true, codes, Contains, ◌⊎◌, inl, inr, refl, sym, subst, arith, true≢false}
 use Rattle.lw_base.specs.declared.token.Span.{Span}
 use Rattle.lw_grammar.specs.declared.grammar.Grammar.{Grammar}
 use Rattle.lw_grammar.specs.declared.rule.Rule.{Rule}
@@ -15,7 +15,7 @@ use Rattle.lw_grammar.proofs.FirstLemmas.{first_item}
 use Rattle.lw_grammar.proofs.LeafLemmas.{leaves-Call, values-Call}
 use Rattle.lw_faults.specs.BadCalls.{BadAssignment}
 use Rattle.lw_faults.specs.BadCalls as bad
-use Rattle.lw_faults.specs.Worked.{StandsAlone, StandsNowhere, place, nowhere, entry_rule, named_rule, fragment_rule, node_rule, x_by, y_id, id_element, assigning}
+use Rattle.lw_faults.specs.Worked.{StandsAlone, StandsNowhere, nowhere, entry_rule, named_rule, fragment_rule, node_rule, x_by, y_id, id_element, assigning}
 use Rattle.lw_faults.proofs.Every.{every_of, differ, first_here, first_later, meant, not_meant}
 use Rattle.lw_faults.proofs.AssignLemmas.{only_leaf, only_part, leaf_there, part_there}
 use Rattle.lw_faults.proofs.NodeLemmas.{puts_makes, id_makes_none}
@@ -114,9 +114,9 @@ module _ (op : Op) (s : Span) where
 pub flag_by_node : (s : Span) → StandsAlone (BadAssignment (assigning Flag s node_rule)) 0 s (codes "x")
 flag_by_node s = (
   bad.flag (A Flag s node_rule) (codes "x") (value.Call (codes "B") nowhere) s nowhere (codes "B") 1 node_rule (0, omega arith, refl)
-  (a_assigns Flag s node_rule (id_puts Flag s node_rule refl) (node_named Flag s) (node_no_id Flag s))
-  (a_calls Flag s node_rule (id_puts Flag s node_rule refl) (node_named Flag s) (node_no_id Flag s)) (node_named Flag s)
-  (puts_makes (G Flag s node_rule) node_rule (codes "y") (codes "ID") refl),
+      (a_assigns Flag s node_rule (id_puts Flag s node_rule refl) (node_named Flag s) (node_no_id Flag s))
+      (a_calls Flag s node_rule (id_puts Flag s node_rule refl) (node_named Flag s) (node_no_id Flag s)) (node_named Flag s)
+      (puts_makes (G Flag s node_rule) node_rule (codes "y") (codes "ID") refl),
   λ f t n is. (node_bad Flag s f t n is).0,
 )
 

@@ -1,5 +1,5 @@
 -- Calls, ranges and cross-references that may not be, and those beside them that may.
-use Rattle.std.proofs.Common.{◌≡◌, ℕ, ◌<◌, ◌≤◌, zero, suc, List, [], ◌∷◌, ◌++◌, Some, Bool, true, false, codes, Contains, ◌⊎◌, inl, inr, encode_utf8, lit<, refl, sym, ap, ◌∙◌, subst, arith, true≢false}
+use Rattle.std.proofs.Common.{◌≡◌, ℕ, ◌<◌, List, [], ◌∷◌, ◌++◌, Some, Bool, true, false, codes, Contains, ◌⊎◌, inl, inr, encode_utf8, lit<, refl, sym, ap, ◌∙◌, subst, arith, true≢false}
 use Rattle.std.proofs.lemmas.Str.{encode_ascii, encode_same}
 use Rattle.std.proofs.lemmas.List.{append-nil}
 use Rattle.lw_base.specs.declared.token.Span.{Span}

@@ -17,7 +17,7 @@ use Rattle.lw_faults.specs.Steps.{Step, step, Goes, CallsNode, node}
 use Rattle.lw_faults.specs.Steps as steps
 use Rattle.lw_faults.specs.Misplaced.{MisplacedCall, misplaced_call, FillsNode}
 use Rattle.lw_faults.specs.Misplaced as misplaced
-use Rattle.lw_faults.specs.Worked.{StandsAlone, StandsNowhere, place, nowhere, word, x_id, both, entry_rule, row, node_rule, with_node, node_behind, node_before, node_and_word}
+use Rattle.lw_faults.specs.Worked.{StandsAlone, StandsNowhere, place, nowhere, x_id, both, entry_rule, row, node_rule, with_node, node_behind, node_before, node_and_word}
 use Rattle.lw_faults.proofs.Every.{Every, every_of, differ, first_here, first_later, meant}
 use Rattle.lw_faults.proofs.AloneLemmas.{the_rule, one_no_id}
 use Rattle.lw_faults.proofs.StepLemmas.{EachStep, HoldsOnWays, what_goes, can_go, holds_behind, ways_of_one, step_written, IsWritten}
@@ -108,7 +108,7 @@ behind = (
     after = [];
     goes = pair_goes (with_node H) (assign_goes _) (token_goes _ (b_no_fragment H (place 24 25)));
   })
-  (b_called H (place 24 25)) (0, step (A H) x_leaf, omega arith, refl, misplaced.assigns),
+      (b_called H (place 24 25)) (0, step (A H) x_leaf, omega arith, refl, misplaced.assigns),
   only_b H (place 24 25) (x_leaf ∷ leaf.Call (codes "B") (place 24 25) ∷ []) (simp leaf_equations) (tt, ((refl, refl, refl), tt)),
 )
 
@@ -143,7 +143,7 @@ repeated = (
     after = [];
     goes = can_go (with_node M) (outs-Many node_and_word nowhere) (steps.repeated (steps.again (once M) (steps.again (once M) steps.stop)));
   })
-  (b_called M (place 20 21)) (0, step (A M) (leaf.Call (codes "B") (place 20 21)), omega arith, refl, misplaced.calls (b_called M (place 20 21))),
+      (b_called M (place 20 21)) (0, step (A M) (leaf.Call (codes "B") (place 20 21)), omega arith, refl, misplaced.calls (b_called M (place 20 21))),
   only_b M (place 20 21) (leaf.Call (codes "B") (place 20 21) ∷ leaf.Keyword (codes "x") nowhere ∷ []) (simp leaf_equations) ((refl, refl, refl), (tt, tt)),
 )
 
@@ -170,7 +170,7 @@ module _ (s : Span) where
   token =
       all_well (row x_id (Call (codes "ID") s)) (
         ways_of_one (row x_id (Call (codes "ID") s)) (CallsWell (row x_id (Call (codes "ID") s)))
-        (pair_way _ (assign_way _) (call_way _ (λ f fragment is. one_no_id I f fragment is.0))) (first_well (row x_id (Call (codes "ID") s)), (none, tt)),
+            (pair_way _ (assign_way _) (call_way _ (λ f fragment is. one_no_id I f fragment is.0))) (first_well (row x_id (Call (codes "ID") s)), (none, tt)),
         tt,
       )
     where

@@ -5,7 +5,6 @@ use Rattle.lw_base.specs.declared.token.Span.{Span}
 use Rattle.lw_grammar.specs.declared.grammar.Grammar.{Grammar}
 use Rattle.lw_grammar.specs.declared.rule.Rule.{Rule}
 use Rattle.lw_grammar.specs.declared.terminal.Terminal.{Terminal}
-use Rattle.lw_grammar.specs.declared.terminal.TermElement.{TermElement}
 use Rattle.lw_grammar.specs.declared.terminal.TermElement.TheVariants as term
 use Rattle.lw_grammar.specs.Leaves as leaf
 use Rattle.lw_grammar.specs.Leaves.{Leaf, leaves}
@@ -16,7 +15,7 @@ use Rattle.lw_grammar.proofs.LeafLemmas.{leaf_equations}
 use Rattle.lw_faults.specs.Written.{term_calls}
 use Rattle.lw_faults.specs.Circles.{FragmentCalls, TerminalCalls, CircularCall}
 use Rattle.lw_faults.specs.Circles as circle
-use Rattle.lw_faults.specs.Worked.{StandsAlone, StandsNowhere, place, nowhere, fragment_rule, id_terminal, f_caller, x_and, fragment_calling, a_and, t_terminal, with_terminal, terminal_calling}
+use Rattle.lw_faults.specs.Worked.{StandsAlone, StandsNowhere, place, nowhere, fragment_rule, id_terminal, f_caller, x_and, fragment_calling, a_and, t_terminal, terminal_calling}
 use Rattle.lw_faults.proofs.Every.{Every, every_of, every_at, differ, first_here, first_later, meant}
 use Rattle.lw_faults.proofs.TermLemmas.{call_equations}
 
@@ -129,7 +128,7 @@ module _ (name : List ℕ) where
   caller_is (suc zero) caller called s at has = (
     refl,
     every_of (λ x. name ≡ x.0) ((name, nowhere) ∷ []) (called, s) (refl, tt)
-    (subst (λ ls. Contains ls (called, s)) t_calls (subst (λ (x : Terminal). Contains (term_calls x.body) (called, s)) (sym (same_Some T caller at)) has)),
+        (subst (λ ls. Contains ls (called, s)) t_calls (subst (λ (x : Terminal). Contains (term_calls x.body) (called, s)) (sym (same_Some T caller at)) has)),
   )
   caller_is (suc (suc q)) caller called s at has = absurd (none-some caller at)
 

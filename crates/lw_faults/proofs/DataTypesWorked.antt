@@ -1,5 +1,5 @@
 -- Rules whose type does not suit what they make, and those beside them.
-use Rattle.std.proofs.Common.{◌≡◌, ℕ, zero, suc, List, [], ◌∷◌, Some, codes, All, Contains, slice_get, refl, sym, ap, ◌∙◌, subst, arith}
+use Rattle.std.proofs.Common.{◌≡◌, ℕ, List, [], ◌∷◌, codes, All, Contains, refl, sym, ap, ◌∙◌, subst, arith}
 use Rattle.std.proofs.lemmas.List.Elements.{All-nil, All-cons, All-head}
 use Rattle.lw_base.specs.declared.token.Span.{Span}
 use Rattle.lw_grammar.specs.declared.grammar.Grammar.{Grammar}
@@ -81,7 +81,7 @@ inferring = Infers (codes "B") nowhere
 pub inferred : StandsAlone (MixedDataTypeRule (resulting inferring [] id_element)) 0 (place 16 17) (codes "A")
 inferred = (
   data_type.infers (A inferring [] id_element) (codes "B") nowhere (here inferring [] id_element)
-  (id_is_text inferring [] (A inferring [] id_element) (here inferring [] id_element)) refl,
+      (id_is_text inferring [] (A inferring [] id_element) (here inferring [] id_element)) refl,
   only_a inferring [] id_element,
 )
 
@@ -109,8 +109,8 @@ module _ (member : Member) where
 pub nodes_by_union : StandsAlone (MixedDataTypeRule (resulting returned (us (Named (codes "A") nowhere)) id_element)) 0 (place 16 17) (codes "A")
 nodes_by_union = (
   data_type.returns (A returned (us (Named (codes "A") nowhere)) id_element) (codes "U") nowhere (here returned (us (Named (codes "A") nowhere)) id_element)
-  (id_is_text returned (us (Named (codes "A") nowhere)) (A returned (us (Named (codes "A") nowhere)) id_element) (here returned (us (Named (codes "A") nowhere)) id_element))
-  refl (λ plain. elim (u_plain (Named (codes "A") nowhere) plain) [ ]),
+      (id_is_text returned (us (Named (codes "A") nowhere)) (A returned (us (Named (codes "A") nowhere)) id_element) (here returned (us (Named (codes "A") nowhere)) id_element))
+      refl (λ plain. elim (u_plain (Named (codes "A") nowhere) plain) [ ]),
   only_a returned (us (Named (codes "A") nowhere)) id_element,
 )
 

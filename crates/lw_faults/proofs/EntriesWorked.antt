@@ -1,11 +1,10 @@
 -- Grammars without an entry, with two, with one that makes no node, and those beside them.
-use Rattle.std.proofs.Common.{◌≡◌, ◌<◌, ℕ, zero, suc, List, [], ◌∷◌, Some, true, false, codes, slice_get, refl, sym, ap, ◌∙◌, subst, arith, true≢false}
+use Rattle.std.proofs.Common.{◌≡◌, ◌<◌, ℕ, zero, suc, List, [], ◌∷◌, Some, true, codes, slice_get, refl, sym, ap, ◌∙◌, subst, arith, true≢false}
 use Rattle.std.proofs.lemmas.Option.{none-some, same_Some}
 use Rattle.lw_base.specs.declared.token.Span.{Span}
 use Rattle.lw_grammar.specs.declared.grammar.Grammar.{Grammar}
 use Rattle.lw_grammar.specs.declared.rule.Rule.{Rule}
 use Rattle.lw_grammar.specs.Named.{IsEntry}
-use Rattle.lw_grammar.proofs.FirstLemmas.{first_place}
 use Rattle.lw_faults.specs.Entries.{NoEntry, no_entry, SecondEntry, second_entry, EntryMakesNoNode}
 use Rattle.lw_faults.specs.Entries as entries
 use Rattle.lw_faults.specs.Worked.{StandsAlone, StandsNowhere, place, nowhere, named_rule, x_id, rules_alone, alone, in_file, a_entry, b_entry, entry_fragment, id_element}

@@ -1,5 +1,5 @@
 -- A type has one lineage, and so at most one attribute of a name.
-use Rattle.std.proofs.Common.{◌≡◌, ℕ, List, [], ◌∷◌, ◌++◌, map, Contains, refl, sym, ap, ap₂, ◌∙◌, subst}
+use Rattle.std.proofs.Common.{◌≡◌, ℕ, List, ◌∷◌, ◌++◌, map, Contains, refl, sym, ap₂, subst}
 use Rattle.std.specs.List.{flat_map}
 use Rattle.lw_grammar.specs.declared.grammar.Grammar.{Grammar}
 use Rattle.lw_grammar.specs.declared.declared_types.Interface.{Interface}

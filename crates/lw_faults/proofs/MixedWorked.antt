@@ -1,5 +1,5 @@
 -- A property that is put in twice: as a list and not, or alike.
-use Rattle.std.proofs.Common.{◌≡◌, ◌≢◌, ℕ, ◌<◌, List, [], ◌∷◌, Bool, true, false, codes, Contains, ◌⊎◌, inl, inr, lit<, refl, sym, ap, ◌∙◌, subst, arith, true≢false}
+use Rattle.std.proofs.Common.{◌≡◌, ◌≢◌, ℕ, ◌<◌, List, [], ◌∷◌, Bool, codes, ◌⊎◌, inl, inr, lit<, refl, sym, ap, ◌∙◌, subst, arith, true≢false}
 use Rattle.std.proofs.lemmas.List.Elements.{All-nil, All-cons}
 use Rattle.std.proofs.lemmas.Option.{none-some}
 use Rattle.lw_base.specs.declared.token.Span.{Span}
@@ -7,7 +7,6 @@ use Rattle.lw_grammar.specs.declared.rule.Rule.{Rule}
 use Rattle.lw_grammar.specs.declared.grammar.Grammar.{Grammar}
 use Rattle.lw_grammar.specs.declared.rule.Op.{Op}
 use Rattle.lw_grammar.specs.declared.rule.Op.TheVariants.{One, Add}
-use Rattle.lw_grammar.specs.declared.rule.Element.{Element}
 use Rattle.lw_grammar.specs.declared.rule.Element.TheVariants.{Group}
 use Rattle.lw_grammar.specs.Leaves as leaf
 use Rattle.lw_grammar.specs.Leaves.{Leaf, leaves}
@@ -92,7 +91,7 @@ module _ (first second : Op) (s : Span) where
     pub mixed_found : is_list second ≢ is_list first → StandsAlone (MixedProperty G) 0 s (codes "x")
     mixed_found apart = (
       mixed (undeclared (codes "A")) (property.assigned A A (step A x_first ∷ []) id_call behind now) (property.assigned A A [] id_call ahead own) apart
-      (inr (refl, later)),
+          (inr (refl, later)),
       only_second,
     )
       where

@@ -1,5 +1,5 @@
 -- A cross-reference to a type whose nodes have no name, and to one whose nodes have.
-use Rattle.std.proofs.Common.{◌≡◌, ℕ, List, [], ◌∷◌, None, codes, Contains, refl, sym, ap, ◌∙◌, subst, arith}
+use Rattle.std.proofs.Common.{◌≡◌, ℕ, List, [], ◌∷◌, None, codes, Contains, refl, sym, ap, subst, arith}
 use Rattle.lw_base.specs.declared.token.Span.{Span}
 use Rattle.lw_grammar.specs.declared.grammar.Grammar.{Grammar}
 use Rattle.lw_grammar.specs.declared.rule.Rule.{Rule}
@@ -13,7 +13,7 @@ use Rattle.lw_grammar.specs.NameRules.{IsNameRule, NamesNodesOf, FirstNames, IsC
 use Rattle.lw_grammar.specs.Subtypes.{same}
 use Rattle.lw_grammar.proofs.LeafLemmas.{leaf_equations, leaves-Assign, values-Call, values-Cross}
 use Rattle.lw_faults.specs.Names.{NoNameRule, nameless}
-use Rattle.lw_faults.specs.Worked.{StandsAlone, StandsNowhere, place, nowhere, alone, puts, both, row, x_by, x_value, by_its_name}
+use Rattle.lw_faults.specs.Worked.{StandsAlone, StandsNowhere, nowhere, alone, puts, both, row, by_its_name}
 use Rattle.lw_faults.proofs.Every.{Every, every_of, differ, first_here}
 use Rattle.lw_faults.proofs.AloneLemmas.{the_rule, only_one}
 use Rattle.lw_faults.proofs.AssignLemmas.{only_part, leaf_there, part_there}
@@ -56,8 +56,8 @@ module _ (s : Span) where
   pub nameless_found : StandsAlone (NoNameRule G) 0 s (codes "A")
   nameless_found = (
     nameless A (codes "x") One its_name nowhere (0, omega arith, refl)
-    (leaf_there A (codes "x") One its_name nowhere (Cross (codes "A") None s) refl (values-Cross (codes "A") None s))
-    (part_there A (codes "x") One its_name nowhere (Cross (codes "A") None s) refl (values-Cross (codes "A") None s) (Cross (codes "A") None s) refl) none,
+        (leaf_there A (codes "x") One its_name nowhere (Cross (codes "A") None s) refl (values-Cross (codes "A") None s))
+        (part_there A (codes "x") One its_name nowhere (Cross (codes "A") None s) refl (values-Cross (codes "A") None s) (Cross (codes "A") None s) refl) none,
     others,
   )
     where

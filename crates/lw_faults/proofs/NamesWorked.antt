@@ -1,5 +1,5 @@
 -- Names that are declared twice, or mean nothing, and those beside them.
-use Rattle.std.proofs.Common.{◌≡◌, ◌≢◌, ℕ, ◌<◌, zero, suc, List, [], ◌∷◌, Some, None, slice_get, true, false, codes, All, Any, Contains, ◌⊎◌, inl, inr, lit<, refl, sym, ap, ◌∙◌, subst, arith, true≢false}
+use Rattle.std.proofs.Common.{◌≡◌, ◌≢◌, ℕ, List, [], ◌∷◌, Some, slice_get, false, codes, Contains, inl, inr, lit<, refl, sym, ap, ◌∙◌, subst, arith, true≢false}
 use Rattle.std.proofs.lemmas.Option.{none-some}
 use Rattle.std.proofs.lemmas.List.Elements.{All-nil, All-cons, All-contains}
 use Rattle.lw_base.specs.declared.token.Span.{Span}
@@ -10,11 +10,9 @@ use Rattle.lw_grammar.specs.declared.rule.Op.{Op}
 use Rattle.lw_grammar.specs.declared.rule.Op.TheVariants.{One}
 use Rattle.lw_grammar.specs.declared.rule.Value0.{Value0}
 use Rattle.lw_grammar.specs.declared.rule.Value0.TheVariants as value
-use Rattle.lw_grammar.specs.declared.rule.Element.{Element}
 use Rattle.lw_grammar.specs.declared.rule.Element.TheVariants.{Act}
 use Rattle.lw_grammar.specs.declared.terminal.Terminal.{Terminal}
 use Rattle.lw_grammar.specs.declared.declared_types.Interface.{Interface}
-use Rattle.lw_grammar.specs.declared.declared_types.UnionDef.{UnionDef}
 use Rattle.lw_grammar.specs.Leaves as leaf
 use Rattle.lw_grammar.specs.Leaves.{Leaf, leaves, ValueLeaf, Calls, Cross, value_leaves}
 use Rattle.lw_grammar.specs.Named.{Declaration, StandsBefore, declared_rule, declared_terminal, declared_interface}
@@ -23,7 +21,7 @@ use Rattle.lw_faults.specs.Written.{WritesCall, IsNoRule, HasDeclaration, Infers
 use Rattle.lw_faults.specs.Written as written
 use Rattle.lw_faults.specs.Names.{Duplicate, UnknownRule, UnknownType, rule_space, type_space}
 use Rattle.lw_faults.specs.Names as names
-use Rattle.lw_faults.specs.Worked.{StandsAlone, StandsNowhere, place, nowhere, entry_rule, named_rule, id_terminal, interface_of, x_id, y_id, alone, x_by, x_value, a_entry, behind_a, beside_interface, makes_declared}
+use Rattle.lw_faults.specs.Worked.{StandsAlone, StandsNowhere, place, nowhere, entry_rule, named_rule, id_terminal, interface_of, x_id, y_id, alone, x_value, a_entry, behind_a, beside_interface, makes_declared}
 use Rattle.lw_faults.proofs.Every.{Every, every_of, differ}
 use Rattle.lw_faults.proofs.AloneLemmas.{the_rule}
 use Rattle.lw_faults.proofs.AssignLemmas.{writes, leaf_there, part_there, IsCallHere}
@@ -205,7 +203,7 @@ calls_b = value.Call (codes "B") (place 21 22)
 pub value_found : StandsAlone (UnknownRule (alone (x_value calls_b))) 0 (place 21 22) (codes "B")
 value_found = (
   names.in_rule (R calls_b (Calls (codes "B") (place 21 22)) parts) (0, omega arith, refl)
-  (written.assigned (codes "x") One calls_b nowhere (assigned_here calls_b _ parts) (part_here calls_b _ parts)) (b_unknown calls_b _ parts),
+      (written.assigned (codes "x") One calls_b nowhere (assigned_here calls_b _ parts) (part_here calls_b _ parts)) (b_unknown calls_b _ parts),
   λ f t n is. let found = only_call calls_b (Calls (codes "B") (place 21 22)) parts f t n is in (found.0, found.1.0, found.1.1),
 )
   where
@@ -218,7 +216,7 @@ crosses_b = value.Cross (codes "A") (Some (codes "B")) (place 21 26)
 pub crossed : StandsAlone (UnknownRule (alone (x_value crosses_b))) 0 (place 21 26) (codes "B")
 crossed = (
   names.in_rule (R crosses_b (Cross (codes "A") (Some (codes "B")) (place 21 26)) parts) (0, omega arith, refl)
-  (written.crossed (codes "x") One crosses_b nowhere (codes "A") (assigned_here crosses_b _ parts) (part_here crosses_b _ parts)) (b_unknown crosses_b _ parts),
+      (written.crossed (codes "x") One crosses_b nowhere (codes "A") (assigned_here crosses_b _ parts) (part_here crosses_b _ parts)) (b_unknown crosses_b _ parts),
   λ f t n is. let found = only_call crosses_b (Cross (codes "A") (Some (codes "B")) (place 21 26)) parts f t n is in (found.0, found.1.0, found.1.1),
 )
   where
@@ -294,7 +292,7 @@ module _ (name : List ℕ) (s : Span) where
 pub nowhere_inferred : (s : Span) → StandsAlone (UnknownType (alone (Act (makes_declared (codes "B") s)))) 0 s (codes "B")
 nowhere_inferred s = (
   names.unknown (written.acted (D (codes "B") s) (makes_declared (codes "B") s) (0, omega arith, refl) there refl)
-  (λ is. differ (codes "A") (codes "B") refl (known (codes "B") s (codes "B") is)),
+      (λ is. differ (codes "A") (codes "B") refl (known (codes "B") s (codes "B") is)),
   others,
 )
   where
@@ -306,5 +304,9 @@ nowhere_inferred s = (
 
 pub type_inferred : (s : Span) → StandsNowhere (UnknownType (alone (Act (makes_declared (codes "A") s))))
 type_inferred s f t n (names.unknown is none) =
-    none (inr (0, place 16 17, subst (InfersHere (N (codes "A") s) 0 (place 16 17)) (sym (names_it (codes "A") s f t n is).2)
-    (written.own (D (codes "A") s) (0, omega arith, refl) refl refl)))
+    none (inr (
+      0,
+      place 16 17,
+      subst (InfersHere (N (codes "A") s) 0 (place 16 17)) (sym (names_it (codes "A") s f t n is).2)
+          (written.own (D (codes "A") s) (0, omega arith, refl) refl refl),
+    ))

@@ -2,15 +2,13 @@
 use Rattle.std.proofs.Common.{◌≡◌, ℕ, List, [], ◌∷◌, codes, Contains, sym, subst, arith, refl}
 use Rattle.lw_grammar.specs.declared.grammar.Grammar.{Grammar}
 use Rattle.lw_grammar.specs.declared.rule.Rule.{Rule}
-use Rattle.lw_grammar.specs.declared.rule.Op.{Op}
 use Rattle.lw_grammar.specs.declared.rule.Op.TheVariants.{One}
 use Rattle.lw_grammar.specs.declared.rule.Value0.TheVariants as value
 use Rattle.lw_grammar.specs.Leaves.{Leaf, leaves}
 use Rattle.lw_grammar.specs.Leaves as leaf
-use Rattle.lw_grammar.specs.Named.{IsRule}
 use Rattle.lw_grammar.specs.Nodes.{MakesNodes}
 use Rattle.lw_grammar.specs.Nodes as nodes
-use Rattle.lw_grammar.proofs.LeafLemmas.{leaf_equations, leaves-Assign, leaves-Call}
+use Rattle.lw_grammar.proofs.LeafLemmas.{leaves-Assign, leaves-Call}
 use Rattle.lw_faults.specs.Reads.{IsTokenCall}
 use Rattle.lw_faults.specs.Worked.{nowhere, puts, id_element}
 use Rattle.lw_faults.proofs.Every.{Every, every_of}

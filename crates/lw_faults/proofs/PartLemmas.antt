@@ -1,5 +1,5 @@
 -- The parts of an element, by its form.
-use Rattle.std.proofs.Common.{◌≡◌, List, ◌⊎◌, inl, inr, Contains, refl, subst}
+use Rattle.std.proofs.Common.{◌≡◌, ◌⊎◌, inl, inr, Contains, refl, subst}
 use Rattle.lw_grammar.specs.declared.rule.Element.{Element, out-Element}
 use Rattle.lw_grammar.specs.declared.rule.Element.TheOpen as layer
 use Rattle.lw_grammar.specs.declared.rule.Element.TheOpen.{Element-F}

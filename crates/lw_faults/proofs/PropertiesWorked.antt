@@ -1,5 +1,5 @@
 -- Properties that a declared type has not, or has in another form, and the same where it has them so.
-use Rattle.std.proofs.Common.{◌≡◌, ◌≢◌, ℕ, List, [], ◌∷◌, ◌++◌, map, Some, Bool, true, false, codes, slice_get, Contains, refl, sym, ap, ◌∙◌, subst, arith, true≢false}
+use Rattle.std.proofs.Common.{◌≡◌, ◌≢◌, ℕ, List, [], ◌∷◌, ◌++◌, Some, Bool, true, false, codes, slice_get, Contains, refl, sym, ap, ◌∙◌, subst, arith, true≢false}
 use Rattle.std.specs.List.{flat_map}
 use Rattle.std.proofs.lemmas.Option.{none-some}
 use Rattle.lw_base.specs.declared.token.Span.{Span}
@@ -9,13 +9,11 @@ use Rattle.lw_grammar.specs.declared.rule.Op.{Op}
 use Rattle.lw_grammar.specs.declared.rule.Op.TheVariants.{One, Add, Flag}
 use Rattle.lw_grammar.specs.declared.rule.Value0.{Value0}
 use Rattle.lw_grammar.specs.declared.rule.Value0.TheVariants as value
-use Rattle.lw_grammar.specs.declared.rule.Element.{Element}
 use Rattle.lw_grammar.specs.declared.rule.Element.TheVariants.{Assign}
 use Rattle.lw_grammar.specs.declared.terminal.Terminal.{Terminal}
 use Rattle.lw_grammar.specs.declared.terminal.Primitive.TheVariants.{Text, Boolean}
 use Rattle.lw_grammar.specs.declared.declared_types.Interface.{Interface}
 use Rattle.lw_grammar.specs.declared.declared_types.Attribute.{Attribute}
-use Rattle.lw_grammar.specs.declared.declared_types.UnionDef.{UnionDef}
 use Rattle.lw_grammar.specs.declared.declared_types.Member.{Member}
 use Rattle.lw_grammar.specs.declared.declared_types.Member.TheVariants as member
 use Rattle.lw_grammar.specs.Leaves.{ValueLeaf, Calls, Cross, value_leaves}
@@ -27,7 +25,7 @@ use Rattle.lw_faults.specs.Attributes.{Kind, Plain, ReferencesTo, Lineage, HasAt
 use Rattle.lw_faults.specs.Attributes as kind
 use Rattle.lw_faults.specs.Properties.{MisfitsAttribute, IsRefused, UnknownProperty, WrongPropertyForm}
 use Rattle.lw_faults.specs.Properties as property
-use Rattle.lw_faults.specs.Worked.{StandsAlone, StandsNowhere, place, nowhere, id_terminal, x_attribute, i_interface, returning, with_attribute, j_interface, extended, u_union, united, x_by, id_call, i_reference}
+use Rattle.lw_faults.specs.Worked.{StandsAlone, StandsNowhere, nowhere, id_terminal, x_attribute, i_interface, with_attribute, j_interface, extended, u_union, united, x_by, id_call, i_reference}
 use Rattle.lw_faults.proofs.Every.{every_of, every_at, differ, first_here, first_later, meant, not_meant}
 use Rattle.lw_faults.proofs.LineageLemmas.{one_lineage}
 use Rattle.lw_faults.proofs.PutLemmas.{unknown_found, unknown_nowhere, misfit_found, misfit_nowhere}

@@ -1,5 +1,5 @@
 -- Rules that read nothing, that repeat nothing and that never end, and those beside them that do not.
-use Rattle.std.proofs.Common.{◌≡◌, ℕ, zero, suc, List, [], ◌∷◌, Some, codes, slice_get, Contains, Option, None, ◌+◌, ◌⊎◌, inl, inr, refl, sym, ap, ◌∙◌, subst, arith}
+use Rattle.std.proofs.Common.{◌≡◌, ℕ, zero, suc, List, Some, codes, slice_get, Option, None, ◌+◌, ◌⊎◌, inl, inr, refl, sym, ap, ◌∙◌, subst, arith}
 use Rattle.std.proofs.lemmas.Option.{none-some, same_Some}
 use Rattle.lw_base.specs.declared.token.Span.{Span}
 use Rattle.lw_grammar.specs.declared.grammar.Grammar.{Grammar}
@@ -11,7 +11,6 @@ use Rattle.lw_grammar.specs.declared.rule.Element.TheOpen.{Element-F}
 use Rattle.lw_grammar.specs.declared.rule.Element.TheVariants.{Group, Many, Maybe, outs-Assign, outs-Group, outs-Maybe, outs-Many}
 use Rattle.lw_grammar.specs.declared.rule.Value0.TheVariants as value
 use Rattle.lw_grammar.specs.Named.{IsRule, IsEntry, declared_rule, declared_terminal}
-use Rattle.lw_grammar.specs.Leaves as leaf
 use Rattle.lw_grammar.specs.Reached.{IsReached}
 use Rattle.lw_grammar.specs.Reached as reached
 use Rattle.lw_grammar.proofs.FirstLemmas.{first_place}
@@ -19,12 +18,12 @@ use Rattle.lw_grammar.proofs.LeafLemmas.{leaves-Assign, values-Call}
 use Rattle.lw_faults.specs.Reads.{IsTokenCall, Reads, ReadsAll}
 use Rattle.lw_faults.specs.Reads as read
 use Rattle.lw_faults.specs.Derivations.{IsEntryRule, ReadsNothing, reads_nothing, RepeatsNothing, repeats_nothing, NeverEnds, never_ends, HasPart, itself}
-use Rattle.lw_faults.specs.Worked.{StandsAlone, StandsNowhere, place, nowhere, word, puts, entry_rule, x_id, calling_rule, called_rule, calling_b, alone, repeating, a_a, endless_row, endless}
+use Rattle.lw_faults.specs.Worked.{StandsAlone, StandsNowhere, place, nowhere, x_id, calling_rule, called_rule, calling_b, alone, repeating, a_a, endless_row, endless}
 use Rattle.lw_faults.proofs.Every.{differ, first_here, first_later, meant, not_meant}
 use Rattle.lw_faults.proofs.AloneLemmas.{the_rule, one_entry, one_named, one_no_id, only_one}
 use Rattle.lw_faults.proofs.ReadLemmas.{what_reads, can_read, rule_reads, row_reads, row_ends}
 use Rattle.lw_faults.proofs.PartLemmas.{what_part}
-use Rattle.lw_faults.proofs.WorkedReads.{puts_token, puts_reads, puts_can_read, word_reads, word_can_read}
+use Rattle.lw_faults.proofs.WorkedReads.{puts_token, puts_reads, word_reads, word_can_read}
 
 -- ---- a rule that is called and reads nothing
 
@@ -128,7 +127,7 @@ module _ (body : Element) (repeats_none : (part : Element) → HasPart body part
   repeated_alone : Reads (repeating body) body 0 → StandsAlone (RepeatsNothing (repeating body)) 0 (place 19 27) (codes "A")
   repeated_alone none = (
     repeats_nothing 0 (the_rule (Many body (place 19 27))) (Many body (place 19 27)) body
-    (reached.entry (the_rule (Many body (place 19 27))) (one_entry (Many body (place 19 27))), refl) itself (inl (outs-Many body (place 19 27))) none,
+        (reached.entry (the_rule (Many body (place 19 27))) (one_entry (Many body (place 19 27))), refl) itself (inl (outs-Many body (place 19 27))) none,
     others,
   )
     where

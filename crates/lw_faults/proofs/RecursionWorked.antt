@@ -1,5 +1,5 @@
 -- The rule that calls itself behind a fragment is left recursive where the fragment reads nothing, and else no rule is.
-use Rattle.std.proofs.Common.{◌≡◌, ℕ, zero, suc, List, [], ◌∷◌, Some, codes, slice_get, Contains, ◌⊎◌, inl, inr, refl, sym, ap, ◌∙◌, subst, arith}
+use Rattle.std.proofs.Common.{◌≡◌, ℕ, zero, suc, List, [], ◌∷◌, Some, codes, slice_get, Contains, ◌⊎◌, inl, inr, refl, sym, ap, subst, arith}
 use Rattle.std.proofs.lemmas.Option.{none-some, same_Some}
 use Rattle.lw_base.specs.declared.token.Span.{Span}
 use Rattle.lw_grammar.specs.declared.grammar.Grammar.{Grammar}
@@ -15,7 +15,7 @@ use Rattle.lw_faults.specs.Reads.{IsTokenCall, Reads, Leads, ComesFirstTo, direc
 use Rattle.lw_faults.specs.Reads as read
 use Rattle.lw_faults.specs.Derivations.{LeftRecursion, left_recursion}
 use Rattle.lw_faults.specs.Worked.{StandsAlone, StandsNowhere, place, nowhere, word, puts, fragment_rule, recursive_row, recursive_ways, recursive_rule, behind_fragment, left_recursive, right_recursive}
-use Rattle.lw_faults.proofs.Every.{every_of, differ, first_here, first_later, meant, not_meant}
+use Rattle.lw_faults.proofs.Every.{differ, first_here, first_later, meant, not_meant}
 use Rattle.lw_faults.proofs.ReadLemmas.{LeadsAll, what_reads, can_read, what_leads, can_lead, what_value_leads, rule_reads}
 use Rattle.lw_faults.proofs.WorkedReads.{puts_token, puts_leads, puts_can_lead}
 

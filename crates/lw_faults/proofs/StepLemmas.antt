@@ -1,5 +1,5 @@
 -- What an element may do, by its form, and what is known of a step and of those before it.
-use Rattle.std.proofs.Common.{◌≡◌, ℕ, zero, suc, List, [], ◌∷◌, ◌++◌, ◌⊎◌, inl, inr, map, Contains, All, Some, slice_get, refl, sym, ap, ap₂, ◌∙◌, subst, arith}
+use Rattle.std.proofs.Common.{◌≡◌, ℕ, zero, suc, List, [], ◌∷◌, ◌++◌, ◌⊎◌, inl, inr, map, Contains, All, Some, slice_get, refl, sym, ap₂, ◌∙◌, subst, arith}
 use Rattle.std.specs.List.{flat_map}
 use Rattle.std.proofs.lemmas.List.{append_assoc, append-nil}
 use Rattle.std.proofs.lemmas.Option.{slice_get_within, get_or_from_slice_get}
@@ -13,7 +13,6 @@ use Rattle.lw_grammar.specs.declared.rule.Rule.{Rule}
 use Rattle.lw_grammar.specs.Leaves as leaf
 use Rattle.lw_grammar.specs.Leaves.{Leaf, leaves, layer_leaves, IsFragmentCall}
 use Rattle.lw_grammar.specs.declared.rule.Element.TheFolds.{map-Element}
-use Rattle.lw_grammar.specs.Named.{IsRule}
 use Rattle.lw_grammar.specs.Subtypes.{HasType}
 use Rattle.lw_grammar.proofs.FirstLemmas.{first_place, first_item}
 use Rattle.lw_grammar.proofs.LeafLemmas.{leaves_by}

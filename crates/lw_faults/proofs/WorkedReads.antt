@@ -1,12 +1,9 @@
 -- What elements of the written grammars read, where ID is no rule, and which rules are reached.
-use Rattle.std.proofs.Common.{◌≡◌, ℕ, List, [], ◌∷◌, codes, Contains, refl, sym, subst, arith}
+use Rattle.std.proofs.Common.{◌≡◌, ℕ, List, refl}
 use Rattle.lw_grammar.specs.declared.grammar.Grammar.{Grammar}
-use Rattle.lw_grammar.specs.declared.rule.Rule.{Rule}
 use Rattle.lw_grammar.specs.declared.rule.Op.TheVariants.{One}
-use Rattle.lw_grammar.specs.declared.rule.Element.{Element}
-use Rattle.lw_grammar.specs.declared.rule.Element.TheVariants.{Keyword, outs-Keyword, outs-Assign}
+use Rattle.lw_grammar.specs.declared.rule.Element.TheVariants.{outs-Keyword, outs-Assign}
 use Rattle.lw_grammar.specs.declared.rule.Value0.TheVariants as value
-use Rattle.lw_grammar.specs.Named.{IsRule}
 use Rattle.lw_faults.specs.Reads.{IsTokenCall, Reads, CallReads, ValueLeads, Leads}
 use Rattle.lw_faults.specs.Reads as read
 use Rattle.lw_faults.specs.Worked.{nowhere, word, puts}

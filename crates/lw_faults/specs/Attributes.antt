@@ -1,10 +1,9 @@
 -- Which attributes a declared type has, and which values one takes.
-use Rattle.std.specs.Prelude.{ℕ, ◌≡◌, List, [], ◌∷◌, ◌++◌, Some, None, true, false, map, Contains}
+use Rattle.std.specs.Prelude.{ℕ, ◌≡◌, List, [], ◌∷◌, ◌++◌, Some, None, map, Contains}
 use Rattle.std.specs.List.{flat_map}
 use Rattle.lw_base.specs.declared.token.Span.{Span}
 use Rattle.lw_grammar.specs.declared.grammar.Grammar.{Grammar}
 use Rattle.lw_grammar.specs.declared.rule.Rule.{Rule}
-use Rattle.lw_grammar.specs.declared.rule.RuleResult.{RuleResult}
 use Rattle.lw_grammar.specs.declared.rule.RuleResult.TheVariants.{Gives}
 use Rattle.lw_grammar.specs.declared.terminal.Terminal.{Terminal}
 use Rattle.lw_grammar.specs.declared.terminal.Primitive.{Primitive}

@@ -1,6 +1,6 @@
 -- Faults of what rules can read: 7 left recursion, 8 reads nothing, 9 repeats nothing, 10 never ends. They are looked for over the rules that can
 -- be reached from the entry.
-use Rattle.std.specs.Prelude.{ℕ, ◌≡◌, ◌≢◌, ◌⊎◌, List, Some, false, slice_get, Contains}
+use Rattle.std.specs.Prelude.{ℕ, ◌≡◌, ◌⊎◌, List, Some, false, slice_get, Contains}
 use Rattle.lw_base.specs.declared.token.Span.{Span}
 use Rattle.lw_grammar.specs.declared.grammar.Grammar.{Grammar}
 use Rattle.lw_grammar.specs.declared.rule.Rule.{Rule}

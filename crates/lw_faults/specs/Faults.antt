@@ -1,6 +1,6 @@
 -- What is wrong with a grammar that was loaded: its faults, by their numbers, in two phases, and each list of them in its order.
 -- Held against the Langium documentation, "Grammar language" and "Semantic model: type inference and declared types".
-use Rattle.std.specs.Prelude.{ℕ, ◌≡◌, ◌<◌, ◌↔◌, ◌⊎◌, List, Contains, AllPairs}
+use Rattle.std.specs.Prelude.{ℕ, ◌≡◌, ◌<◌, ◌↔◌, List, Contains, AllPairs}
 use Rattle.std.specs.Ordering.{nat_cmp}
 use Rattle.std.specs.declared.cmp.Ordering.TheVariants.{Less}
 use Rattle.std.specs.Cmp.Lexicographic.{slice_cmp}

@@ -9,7 +9,6 @@ use Rattle.lw_grammar.specs.declared.rule.RuleResult.TheVariants.{Own, Returns, 
 use Rattle.lw_grammar.specs.declared.rule.Op.{Op}
 use Rattle.lw_grammar.specs.declared.rule.Value0.{Value0}
 use Rattle.lw_grammar.specs.declared.rule.Action.{Action}
-use Rattle.lw_grammar.specs.declared.terminal.Terminal.{Terminal}
 use Rattle.lw_grammar.specs.declared.terminal.TermElement.{TermElement, fold-TermElement}
 use Rattle.lw_grammar.specs.declared.terminal.TermElement.TheOpen as term
 use Rattle.lw_grammar.specs.declared.terminal.TermElement.TheOpen.{TermElement-F}
