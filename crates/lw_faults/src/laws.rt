@@ -1,5 +1,5 @@
 // What a reader may expect of the faults of a grammar, and where they are in grammars that are written out.
-ghost use Rattle.std.specs.Prelude.{◌≡◌, [], ◌∷◌, List, Some, true, false, codes};
+ghost use Rattle.std.specs.Prelude.{ℕ, ◌≡◌, ◌<◌, ◌⊎◌, [], ◌∷◌, List, Some, true, false, codes};
 ghost use Rattle.lw_base.specs.declared.token.Span.{Span};
 ghost use Rattle.lw_grammar.specs.declared.rule.Element.TheVariants.{Call, Assign, Act, Group, Maybe, Many};
 ghost use Rattle.lw_grammar.specs.declared.rule.Op.TheVariants.{One, Add, Flag};
@@ -11,7 +11,7 @@ ghost use Rattle.lw_grammar.specs.declared.declared_types.Member.TheVariants.{Na
 ghost use Rattle.lw_grammar.specs.declared.fault.GrammarFault.{GrammarFault};
 ghost use Rattle.lw_grammar.specs.declared.grammar.Grammar.{Grammar};
 ghost use Rattle.lw_faults.specs.Derivations.{LeftRecursion, ReadsNothing, RepeatsNothing, NeverEnds};
-ghost use Rattle.lw_faults.specs.Faults.{AreTypeFaults, AreCheckFaults};
+ghost use Rattle.lw_faults.specs.Faults.{IsTypeFault, IsCheckFault, AreTypeFaults, AreCheckFaults};
 ghost use Rattle.lw_faults.specs.Worked.{StandsAlone, StandsNowhere, place, nowhere, left_recursive, right_recursive, x_id, calling_b, alone, repeating, a_a, endless, word, makes_b, takes_b, row, action_and_word, acts_in_fragment, with_node, node_behind, node_before, node_and_word, puts, with_attribute, extended, united, x_by, id_call, i_reference, twice, making_s, types_alone, extends, a_extending, b_extending, union_of, fragment_calling, terminal_calling, rules_alone, named_rule, in_file, a_entry, b_entry, entry_fragment, id_element, resulting, with_terminal, calling_terminal, crossing, assigning, y_id, node_rule, fragment_rule, x_value, behind_a, beside_interface, makes_declared, by_its_name, many_rules};
 ghost use Rattle.lw_faults.specs.Names.{Duplicate, UnknownRule, UnknownType, NoNameRule};
 ghost use Rattle.lw_faults.specs.BadCalls.{BadCall, BadAssignment};
@@ -25,6 +25,13 @@ ghost use Rattle.lw_faults.specs.Misplaced.{MisplacedAction, MisplacedCall};
 pub fn one_list_of_faults()
     ensures types { (g : Grammar) (a b : List GrammarFault) → AreTypeFaults g a → AreTypeFaults g b → a ≡ b }
     ensures checks { (g : Grammar) (a b : List GrammarFault) → AreCheckFaults g a → AreCheckFaults g b → a ≡ b }
+{}
+
+/// No fault is of both phases. Where a fragment or a terminal calls itself, what rules read and do is not looked at.
+pub fn phases()
+    ensures apart { (g : Grammar) (f : GrammarFault) → IsTypeFault g f → ¬ IsCheckFault g f }
+    ensures circles_first { (g : Grammar) (file : ℕ) (s : Span) (name : List ℕ) (f : GrammarFault) → CircularCall g file s name → IsCheckFault g f
+        → (f.number < 7) ⊎ (12 < f.number) }
 {}
 
 /// A rule that calls itself behind a fragment is left recursive where the fragment can read nothing.

@@ -19,10 +19,11 @@
 //! other files have the faults by their subject.
 //!
 //! There is no code here but laws. A grammar has one list of faults in each phase
-//! ([`one_list_of_faults`]). The others say of grammars that are written out (`specs/Worked.antt`)
-//! where each fault is and how it is told, and of those beside them that they have it not: an action
-//! behind an assignment and before it ([`misplaced_actions`]), a rule that calls itself behind a
-//! fragment that reads nothing and behind one that reads a token ([`left_recursion`]), and so on.
+//! ([`one_list_of_faults`]), and no fault is of both ([`phases`]). The others say of grammars that are
+//! written out (`specs/Worked.antt`) where each fault is and how it is told, and of those beside them
+//! that they have it not: an action behind an assignment and before it ([`misplaced_actions`]), a rule
+//! that calls itself behind a fragment that reads nothing and behind one that reads a token
+//! ([`left_recursion`]), and so on.
 #![tactic(auto)]
 
 mod laws;
@@ -30,7 +31,7 @@ mod laws;
 pub use laws::{
     bad_assignments, bad_calls, circular_calls, circular_types, data_types, duplicates, entries,
     left_recursion, misplaced_actions, misplaced_calls, mixed_properties, name_rules,
-    one_list_of_faults, property_forms, repeated_nothing, rules_that_read_nothing,
+    one_list_of_faults, phases, property_forms, repeated_nothing, rules_that_read_nothing,
     rules_without_end, sizes, types_that_are_not_below, unknown_properties, unknown_rules,
     unknown_types,
 };
