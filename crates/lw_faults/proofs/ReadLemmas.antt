@@ -1,5 +1,5 @@
 -- What an element, a value or a call reads, and which calls it leads to, by its form.
-use Rattle.std.proofs.Common.{◌≡◌, ℕ, ◌+◌, List, [], ◌∷◌, ◌++◌, Some, None, ◌⊎◌, inl, inr, Contains, refl, sym, subst, arith}
+use Rattle.std.proofs.Common.{◌≡◌, ℕ, ◌+◌, List, [], ◌∷◌, Some, None, ◌⊎◌, inl, inr, Contains, refl, sym, subst, arith}
 use Rattle.lw_grammar.specs.declared.grammar.Grammar.{Grammar}
 use Rattle.lw_grammar.specs.declared.rule.Element.{Element, out-Element}
 use Rattle.lw_grammar.specs.declared.rule.Element.TheOpen as layer
@@ -11,7 +11,7 @@ use Rattle.lw_grammar.specs.declared.rule.Rule.{Rule}
 use Rattle.lw_grammar.specs.Named.{IsRule}
 use Rattle.lw_grammar.specs.NameRules.{IsNameRule}
 use Rattle.lw_grammar.proofs.FirstLemmas.{first_item}
-use Rattle.lw_faults.specs.Reads.{IsTokenCall, Reads, ReadsLayer, ReadsAll, ReadsAgain, CallReads, ValueReads, ValueReadsLayer, ValueLeads, ValueLeadsLayer, Leads, LeadsLayer}
+use Rattle.lw_faults.specs.Reads.{IsTokenCall, Reads, ReadsLayer, ReadsAll, ReadsAgain, CallReads, ValueReads, ValueReadsLayer, ValueLeads, ValueLeadsLayer, Leads, LeadsLayer, LeadsAll}
 use Rattle.lw_faults.specs.Reads as read
 
 module _ (g : Grammar) where
@@ -103,29 +103,21 @@ module _ (g : Grammar) where
   rule_reads {name} {n} {r} {rule} is (read.rule_ q other was does) = subst (λ (x : Rule). Reads g x.body n) (first_item was.first is.first) does
 
   -- ---- which calls come before any token
-  abbrev pub LeadsAll : List Element → List ℕ → Type 0
-  LeadsAll [] name = ⊥
-  LeadsAll (e ∷ es) name = Leads g e name ⊎ (Reads g e 0 × LeadsAll es name)
-
   abbrev pub LeadsBy : Element-F Element → List ℕ → Type 0
   LeadsBy (layer.Keyword text s) name = ⊥
   LeadsBy (layer.Call called s) name = name ≡ called
   LeadsBy (layer.Assign p op v s) name = ValueLeads g v name
   LeadsBy (layer.Act a) name = ⊥
-  LeadsBy (layer.Group es s) name = LeadsAll es name
+  LeadsBy (layer.Group es s) name = LeadsAll g es name
   LeadsBy (layer.Choice es s) name = (e : Element) × Contains es e × Leads g e name
   LeadsBy (layer.Maybe e s) name = Leads g e name
   LeadsBy (layer.Many e s) name = Leads g e name
   LeadsBy (layer.Some1 e s) name = Leads g e name
 
-  in_row : (before after : List Element) (e : Element) (name : List ℕ) → ReadsAll g before 0 → Leads g e name → LeadsAll (before ++ e ∷ after) name
-  in_row [] after e name all does = inl does
-  in_row (x ∷ before) after e name all does = let parts = row_of_none all in inr (parts.0, in_row before after e name parts.1 does)
-
   leads_by_layer : {f : Element-F Element} {name : List ℕ} → LeadsLayer g f name → LeadsBy f name
   leads_by_layer read.called = refl
   leads_by_layer (read.assigned does) = does
-  leads_by_layer (read.in_row {name} before after e all does) = in_row before after e name all does
+  leads_by_layer (read.grouped does) = does
   leads_by_layer (read.chosen {e} has does) = (e, has, does)
   leads_by_layer (read.taken does) = does
   leads_by_layer (read.repeated does) = does

@@ -1,5 +1,5 @@
 -- The rule that calls itself behind a fragment is left recursive where the fragment reads nothing, and else no rule is.
-use Rattle.std.proofs.Common.{◌≡◌, ℕ, zero, suc, List, [], ◌∷◌, Some, codes, slice_get, Contains, ◌⊎◌, inl, inr, refl, sym, ap, subst, arith}
+use Rattle.std.proofs.Common.{◌≡◌, ℕ, zero, suc, List, Some, codes, slice_get, Contains, ◌⊎◌, inl, inr, refl, sym, ap, subst, arith}
 use Rattle.std.proofs.lemmas.Option.{none-some, same_Some}
 use Rattle.lw_base.specs.declared.token.Span.{Span}
 use Rattle.lw_grammar.specs.declared.grammar.Grammar.{Grammar}
@@ -11,12 +11,12 @@ use Rattle.lw_grammar.specs.declared.rule.Value0.TheVariants as value
 use Rattle.lw_grammar.specs.Named.{IsRule, IsEntry, declared_rule, declared_terminal}
 use Rattle.lw_grammar.specs.Reached.{entry}
 use Rattle.lw_grammar.proofs.FirstLemmas.{first_place}
-use Rattle.lw_faults.specs.Reads.{IsTokenCall, Reads, Leads, ComesFirstTo, directly, over}
+use Rattle.lw_faults.specs.Reads.{IsTokenCall, Reads, Leads, LeadsAll, ComesFirstTo, directly, over}
 use Rattle.lw_faults.specs.Reads as read
 use Rattle.lw_faults.specs.Derivations.{LeftRecursion, left_recursion}
-use Rattle.lw_faults.specs.Worked.{StandsAlone, StandsNowhere, place, nowhere, word, puts, fragment_rule, recursive_row, recursive_ways, recursive_rule, behind_fragment, left_recursive, right_recursive}
+use Rattle.lw_faults.specs.Worked.{StandsAlone, StandsNowhere, place, nowhere, puts, fragment_rule, recursive_row, recursive_ways, recursive_rule, behind_fragment, left_recursive, right_recursive}
 use Rattle.lw_faults.proofs.Every.{differ, first_here, first_later, meant, not_meant}
-use Rattle.lw_faults.proofs.ReadLemmas.{LeadsAll, what_reads, can_read, what_leads, can_lead, what_value_leads, rule_reads}
+use Rattle.lw_faults.proofs.ReadLemmas.{what_reads, can_read, what_leads, can_lead, what_value_leads, rule_reads}
 use Rattle.lw_faults.proofs.WorkedReads.{puts_token, puts_leads, puts_can_lead}
 
 module _ (body : Element) where
@@ -40,10 +40,10 @@ module _ (body : Element) where
   IsLed name = (name ≡ codes "F") ⊎ ((name ≡ codes "A") × Reads G body 0)
 
   row_leads : (name : List ℕ) → LeadsAll G recursive_row name → IsLed name
-  row_leads name (inl does) = inl (what_leads G (outs-Call (codes "F") nowhere) does)
-  row_leads name (inr (none, inl does)) = inr (puts_leads G does, rule_reads G f_named (what_reads G (outs-Call (codes "F") nowhere) none))
-  row_leads name (inr (_, inr (_, inl does))) = absurd (what_leads G (outs-Keyword (codes "x") nowhere) does)
-  row_leads name (inr (_, inr (_, inr (_, does)))) = absurd does
+  row_leads name (read.first does) = inl (what_leads G (outs-Call (codes "F") nowhere) does)
+  row_leads name (read.later none (read.first does)) = inr (puts_leads G does, rule_reads G f_named (what_reads G (outs-Call (codes "F") nowhere) none))
+  row_leads name (read.later _ (read.later _ (read.first does))) = absurd (what_leads G (outs-Keyword (codes "x") nowhere) does)
+  row_leads name (read.later _ (read.later _ (read.later _ does))) = elim does [ ]
 
   a_leads : (name : List ℕ) → Leads G recursive_rule.body name → IsLed name
   a_leads name does = by (what_leads G (outs-Choice recursive_ways nowhere) does)
@@ -101,8 +101,7 @@ module _ (body : Element) where
       row : Leads G (Group recursive_row nowhere) (codes "A")
       row =
           can_lead G (outs-Group recursive_row nowhere)
-          (read.in_row (Call (codes "F") nowhere ∷ []) (word (codes "x") ∷ []) (puts (codes "a") (codes "A")) (read.more f_none read.none)
-          (puts_can_lead G (codes "a") (codes "A")))
+          (read.grouped (read.later f_none (read.first (puts_can_lead G (codes "a") (codes "A")))))
 
       leads : Leads G recursive_rule.body (codes "A")
       leads = can_lead G (outs-Choice recursive_ways nowhere) (read.chosen (1, omega arith, refl) row)

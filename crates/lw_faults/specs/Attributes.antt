@@ -51,7 +51,7 @@ module _ (g : Grammar) where
   abbrev pub HasNoAttribute : List ℕ → List ℕ → Type 0
   HasNoAttribute type_name p = (attribute : Attribute) → ¬ HasAttribute type_name p attribute
 
-  -- what a part of a value is. A call of an unknown rule or of a fragment is nothing.
+  -- what a part of a value is. A call of an unknown rule or of a fragment of rules is nothing.
   pub data IsKindOf : ValueLeaf → Kind → Type 0 where
     literal : {text : List ℕ} {s : Span} → IsKindOf (Literal text s) (Plain Text)
     terminal : {name : List ℕ} {s : Span} (t : ℕ) (terminal : Terminal) → IsTerminal g name t terminal → IsKindOf (Calls name s) (Plain terminal.gives)

@@ -12,19 +12,23 @@ use Rattle.lw_grammar.specs.Reached.{RuleCalls}
 use Rattle.lw_faults.specs.Written.{term_calls, IsKnownType}
 
 module _ (g : Grammar) where
-  -- the first type extends the second or has it as a member, over one step or more
-  pub data NeedsType : List ℕ → List ℕ → Type 0 where
-    extends : {name above : List ℕ} (i : ℕ) (interface : Interface) → IsInterface g name i interface → Contains (map (λ n. n.0) interface.above) above →
-        NeedsType name above
-    has_member : {name member : List ℕ} (u : ℕ) (union : UnionDef) (s : Span) → IsUnion g name u union → Contains union.members (Named member s) →
-        NeedsType name member
-    over : {name between other : List ℕ} → NeedsType name between → NeedsType between other → NeedsType name other
+  -- the interface extends the other, over one step or more, through interfaces alone
+  pub data ExtendsType : List ℕ → List ℕ → Type 0 where
+    directly : {name above : List ℕ} (i : ℕ) (interface : Interface) → IsInterface g name i interface → Contains (map (λ n. n.0) interface.above) above →
+        ExtendsType name above
+    over : {name between other : List ℕ} → ExtendsType name between → ExtendsType between other → ExtendsType name other
+
+  -- and the union has the other as a member, through unions
+  pub data HasMemberType : List ℕ → List ℕ → Type 0 where
+    directly : {name member : List ℕ} (u : ℕ) (union : UnionDef) (s : Span) → IsUnion g name u union → Contains union.members (Named member s) →
+        HasMemberType name member
+    over : {name between other : List ℕ} → HasMemberType name between → HasMemberType between other → HasMemberType name other
 
   -- an interface extends itself, or what is no interface; or a union has itself as a member
   pub data CircularType : ℕ → Span → List ℕ → Type 0 where
-    interface : (i : ℕ) (interface : Interface) → IsInterface g interface.name i interface → NeedsType interface.name interface.name →
+    interface : (i : ℕ) (interface : Interface) → IsInterface g interface.name i interface → ExtendsType interface.name interface.name →
         CircularType interface.file interface.span interface.name
-    union : (u : ℕ) (union : UnionDef) → IsUnion g union.name u union → NeedsType union.name union.name → CircularType union.file union.span union.name
+    union : (u : ℕ) (union : UnionDef) → IsUnion g union.name u union → HasMemberType union.name union.name → CircularType union.file union.span union.name
     no_interface : (interface : Interface) (above : List ℕ) → Contains g.interfaces interface → Contains (map (λ n. n.0) interface.above) above →
         IsKnownType g above → ((i : ℕ) (other : Interface) → ¬ IsInterface g above i other) → CircularType interface.file interface.span interface.name
 

@@ -13,6 +13,7 @@ use Rattle.lw_grammar.specs.declared.declared_types.Member.{Member}
 use Rattle.lw_grammar.specs.Leaves as leaf
 use Rattle.lw_grammar.specs.Leaves.{ValueLeaf, value_leaves}
 use Rattle.lw_grammar.specs.Subtypes.{HasType, IsDeclared, IsSubtype}
+use Rattle.lw_faults.specs.Written.{IsInferredType}
 use Rattle.lw_faults.specs.Steps.{Step, step, IsBehind, CallsNode, IsCurrent}
 use Rattle.lw_faults.specs.Attributes.{Kind, Plain, NodesOf, HasAttribute, HasNoAttribute, IsKindOf, Takes}
 
@@ -61,10 +62,11 @@ module _ (g : Grammar) where
     acted : (rule written : Rule) (before : List Step) (a : Action) (put : List ℕ × Bool) → IsBehind g rule before (step written (leaf.Act a)) → a.put ≡ Some put →
         PutsInto a.type_name put.0 put.1 written.file a.span
 
-  -- a property of an inferred type is a list here, and none at a place before, or the other way round
+  -- a property of a type that is inferred, and not declared, is a list here, and none at a place before, or the other way round
   pub data MixedProperty : ℕ → Span → List ℕ → Type 0 where
-    mixed : {type_name p : List ℕ} {list other : Bool} {file before : ℕ} {s t : Span} → ¬ IsDeclared g type_name → PutsInto type_name p list file s →
-        PutsInto type_name p other before t → list ≢ other → (before < file) ⊎ ((before ≡ file) × (t.start < s.start)) → MixedProperty file s p
+    mixed : {type_name p : List ℕ} {list other : Bool} {file before : ℕ} {s t : Span} → IsInferredType g type_name → ¬ IsDeclared g type_name →
+        PutsInto type_name p list file s → PutsInto type_name p other before t → list ≢ other → (before < file) ⊎ ((before ≡ file) × (t.start < s.start)) →
+        MixedProperty file s p
 
   -- a rule of a declared type makes a node of a type that is not below it
   pub data NotASubtype : ℕ → Span → List ℕ → Type 0 where

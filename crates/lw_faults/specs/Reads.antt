@@ -1,5 +1,5 @@
 -- How many tokens an element may read, and what it may come to before any token, where each call that means no parser rule reads one.
-use Rattle.std.specs.Prelude.{ℕ, ◌≡◌, ◌+◌, List, [], ◌∷◌, ◌++◌, Some, None, Contains, slice_get}
+use Rattle.std.specs.Prelude.{ℕ, ◌≡◌, ◌+◌, List, [], ◌∷◌, Some, None, Contains, slice_get}
 use Rattle.lw_base.specs.declared.token.Span.{Span}
 use Rattle.lw_grammar.specs.declared.grammar.Grammar.{Grammar}
 use Rattle.lw_grammar.specs.declared.rule.Element.{Element, out-Element}
@@ -81,12 +81,16 @@ module _ (g : Grammar) where
     pub data LeadsLayer : Element-F Element → List ℕ → Type 0 where
       called : {name : List ℕ} {s : Span} → LeadsLayer (Call name s) name
       assigned : {p : List ℕ} {op : Op} {v : Value0} {s : Span} {name : List ℕ} → ValueLeads v name → LeadsLayer (Assign p op v s) name
-      in_row : {s : Span} {name : List ℕ} (before after : List Element) (e : Element) → ReadsAll before 0 → Leads e name →
-          LeadsLayer (Group (before ++ e ∷ after) s) name
+      grouped : {es : List Element} {s : Span} {name : List ℕ} → LeadsAll es name → LeadsLayer (Group es s) name
       chosen : {es : List Element} {s : Span} {e : Element} {name : List ℕ} → Contains es e → Leads e name → LeadsLayer (Choice es s) name
       taken : {e : Element} {s : Span} {name : List ℕ} → Leads e name → LeadsLayer (Maybe e s) name
       repeated : {e : Element} {s : Span} {name : List ℕ} → Leads e name → LeadsLayer (Many e s) name
       repeated_once : {e : Element} {s : Span} {name : List ℕ} → Leads e name → LeadsLayer (Some1 e s) name
+
+    -- of a row, in order: its first may come to it, or reads nothing, and one of the others may
+    pub data LeadsAll : List Element → List ℕ → Type 0 where
+      first : {e : Element} {es : List Element} {name : List ℕ} → Leads e name → LeadsAll (e ∷ es) name
+      later : {e : Element} {es : List Element} {name : List ℕ} → Reads e 0 → LeadsAll es name → LeadsAll (e ∷ es) name
 
   -- By their numbers: the first rule may come to the second before it reads any token, over one call or more.
   pub data ComesFirstTo : ℕ → ℕ → Type 0 where

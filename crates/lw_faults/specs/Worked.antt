@@ -7,7 +7,7 @@ use Rattle.lw_grammar.specs.declared.rule.Rule.{Rule}
 use Rattle.lw_grammar.specs.declared.rule.RuleResult.{RuleResult}
 use Rattle.lw_grammar.specs.declared.rule.RuleResult.TheVariants.{Own, Returns}
 use Rattle.lw_grammar.specs.declared.rule.Op.{Op}
-use Rattle.lw_grammar.specs.declared.rule.Op.TheVariants.{One}
+use Rattle.lw_grammar.specs.declared.rule.Op.TheVariants.{One, Add}
 use Rattle.lw_grammar.specs.declared.rule.Element.{Element}
 use Rattle.lw_grammar.specs.declared.rule.Element.TheVariants.{Keyword, Call, Assign, Act, Group, Choice, Maybe, Many}
 use Rattle.lw_grammar.specs.declared.rule.Value0.{Value0}
@@ -217,6 +217,10 @@ i_reference = value.Cross (codes "I") (Some (codes "ID")) nowhere
 
 abbrev pub twice : Op → Op → Span → Grammar
 twice first second s = row (x_by first id_call (place 19 23)) (x_by second id_call s)
+
+-- grammar G entry A returns U: x=ID | x+=ID;
+abbrev pub unknown_twice : Grammar
+unknown_twice = returning [] [] (codes "U") (Choice (both (x_by One id_call (place 29 33)) (x_by Add id_call (place 36 41))) nowhere)
 
 -- ---- a type that is not below: grammar G interface T {} interface S {} entry A returns T: {S};
 

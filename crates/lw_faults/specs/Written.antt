@@ -98,6 +98,10 @@ module _ (g : Grammar) where
     infers : {s : Span} {name : List ℕ} (rule : Rule) → Contains g.rules rule → rule.is_fragment ≡ false → rule.result ≡ Infers name s → InfersHere rule.file s name
     acted : (rule : Rule) (a : Action) → Contains g.rules rule → Contains (leaves rule.body) (Act a) → a.infers ≡ true → InfersHere rule.file a.span a.type_name
 
+  -- a type of this name is inferred somewhere
+  abbrev pub IsInferredType : List ℕ → Type 0
+  IsInferredType name = (file : ℕ) × (s : Span) × InfersHere file s name
+
   -- a type is declared, or inferred somewhere
   abbrev pub IsKnownType : List ℕ → Type 0
-  IsKnownType name = HasDeclaration name ⊎ ((file : ℕ) × (s : Span) × InfersHere file s name)
+  IsKnownType name = HasDeclaration name ⊎ IsInferredType name

@@ -12,7 +12,7 @@ ghost use Rattle.lw_grammar.specs.declared.fault.GrammarFault.{GrammarFault};
 ghost use Rattle.lw_grammar.specs.declared.grammar.Grammar.{Grammar};
 ghost use Rattle.lw_faults.specs.Derivations.{LeftRecursion, ReadsNothing, RepeatsNothing, NeverEnds};
 ghost use Rattle.lw_faults.specs.Faults.{IsTypeFault, IsCheckFault, AreTypeFaults, AreCheckFaults};
-ghost use Rattle.lw_faults.specs.Worked.{StandsAlone, StandsNowhere, place, nowhere, left_recursive, right_recursive, x_id, calling_b, alone, repeating, a_a, endless, word, makes_b, takes_b, row, action_and_word, acts_in_fragment, with_node, node_behind, node_before, node_and_word, puts, with_attribute, extended, united, x_by, id_call, i_reference, twice, making_s, types_alone, extends, a_extending, b_extending, union_of, fragment_calling, terminal_calling, rules_alone, named_rule, in_file, a_entry, b_entry, entry_fragment, id_element, resulting, with_terminal, calling_terminal, crossing, assigning, y_id, node_rule, fragment_rule, x_value, behind_a, beside_interface, makes_declared, by_its_name, many_rules};
+ghost use Rattle.lw_faults.specs.Worked.{StandsAlone, StandsNowhere, place, nowhere, left_recursive, right_recursive, x_id, calling_b, alone, repeating, a_a, endless, word, makes_b, takes_b, row, action_and_word, acts_in_fragment, with_node, node_behind, node_before, node_and_word, puts, with_attribute, extended, united, x_by, id_call, i_reference, twice, unknown_twice, making_s, types_alone, extends, a_extending, b_extending, union_of, fragment_calling, terminal_calling, rules_alone, named_rule, in_file, a_entry, b_entry, entry_fragment, id_element, resulting, with_terminal, calling_terminal, crossing, assigning, y_id, node_rule, fragment_rule, x_value, behind_a, beside_interface, makes_declared, by_its_name, many_rules};
 ghost use Rattle.lw_faults.specs.Names.{Duplicate, UnknownRule, UnknownType, NoNameRule};
 ghost use Rattle.lw_faults.specs.BadCalls.{BadCall, BadAssignment};
 ghost use Rattle.lw_faults.specs.Entries.{NoEntry, SecondEntry, EntryMakesNoNode, TooManyRules};
@@ -102,12 +102,13 @@ pub fn property_forms()
     ensures reference { (s : Span) → StandsNowhere (WrongPropertyForm (with_attribute false (Refers (codes "I") nowhere) (x_by One i_reference s))) }
 {}
 
-/// A property of an inferred type is a list each time that something is put into it, or never.
+/// A property of an inferred type is a list each time that something is put into it, or never. Of an unknown type that is not asked.
 pub fn mixed_properties()
     ensures one_then_list { StandsAlone (MixedProperty (twice One Add (place 24 29))) 0 (place 24 29) (codes "x") }
     ensures list_then_one { StandsAlone (MixedProperty (twice Add One (place 25 29))) 0 (place 25 29) (codes "x") }
     ensures ones { StandsNowhere (MixedProperty (twice One One (place 24 28))) }
     ensures lists { StandsNowhere (MixedProperty (twice Add Add (place 25 30))) }
+    ensures unknown { StandsNowhere (MixedProperty unknown_twice) }
 {}
 
 /// A rule that returns a declared type makes nodes of it and of what is below it.
@@ -116,7 +117,8 @@ pub fn types_that_are_not_below()
     ensures below { (s : Span) → StandsNowhere (NotASubtype (making_s ((codes "T", nowhere) ∷ []) s)) }
 {}
 
-/// No interface extends itself or what is no interface, and no union is a member of itself.
+/// No interface extends itself or what is no interface, and no union is a member of itself. A union may have an interface as a member that
+/// extends it: the interface alone is told.
 pub fn circular_types()
     ensures itself { StandsAlone (CircularType (types_alone (a_extending (extends (codes "A")) ∷ []) [])) 0 (place 20 21) (codes "A") }
     ensures first_of_two { CircularType (types_alone (a_extending (extends (codes "B")) ∷ b_extending (extends (codes "A")) ∷ []) []) 0 (place 20 21) (codes "A") }
@@ -125,6 +127,7 @@ pub fn circular_types()
     ensures union_ { StandsAlone (CircularType (types_alone [] (union_of (Named (codes "U") nowhere) ∷ []))) 0 (place 15 16) (codes "U") }
     ensures references { StandsNowhere (CircularType (types_alone [] (union_of (Refers (codes "U") nowhere) ∷ []))) }
     ensures no_interface { StandsAlone (CircularType (types_alone (a_extending (extends (codes "U")) ∷ []) (union_of (Literal (codes "a")) ∷ []))) 0 (place 20 21) (codes "A") }
+    ensures member_extends { StandsAlone (CircularType (types_alone (a_extending (extends (codes "U")) ∷ []) (union_of (Named (codes "A") nowhere) ∷ []))) 0 (place 20 21) (codes "A") }
     ensures unknown { StandsNowhere (CircularType (types_alone (a_extending (extends (codes "Z")) ∷ []) [])) }
 {}
 

@@ -1,5 +1,5 @@
--- What each type needs is written out.
-use Rattle.lw_faults.proofs.CircularTypesWorked.{itself, first_of_two, second_of_two, other, union_itself, references, no_interface, unknown}
+-- What each type extends, or has as a member, is written out.
+use Rattle.lw_faults.proofs.CircularTypesWorked.{itself, first_of_two, second_of_two, other, union_itself, references, no_interface, member_extends, unknown}
 use Rattle.lw_faults.proofs.laws.circular_types.Goals as goal
 
 pub returns : goal.returns
@@ -11,5 +11,6 @@ returns c = record {
   union_ = union_itself;
   references = references;
   no_interface = no_interface;
+  member_extends = member_extends;
   unknown = unknown;
 }
