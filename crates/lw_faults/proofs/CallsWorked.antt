@@ -1,0 +1,178 @@
+-- Calls of a rule that makes nodes that stand where they may not, and the same where they may.
+use Rattle.std.proofs.Common.{◌≡◌, ℕ, List, [], ◌∷◌, codes, Any, Contains, ◌⊎◌, inl, inr, refl, sym, ap, ◌∙◌, subst, arith, true≢false}
+use Rattle.lw_base.specs.declared.token.Span.{Span}
+use Rattle.lw_grammar.specs.declared.grammar.Grammar.{Grammar}
+use Rattle.lw_grammar.specs.declared.rule.Rule.{Rule}
+use Rattle.lw_grammar.specs.declared.rule.Op.TheVariants.{One}
+use Rattle.lw_grammar.specs.declared.rule.Element.{Element}
+use Rattle.lw_grammar.specs.declared.rule.Element.TheVariants.{Call, Group, Maybe, Many, outs-Maybe, outs-Many}
+use Rattle.lw_grammar.specs.declared.rule.Value0.TheVariants as value
+use Rattle.lw_grammar.specs.Leaves as leaf
+use Rattle.lw_grammar.specs.Leaves.{Leaf, leaves, IsFragmentCall}
+use Rattle.lw_grammar.specs.Named.{IsRule, declared_rule, declared_terminal}
+use Rattle.lw_grammar.specs.Nodes.{MakesNodes, assigns}
+use Rattle.lw_grammar.proofs.FirstLemmas.{first_item}
+use Rattle.lw_grammar.proofs.LeafLemmas.{leaf_equations}
+use Rattle.lw_faults.specs.Steps.{Step, step, Goes, CallsNode, node}
+use Rattle.lw_faults.specs.Steps as steps
+use Rattle.lw_faults.specs.Misplaced.{MisplacedCall, misplaced_call, FillsNode}
+use Rattle.lw_faults.specs.Misplaced as misplaced
+use Rattle.lw_faults.specs.Worked.{StandsAlone, StandsNowhere, place, nowhere, x_id, both, entry_rule, row, node_rule, with_node, node_behind, node_before, node_and_word}
+use Rattle.lw_faults.proofs.Every.{Every, every_of, differ, first_here, first_later, meant}
+use Rattle.lw_faults.proofs.AloneLemmas.{the_rule, one_no_id}
+use Rattle.lw_faults.proofs.StepLemmas.{EachStep, HoldsOnWays, what_goes, can_go, holds_behind, ways_of_one, step_written, IsWritten}
+use Rattle.lw_faults.proofs.WorkedSteps.{word_way, assign_way, call_way, pair_way, word_goes, assign_goes, token_goes, pair_goes}
+
+-- ---- how calls are looked at
+
+-- the call stands at this place
+abbrev CallsAt : ℕ → Span → List ℕ → Rule → Leaf → Type 0
+CallsAt file s name rule (leaf.Call n t) = (rule.file ≡ file) × (t ≡ s) × (n ≡ name)
+CallsAt file s name rule _ = Unit {0}
+
+module _ (g : Grammar) where
+  abbrev AllCallsAt : ℕ → Span → List ℕ → Type 0
+  AllCallsAt file s name = Every (λ (rule : Rule). Every (CallsAt file s name rule) (leaves rule.body)) g.rules
+
+  only_call : (file : ℕ) (s : Span) (name : List ℕ) → AllCallsAt file s name → (f : ℕ) (t : Span) (n : List ℕ) → MisplacedCall g f t n →
+      (f ≡ file) × (t ≡ s) × (n ≡ name)
+  only_call file s name all f t n (misplaced_call rule written called before called_name at is _ _) = by (step_written g is)
+    where
+      by : IsWritten g (step written (leaf.Call n t)) → (written.file ≡ file) × (t ≡ s) × (n ≡ name)
+      by there =
+          every_of (CallsAt file s name written) (leaves written.body) (leaf.Call n t)
+          (every_of (λ (x : Rule). Every (CallsAt file s name x) (leaves x.body)) g.rules written all there.0) there.1
+
+  -- the call comes where it may
+  abbrev LeafWell : List Step → Leaf → Type 0
+  LeafWell before l = (called : Rule) → CallsNode g l called → ¬ Any (λ y. FillsNode g y.leaf) before
+
+  abbrev CallsWell : List Step → Step → Type 0
+  CallsWell before x = LeafWell before x.leaf
+
+  all_well : Every (λ (rule : Rule). HoldsOnWays g CallsWell rule) g.rules → StandsNowhere (MisplacedCall g)
+  all_well all file s name (misplaced_call rule written called before called_name at is calls some) =
+      holds_behind g CallsWell (every_of (λ (x : Rule). HoldsOnWays g CallsWell x) g.rules rule all is.within) is called calls some
+
+  -- the first step comes where it may
+  first_well : {l : Leaf} → LeafWell [] l
+  first_well called calls (k, y, inside, _, _) = omega (arith, inside)
+
+abbrev x_leaf : Leaf
+x_leaf = leaf.Assign (codes "x") One (value.Call (codes "ID") nowhere) nowhere
+
+-- ---- with a rule B that makes nodes
+
+module _ (body : Element) where
+  abbrev G : Grammar
+  G = with_node body
+
+  abbrev A : Rule
+  A = entry_rule (codes "A") nowhere body
+
+  b_named : IsRule G (codes "B") 1 node_rule
+  b_named = meant declared_rule declared_terminal (codes "B") G.rules G.terminals 1 node_rule (first_later (differ _ _ refl) (first_here refl)) (differ _ _ refl, tt)
+
+  b_leaves : leaves node_rule.body ≡ leaf.Assign (codes "y") One (value.Call (codes "ID") nowhere) nowhere ∷ []
+  b_leaves = simp leaf_equations
+
+  b_makes : MakesNodes G node_rule
+  b_makes =
+      assigns (codes "y") One (value.Call (codes "ID") nowhere) nowhere
+      (subst (λ ls. Contains ls (leaf.Assign (codes "y") One (value.Call (codes "ID") nowhere) nowhere)) (sym b_leaves) (0, omega arith, refl))
+
+  b_called : (s : Span) → CallsNode G (leaf.Call (codes "B") s) node_rule
+  b_called s = node 1 node_rule b_named refl b_makes
+
+  b_no_fragment : (s : Span) (f : ℕ) (fragment : Rule) → ¬ IsFragmentCall G (leaf.Call (codes "B") s) f fragment
+  b_no_fragment s f fragment is = true≢false (sym is.1 ∙ ap (λ (x : Rule). x.is_fragment) (first_item is.0.first b_named.first))
+
+  b_well : HoldsOnWays G (CallsWell G) node_rule
+  b_well = ways_of_one G (CallsWell G) (assign_way _) (first_well G, tt)
+
+  -- the calls that are written stand at one place
+  only_b : (s : Span) (ls : List Leaf) → leaves body ≡ ls → Every (CallsAt 0 s (codes "B") A) ls → (f : ℕ) (t : Span) (n : List ℕ) → MisplacedCall G f t n →
+      (f ≡ 0) × (t ≡ s) × (n ≡ codes "B")
+  only_b s ls is all =
+      only_call G 0 s (codes "B") (subst (Every (CallsAt 0 s (codes "B") A)) (sym is) all, (subst (Every (CallsAt 0 s (codes "B") node_rule)) (sym b_leaves) (tt, tt), tt))
+
+-- x=ID B
+abbrev H : Element
+H = Group node_behind nowhere
+
+pub behind : StandsAlone (MisplacedCall (with_node H)) 0 (place 24 25) (codes "B")
+behind = (
+  misplaced_call (A H) (A H) node_rule (step (A H) x_leaf ∷ []) (codes "B") (place 24 25) (record {
+    within = (0, omega arith, refl);
+    whole = refl;
+    after = [];
+    goes = pair_goes (with_node H) (assign_goes _) (token_goes _ (b_no_fragment H (place 24 25)));
+  })
+      (b_called H (place 24 25)) (0, step (A H) x_leaf, omega arith, refl, misplaced.assigns),
+  only_b H (place 24 25) (x_leaf ∷ leaf.Call (codes "B") (place 24 25) ∷ []) (simp leaf_equations) (tt, ((refl, refl, refl), tt)),
+)
+
+-- B x=ID
+abbrev J : Element
+J = Group node_before nowhere
+
+pub before : StandsNowhere (MisplacedCall (with_node J))
+before =
+    all_well (with_node J) (
+      ways_of_one (with_node J) (CallsWell (with_node J)) (pair_way _ (call_way _ (b_no_fragment J nowhere)) (assign_way _)) (
+        first_well (with_node J),
+        (λ called is has. elim is [ ], tt),
+      ),
+      (b_well J, tt),
+    )
+
+-- ---- repeated or not
+
+module _ (body : Element) where
+  pub once : Goes (with_node body) [] (A body) node_and_word (step (A body) (leaf.Call (codes "B") (place 20 21)) ∷ [])
+  once = pair_goes (with_node body) (token_goes _ (b_no_fragment body (place 20 21))) (word_goes _)
+
+abbrev M : Element
+M = Many node_and_word nowhere
+
+pub repeated : StandsAlone (MisplacedCall (with_node M)) 0 (place 20 21) (codes "B")
+repeated = (
+  misplaced_call (A M) (A M) node_rule (step (A M) (leaf.Call (codes "B") (place 20 21)) ∷ []) (codes "B") (place 20 21) (record {
+    within = (0, omega arith, refl);
+    whole = refl;
+    after = [];
+    goes = can_go (with_node M) (outs-Many node_and_word nowhere) (steps.repeated (steps.again (once M) (steps.again (once M) steps.stop)));
+  })
+      (b_called M (place 20 21)) (0, step (A M) (leaf.Call (codes "B") (place 20 21)), omega arith, refl, misplaced.calls (b_called M (place 20 21))),
+  only_b M (place 20 21) (leaf.Call (codes "B") (place 20 21) ∷ leaf.Keyword (codes "x") nowhere ∷ []) (simp leaf_equations) ((refl, refl, refl), (tt, tt)),
+)
+
+abbrev O : Element
+O = Maybe node_and_word nowhere
+
+pub optional : StandsNowhere (MisplacedCall (with_node O))
+optional = all_well (with_node O) (λ done does. by done (what_goes (with_node O) (outs-Maybe node_and_word nowhere) does), (b_well O, tt))
+  where
+    by : (done : List Step) → (done ≡ []) ⊎ Goes (with_node O) [] (A O) node_and_word done → EachStep (CallsWell (with_node O)) [] done
+    by done (inl is) = subst (EachStep (CallsWell (with_node O)) []) (sym is) tt
+    by done (inr does) =
+        let is : done ≡ step (A O) (leaf.Call (codes "B") (place 20 21)) ∷ [] =
+        pair_way (with_node O) (call_way _ (b_no_fragment O (place 20 21))) (word_way _) done does in
+        subst (EachStep (CallsWell (with_node O)) []) (sym is) (first_well (with_node O), tt)
+
+-- ---- a call of a terminal
+
+module _ (s : Span) where
+  abbrev I : Element
+  I = Group (both x_id (Call (codes "ID") s)) nowhere
+
+  pub token : StandsNowhere (MisplacedCall (row x_id (Call (codes "ID") s)))
+  token =
+      all_well (row x_id (Call (codes "ID") s)) (
+        ways_of_one (row x_id (Call (codes "ID") s)) (CallsWell (row x_id (Call (codes "ID") s)))
+            (pair_way _ (assign_way _) (call_way _ (λ f fragment is. one_no_id I f fragment is.0))) (first_well (row x_id (Call (codes "ID") s)), (none, tt)),
+        tt,
+      )
+    where
+      none : CallsWell (row x_id (Call (codes "ID") s)) (step (the_rule I) x_leaf ∷ []) (step (the_rule I) (leaf.Call (codes "ID") s))
+      none called (node r rule is _ _) _ = one_no_id I r rule is

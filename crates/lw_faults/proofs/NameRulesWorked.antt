@@ -1,0 +1,124 @@
+-- A cross-reference to a type whose nodes have no name, and to one whose nodes have.
+use Rattle.std.proofs.Common.{◌≡◌, ℕ, List, [], ◌∷◌, None, codes, Contains, refl, sym, ap, subst, arith}
+use Rattle.lw_base.specs.declared.token.Span.{Span}
+use Rattle.lw_grammar.specs.declared.grammar.Grammar.{Grammar}
+use Rattle.lw_grammar.specs.declared.rule.Rule.{Rule}
+use Rattle.lw_grammar.specs.declared.rule.Op.TheVariants.{One}
+use Rattle.lw_grammar.specs.declared.rule.Value0.{Value0}
+use Rattle.lw_grammar.specs.declared.rule.Value0.TheVariants as value
+use Rattle.lw_grammar.specs.declared.rule.Element.TheVariants.{Group}
+use Rattle.lw_grammar.specs.Leaves as leaf
+use Rattle.lw_grammar.specs.Leaves.{Leaf, leaves, ValueLeaf, Calls, Cross, value_leaves, Expands, nothing, kept, put_in, looped}
+use Rattle.lw_grammar.specs.NameRules.{IsNameRule, NamesNodesOf, FirstNames, IsCallOf, here, later}
+use Rattle.lw_grammar.specs.Subtypes.{same}
+use Rattle.lw_grammar.proofs.LeafLemmas.{leaf_equations, leaves-Assign, values-Call, values-Cross}
+use Rattle.lw_faults.specs.Names.{NoNameRule, nameless}
+use Rattle.lw_faults.specs.Worked.{StandsAlone, StandsNowhere, nowhere, alone, puts, both, row, by_its_name}
+use Rattle.lw_faults.proofs.Every.{Every, every_of, differ, first_here}
+use Rattle.lw_faults.proofs.AloneLemmas.{the_rule, only_one}
+use Rattle.lw_faults.proofs.AssignLemmas.{only_part, leaf_there, part_there}
+
+-- an assignment stays as it is, whatever fragments are put in
+one_stays : (g : Grammar) (p : List ℕ) (v : Value0) (s : Span) (all : List Leaf) → Expands g [] (leaf.Assign p One v s ∷ []) all → all ≡ leaf.Assign p One v s ∷ []
+one_stays g p v s all (kept _ nothing) = refl
+one_stays g p v s all (put_in r rule is _ _ _) = absurd is
+one_stays g p v s all (looped r rule is _ _) = absurd is
+
+module _ (s : Span) where
+  abbrev its_name : Value0
+  its_name = value.Cross (codes "A") None s
+
+  -- the part is the cross-reference
+  abbrev IsIt : ValueLeaf → Type 0
+  IsIt (Cross wanted None t) = (t ≡ s) × (wanted ≡ codes "A")
+  IsIt _ = ⊥
+
+  -- ---- without a name
+  abbrev G : Grammar
+  G = alone (by_its_name s)
+
+  abbrev A : Rule
+  A = the_rule (by_its_name s)
+
+  x_leaf : Leaf
+  x_leaf = leaf.Assign (codes "x") One its_name nowhere
+
+  first_names_none : (name : List ℕ) → ¬ FirstNames (leaf.Assign (codes "x") One its_name nowhere ∷ []) name
+  first_names_none name (here is) = differ (codes "x") (codes "name") refl is.0
+  first_names_none name (later _ more) = elim more [ ]
+
+  a_names_none : (name : List ℕ) → ¬ NamesNodesOf G (codes "A") name A
+  a_names_none name (own, typed, below, all, has, names) =
+      let is : all ≡ leaf.Assign (codes "x") One its_name nowhere ∷ [] =
+      one_stays G (codes "x") its_name nowhere all (subst (λ ls. Expands G [] ls all) (leaves-Assign (codes "x") One its_name nowhere) has) in
+      first_names_none name (subst (λ ls. FirstNames ls name) is names)
+
+  pub nameless_found : StandsAlone (NoNameRule G) 0 s (codes "A")
+  nameless_found = (
+    nameless A (codes "x") One its_name nowhere (0, omega arith, refl)
+        (leaf_there A (codes "x") One its_name nowhere (Cross (codes "A") None s) refl (values-Cross (codes "A") None s))
+        (part_there A (codes "x") One its_name nowhere (Cross (codes "A") None s) refl (values-Cross (codes "A") None s) (Cross (codes "A") None s) refl) none,
+    others,
+  )
+    where
+      none : (name : List ℕ) → ¬ IsNameRule G (codes "A") name
+      none name is =
+          a_names_none name (subst (NamesNodesOf G (codes "A") name) (sym (only_one (by_its_name s) is.number is.rule is.first.there)) is.names)
+
+      others : (f : ℕ) (t : Span) (n : List ℕ) → NoNameRule G f t n → (f ≡ 0) × (t ≡ s) × (n ≡ codes "A")
+      others f t n (nameless rule p op v u has assigns inside _) =
+          let same_rule : A ≡ rule = every_of (λ x. A ≡ x) (A ∷ []) rule (refl, tt) has in
+          let part : Cross (codes "A") None s ≡ Cross n None t =
+          only_part A (codes "x") One its_name nowhere (Cross (codes "A") None s) refl (values-Cross (codes "A") None s) p op v u (Cross n None t)
+          (subst (λ (x : Rule). Contains (leaves x.body) (leaf.Assign p op v u)) (sym same_rule) assigns) inside in
+          let found : IsIt (Cross n None t) = subst IsIt part (refl, refl) in (sym (ap (λ (x : Rule). x.file) same_rule), found.0, found.1)
+
+  -- ---- with one
+  abbrev N : Grammar
+  N = row (puts (codes "name") (codes "ID")) (by_its_name s)
+
+  abbrev B : Rule
+  B = the_rule (Group (both (puts (codes "name") (codes "ID")) (by_its_name s)) nowhere)
+
+  abbrev b_leaves : List Leaf
+  b_leaves = leaf.Assign (codes "name") One (value.Call (codes "ID") nowhere) nowhere ∷ leaf.Assign (codes "x") One its_name nowhere ∷ []
+
+  of_b : leaves B.body ≡ b_leaves
+  of_b = simp leaf_equations
+
+  b_names : NamesNodesOf N (codes "A") (codes "ID") B
+  b_names = (
+    codes "A",
+    (refl, refl),
+    same,
+    b_leaves,
+    subst (λ ls. Expands N [] ls b_leaves) (sym of_b) (kept (λ r rule is. is) (kept (λ r rule is. is) nothing)),
+    here (refl, refl, subst (λ f. IsCallOf f (codes "ID")) (sym (value.outs-Call (codes "ID") nowhere)) refl),
+  )
+
+  by_id : IsNameRule N (codes "A") (codes "ID")
+  by_id = record { number = 0; rule = B; first = first_here (codes "ID", b_names); names = b_names }
+
+  -- what a cross-reference without a rule wants
+  abbrev Wants : Leaf → Type 0
+  Wants (leaf.Assign p op v u) = (wanted : List ℕ) (t : Span) → Contains (value_leaves v) (Cross wanted None t) → wanted ≡ codes "A"
+  Wants _ = Unit {0}
+
+  wants_none : Wants (leaf.Assign (codes "name") One (value.Call (codes "ID") nowhere) nowhere)
+  wants_none wanted t has =
+      let is : Calls (codes "ID") nowhere ≡ Cross wanted None t =
+      every_of (λ x. Calls (codes "ID") nowhere ≡ x) (Calls (codes "ID") nowhere ∷ []) (Cross wanted None t) (refl, tt)
+      (subst (λ ls. Contains ls (Cross wanted None t)) (values-Call (codes "ID") nowhere) has) in cc
+
+  wants_a : Wants (leaf.Assign (codes "x") One its_name nowhere)
+  wants_a wanted t has =
+      (every_of IsIt (Cross (codes "A") None s ∷ []) (Cross wanted None t) ((refl, refl), tt)
+      (subst (λ ls. Contains ls (Cross wanted None t)) (values-Cross (codes "A") None s) has)).1
+
+  pub named : StandsNowhere (NoNameRule N)
+  named f t n (nameless rule p op v u has assigns inside none) =
+      let same_rule : B ≡ rule = every_of (λ x. B ≡ x) (B ∷ []) rule (refl, tt) has in
+      let wanted : n ≡ codes "A" =
+      every_of Wants (leaves rule.body) (leaf.Assign p op v u)
+      (subst (λ (x : Rule). Every Wants (leaves x.body)) same_rule (subst (Every Wants) (sym of_b) (wants_none, (wants_a, tt)))) assigns n t inside in
+      none (codes "ID") (subst (λ x. IsNameRule N x (codes "ID")) (sym wanted) by_id)

@@ -1,0 +1,36 @@
+-- Which rules make nodes, from their leaves.
+use Rattle.std.proofs.Common.{◌≡◌, ℕ, List, [], ◌∷◌, codes, Contains, sym, subst, arith, refl}
+use Rattle.lw_grammar.specs.declared.grammar.Grammar.{Grammar}
+use Rattle.lw_grammar.specs.declared.rule.Rule.{Rule}
+use Rattle.lw_grammar.specs.declared.rule.Op.TheVariants.{One}
+use Rattle.lw_grammar.specs.declared.rule.Value0.TheVariants as value
+use Rattle.lw_grammar.specs.Leaves.{Leaf, leaves}
+use Rattle.lw_grammar.specs.Leaves as leaf
+use Rattle.lw_grammar.specs.Nodes.{MakesNodes}
+use Rattle.lw_grammar.specs.Nodes as nodes
+use Rattle.lw_grammar.proofs.LeafLemmas.{leaves-Assign, leaves-Call}
+use Rattle.lw_faults.specs.Reads.{IsTokenCall}
+use Rattle.lw_faults.specs.Worked.{nowhere, puts, id_element}
+use Rattle.lw_faults.proofs.Every.{Every, every_of}
+
+module _ (g : Grammar) where
+  -- no leaf puts anything into a node, and none calls a rule
+  abbrev pub MakesNone : Leaf → Type 0
+  MakesNone (leaf.Keyword text s) = Unit {0}
+  MakesNone (leaf.Call name s) = IsTokenCall g name
+  MakesNone _ = ⊥
+
+  pub makes_none : (rule : Rule) (ls : List Leaf) → leaves rule.body ≡ ls → Every MakesNone ls → ¬ MakesNodes g rule
+  makes_none rule ls is all (nodes.assigns p op v s has) = every_of MakesNone ls (leaf.Assign p op v s) all (subst (λ xs. Contains xs (leaf.Assign p op v s)) is has)
+  makes_none rule ls is all (nodes.acts a has) = every_of MakesNone ls (leaf.Act a) all (subst (λ xs. Contains xs (leaf.Act a)) is has)
+  makes_none rule ls is all (nodes.calls name s r called has called_is _) =
+      every_of MakesNone ls (leaf.Call name s) all (subst (λ xs. Contains xs (leaf.Call name s)) is has) r called called_is
+
+  -- a rule of one assignment makes nodes, and a rule that is a call of ID does not
+  pub puts_makes : (rule : Rule) (p name : List ℕ) → rule.body ≡ puts p name → MakesNodes g rule
+  puts_makes rule p name is =
+      nodes.assigns p One (value.Call name nowhere) nowhere
+      (subst (λ e. Contains (leaves e) (leaf.Assign p One (value.Call name nowhere) nowhere)) (sym is) (rw leaves-Assign (0, omega arith, refl)))
+
+  pub id_makes_none : (rule : Rule) → rule.body ≡ id_element → IsTokenCall g (codes "ID") → ¬ MakesNodes g rule
+  id_makes_none rule is none = makes_none rule _ (subst (λ e. leaves e ≡ leaf.Call (codes "ID") nowhere ∷ []) (sym is) (leaves-Call (codes "ID") nowhere)) (none, tt)

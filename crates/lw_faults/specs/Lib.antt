@@ -1,0 +1,14 @@
+pub mod Reads
+pub mod Steps
+pub mod Written
+pub mod Attributes
+pub mod Entries
+pub mod Names
+pub mod Derivations
+pub mod Misplaced
+pub mod DataTypes
+pub mod Properties
+pub mod Circles
+pub mod BadCalls
+pub mod Faults
+pub mod Worked

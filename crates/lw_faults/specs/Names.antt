@@ -1,0 +1,50 @@
+-- Faults of names: 4 duplicate, 5 unknown rule, 6 unknown type, 18 no name rule.
+use Rattle.std.specs.Prelude.{ℕ, ◌≡◌, ◌<◌, List, Some, None, ◌++◌, map, slice_get, Contains}
+use Rattle.lw_base.specs.declared.token.Span.{Span}
+use Rattle.lw_grammar.specs.declared.grammar.Grammar.{Grammar}
+use Rattle.lw_grammar.specs.declared.rule.Rule.{Rule}
+use Rattle.lw_grammar.specs.declared.rule.Op.{Op}
+use Rattle.lw_grammar.specs.declared.rule.Value0.{Value0}
+use Rattle.lw_grammar.specs.declared.terminal.Terminal.{Terminal}
+use Rattle.lw_grammar.specs.declared.declared_types.Interface.{Interface}
+use Rattle.lw_grammar.specs.declared.declared_types.Attribute.{Attribute}
+use Rattle.lw_grammar.specs.Leaves.{Assign, leaves, Cross, value_leaves}
+use Rattle.lw_grammar.specs.Named.{Declaration, StandsBefore, declared_rule, declared_terminal, declared_interface, declared_union}
+use Rattle.lw_grammar.specs.NameRules.{IsNameRule}
+use Rattle.lw_faults.specs.Written.{WritesCall, term_calls, IsNoRule, HasDeclaration, NamesType, InfersHere, IsKnownType}
+
+module _ (g : Grammar) where
+  -- the declarations of both spaces of names
+  abbrev pub rule_space : List Declaration
+  rule_space = map declared_rule g.rules ++ map declared_terminal g.terminals
+
+  abbrev pub type_space : List Declaration
+  type_space = map declared_interface g.interfaces ++ map declared_union g.unions
+
+  -- A rule, terminal, interface or union has the name of one of its space that stands before it; a type is inferred that is declared; an interface
+  -- has a second attribute of one name.
+  pub data Duplicate : ℕ → Span → List ℕ → Type 0 where
+    rule_ : (first second : Declaration) → Contains rule_space first → Contains rule_space second → first.name ≡ second.name → StandsBefore first second →
+        Duplicate second.file second.span second.name
+    type_ : (first second : Declaration) → Contains type_space first → Contains type_space second → first.name ≡ second.name → StandsBefore first second →
+        Duplicate second.file second.span second.name
+    inferred : {file : ℕ} {s : Span} {name : List ℕ} → InfersHere g file s name → HasDeclaration g name → Duplicate file s name
+    attribute : (interface : Interface) (i j : ℕ) (first second : Attribute) → Contains g.interfaces interface → i < j →
+        slice_get interface.attributes i ≡ Some first → slice_get interface.attributes j ≡ Some second → first.name ≡ second.name →
+        Duplicate interface.file second.span second.name
+
+  -- a call of a rule that is not there
+  pub data UnknownRule : ℕ → Span → List ℕ → Type 0 where
+    in_rule : {s : Span} {name : List ℕ} (rule : Rule) → Contains g.rules rule → WritesCall rule s name → IsNoRule g name → UnknownRule rule.file s name
+    in_terminal : {s : Span} {name : List ℕ} (terminal : Terminal) → Contains g.terminals terminal → Contains (term_calls terminal.body) (name, s) →
+        IsNoRule g name → UnknownRule terminal.file s name
+
+  -- a name of a type that is neither declared nor inferred
+  pub data UnknownType : ℕ → Span → List ℕ → Type 0 where
+    unknown : {file : ℕ} {s : Span} {name : List ℕ} → NamesType g file s name → ¬ IsKnownType g name → UnknownType file s name
+
+  -- a cross-reference names no rule, and none names the nodes of its type
+  pub data NoNameRule : ℕ → Span → List ℕ → Type 0 where
+    nameless : {s : Span} {wanted : List ℕ} (rule : Rule) (p : List ℕ) (op : Op) (v : Value0) (t : Span) → Contains g.rules rule →
+        Contains (leaves rule.body) (Assign p op v t) → Contains (value_leaves v) (Cross wanted None s) → ((name : List ℕ) → ¬ IsNameRule g wanted name) →
+        NoNameRule rule.file s wanted
