@@ -1,5 +1,5 @@
 -- That a run is told by its status, from what its work came to.
-use Rattle.std.proofs.Common.{◌≡◌, ◌⊎◌, inl, inr, ℕ, List, Option, Some, None, Result, Ok, Err, IfSome, refl, sym, subst, ◌∙◌, take, Contains}
+use Rattle.std.proofs.Common.{◌≡◌, inl, inr, ℕ, List, Option, Some, None, Result, Ok, Err, IfSome, refl, sym, subst, ◌∙◌, take, Contains}
 use Rattle.std.proofs.lemmas.Option.{slice_get_within, get_or_from_slice_get}
 use Rattle.lw_grammar.specs.declared.grammar.Grammar.{Grammar}
 use Rattle.lw_load.specs.declared.fault.LoadFault.{LoadFault}

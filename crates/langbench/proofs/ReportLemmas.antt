@@ -7,7 +7,7 @@ use Rattle.lw_text.specs.declared.shown.Shown.{Shown}
 use Rattle.langbench.specs.declared.report.Report.{Report}
 use Rattle.langbench.specs.declared.report.Verdict.TheVariants.{Broken}
 use Rattle.langbench.specs.Reports.{IsReport, IsVerdict}
-use Rattle.langbench.specs.Checked.{Checked, line, printed, ok_line, not_text_line, diagnostic_line, list_lines}
+use Rattle.langbench.specs.Checked.{Checked, printed, ok_line, not_text_line, diagnostic_line, list_lines}
 
 -- ---- no line of a diagnostic is `ok`: it has a colon
 

@@ -1,5 +1,5 @@
 -- How a run ends: what its work came to, and the status, the counts of faults and the note by which that is told.
-use Rattle.std.specs.Prelude.{ℕ, ◌≡◌, ◌≢◌, ◌⊎◌, List, Option, Some, None, Result, Ok, Err, IfSome, MatchOption}
+use Rattle.std.specs.Prelude.{ℕ, ◌≡◌, ◌≢◌, List, Option, Result, Err, IfSome, MatchOption}
 use Rattle.std.specs.Io.KnownBytes.{Keeps}
 use Rattle.lw_grammar.specs.declared.grammar.Grammar as plain
 use Rattle.lw_io.specs.Causes.{Rose}

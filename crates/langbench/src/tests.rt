@@ -22,6 +22,8 @@ const CHOICE: &str = "grammar F entry A: 'a' | 'b';";
 
 const IMPORTS: &str = "grammar I import './j' entry A: 'a' b=B;";
 
+const ABSENT: &[u8] = b"";
+
 const IMPORTED: &[u8] = b"grammar J import './i.langium' B: 'b' name=ID; terminal ID: /[a-z]+/;";
 
 const UNPATTERNED: &str = "[_a-zA-Z][\\w_]*";
@@ -46,14 +48,14 @@ pub(crate) const NOTHING: Failing = Failing {
 };
 
 // What a run is handed beside the bytes of its source: its words, the path of the grammar's file and what it
-// holds, what `j.langium` holds, the sizes of the pieces that are read, what fails, and the text that the
-// patterns refuse.
+// holds, what `j.langium` holds, which is absent where that is nothing, the sizes of the pieces that are read,
+// what fails, and the text that the patterns refuse.
 #[derive(Clone, Copy)]
 pub(crate) struct Setting<'a> {
     pub words: &'a [&'a str],
     pub path: &'a str,
     pub grammar: Option<&'a str>,
-    pub imported: Option<&'a [u8]>,
+    pub imported: &'a [u8],
     pub pieces: &'a [u32],
     pub failing: Failing,
     pub refused: &'a str,
@@ -64,7 +66,7 @@ pub(crate) fn setting_of<'a>(words: &'a [&'a str], grammar: Option<&'a str>) -> 
         words,
         path: PATH,
         grammar,
-        imported: None,
+        imported: ABSENT,
         pieces: &[],
         failing: NOTHING,
         refused: "none",
@@ -99,8 +101,8 @@ fn store_of(alloc: Global, setting: &Setting) -> Result<MemStore, NoMemory> {
     if let Some(grammar) = setting.grammar {
         files.push(file(alloc, setting.path, grammar.as_bytes())?)?;
     }
-    if let Some(imported) = setting.imported {
-        files.push(file(alloc, "j.langium", imported)?)?;
+    if !setting.imported.is_empty() {
+        files.push(file(alloc, "j.langium", setting.imported)?)?;
     }
     Ok(MemStore::new(files, vec![in alloc; setting.failing.file]?))
 }
@@ -353,82 +355,76 @@ fn runs_stop_with_a_note(rt: HostRuntime) -> Result<(), Fail> {
     Ok(())
 }
 
-// The grammar's file is at the first path, and the last but two is the number of the call of the store that fails.
+// The run over this grammar in `g.langium` ends with this note.
+fn is_refused(rt: &impl Abort, alloc: Global, grammar: &str, note: &str) -> Result<(), NoMemory> {
+    let setting = Setting {
+        path: "g.langium",
+        ..setting_of(&["check", "g.langium"], Some(grammar))
+    };
+    ends_as(rt, alloc, &setting, b"", 3, "", note)
+}
+
+// A rule of 65,535 keywords, which with the rule and the group are more than a grammar may have.
+fn large_grammar(alloc: Global) -> Result<String, NoMemory> {
+    let mut text = String::from_str(alloc, "grammar G entry A: ")?;
+    for _ in 0..65_535 {
+        text.push_str("'a' ")?;
+    }
+    text.push_str(";")?;
+    Ok(text)
+}
+
 #[test]
-fn grammars_that_are_not_loaded_are_told(rt: HostRuntime) -> Result<(), Fail> {
-    for (path, grammar, imported, file, code, note) in [
+fn grammars_that_are_refused_are_told(rt: HostRuntime) -> Result<(), Fail> {
+    for (grammar, note) in [
         (
-            "g.langium",
             "grammar G entry A: x=ID & y=ID;",
-            None,
-            0,
-            3,
             "g.langium:1:25: left out: unordered group\n",
         ),
         (
-            "g.langium",
             "grammar G terminal T: /a/i;",
-            None,
-            0,
-            3,
             "g.langium:1:23: left out: regex flags\n",
         ),
         (
-            "g.langium",
             "grammar G entry A 'a';",
-            None,
-            0,
-            3,
             "g.langium:1:19: unexpected token\n",
         ),
         (
-            "g.langium",
             "grammar G entry A: (((((((((((((((((((((((((((((((((((((((((((((((((((((((((((((((((",
-            None,
-            0,
-            3,
             "g.langium:1:84: too deep\n",
         ),
-        ("i.langium", IMPORTS, None, 0, 6, "j.langium: absent\n"),
+    ] {
+        is_refused(&rt, rt.alloc(), grammar, note)?;
+    }
+    let large = large_grammar(rt.alloc())?;
+    is_refused(
+        &rt,
+        rt.alloc(),
+        large.as_str(),
+        "g.langium:1:1: grammar too large\n",
+    )?;
+    Ok(())
+}
+
+#[test]
+fn imports_that_are_not_loaded_are_told(rt: HostRuntime) -> Result<(), Fail> {
+    for (imported, file, code, note) in [
+        (ABSENT, 0, 6, "j.langium: absent\n"),
+        (b"\xFF", 0, 6, "j.langium: not UTF-8\n"),
         (
-            "i.langium",
-            IMPORTS,
-            Some(b"\xFF".as_slice()),
-            0,
-            6,
-            "j.langium: not UTF-8\n",
-        ),
-        (
-            "i.langium",
-            IMPORTS,
-            Some(b"grammar J import './i.langium' B 'b';".as_slice()),
+            b"grammar J import './i.langium' B 'b';",
             0,
             3,
             "j.langium:1:34: unexpected token\n",
         ),
-        (
-            "i.langium",
-            IMPORTS,
-            Some(IMPORTED),
-            0,
-            3,
-            "i.langium:1:1: not built\n",
-        ),
-        (
-            "i.langium",
-            IMPORTS,
-            Some(IMPORTED),
-            2,
-            6,
-            "j.langium: failed\n",
-        ),
+        (IMPORTED, 0, 3, "i.langium:1:1: not built\n"),
+        (IMPORTED, 2, 6, "j.langium: failed\n"),
     ] {
         let setting = Setting {
-            words: &["check", path],
-            path,
+            path: "i.langium",
             imported,
             failing: Failing { file, ..NOTHING },
-            ..setting_of(&[], Some(grammar))
+            ..setting_of(&["check", "i.langium"], Some(IMPORTS))
         };
         ends_as(&rt, rt.alloc(), &setting, b"", code, "", note)?;
     }
