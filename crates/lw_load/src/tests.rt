@@ -3,6 +3,7 @@ use crate::{LoadFault, load};
 use lw_base::Name;
 use lw_io::MemStore;
 use std::alloc::Global;
+use std::process::Abort;
 use std::test::Fail;
 
 #[test]
@@ -64,6 +65,7 @@ fn each_file_once_in_load_order(rt: HostRuntime) -> Result<(), Fail> {
     ];
     loads(
         &rt,
+        rt.alloc(),
         "i.langium",
         circle.as_slice(),
         ["i.langium", "j.langium"].as_slice(),
@@ -78,7 +80,13 @@ fn each_file_once_in_load_order(rt: HostRuntime) -> Result<(), Fail> {
         ("a/d.langium", "type D = 'd';"),
     ];
     let order = ["a/./g.langium", "a/b.langium", "a/d.langium", "a/c.langium"];
-    loads(&rt, "a/./g.langium", deep.as_slice(), order.as_slice())
+    loads(
+        &rt,
+        rt.alloc(),
+        "a/./g.langium",
+        deep.as_slice(),
+        order.as_slice(),
+    )
 }
 
 #[test]
