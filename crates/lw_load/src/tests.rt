@@ -43,10 +43,16 @@ fn walked_paths(rt: HostRuntime) -> Result<(), Fail> {
 }
 
 // The files of the root, in load order, are these.
-fn loads(rt: &HostRuntime, root: &str, files: &[(&str, &str)], paths: &[&str]) -> Result<(), Fail> {
-    let mut store = store_of(rt.alloc(), files)?;
-    let root = Name::from_text(rt.alloc(), root)?;
-    let loaded = load(rt.alloc(), &root, &mut store).ok().ok_or("a grammar")?;
+fn loads(
+    rt: &impl Abort,
+    alloc: Global,
+    root: &str,
+    files: &[(&str, &str)],
+    paths: &[&str],
+) -> Result<(), Fail> {
+    let mut store = store_of(alloc, files)?;
+    let root = Name::from_text(alloc, root)?;
+    let loaded = load(alloc, &root, &mut store).ok().ok_or("a grammar")?;
     assert_eq!(rt; loaded.grammar.files.len(), paths.len());
     for (file, wanted) in loaded.grammar.files.as_slice().iter().zip(paths) {
         assert_eq!(rt; file.text(), *wanted);
