@@ -1,0 +1,2 @@
+//! The numbers of a grammar's names.
+#![tactic(auto)]
