@@ -8,6 +8,8 @@ use Rattle.lw_grammar.specs.declared.grammar.Grammar.{Grammar}
 use Rattle.lw_grammar.specs.declared.rule.Element.{Element, roll-Element}
 use Rattle.lw_grammar.specs.declared.rule.Element.TheFolds.{map-Element, ind-Element, fold-roll-Element}
 use Rattle.lw_grammar.specs.declared.rule.Element.TheOpen as layer
+use Rattle.lw_grammar.specs.declared.rule.Element.TheVariants as element
+use Rattle.lw_grammar.specs.declared.rule.Action.{Action}
 use Rattle.lw_grammar.specs.declared.rule.Element.TheOpen.{Element-F}
 use Rattle.lw_grammar.specs.declared.rule.Rule.{Rule}
 use Rattle.lw_grammar.specs.declared.rule.RuleResult.{RuleResult}
@@ -20,6 +22,7 @@ use Rattle.lw_grammar.specs.Kinds.{first_uses}
 use Rattle.lw_grammar.specs.Leaves.{Leaf, Keyword, Call, Assign, Act, leaves, layer_leaves}
 use Rattle.lw_grammar.specs.Size.{size, element_size, layer_size, term_size}
 use Rattle.lw_grammar.proofs.FirstUses.{stands_in}
+use Rattle.lw_grammar.proofs.LeafLemmas.{size_by, size-Assign, size-value_Call, size-Group, size-Pattern}
 use Rattle.lw_numbers.specs.FirstUses.{types_in, properties_in, rule_properties, attribute_names}
 use Rattle.lw_numbers.specs.Numbering.{leaf_types, leaf_properties, put_property, result_types, if_whole, rule_types, type_names, property_names}
 
@@ -159,3 +162,10 @@ module _ (g : Grammar) where
   pub numbers-le : length g.rules + length g.terminals ≤ size g
   numbers-le =
       omega (arith, length-le-sum_by rule_size (λ r. omega arith) g.rules, length-le-sum_by terminal_size (λ t. omega arith) g.terminals)
+
+-- ---- the forms of elements that a small grammar has
+
+pub size-Act : (a : Action) → element_size (element.Act a) ≡ 2
+size-Act a = size_by _ _ (element.outs-Act a)
+
+pub ruleset sizes_of_forms = (size-Assign, size-value_Call, size-Act, size-Group, size-Pattern)

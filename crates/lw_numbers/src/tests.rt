@@ -1,6 +1,9 @@
-// The numbers of one small grammar, and a name for each number.
+// The numbers of the names of one small grammar, and the names back.
+ghost use Rattle.std.specs.Prelude.{◌≡◌, ◌+◌, ◌*◌, ◌≤◌, [], IfOk, length, sum_by};
+ghost use Rattle.lw_grammar.specs.Size.{size, element_size, term_size};
+
 use crate::Numbers;
-use lw_base::{Boxed, Items, Name, NoMemory, PropId, Span, TypeId};
+use lw_base::{Items, Name, NoMemory, PropId, RuleId, Span, TypeId};
 use lw_grammar::{
     Action, Attribute, Element, Grammar, Interface, Op, Primitive, Rule, RuleResult, TermElement,
     Terminal, UnionDef, Value0,
@@ -10,71 +13,147 @@ use std::test::Fail;
 
 const NOWHERE: Span = Span { start: 0, end: 0 };
 
-fn name(alloc: Global, text: &str) -> Result<Name, NoMemory> {
-    Name::from_text(alloc, text)
+/// A rule that reads an assignment of a call, and then an action.
+struct Row {
+    name: &'static str,
+    file: u16,
+    start: u32,
+    assigned: &'static str,
+    made: &'static str,
+    put: &'static str,
 }
 
-fn from(start: u32) -> Span {
-    Span { start, end: start }
-}
+const RULES: [Row; 3] = [
+    Row {
+        name: "Circle",
+        file: 0,
+        start: 10,
+        assigned: "name",
+        made: "Ring",
+        put: "inner",
+    },
+    Row {
+        name: "Later",
+        file: 1,
+        start: 5,
+        assigned: "name",
+        made: "Shape",
+        put: "size",
+    },
+    Row {
+        name: "Same",
+        file: 1,
+        start: 9,
+        assigned: "last",
+        made: "Ring",
+        put: "first",
+    },
+];
 
-fn terminal(alloc: Global, text: &str, file: u16, start: u32) -> Result<Terminal, NoMemory> {
-    Ok(Terminal {
-        name: name(alloc, text)?,
-        file,
-        span: from(start),
-        is_hidden: false,
-        is_fragment: false,
-        gives: Primitive::Text,
-        body: TermElement::Pattern(name(alloc, "a")?, NOWHERE),
-    })
-}
+/// The name of each terminal, its file, and where it stands there.
+const TERMINALS: [(&str, u16, u32); 5] = [
+    ("Circle", 0, 30),
+    ("ID", 0, 40),
+    ("Later", 0, 50),
+    ("ID", 1, 0),
+    ("Same", 1, 9),
+];
 
-fn rule(alloc: Global, text: &str, file: u16, start: u32, body: Element) -> Result<Rule, NoMemory> {
-    Ok(Rule {
-        name: name(alloc, text)?,
-        file,
-        span: from(start),
-        is_entry: false,
-        is_fragment: false,
-        result: RuleResult::Own,
-        body,
-    })
-}
-
-fn assign(alloc: Global, property: &str) -> Result<Element, NoMemory> {
-    let value = Value0::Keyword(name(alloc, "v")?, NOWHERE);
+#[tactic(auto, using(crate::proofs::Sizes::sizes_of_forms))]
+fn assignment(alloc: Global, property: &str) -> Result<Element, NoMemory>
+    ensures { IfOk result (λ e. element_size e ≡ 2) }
+{
+    let value = Value0::Call(Name::from_text(alloc, "ID")?, NOWHERE);
     Ok(Element::Assign(
-        name(alloc, property)?,
+        Name::from_text(alloc, property)?,
         Op::One,
         value,
         NOWHERE,
     ))
 }
 
-fn act(alloc: Global, type_name: &str, property: Option<&str>) -> Result<Element, NoMemory> {
-    let put = match property {
-        Some(property) => Some((name(alloc, property)?, false)),
-        None => None,
-    };
+#[tactic(auto, using(crate::proofs::Sizes::sizes_of_forms))]
+fn action(alloc: Global, made: &str, put: &str) -> Result<Element, NoMemory>
+    ensures { IfOk result (λ e. element_size e ≡ 2) }
+{
     Ok(Element::Act(Action {
         infers: true,
-        type_name: name(alloc, type_name)?,
-        put,
+        type_name: Name::from_text(alloc, made)?,
+        put: Some((Name::from_text(alloc, put)?, false)),
         span: NOWHERE,
     }))
 }
 
-fn row(alloc: Global, first: Element, second: Element) -> Result<Element, NoMemory> {
+#[tactic(auto, using(crate::proofs::Sizes::sizes_of_forms))]
+fn body(alloc: Global, row: &Row) -> Result<Element, NoMemory>
+    ensures { IfOk result (λ e. element_size e ≡ 5) }
+{
     let mut parts = Vec::new(alloc);
-    parts.push(first)?;
-    parts.push(second)?;
+    parts.push(assignment(alloc, row.assigned)?)?;
+    parts.push(action(alloc, row.made, row.put)?)?;
     Ok(Element::Group(Items::from_vec(parts), NOWHERE))
 }
 
-fn attribute(alloc: Global, text: &str) -> Result<Attribute, NoMemory> {
+fn rule(alloc: Global, row: &Row) -> Result<Rule, NoMemory>
+    ensures { IfOk result (λ rule. element_size rule.body ≡ 5) }
+{
+    Ok(Rule {
+        name: Name::from_text(alloc, row.name)?,
+        file: row.file,
+        span: Span {
+            start: row.start,
+            end: row.start,
+        },
+        is_entry: false,
+        is_fragment: false,
+        result: RuleResult::Own,
+        body: body(alloc, row)?,
+    })
+}
+
+fn rules(alloc: Global, rows: &[Row]) -> Result<Vec<Rule>, NoMemory>
+    ensures { IfOk result (λ rules. sum_by (λ rule. 1 + element_size rule.body) rules.items ≡ 6 * length rows.now) }
+{
+    let mut rules = Vec::new(alloc);
+    for row in rows {
+        rules.push(rule(alloc, row)?)?;
+    }
+    Ok(rules)
+}
+
+#[tactic(auto, using(crate::proofs::Sizes::sizes_of_forms))]
+fn terminal(alloc: Global, name: &str, file: u16, start: u32) -> Result<Terminal, NoMemory>
+    ensures { IfOk result (λ terminal. term_size terminal.body ≡ 1) }
+{
+    Ok(Terminal {
+        name: Name::from_text(alloc, name)?,
+        file,
+        span: Span { start, end: start },
+        is_hidden: false,
+        is_fragment: false,
+        gives: Primitive::Text,
+        body: TermElement::Pattern(Name::from_text(alloc, "a")?, NOWHERE),
+    })
+}
+
+fn terminals(
+    alloc: Global,
+    rows: &[(&'static str, u16, u32)],
+) -> Result<Vec<Terminal>, NoMemory>
+    ensures { IfOk result (λ terminals. sum_by (λ terminal. 1 + term_size terminal.body) terminals.items ≡ 2 * length rows.now) }
+{
+    let mut terminals = Vec::new(alloc);
+    for (name, file, start) in rows {
+        terminals.push(terminal(alloc, name, *file, *start)?)?;
+    }
+    Ok(terminals)
+}
+
+fn attribute(alloc: Global, name: &str) -> Result<Attribute, NoMemory>
+    ensures { IfOk result (λ attribute. attribute.members ≡ []) }
+{
     Ok(Attribute {
-        name: name(alloc, text)?,
+        name: Name::from_text(alloc, name)?,
         span: NOWHERE,
         optional: false,
         list: false,
@@ -82,14 +161,17 @@ fn attribute(alloc: Global, text: &str) -> Result<Attribute, NoMemory> {
     })
 }
 
-// interface Shape { area; name } type Any = ..;
-fn interfaces(alloc: Global) -> Result<Vec<Interface>, NoMemory> {
+/// `interface Shape { area: string; name: string }`
+fn interfaces(alloc: Global) -> Result<Vec<Interface>, NoMemory>
+    ensures { IfOk result (λ interfaces.
+        sum_by (λ interface. 1 + sum_by (λ attribute. 1 + length attribute.members) interface.attributes) interfaces.items ≡ 3) }
+{
     let mut attributes = Vec::new(alloc);
     attributes.push(attribute(alloc, "area")?)?;
     attributes.push(attribute(alloc, "name")?)?;
     let mut interfaces = Vec::new(alloc);
     interfaces.push(Interface {
-        name: name(alloc, "Shape")?,
+        name: Name::from_text(alloc, "Shape")?,
         file: 0,
         span: NOWHERE,
         above: Items::new(alloc),
@@ -98,10 +180,13 @@ fn interfaces(alloc: Global) -> Result<Vec<Interface>, NoMemory> {
     Ok(interfaces)
 }
 
-fn unions(alloc: Global) -> Result<Vec<UnionDef>, NoMemory> {
+/// `type Any = ..`
+fn unions(alloc: Global) -> Result<Vec<UnionDef>, NoMemory>
+    ensures { IfOk result (λ unions. sum_by (λ union. 1 + length union.members) unions.items ≡ 1) }
+{
     let mut unions = Vec::new(alloc);
     unions.push(UnionDef {
-        name: name(alloc, "Any")?,
+        name: Name::from_text(alloc, "Any")?,
         file: 0,
         span: NOWHERE,
         members: Items::new(alloc),
@@ -109,44 +194,65 @@ fn unions(alloc: Global) -> Result<Vec<UnionDef>, NoMemory> {
     Ok(unions)
 }
 
-// Circle: name='v' {infer Ring.inner=current}; fragment Sized: ({infer Shape} size='v')*; Later and Same are declared twice.
-fn rules(alloc: Global) -> Result<Vec<Rule>, NoMemory> {
-    let circle = row(
-        alloc,
-        assign(alloc, "name")?,
-        act(alloc, "Ring", Some("inner"))?,
-    )?;
-    let part = row(alloc, act(alloc, "Shape", None)?, assign(alloc, "size")?)?;
-    let sized = Element::Many(Boxed::new(alloc, part)?, NOWHERE);
-    let mut rules = Vec::new(alloc);
-    rules.push(rule(alloc, "Circle", 0, 10, circle)?)?;
-    rules.push(Rule {
-        is_fragment: true,
-        ..rule(alloc, "Sized", 0, 20, sized)?
-    })?;
-    rules.push(rule(alloc, "Later", 1, 5, assign(alloc, "name")?)?)?;
-    rules.push(rule(alloc, "Same", 1, 9, assign(alloc, "last")?)?)?;
-    Ok(rules)
-}
-
-fn terminals(alloc: Global) -> Result<Vec<Terminal>, NoMemory> {
-    let mut terminals = Vec::new(alloc);
-    terminals.push(terminal(alloc, "Circle", 0, 30)?)?;
-    terminals.push(terminal(alloc, "ID", 0, 40)?)?;
-    terminals.push(terminal(alloc, "Later", 0, 50)?)?;
-    terminals.push(terminal(alloc, "ID", 1, 0)?)?;
-    terminals.push(terminal(alloc, "Same", 1, 9)?)?;
-    Ok(terminals)
-}
-
-fn grammar(alloc: Global) -> Result<Grammar, NoMemory> {
+fn grammar(alloc: Global) -> Result<Grammar, NoMemory>
+    ensures { IfOk result (λ g. size g ≡ 32) }
+{
     Ok(Grammar {
-        name: name(alloc, "G")?,
+        name: Name::from_text(alloc, "G")?,
         files: Items::new(alloc),
-        rules: Items::from_vec(rules(alloc)?),
-        terminals: Items::from_vec(terminals(alloc)?),
+        rules: Items::from_vec(rules(alloc, &RULES)?),
+        terminals: Items::from_vec(terminals(alloc, &TERMINALS)?),
         interfaces: Items::from_vec(interfaces(alloc)?),
         unions: Items::from_vec(unions(alloc)?),
         imports: Items::new(alloc),
     })
+}
+
+#[test]
+fn a_name_means_what_stands_first(rt: HostRuntime) -> Result<(), Fail> {
+    let numbers = Numbers::of(rt.alloc(), &grammar(rt.alloc())?)?;
+    let rows = [
+        ("Circle", Some(RuleId(0))),
+        ("ID", Some(RuleId(4))),
+        ("Later", Some(RuleId(5))),
+        ("Same", None),
+        ("Shape", None),
+    ];
+    for (name, number) in rows {
+        let name = Name::from_text(rt.alloc(), name)?;
+        assert_eq!(rt; numbers.rule(&name), number, "{name}");
+    }
+    Ok(())
+}
+
+#[test]
+fn types_are_numbered_as_they_are_first_named(rt: HostRuntime) -> Result<(), Fail> {
+    let numbers = Numbers::of(rt.alloc(), &grammar(rt.alloc())?)?;
+    let names = ["Shape", "Any", "Circle", "Ring", "Later", "Same"];
+    assert_eq!(rt; numbers.type_count(), names.len());
+    for (number, text) in names.iter().enumerate() {
+        assert!(rt; number < numbers.type_count());
+        let id = TypeId(number as u16);
+        assert_eq!(rt; numbers.type_name(id).text(), *text);
+        let name = Name::from_text(rt.alloc(), text)?;
+        assert_eq!(rt; numbers.type_of(&name), Some(id));
+    }
+    assert_eq!(rt; numbers.type_of(&Name::from_text(rt.alloc(), "area")?), None);
+    Ok(())
+}
+
+#[test]
+fn properties_are_numbered_as_they_are_first_named(rt: HostRuntime) -> Result<(), Fail> {
+    let numbers = Numbers::of(rt.alloc(), &grammar(rt.alloc())?)?;
+    let names = ["area", "name", "inner", "size", "last", "first"];
+    assert_eq!(rt; numbers.prop_count(), names.len());
+    for (number, text) in names.iter().enumerate() {
+        assert!(rt; number < numbers.prop_count());
+        let id = PropId(number as u16);
+        assert_eq!(rt; numbers.prop_name(id).text(), *text);
+        let name = Name::from_text(rt.alloc(), text)?;
+        assert_eq!(rt; numbers.prop(&name), Some(id));
+    }
+    assert_eq!(rt; numbers.prop(&Name::from_text(rt.alloc(), "Any")?), None);
+    Ok(())
 }
