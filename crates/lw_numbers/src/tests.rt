@@ -1,5 +1,5 @@
 // The numbers of the names of one small grammar, and the names back.
-ghost use Rattle.std.specs.Prelude.{◌≡◌, ◌+◌, ◌*◌, ◌≤◌, [], IfOk, length, sum_by};
+ghost use Rattle.std.specs.Prelude.{◌≡◌, ◌+◌, ◌*◌, ◌≤◌, ◌∷◌, [], IfOk, length, sum_by};
 ghost use Rattle.lw_grammar.specs.Size.{size, element_size, term_size};
 
 use crate::Numbers;
@@ -161,56 +161,72 @@ fn attribute(alloc: Global, name: &str) -> Result<Attribute, NoMemory>
     })
 }
 
-/// `interface Shape { area: string; name: string }`
-fn interfaces(alloc: Global) -> Result<Vec<Interface>, NoMemory>
-    ensures { IfOk result (λ interfaces.
-        sum_by (λ interface. 1 + sum_by (λ attribute. 1 + length attribute.members) interface.attributes) interfaces.items ≡ 3) }
+fn attributes(alloc: Global) -> Result<Vec<Attribute>, NoMemory>
+    ensures { IfOk result (λ attributes. sum_by (λ attribute. 1 + length attribute.members) attributes.items ≡ 2) }
 {
     let mut attributes = Vec::new(alloc);
     attributes.push(attribute(alloc, "area")?)?;
     attributes.push(attribute(alloc, "name")?)?;
-    let mut interfaces = Vec::new(alloc);
-    interfaces.push(Interface {
+    Ok(attributes)
+}
+
+/// `interface Shape { area: string; name: string }`
+fn interface(alloc: Global) -> Result<Interface, NoMemory>
+    ensures { IfOk result (λ interface. sum_by (λ attribute. 1 + length attribute.members) interface.attributes ≡ 2) }
+{
+    Ok(Interface {
         name: Name::from_text(alloc, "Shape")?,
         file: 0,
         span: NOWHERE,
         above: Items::new(alloc),
-        attributes: Items::from_vec(attributes),
-    })?;
-    Ok(interfaces)
+        attributes: Items::from_vec(attributes(alloc)?),
+    })
 }
 
 /// `type Any = ..`
-fn unions(alloc: Global) -> Result<Vec<UnionDef>, NoMemory>
-    ensures { IfOk result (λ unions. sum_by (λ union. 1 + length union.members) unions.items ≡ 1) }
+fn union(alloc: Global) -> Result<UnionDef, NoMemory>
+    ensures { IfOk result (λ union. union.members ≡ []) }
 {
-    let mut unions = Vec::new(alloc);
-    unions.push(UnionDef {
+    Ok(UnionDef {
         name: Name::from_text(alloc, "Any")?,
         file: 0,
         span: NOWHERE,
         members: Items::new(alloc),
-    })?;
-    Ok(unions)
+    })
+}
+
+fn one<T: Drop>(alloc: Global, item: T) -> Result<Items<T>, NoMemory>
+    ensures { IfOk result (λ items. items ≡ item ∷ []) }
+{
+    let mut items = Vec::new(alloc);
+    items.push(item)?;
+    Ok(Items::from_vec(items))
 }
 
 fn grammar(alloc: Global) -> Result<Grammar, NoMemory>
-    ensures { IfOk result (λ g. size g ≡ 32) }
+    ensures { IfOk result (λ g. size g ≤ 65535) }
 {
+    let rules = Items::from_vec(rules(alloc, &RULES)?);
+    let terminals = Items::from_vec(terminals(alloc, &TERMINALS)?);
     Ok(Grammar {
         name: Name::from_text(alloc, "G")?,
         files: Items::new(alloc),
-        rules: Items::from_vec(rules(alloc, &RULES)?),
-        terminals: Items::from_vec(terminals(alloc, &TERMINALS)?),
-        interfaces: Items::from_vec(interfaces(alloc)?),
-        unions: Items::from_vec(unions(alloc)?),
+        rules,
+        terminals,
+        interfaces: one(alloc, interface(alloc)?)?,
+        unions: one(alloc, union(alloc)?)?,
         imports: Items::new(alloc),
     })
 }
 
+fn numbers(alloc: Global) -> Result<Numbers, NoMemory> {
+    let g = grammar(alloc)?;
+    Numbers::of(alloc, &g)
+}
+
 #[test]
 fn a_name_means_what_stands_first(rt: HostRuntime) -> Result<(), Fail> {
-    let numbers = Numbers::of(rt.alloc(), &grammar(rt.alloc())?)?;
+    let numbers = numbers(rt.alloc())?;
     let rows = [
         ("Circle", Some(RuleId(0))),
         ("ID", Some(RuleId(4))),
@@ -227,7 +243,7 @@ fn a_name_means_what_stands_first(rt: HostRuntime) -> Result<(), Fail> {
 
 #[test]
 fn types_are_numbered_as_they_are_first_named(rt: HostRuntime) -> Result<(), Fail> {
-    let numbers = Numbers::of(rt.alloc(), &grammar(rt.alloc())?)?;
+    let numbers = numbers(rt.alloc())?;
     let names = ["Shape", "Any", "Circle", "Ring", "Later", "Same"];
     assert_eq!(rt; numbers.type_count(), names.len());
     for (number, text) in names.iter().enumerate() {
@@ -243,7 +259,7 @@ fn types_are_numbered_as_they_are_first_named(rt: HostRuntime) -> Result<(), Fai
 
 #[test]
 fn properties_are_numbered_as_they_are_first_named(rt: HostRuntime) -> Result<(), Fail> {
-    let numbers = Numbers::of(rt.alloc(), &grammar(rt.alloc())?)?;
+    let numbers = numbers(rt.alloc())?;
     let names = ["area", "name", "inner", "size", "last", "first"];
     assert_eq!(rt; numbers.prop_count(), names.len());
     for (number, text) in names.iter().enumerate() {
