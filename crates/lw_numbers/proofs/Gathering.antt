@@ -1,8 +1,8 @@
 -- Names that are put behind others, each at its first use: one part after another, and from nothing on.
-use Rattle.std.proofs.Common.{◌≡◌, ℕ, ◌+◌, ◌<◌, List, [], ◌∷◌, ◌++◌, Bool, true, false, ◌||◌, length, map, take, get_or, refl, sym, ap, ◌∙◌, rules, if◌then◌else◌}
-use Rattle.std.specs.List.{flat_map, list_any}
+use Rattle.std.proofs.Common.{◌≡◌, ℕ, List, [], ◌∷◌, ◌++◌, Bool, true, false, ◌||◌, map, refl, sym, ap, ◌∙◌, if◌then◌else◌}
+use Rattle.std.specs.List.{flat_map}
 use Rattle.std.specs.Str.{bytes_eq}
-use Rattle.std.proofs.lemmas.List.{append-nil, append_assoc, take_more, map_more}
+use Rattle.std.proofs.lemmas.List.{append-nil, append_assoc}
 use Rattle.std.proofs.lemmas.List.Folds.{list_any-append}
 use Rattle.std.proofs.lemmas.List.Concat.{flat_map-append}
 use Rattle.std.proofs.lemmas.List.Sums.{fold-append}
@@ -14,7 +14,7 @@ use Rattle.lw_grammar.specs.declared.rule.Element.{Element}
 use Rattle.lw_grammar.specs.declared.rule.Element.TheVariants as element
 use Rattle.lw_grammar.specs.declared.rule.Rule.{Rule}
 use Rattle.lw_grammar.specs.Kinds.{first_uses}
-use Rattle.lw_grammar.specs.Leaves.{Leaf, leaves}
+use Rattle.lw_grammar.specs.Leaves.{leaves}
 use Rattle.lw_grammar.proofs.FirstUses.{stands_in}
 use Rattle.lw_grammar.proofs.LeafLemmas.{leaves-Group, leaves-Choice}
 use Rattle.lw_base.specs.declared.token.Span.{Span}
@@ -53,7 +53,7 @@ module _ {types properties : List (List ℕ)} {a b : FirstUses} where
         two.types_put ∙ ap (λ names. insert_all bytes_eq names more) one.types_put ∙ sym (fold-append (insert_key bytes_eq) a.types.keys types more);
     properties_put =
         two.properties_put ∙ ap (λ names. insert_all bytes_eq names others) one.properties_put
-        ∙ sym (fold-append (insert_key bytes_eq) a.properties.keys properties others)
+        ∙ sym (fold-append (insert_key bytes_eq) a.properties.keys properties others);
   }
 
 -- ---- from nothing on
@@ -94,15 +94,16 @@ module _ (g : Grammar) (uses with_interfaces with_unions with_all : FirstUses) (
   grammar_puts {interfaces} {unions} {rules} are were is one two three =
       let puts = Puts-trans (Puts-trans one two) three in
       let name_of = λ (i : Interface). i.name in
-      let called = λ (u : UnionDef). u.name in
-      (puts.types_put ∙ ap (λ before. insert_all bytes_eq before (map name_of interfaces ++ map called unions ++ flat_map rule_types rules)) no_types
-      ∙ inserted_first (map name_of interfaces ++ map called unions ++ flat_map rule_types rules)
-      ∙ ap (λ xs. first_uses [] (map name_of xs ++ map called unions ++ flat_map rule_types rules)) are
-      ∙ ap (λ xs. first_uses [] (map name_of g.interfaces ++ map called xs ++ flat_map rule_types rules)) were
-      ∙ ap (λ xs. first_uses [] (map name_of g.interfaces ++ map called g.unions ++ flat_map rule_types xs)) is,
-      puts.properties_put
-      ∙ ap (λ before. insert_all bytes_eq before ((flat_map attribute_names interfaces ++ []) ++ flat_map rule_properties rules)) no_properties
-      ∙ ap (λ found. insert_all bytes_eq [] (found ++ flat_map rule_properties rules)) (append-nil (flat_map attribute_names interfaces))
-      ∙ inserted_first (flat_map attribute_names interfaces ++ flat_map rule_properties rules)
-      ∙ ap (λ xs. first_uses [] (flat_map attribute_names xs ++ flat_map rule_properties rules)) are
-      ∙ ap (λ xs. first_uses [] (flat_map attribute_names g.interfaces ++ flat_map rule_properties xs)) is)
+      let called = λ (u : UnionDef). u.name in (
+        puts.types_put ∙ ap (λ before. insert_all bytes_eq before (map name_of interfaces ++ map called unions ++ flat_map rule_types rules)) no_types
+            ∙ inserted_first (map name_of interfaces ++ map called unions ++ flat_map rule_types rules)
+            ∙ ap (λ xs. first_uses [] (map name_of xs ++ map called unions ++ flat_map rule_types rules)) are
+            ∙ ap (λ xs. first_uses [] (map name_of g.interfaces ++ map called xs ++ flat_map rule_types rules)) were
+            ∙ ap (λ xs. first_uses [] (map name_of g.interfaces ++ map called g.unions ++ flat_map rule_types xs)) is,
+        puts.properties_put
+            ∙ ap (λ before. insert_all bytes_eq before ((flat_map attribute_names interfaces ++ []) ++ flat_map rule_properties rules)) no_properties
+            ∙ ap (λ found. insert_all bytes_eq [] (found ++ flat_map rule_properties rules)) (append-nil (flat_map attribute_names interfaces))
+            ∙ inserted_first (flat_map attribute_names interfaces ++ flat_map rule_properties rules)
+            ∙ ap (λ xs. first_uses [] (flat_map attribute_names xs ++ flat_map rule_properties rules)) are
+            ∙ ap (λ xs. first_uses [] (flat_map attribute_names g.interfaces ++ flat_map rule_properties xs)) is,
+      )

@@ -1,12 +1,10 @@
 -- What a name means, by how it stands among the rules and among the terminals.
-use Rattle.std.proofs.Common.{◌≡◌, ℕ, ◌+◌, ◌<◌, List, length, Option, Some, None, MatchOption, Contains, bytes_eq, ◌⊎◌, inl, inr, sym, ap, ◌∙◌, subst, arith}
+use Rattle.std.proofs.Common.{◌≡◌, ℕ, List, length, Option, Some, None, MatchOption, Contains, bytes_eq, inl, inr, sym, ap, ◌∙◌, subst, arith}
 use Rattle.std.specs.Map.{lookup}
 use Rattle.std.proofs.lemmas.Bool.{cases_order}
 use Rattle.std.proofs.lemmas.Option.{slice_get_within, get_or_from_slice_get}
 use Rattle.lw_base.specs.declared.numbers.RuleId.{RuleId}
 use Rattle.lw_grammar.specs.declared.grammar.Grammar.{Grammar}
-use Rattle.lw_grammar.specs.declared.rule.Rule.{Rule}
-use Rattle.lw_grammar.specs.declared.terminal.Terminal.{Terminal}
 use Rattle.lw_grammar.specs.Named.{Declaration, IsMeant, declared_rule, declared_terminal}
 use Rattle.lw_grammar.proofs.FirstLemmas.{first_item}
 use Rattle.lw_numbers.specs.declared.standing.Place.{Place}
@@ -50,7 +48,7 @@ module _ {X Y : Type 0} (declared_by : X → Declaration) (other_by : Y → Decl
     first = one.is_first;
     sooner = λ other has named.
         before_all (place_of (declared_by one.item)) t.earliest (place_of (other_by other)) (subst (λ p. IsBefore p t.earliest) one.place before)
-        (two.none_sooner other has named)
+        (two.none_sooner other has named);
   }
 
   -- and where the other list has none of the name

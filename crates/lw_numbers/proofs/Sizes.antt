@@ -1,11 +1,11 @@
 -- A grammar names no more types, and no more properties, than its size says.
-use Rattle.std.proofs.Common.{◌≡◌, ℕ, ◌+◌, ◌≤◌, List, [], ◌∷◌, ◌++◌, Bool, true, false, Option, Some, None, length, map, sum, sum_by, ap, sym, ◌∙◌, subst, arith, if◌then◌else◌}
+use Rattle.std.proofs.Common.{◌≡◌, ℕ, ◌+◌, ◌≤◌, List, [], ◌∷◌, ◌++◌, Bool, true, false, Option, Some, None, length, map, sum, sum_by, ap, subst, arith, if◌then◌else◌}
 use Rattle.std.specs.List.{flat_map}
 use Rattle.std.proofs.lemmas.List.{length-append, length-map}
 use Rattle.std.proofs.lemmas.List.Concat.{length-flat_map}
 use Rattle.std.proofs.lemmas.List.Sums.{sum_by-cons, sum_by-le-sum_by}
 use Rattle.lw_grammar.specs.declared.grammar.Grammar.{Grammar}
-use Rattle.lw_grammar.specs.declared.rule.Element.{Element, roll-Element}
+use Rattle.lw_grammar.specs.declared.rule.Element.{Element}
 use Rattle.lw_grammar.specs.declared.rule.Element.TheFolds.{map-Element, ind-Element, fold-roll-Element}
 use Rattle.lw_grammar.specs.declared.rule.Element.TheOpen as layer
 use Rattle.lw_grammar.specs.declared.rule.Element.TheVariants as element
@@ -23,7 +23,7 @@ use Rattle.lw_grammar.specs.Leaves.{Leaf, Keyword, Call, Assign, Act, leaves, la
 use Rattle.lw_grammar.specs.Size.{size, element_size, layer_size, term_size}
 use Rattle.lw_grammar.proofs.FirstUses.{stands_in}
 use Rattle.lw_grammar.proofs.LeafLemmas.{size_by, size-Assign, size-value_Call, size-Group, size-Pattern}
-use Rattle.lw_numbers.specs.FirstUses.{types_in, properties_in, rule_properties, attribute_names}
+use Rattle.lw_numbers.specs.FirstUses.{types_in, rule_properties, attribute_names}
 use Rattle.lw_numbers.specs.Numbering.{leaf_types, leaf_properties, put_property, result_types, if_whole, rule_types, type_names, property_names}
 
 -- ---- lists
@@ -63,8 +63,13 @@ few_in_parts : (parts : List Few) →
 few_in_parts [] = omega arith
 few_in_parts (part ∷ parts) =
     let more = flat_map (λ (ls : List Leaf). ls) (map leaves (map (λ (p : Few). p.0) parts)) in
-    omega (arith, part.1, few_in_parts parts, length-append (leaves part.0) more,
-    sum_by-cons (λ n. n) (element_size part.0) (map element_size (map (λ (p : Few). p.0) parts)))
+    omega (
+      arith,
+      part.1,
+      few_in_parts parts,
+      length-append (leaves part.0) more,
+      sum_by-cons (λ n. n) (element_size part.0) (map element_size (map (λ (p : Few). p.0) parts)),
+    )
 
 few_in_layer : (y : Element-F Few) → length (layer_leaves (map-Element Element (List Leaf) leaves (map-Element Few Element (λ p. p.0) y)))
     ≤ layer_size (map-Element Element ℕ element_size (map-Element Few Element (λ p. p.0) y))
@@ -114,8 +119,13 @@ few_if_whole false names few = few
 rule_types-le : (rule : Rule) → length (rule_types rule) ≤ 1 + element_size rule.body
 rule_types-le rule =
     let results = if_whole rule.is_fragment (result_types rule rule.result) in
-    omega (arith, few_if_whole rule.is_fragment (result_types rule rule.result) (few_results rule rule.result), few_each leaf_types few_types (leaves rule.body), leaves-le rule.body,
-    length-append results (types_in rule.body))
+    omega (
+      arith,
+      few_if_whole rule.is_fragment (result_types rule rule.result) (few_results rule rule.result),
+      few_each leaf_types few_types (leaves rule.body),
+      leaves-le rule.body,
+      length-append results (types_in rule.body),
+    )
 
 rule_properties-le : (rule : Rule) → length (rule_properties rule) ≤ 1 + element_size rule.body
 rule_properties-le rule = omega (arith, few_each leaf_properties few_properties (leaves rule.body), leaves-le rule.body)
@@ -147,16 +157,29 @@ module _ (g : Grammar) where
       let of_interfaces = map (λ (i : Interface). i.name) g.interfaces in
       let of_unions = map (λ (u : UnionDef). u.name) g.unions in
       let of_rules = flat_map rule_types g.rules in
-      omega (arith, first_uses-le [] (of_interfaces ++ of_unions ++ of_rules), length-append (of_interfaces ++ of_unions) of_rules, length-append of_interfaces of_unions,
-      length-map g.interfaces (λ (i : Interface). i.name), length-le-sum_by interface_size (λ i. omega arith) g.interfaces, length-map g.unions (λ (u : UnionDef). u.name),
-      length-le-sum_by union_size (λ u. omega arith) g.unions, found-le-sum_by rule_types rule_size rule_types-le g.rules)
+      omega (
+        arith,
+        first_uses-le [] (of_interfaces ++ of_unions ++ of_rules),
+        length-append (of_interfaces ++ of_unions) of_rules,
+        length-append of_interfaces of_unions,
+        length-map g.interfaces (λ (i : Interface). i.name),
+        length-le-sum_by interface_size (λ i. omega arith) g.interfaces,
+        length-map g.unions (λ (u : UnionDef). u.name),
+        length-le-sum_by union_size (λ u. omega arith) g.unions,
+        found-le-sum_by rule_types rule_size rule_types-le g.rules,
+      )
 
   pub properties-le : length (property_names g) ≤ size g
   properties-le =
       let of_interfaces = flat_map attribute_names g.interfaces in
       let of_rules = flat_map rule_properties g.rules in
-      omega (arith, first_uses-le [] (of_interfaces ++ of_rules), length-append of_interfaces of_rules,
-      found-le-sum_by attribute_names interface_size attribute_names-le g.interfaces, found-le-sum_by rule_properties rule_size rule_properties-le g.rules)
+      omega (
+        arith,
+        first_uses-le [] (of_interfaces ++ of_rules),
+        length-append of_interfaces of_rules,
+        found-le-sum_by attribute_names interface_size attribute_names-le g.interfaces,
+        found-le-sum_by rule_properties rule_size rule_properties-le g.rules,
+      )
 
   -- each rule and each terminal has a number
   pub numbers-le : length g.rules + length g.terminals ≤ size g

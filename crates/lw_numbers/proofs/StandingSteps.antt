@@ -56,7 +56,7 @@ module _ {X : Type 0} where
         record {
           there = get_left xs ys i x inside ∙ first.there;
           does = first.does;
-          none_before = λ j y lt there. first.none_before j y lt (sym (get_left xs ys j x (omega (arith, lt, inside))) ∙ there)
+          none_before = λ j y lt there. first.none_before j y lt (sym (get_left xs ys j x (omega (arith, lt, inside))) ∙ there);
         }
 
     -- where none passed, the new one is the first
@@ -67,7 +67,7 @@ module _ {X : Type 0} where
       does = does;
       none_before = λ j y lt there.
           let old = slice_get-get_or xs j x lt in
-          none y (j, lt, same_Some _ _ (sym (slice_get-get_or xs j y lt) ∙ sym (get_left xs (x ∷ []) j x lt) ∙ there))
+          none y (j, lt, same_Some _ _ (sym (slice_get-get_or xs j y lt) ∙ sym (get_left xs (x ∷ []) j x lt) ∙ there));
     }
 
 -- ---- standings
@@ -89,7 +89,7 @@ module _ {X : Type 0} (declared_by : X → Declaration) (first : ℕ) (xs : List
     none_sooner = λ y has is. elim (old_or_new xs x y has) [
       | inl old ↦ stands.none_sooner y old is
       | inr new ↦ absurd (other (ap (λ z. (declared_by z).name) new ∙ is))
-    ]
+    ];
   }
 
   -- the new one has the name, which stood there
@@ -110,7 +110,7 @@ module _ {X : Type 0} (declared_by : X → Declaration) (first : ℕ) (xs : List
         elim (old_or_new xs x y has) [
           | inl was ↦ stands.none_sooner y was named (before_trans (place_of (declared_by y)) (place_of (declared_by x)) old.earliest still sooner.0)
           | inr same ↦ not_before_itself (place_of (declared_by x)) (subst (λ z. IsBefore (place_of (declared_by z)) (place_of (declared_by x))) (sym same) still)
-        ]
+        ];
   }
   stands_met name old new is stands (inr later) = record {
     at = stands.at;
@@ -127,7 +127,7 @@ module _ {X : Type 0} (declared_by : X → Declaration) (first : ℕ) (xs : List
         elim (old_or_new xs x y has) [
           | inl was ↦ stands.none_sooner y was named still
           | inr same ↦ later.0 (subst (λ z. IsBefore (place_of (declared_by z)) old.earliest) (sym same) still)
-        ]
+        ];
   }
 
   -- the new one is the first of its name
@@ -152,7 +152,7 @@ module _ {X : Type 0} (declared_by : X → Declaration) (first : ℕ) (xs : List
       | inl was ↦ none y was named
       | inr same ↦ not_before_itself (place_of (declared_by x))
           (subst (λ z. IsBefore (place_of (declared_by z)) (place_of (declared_by x))) (sym same) (subst (IsBefore (place_of (declared_by y))) begins.earliest before))
-    ]
+    ];
   }
 
   abbrev Among : List X → List ℕ → Option Standing → Type 0
@@ -202,7 +202,7 @@ module _ {X : Type 0} (declared_by : X → Declaration) (first : ℕ) (items : L
   goes place number counts is None new (a, b, c) = record {
     number = omega (arith, a, counts, length-take i items, inside);
     place = b ∙ is;
-    earliest = c ∙ is
+    earliest = c ∙ is;
   }
   goes place number counts is (Some old) new meets = subst (λ p. Meets p old new) is meets
 

@@ -1,15 +1,14 @@
 -- The numbers that names of a grammar have, in first-seen order. Rules and terminals share one row of numbers, rules first; a name that is
 -- declared twice has the number of its first declaration.
-use Rattle.std.specs.Prelude.{ℕ, ◌+◌, List, [], ◌∷◌, ◌++◌, Option, Some, None, Bool, true, false, length, map, bytes_eq}
+use Rattle.std.specs.Prelude.{ℕ, ◌+◌, List, [], ◌∷◌, ◌++◌, Option, Some, None, Bool, true, false, length, map}
 use Rattle.std.specs.List.{flat_map}
 use Rattle.lw_grammar.specs.declared.grammar.Grammar.{Grammar}
 use Rattle.lw_grammar.specs.declared.rule.Rule.{Rule}
 use Rattle.lw_grammar.specs.declared.rule.RuleResult.{RuleResult}
 use Rattle.lw_grammar.specs.declared.rule.RuleResult.TheVariants.{Own, Returns, Gives, Infers}
 use Rattle.lw_grammar.specs.declared.terminal.Terminal.{Terminal}
-use Rattle.lw_grammar.specs.declared.declared_types.Interface.{Interface}
 use Rattle.lw_grammar.specs.Kinds.{first_uses}
-use Rattle.lw_grammar.specs.Leaves.{Leaf, Keyword, Call, Assign, Act, leaves}
+use Rattle.lw_grammar.specs.Leaves.{Leaf, Assign, Act, leaves}
 use Rattle.lw_grammar.specs.Named.{IsRule, IsTerminal}
 
 -- the number of the rule or terminal that a name means

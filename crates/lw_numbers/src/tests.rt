@@ -64,12 +64,7 @@ fn assignment(alloc: Global, property: &str) -> Result<Element, NoMemory>
     ensures { IfOk result (λ e. element_size e ≡ 2) }
 {
     let value = Value0::Call(Name::from_text(alloc, "ID")?, NOWHERE);
-    Ok(Element::Assign(
-        Name::from_text(alloc, property)?,
-        Op::One,
-        value,
-        NOWHERE,
-    ))
+    Ok(Element::Assign(Name::from_text(alloc, property)?, Op::One, value, NOWHERE))
 }
 
 #[tactic(auto, using(crate::proofs::Sizes::sizes_of_forms))]
@@ -136,10 +131,7 @@ fn terminal(alloc: Global, name: &str, file: u16, start: u32) -> Result<Terminal
     })
 }
 
-fn terminals(
-    alloc: Global,
-    rows: &[(&'static str, u16, u32)],
-) -> Result<Vec<Terminal>, NoMemory>
+fn terminals(alloc: Global, rows: &[(&'static str, u16, u32)]) -> Result<Vec<Terminal>, NoMemory>
     ensures { IfOk result (λ terminals. sum_by (λ terminal. 1 + term_size terminal.body) terminals.items ≡ 2 * length rows.now) }
 {
     let mut terminals = Vec::new(alloc);
@@ -253,7 +245,10 @@ fn types_are_numbered_as_they_are_first_named(rt: HostRuntime) -> Result<(), Fai
         let name = Name::from_text(rt.alloc(), text)?;
         assert_eq!(rt; numbers.type_of(&name), Some(id));
     }
-    assert_eq!(rt; numbers.type_of(&Name::from_text(rt.alloc(), "area")?), None);
+    assert_eq!(rt;
+        numbers.type_of(&Name::from_text(rt.alloc(), "area")?),
+        None
+    );
     Ok(())
 }
 

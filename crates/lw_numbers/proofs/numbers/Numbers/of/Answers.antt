@@ -1,4 +1,4 @@
-use Rattle.std.proofs.Common.{◌+◌, ap, sym, ◌∙◌, subst, arith, length}
+use Rattle.std.proofs.Common.{ap, subst, arith, length}
 use Rattle.lw_grammar.specs.Named.{declared_rule, declared_terminal}
 use Rattle.lw_numbers.specs.Standing.{StandAmong}
 use Rattle.lw_numbers.proofs.Sizes.{types-le, properties-le, numbers-le}
@@ -26,5 +26,5 @@ returns c = record {
       subst (λ first. StandAmong declared_terminal first c.args.g.now.terminals entries) c.len.ensures
       (subst (λ terminals. StandAmong declared_terminal c.len.result terminals entries) c.as_slice-2.ensures c.in_ok-terminals.ensures);
   types = c.in_ok-uses.ensures.types;
-  properties = c.in_ok-uses.ensures.properties
+  properties = c.in_ok-uses.ensures.properties;
 }
