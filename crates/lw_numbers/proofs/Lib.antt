@@ -1,0 +1,4 @@
+pub mod Gathering
+pub mod Meanings
+pub mod Sizes
+pub mod StandingSteps

@@ -1,0 +1,4 @@
+pub mod FirstUses
+pub mod Numbering
+pub mod Standing
+pub mod Tables

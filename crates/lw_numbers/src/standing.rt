@@ -1,0 +1,132 @@
+// How names stand among the rules, and among the terminals.
+ghost use Rattle.std.specs.Prelude.{◌≡◌, ◌+◌, ◌≤◌, ◌↔◌, IsTrue, IfOk, MatchOption, length};
+ghost use Rattle.lw_grammar.specs.Named.{Declaration, declared_rule, declared_terminal};
+ghost use Rattle.lw_numbers.specs.Standing.{IsBefore, IsSooner, Meets, place_of, StandAmong};
+
+use indexmap::IndexMap;
+use lw_base::{Name, NoMemory, RuleId};
+use lw_grammar::{Rule, Terminal};
+use std::alloc::Global;
+
+/// Where a declaration stands: the number of its file in load order, and the start of its name there.
+#[derive(Clone, Copy, Debug, PartialEq, Eq)]
+pub struct Place {
+    pub file: u16,
+    pub start: u32,
+}
+
+impl Place {
+    /// Whether this is in a file that was loaded earlier, or further to the front of the same file.
+    pub(crate) fn is_before(self, other: Place) -> bool
+        ensures { IsTrue result ↔ IsBefore self other }
+    {
+        self.file < other.file || (self.file == other.file && self.start < other.start)
+    }
+}
+
+/// How a name stands among declarations.
+#[derive(Clone, Copy, Debug, PartialEq, Eq)]
+pub struct Standing {
+    /// The number of the first declaration of the name.
+    pub number: RuleId,
+    /// Where that stands.
+    pub place: Place,
+    /// The place that no declaration of the name stands before.
+    pub earliest: Place,
+}
+
+impl Standing {
+    /// The same, with one more declaration at this place.
+    fn met_at(self, place: Place) -> Standing
+        ensures { Meets place self result }
+    {
+        if place.is_before(self.earliest) {
+            return Standing {
+                earliest: place,
+                ..self
+            };
+        }
+        self
+    }
+}
+
+/// A rule or a terminal.
+pub(crate) trait Declared {
+    ghost declaration: { Self → Declaration };
+
+    fn name(&self) -> &Name
+        ensures { result.now ≡ (declaration self.now).name };
+
+    fn place(&self) -> Place
+        ensures { result ≡ place_of (declaration self.now) };
+}
+
+impl Declared for Rule {
+    ghost declaration = { declared_rule };
+
+    fn name(&self) -> &Name {
+        &self.name
+    }
+
+    fn place(&self) -> Place {
+        Place {
+            file: self.file,
+            start: self.span.start,
+        }
+    }
+}
+
+impl Declared for Terminal {
+    ghost declaration = { declared_terminal };
+
+    fn name(&self) -> &Name {
+        &self.name
+    }
+
+    fn place(&self) -> Place {
+        Place {
+            file: self.file,
+            start: self.span.start,
+        }
+    }
+}
+
+/// How each name stands among these, which are numbered from `first`.
+pub(crate) fn standings<T: Declared>(
+    alloc: Global,
+    first: u16,
+    declared: &[T],
+) -> Result<IndexMap<Name, Standing>, NoMemory>
+    requires { first + length declared.now ≤ 65535 }
+    ensures { IfOk result (λ standings. StandAmong T.declaration first declared.now standings.entries) }
+{
+    let mut standings: IndexMap<Name, Standing> = IndexMap::new(alloc);
+    let mut number = first;
+    for item in declared {
+        let place = item.place();
+        let standing = match standings.get(item.name()) {
+            Some(standing) => standing.met_at(place),
+            None => Standing {
+                number: RuleId(number),
+                place,
+                earliest: place,
+            },
+        };
+        standings.insert(item.name().copy(alloc)?, standing)?;
+        number += 1;
+    }
+    Ok(standings)
+}
+
+/// The number of what a name means that is a rule's and a terminal's: none where both stand at one place.
+pub(crate) fn sooner(rule: &Standing, terminal: &Standing) -> Option<RuleId>
+    ensures { MatchOption result ((n : RuleId) → ¬ IsSooner rule.now terminal.now n) (IsSooner rule.now terminal.now) }
+{
+    if rule.place.is_before(terminal.earliest) {
+        return Some(rule.number);
+    }
+    if terminal.place.is_before(rule.earliest) {
+        return Some(terminal.number);
+    }
+    None
+}
