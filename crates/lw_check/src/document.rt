@@ -1,6 +1,7 @@
 // The diagnostics of one document.
 ghost use Rattle.std.specs.Prelude.{◌≡◌, IfOk};
-ghost use Rattle.lw_lang.specs.Language.{IsNamed, IsSpanWithin, IsIssueWithin};
+ghost use Rattle.lw_syntax.specs.PlacesWithin.{IsWithin};
+ghost use Rattle.lw_lang.specs.Language.{IsNamed, IsIssueWithin};
 ghost use Rattle.lw_scopes.specs.Diagnostics.{IsList};
 ghost use Rattle.lw_scopes.specs.Faults.{IsFaultShown, IsShownAt, too_large_shown};
 
@@ -79,7 +80,7 @@ fn fault_shown(
 
 // It is shown from the start of the span to its end.
 fn shown_at(text: &TextDoc, span: Span, code: u8, message: Name) -> Shown
-    requires { IsSpanWithin text.now span }
+    requires { IsWithin text.now span }
     ensures { IsShownAt text.now span.start span.end code message result }
 {
     Shown {

@@ -15,7 +15,7 @@ use Rattle.lw_grammar.proofs.FirstLemmas.{first_item}
 use Rattle.lw_grammar.proofs.LeafLemmas.{leaves-Call, values-Call}
 use Rattle.lw_faults.specs.BadCalls.{BadAssignment}
 use Rattle.lw_faults.specs.BadCalls as bad
-use Rattle.lw_faults.specs.Worked.{StandsAlone, StandsNowhere, nowhere, entry_rule, named_rule, fragment_rule, node_rule, x_by, y_id, id_element, assigning}
+use Rattle.lw_faults.specs.Worked.{StandsAlone, StandsNowhere, no_place, entry_rule, plain_rule, fragment_rule, node_rule, x_by, y_id, id_element, assigning}
 use Rattle.lw_faults.proofs.Every.{every_of, differ, first_here, first_later, meant, not_meant}
 use Rattle.lw_faults.proofs.AssignLemmas.{only_leaf, only_part, leaf_there, part_there}
 use Rattle.lw_faults.proofs.NodeLemmas.{puts_makes, id_makes_none}
@@ -30,10 +30,10 @@ module _ (op : Op) (s : Span) (b : Rule) where
   G = assigning op s b
 
   abbrev v : Value0
-  v = value.Call b.name nowhere
+  v = value.Call b.name no_place
 
   abbrev A : Rule
-  A = entry_rule (codes "A") nowhere (x_by op v s)
+  A = entry_rule (codes "A") no_place (x_by op v s)
 
   -- a call as a value is one of ID, or it is this one
   abbrev PutsIn : Rule → Type 0
@@ -42,8 +42,8 @@ module _ (op : Op) (s : Span) (b : Rule) where
 
   a_puts : PutsIn A
   a_puts p o w u t name has inside =
-      let found = only_leaf A (codes "x") op v s (Calls b.name nowhere) refl (values-Call b.name nowhere) (leaf.Assign p o w u) has in
-      let part = only_part A (codes "x") op v s (Calls b.name nowhere) refl (values-Call b.name nowhere) p o w u (Calls name t) has inside in
+      let found = only_leaf A (codes "x") op v s (Calls b.name no_place) refl (values-Call b.name no_place) (leaf.Assign p o w u) has in
+      let part = only_part A (codes "x") op v s (Calls b.name no_place) refl (values-Call b.name no_place) p o w u (Calls name t) has inside in
       inr (refl, found.3, found.0, found.1, subst (IsCallOf b.name) part refl)
 
   module _ (b_puts : PutsIn b) (named : IsRule G b.name 1 b) (no_id : (r : ℕ) (rule : Rule) → ¬ IsRule G (codes "ID") r rule) where
@@ -69,30 +69,30 @@ module _ (op : Op) (s : Span) (b : Rule) where
         by (inr is) = ((is.0, is.1, is.2), inr (subst (λ (x : Rule). x.is_fragment ≡ true) (means_b name r called is.4 means) fragment))
 
     a_assigns : Contains (leaves A.body) (leaf.Assign (codes "x") op v s)
-    a_assigns = leaf_there A (codes "x") op v s (Calls b.name nowhere) refl (values-Call b.name nowhere)
+    a_assigns = leaf_there A (codes "x") op v s (Calls b.name no_place) refl (values-Call b.name no_place)
 
-    a_calls : Contains (value_leaves v) (Calls b.name nowhere)
-    a_calls = part_there A (codes "x") op v s (Calls b.name nowhere) refl (values-Call b.name nowhere) (Calls b.name nowhere) refl
+    a_calls : Contains (value_leaves v) (Calls b.name no_place)
+    a_calls = part_there A (codes "x") op v s (Calls b.name no_place) refl (values-Call b.name no_place) (Calls b.name no_place) refl
 
     pub fragment_alone : b.is_fragment ≡ true → StandsAlone (BadAssignment G) 0 s (codes "x")
     fragment_alone is = (
-      bad.fragment_ A (codes "x") op v s nowhere b.name 1 b (0, omega arith, refl) a_assigns a_calls named is,
+      bad.fragment_ A (codes "x") op v s no_place b.name 1 b (0, omega arith, refl) a_assigns a_calls named is,
       λ f t n found. (only_bad f t n found).0,
     )
 
   -- a rule that assigns ID, or that is a call of it
   id_puts : b.body ≡ y_id → PutsIn b
   id_puts is p o w u t name has inside =
-      let part = only_part b (codes "y") One (value.Call (codes "ID") nowhere) nowhere (Calls (codes "ID") nowhere) is (values-Call (codes "ID") nowhere) p o w u (Calls name t) has inside in
+      let part = only_part b (codes "y") One (value.Call (codes "ID") no_place) no_place (Calls (codes "ID") no_place) is (values-Call (codes "ID") no_place) p o w u (Calls name t) has inside in
       inl (subst (IsCallOf (codes "ID")) part refl)
 
   call_puts : b.body ≡ id_element → PutsIn b
   call_puts is p o w u t name has inside =
-      let leaf_is : leaf.Call (codes "ID") nowhere ≡ leaf.Assign p o w u =
-      every_of (λ y. leaf.Call (codes "ID") nowhere ≡ y) (leaf.Call (codes "ID") nowhere ∷ []) (leaf.Assign p o w u) (refl, tt)
-      (subst (λ ls. Contains ls (leaf.Assign p o w u)) (leaves-Call (codes "ID") nowhere) (subst (λ e. Contains (leaves e) (leaf.Assign p o w u)) is has)) in absurd (apart leaf_is)
+      let leaf_is : leaf.Call (codes "ID") no_place ≡ leaf.Assign p o w u =
+      every_of (λ y. leaf.Call (codes "ID") no_place ≡ y) (leaf.Call (codes "ID") no_place ∷ []) (leaf.Assign p o w u) (refl, tt)
+      (subst (λ ls. Contains ls (leaf.Assign p o w u)) (leaves-Call (codes "ID") no_place) (subst (λ e. Contains (leaves e) (leaf.Assign p o w u)) is has)) in absurd (apart leaf_is)
     where
-      apart : leaf.Call (codes "ID") nowhere ≡ leaf.Assign p o w u → ⊥
+      apart : leaf.Call (codes "ID") no_place ≡ leaf.Assign p o w u → ⊥
       apart same = cc
 
 -- ---- a rule that makes nodes
@@ -113,7 +113,7 @@ module _ (op : Op) (s : Span) where
 
 pub flag_by_node : (s : Span) → StandsAlone (BadAssignment (assigning Flag s node_rule)) 0 s (codes "x")
 flag_by_node s = (
-  bad.flag (A Flag s node_rule) (codes "x") (value.Call (codes "B") nowhere) s nowhere (codes "B") 1 node_rule (0, omega arith, refl)
+  bad.flag (A Flag s node_rule) (codes "x") (value.Call (codes "B") no_place) s no_place (codes "B") 1 node_rule (0, omega arith, refl)
       (a_assigns Flag s node_rule (id_puts Flag s node_rule refl) (node_named Flag s) (node_no_id Flag s))
       (a_calls Flag s node_rule (id_puts Flag s node_rule refl) (node_named Flag s) (node_no_id Flag s)) (node_named Flag s)
       (puts_makes (G Flag s node_rule) node_rule (codes "y") (codes "ID") refl),
@@ -133,7 +133,7 @@ node s f t n is = by (node_bad One s f t n is).1
 -- ---- a data type rule
 
 abbrev text_rule : Rule
-text_rule = named_rule (codes "B") nowhere id_element
+text_rule = plain_rule (codes "B") no_place id_element
 
 pub flag_by_text : (s : Span) → StandsNowhere (BadAssignment (assigning Flag s text_rule))
 flag_by_text s f t n is = by (only_bad Flag s text_rule (call_puts Flag s text_rule refl) text_named text_no_id f t n is).1
@@ -155,7 +155,7 @@ flag_by_text s f t n is = by (only_bad Flag s text_rule (call_puts Flag s text_r
 -- ---- a fragment
 
 abbrev f_rule : Rule
-f_rule = fragment_rule (codes "F") nowhere y_id
+f_rule = fragment_rule (codes "F") no_place y_id
 
 pub fragment_found : (s : Span) → StandsAlone (BadAssignment (assigning One s f_rule)) 0 s (codes "x")
 fragment_found s = fragment_alone One s f_rule (id_puts One s f_rule refl) f_named f_no_id refl

@@ -23,7 +23,7 @@ use Rattle.lw_faults.specs.Written.{WritesCall, Range, term_calls, term_ranges}
 use Rattle.lw_faults.specs.Written as written
 use Rattle.lw_faults.specs.BadCalls.{BadCall, CrossesBy, IsInOrder}
 use Rattle.lw_faults.specs.BadCalls as bad
-use Rattle.lw_faults.specs.Worked.{StandsAlone, StandsNowhere, place, nowhere, entry_rule, named_rule, id_terminal, x_id, y_id, id_element, x_value, t_terminal, with_terminal, calling_terminal, crossing}
+use Rattle.lw_faults.specs.Worked.{StandsAlone, StandsNowhere, place, no_place, entry_rule, plain_rule, terminal_id, x_id, y_id, id_element, x_value, t_terminal, with_terminal, calling_terminal, crossing}
 use Rattle.lw_faults.proofs.Every.{every_of, every_at, differ, first_here, first_later, meant, not_meant}
 use Rattle.lw_faults.proofs.AloneLemmas.{the_rule}
 use Rattle.lw_faults.proofs.AssignLemmas.{writes, crosses, part_there, leaf_there}
@@ -33,10 +33,10 @@ use Rattle.lw_faults.proofs.TermLemmas.{call_equations, range_equations, calls-C
 none_there : {X : Type 0} (x : X) → ¬ Contains [] x
 none_there x (k, inside, is) = omega (arith, inside)
 
-id_calls : term_calls id_terminal.body ≡ []
+id_calls : term_calls terminal_id.body ≡ []
 id_calls = simp call_equations
 
-id_ranges : term_ranges id_terminal.body ≡ []
+id_ranges : term_ranges terminal_id.body ≡ []
 id_ranges = simp range_equations
 
 -- ---- a terminal that is called
@@ -49,7 +49,7 @@ module _ (is_hidden is_fragment : Bool) where
   A = the_rule (x_value (value.Call (codes "T") (place 21 22)))
 
   abbrev T : Terminal
-  T = record (t_terminal (term.Pattern (codes "a") nowhere)) { is_hidden = is_hidden; is_fragment = is_fragment }
+  T = record (t_terminal (term.Pattern (codes "a") no_place)) { is_hidden = is_hidden; is_fragment = is_fragment }
 
   t_named : IsTerminal G (codes "T") 1 T
   t_named = meant declared_terminal declared_rule (codes "T") G.terminals G.rules 1 T (first_later (differ _ _ refl) (first_here refl)) (differ _ _ refl, tt)
@@ -67,7 +67,7 @@ module _ (is_hidden is_fragment : Bool) where
   only_t f t n (bad.hidden rule k terminal has wrote is which) =
       let same : A ≡ rule = every_of (λ x. A ≡ x) (A ∷ []) rule (refl, tt) has in
       let found : (t ≡ place 21 22) × (n ≡ codes "T") =
-      writes A (codes "x") One (value.Call (codes "T") (place 21 22)) nowhere (Calls (codes "T") (place 21 22)) refl (values-Call (codes "T") (place 21 22)) t n
+      writes A (codes "x") One (value.Call (codes "T") (place 21 22)) no_place (Calls (codes "T") (place 21 22)) refl (values-Call (codes "T") (place 21 22)) t n
       (subst (λ (x : Rule). WritesCall x t n) (sym same) wrote) in
       let it : terminal ≡ T = first_item (subst (λ x. IsTerminal G x k terminal) found.1 is).first t_named.first in
       (subst (λ (x : Terminal). (x.is_hidden ≡ true) ⊎ (x.is_fragment ≡ true)) it which, sym (ap (λ (x : Rule). x.file) same), found.0, found.1)
@@ -77,7 +77,7 @@ module _ (is_hidden is_fragment : Bool) where
       absurd (none_there (first, last, t) (subst (λ ls. Contains {X = Range} ls (first, last, t)) (plain terminal has).1 inside))
   only_t f t n (bad.crossed rule r by has crossed _ _) =
       let same : A ≡ rule = every_of (λ x. A ≡ x) (A ∷ []) rule (refl, tt) has in
-      absurd (crosses A (codes "x") One (value.Call (codes "T") (place 21 22)) nowhere (Calls (codes "T") (place 21 22)) refl (values-Call (codes "T") (place 21 22)) G t n
+      absurd (crosses A (codes "x") One (value.Call (codes "T") (place 21 22)) no_place (Calls (codes "T") (place 21 22)) refl (values-Call (codes "T") (place 21 22)) G t n
       (subst (λ (x : Rule). CrossesBy G x t n) (sym same) crossed))
 
   pub call_found : (is_hidden ≡ true) ⊎ (is_fragment ≡ true) → StandsAlone (BadCall G) 0 (place 21 22) (codes "T")
@@ -85,9 +85,9 @@ module _ (is_hidden is_fragment : Bool) where
     where
       wrote : WritesCall A (place 21 22) (codes "T")
       wrote =
-          written.assigned (codes "x") One (value.Call (codes "T") (place 21 22)) nowhere
-          (leaf_there A (codes "x") One (value.Call (codes "T") (place 21 22)) nowhere (Calls (codes "T") (place 21 22)) refl (values-Call (codes "T") (place 21 22)))
-          (part_there A (codes "x") One (value.Call (codes "T") (place 21 22)) nowhere (Calls (codes "T") (place 21 22)) refl (values-Call (codes "T") (place 21 22)) _ refl)
+          written.assigned (codes "x") One (value.Call (codes "T") (place 21 22)) no_place
+          (leaf_there A (codes "x") One (value.Call (codes "T") (place 21 22)) no_place (Calls (codes "T") (place 21 22)) refl (values-Call (codes "T") (place 21 22)))
+          (part_there A (codes "x") One (value.Call (codes "T") (place 21 22)) no_place (Calls (codes "T") (place 21 22)) refl (values-Call (codes "T") (place 21 22)) _ refl)
 
 pub hidden : StandsAlone (BadCall (calling_terminal true false)) 0 (place 21 22) (codes "T")
 hidden = call_found true false (inl refl)
@@ -114,8 +114,8 @@ module _ (body : TermElement) where
   abbrev U : Terminal
   U = t_terminal body
 
-  id_named : IsTerminal H (codes "ID") 0 id_terminal
-  id_named = meant declared_terminal declared_rule (codes "ID") H.terminals H.rules 0 id_terminal (first_here refl) (differ _ _ refl, tt)
+  id_named : IsTerminal H (codes "ID") 0 terminal_id
+  id_named = meant declared_terminal declared_rule (codes "ID") H.terminals H.rules 0 terminal_id (first_here refl) (differ _ _ refl, tt)
 
   x_named : IsRule H (codes "A") 0 X
   x_named = meant declared_rule declared_terminal (codes "A") H.rules H.terminals 0 X (first_here refl) (differ _ _ refl, (differ _ _ refl, tt))
@@ -146,10 +146,10 @@ module _ (body : TermElement) where
   only_within : (f : ℕ) (t : Span) (n : List ℕ) → BadCall H f t n → IsWithin f t n
   only_within f t n (bad.hidden rule k terminal has wrote is which) =
       let same : X ≡ rule = every_of (λ x. X ≡ x) (X ∷ []) rule (refl, tt) has in
-      let found : (t ≡ nowhere) × (n ≡ codes "ID") =
-      writes X (codes "x") One (value.Call (codes "ID") nowhere) nowhere (Calls (codes "ID") nowhere) refl (values-Call (codes "ID") nowhere) t n
+      let found : (t ≡ no_place) × (n ≡ codes "ID") =
+      writes X (codes "x") One (value.Call (codes "ID") no_place) no_place (Calls (codes "ID") no_place) refl (values-Call (codes "ID") no_place) t n
       (subst (λ (x : Rule). WritesCall x t n) (sym same) wrote) in
-      let it : terminal ≡ id_terminal = first_item (subst (λ x. IsTerminal H x k terminal) found.1 is).first id_named.first in
+      let it : terminal ≡ terminal_id = first_item (subst (λ x. IsTerminal H x k terminal) found.1 is).first id_named.first in
       absurd (neither (subst (λ (x : Terminal). (x.is_hidden ≡ true) ⊎ (x.is_fragment ≡ true)) it which))
     where
       neither : (false ≡ true) ⊎ (false ≡ true) → ⊥
@@ -160,7 +160,7 @@ module _ (body : TermElement) where
       let found = ranges_within terminal has first last t inside in (found.0, inr (found.1, (first, last, found.2, not)))
   only_within f t n (bad.crossed rule r by has crossed _ _) =
       let same : X ≡ rule = every_of (λ x. X ≡ x) (X ∷ []) rule (refl, tt) has in
-      absurd (crosses X (codes "x") One (value.Call (codes "ID") nowhere) nowhere (Calls (codes "ID") nowhere) refl (values-Call (codes "ID") nowhere) H t n
+      absurd (crosses X (codes "x") One (value.Call (codes "ID") no_place) no_place (Calls (codes "ID") no_place) refl (values-Call (codes "ID") no_place) H t n
       (subst (λ (x : Rule). CrossesBy H x t n) (sym same) crossed))
 
 -- a call alone
@@ -195,7 +195,7 @@ of_rule = (
     by f t n (root, inr (_, (first, last, inside, _))) = absurd (no_range (codes "A") (place 37 38) first last t inside)
 
 abbrev calls_id : TermElement
-calls_id = term.Call (codes "ID") nowhere
+calls_id = term.Call (codes "ID") no_place
 
 no_rule_id : (r : ℕ) (rule : Rule) → ¬ IsRule (H calls_id) (codes "ID") r rule
 no_rule_id r rule = not_meant declared_rule declared_terminal (codes "ID") (H calls_id).rules (H calls_id).terminals r rule (differ _ _ refl, tt)
@@ -204,8 +204,8 @@ pub of_terminal : StandsNowhere (BadCall (with_terminal calls_id))
 of_terminal f t n is = by (only_within calls_id f t n is)
   where
     by : IsWithin calls_id f t n → ⊥
-    by (root, inl (called, (r, rule, means))) = no_rule_id r rule (subst (λ x. IsRule (H calls_id) x r rule) (the_call (codes "ID") nowhere n t called).0 means)
-    by (root, inr (_, (first, last, inside, _))) = no_range (codes "ID") nowhere first last t inside
+    by (root, inl (called, (r, rule, means))) = no_rule_id r rule (subst (λ x. IsRule (H calls_id) x r rule) (the_call (codes "ID") no_place n t called).0 means)
+    by (root, inr (_, (first, last, inside, _))) = no_range (codes "ID") no_place first last t inside
 
 -- ---- a range alone
 
@@ -271,8 +271,8 @@ down = range_found (codes "b") (codes "a") (place 37 45) not_down
 pub two_characters : StandsAlone (BadCall (with_terminal (term.Range (codes "ab") (codes "c") (place 37 46)))) 0 (place 37 46) (codes "T")
 two_characters = range_found (codes "ab") (codes "c") (place 37 46) not_two
 
-pub one_character : StandsNowhere (BadCall (with_terminal (term.Range (codes "a") (codes "a") nowhere)))
-one_character = range_nowhere (codes "a") (codes "a") nowhere one_in_order
+pub one_character : StandsNowhere (BadCall (with_terminal (term.Range (codes "a") (codes "a") no_place)))
+one_character = range_nowhere (codes "a") (codes "a") no_place one_in_order
 
 -- ---- a cross-reference
 
@@ -284,10 +284,10 @@ module _ (body : Element) where
   cross = value.Cross (codes "A") (Some (codes "B")) (place 21 26)
 
   abbrev C : Rule
-  C = entry_rule (codes "A") nowhere (x_value cross)
+  C = entry_rule (codes "A") no_place (x_value cross)
 
   abbrev B : Rule
-  B = named_rule (codes "B") nowhere body
+  B = plain_rule (codes "B") no_place body
 
   b_named : IsRule K (codes "B") 1 B
   b_named = meant declared_rule declared_terminal (codes "B") K.rules K.terminals 1 B (first_later (differ _ _ refl) (first_here refl)) (differ _ _ refl, tt)
@@ -306,7 +306,7 @@ module _ (body : Element) where
         of_c : CrossesHere C
         of_c t n crossed =
             let found : (t ≡ place 21 26) × (n ≡ codes "B") =
-            crosses C (codes "x") One cross nowhere (Cross (codes "A") (Some (codes "B")) (place 21 26)) refl (values-Cross (codes "A") (Some (codes "B")) (place 21 26)) K t n crossed in
+            crosses C (codes "x") One cross no_place (Cross (codes "A") (Some (codes "B")) (place 21 26)) refl (values-Cross (codes "A") (Some (codes "B")) (place 21 26)) K t n crossed in
             (refl, found.0, found.1)
 
     only_cross : (f : ℕ) (t : Span) (n : List ℕ) → BadCall K f t n → ((f ≡ 0) × (t ≡ place 21 26) × (n ≡ codes "B")) × ¬ IsDataType K B
@@ -331,9 +331,9 @@ module _ (body : Element) where
       where
         crossed : CrossesBy K C (place 21 26) (codes "B")
         crossed =
-            bad.written (codes "x") One cross nowhere (codes "A")
-            (leaf_there C (codes "x") One cross nowhere (Cross (codes "A") (Some (codes "B")) (place 21 26)) refl (values-Cross (codes "A") (Some (codes "B")) (place 21 26)))
-            (part_there C (codes "x") One cross nowhere (Cross (codes "A") (Some (codes "B")) (place 21 26)) refl (values-Cross (codes "A") (Some (codes "B")) (place 21 26)) _ refl)
+            bad.written (codes "x") One cross no_place (codes "A")
+            (leaf_there C (codes "x") One cross no_place (Cross (codes "A") (Some (codes "B")) (place 21 26)) refl (values-Cross (codes "A") (Some (codes "B")) (place 21 26)))
+            (part_there C (codes "x") One cross no_place (Cross (codes "A") (Some (codes "B")) (place 21 26)) refl (values-Cross (codes "A") (Some (codes "B")) (place 21 26)) _ refl)
 
     pub cross_nowhere : IsDataType K B → StandsNowhere (BadCall K)
     cross_nowhere text f t n is = (only_cross f t n is).1 text
@@ -343,16 +343,16 @@ to_node = cross_found y_id none (λ text. text.1 (puts_makes (K y_id) (B y_id) (
   where
     none : (t : Span) (n : List ℕ) → ¬ CrossesBy (K y_id) (B y_id) t n
     none t n crossed =
-        crosses (B y_id) (codes "y") One (value.Call (codes "ID") nowhere) nowhere (Calls (codes "ID") nowhere) refl (values-Call (codes "ID") nowhere) (K y_id) t n crossed
+        crosses (B y_id) (codes "y") One (value.Call (codes "ID") no_place) no_place (Calls (codes "ID") no_place) refl (values-Call (codes "ID") no_place) (K y_id) t n crossed
 
 pub to_text : StandsNowhere (BadCall (crossing id_element))
 to_text = cross_nowhere id_element none (refl, id_makes_none (K id_element) (B id_element) refl (no_id id_element))
   where
     no_assignment : (q : List ℕ) (o : Op) (w : Value0) (u : Span) → ¬ Contains (leaves id_element) (leaf.Assign q o w u)
     no_assignment q o w u has =
-        let is : leaf.Call (codes "ID") nowhere ≡ leaf.Assign q o w u =
-        every_of (λ y. leaf.Call (codes "ID") nowhere ≡ y) (leaf.Call (codes "ID") nowhere ∷ []) (leaf.Assign q o w u) (refl, tt)
-        (subst (λ ls. Contains ls (leaf.Assign q o w u)) (leaves-Call (codes "ID") nowhere) has) in cc
+        let is : leaf.Call (codes "ID") no_place ≡ leaf.Assign q o w u =
+        every_of (λ y. leaf.Call (codes "ID") no_place ≡ y) (leaf.Call (codes "ID") no_place ∷ []) (leaf.Assign q o w u) (refl, tt)
+        (subst (λ ls. Contains ls (leaf.Assign q o w u)) (leaves-Call (codes "ID") no_place) has) in cc
 
     none : (t : Span) (n : List ℕ) → ¬ CrossesBy (K id_element) (B id_element) t n
     none t n (bad.written q o w u wanted has _) = no_assignment q o w u has

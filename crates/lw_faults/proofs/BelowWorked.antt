@@ -16,7 +16,7 @@ use Rattle.lw_grammar.proofs.LeafLemmas.{leaf_equations}
 use Rattle.lw_faults.specs.Steps.{step, IsBehind}
 use Rattle.lw_faults.specs.Properties.{NotASubtype}
 use Rattle.lw_faults.specs.Properties as property
-use Rattle.lw_faults.specs.Worked.{StandsAlone, StandsNowhere, nowhere, interface_of, returning_rule, s_interface, s_action, making_s}
+use Rattle.lw_faults.specs.Worked.{StandsAlone, StandsNowhere, no_place, interface_of, rule_returning, s_interface, s_action, making_s}
 use Rattle.lw_faults.proofs.Every.{Every, every_of, differ, first_here, first_later, meant}
 use Rattle.lw_faults.proofs.StepLemmas.{step_written, IsWritten}
 use Rattle.lw_faults.proofs.WorkedSteps.{act_goes}
@@ -26,7 +26,7 @@ module _ (above : List (List ℕ × Span)) (s : Span) where
   G = making_s above s
 
   abbrev A : Rule
-  A = returning_rule (codes "T") (Act (s_action s))
+  A = rule_returning (codes "T") (Act (s_action s))
 
   abbrev t_interface : Interface
   t_interface = interface_of (codes "T") [] []
@@ -100,7 +100,7 @@ apart s = found [] s (λ is. by is refl refl)
     by (below.up {above} direct _) is was = nothing_above s above (subst (λ n. IsDirectlyBelow (making_s [] s) n above) is direct)
 
 abbrev s_above : List (List ℕ × Span)
-s_above = (codes "T", nowhere) ∷ []
+s_above = (codes "T", no_place) ∷ []
 
 pub extending : (s : Span) → StandsNowhere (NotASubtype (making_s s_above s))
 extending s = nowhere_found s_above s (below.up (below.extends 1 (s_interface s_above) (s_named s_above s) (0, omega arith, refl)) below.same)

@@ -13,11 +13,11 @@ use Rattle.lw_grammar.specs.Named.{IsRule, declared_rule, declared_terminal}
 use Rattle.lw_grammar.specs.Nodes.{MakesNodes, assigns}
 use Rattle.lw_grammar.proofs.FirstLemmas.{first_item}
 use Rattle.lw_grammar.proofs.LeafLemmas.{leaf_equations}
-use Rattle.lw_faults.specs.Steps.{Step, step, Goes, CallsNode, node}
+use Rattle.lw_faults.specs.Steps.{Step, step, GoesThrough, CallsNode, node}
 use Rattle.lw_faults.specs.Steps as steps
 use Rattle.lw_faults.specs.Misplaced.{MisplacedCall, misplaced_call, FillsNode}
 use Rattle.lw_faults.specs.Misplaced as misplaced
-use Rattle.lw_faults.specs.Worked.{StandsAlone, StandsNowhere, place, nowhere, x_id, both, entry_rule, row, node_rule, with_node, node_behind, node_before, node_and_word}
+use Rattle.lw_faults.specs.Worked.{StandsAlone, StandsNowhere, place, no_place, x_id, both, entry_rule, two_parts, node_rule, with_node, node_behind, node_before, node_and_word}
 use Rattle.lw_faults.proofs.Every.{Every, every_of, differ, first_here, first_later, meant}
 use Rattle.lw_faults.proofs.AloneLemmas.{the_rule, one_no_id}
 use Rattle.lw_faults.proofs.StepLemmas.{EachStep, HoldsOnWays, what_goes, can_go, holds_behind, ways_of_one, step_written, IsWritten}
@@ -59,7 +59,7 @@ module _ (g : Grammar) where
   first_well called calls (k, y, inside, _, _) = omega (arith, inside)
 
 abbrev x_leaf : Leaf
-x_leaf = leaf.Assign (codes "x") One (value.Call (codes "ID") nowhere) nowhere
+x_leaf = leaf.Assign (codes "x") One (value.Call (codes "ID") no_place) no_place
 
 -- ---- with a rule B that makes nodes
 
@@ -68,18 +68,18 @@ module _ (body : Element) where
   G = with_node body
 
   abbrev A : Rule
-  A = entry_rule (codes "A") nowhere body
+  A = entry_rule (codes "A") no_place body
 
   b_named : IsRule G (codes "B") 1 node_rule
   b_named = meant declared_rule declared_terminal (codes "B") G.rules G.terminals 1 node_rule (first_later (differ _ _ refl) (first_here refl)) (differ _ _ refl, tt)
 
-  b_leaves : leaves node_rule.body ≡ leaf.Assign (codes "y") One (value.Call (codes "ID") nowhere) nowhere ∷ []
+  b_leaves : leaves node_rule.body ≡ leaf.Assign (codes "y") One (value.Call (codes "ID") no_place) no_place ∷ []
   b_leaves = simp leaf_equations
 
   b_makes : MakesNodes G node_rule
   b_makes =
-      assigns (codes "y") One (value.Call (codes "ID") nowhere) nowhere
-      (subst (λ ls. Contains ls (leaf.Assign (codes "y") One (value.Call (codes "ID") nowhere) nowhere)) (sym b_leaves) (0, omega arith, refl))
+      assigns (codes "y") One (value.Call (codes "ID") no_place) no_place
+      (subst (λ ls. Contains ls (leaf.Assign (codes "y") One (value.Call (codes "ID") no_place) no_place)) (sym b_leaves) (0, omega arith, refl))
 
   b_called : (s : Span) → CallsNode G (leaf.Call (codes "B") s) node_rule
   b_called s = node 1 node_rule b_named refl b_makes
@@ -98,7 +98,7 @@ module _ (body : Element) where
 
 -- x=ID B
 abbrev H : Element
-H = Group node_behind nowhere
+H = Group node_behind no_place
 
 pub behind : StandsAlone (MisplacedCall (with_node H)) 0 (place 24 25) (codes "B")
 behind = (
@@ -114,12 +114,12 @@ behind = (
 
 -- B x=ID
 abbrev J : Element
-J = Group node_before nowhere
+J = Group node_before no_place
 
 pub before : StandsNowhere (MisplacedCall (with_node J))
 before =
     all_well (with_node J) (
-      ways_of_one (with_node J) (CallsWell (with_node J)) (pair_way _ (call_way _ (b_no_fragment J nowhere)) (assign_way _)) (
+      ways_of_one (with_node J) (CallsWell (with_node J)) (pair_way _ (call_way _ (b_no_fragment J no_place)) (assign_way _)) (
         first_well (with_node J),
         (λ called is has. elim is [ ], tt),
       ),
@@ -129,11 +129,11 @@ before =
 -- ---- repeated or not
 
 module _ (body : Element) where
-  pub once : Goes (with_node body) [] (A body) node_and_word (step (A body) (leaf.Call (codes "B") (place 20 21)) ∷ [])
+  pub once : GoesThrough (with_node body) [] (A body) node_and_word (step (A body) (leaf.Call (codes "B") (place 20 21)) ∷ [])
   once = pair_goes (with_node body) (token_goes _ (b_no_fragment body (place 20 21))) (word_goes _)
 
 abbrev M : Element
-M = Many node_and_word nowhere
+M = Many node_and_word no_place
 
 pub repeated : StandsAlone (MisplacedCall (with_node M)) 0 (place 20 21) (codes "B")
 repeated = (
@@ -141,19 +141,19 @@ repeated = (
     within = (0, omega arith, refl);
     whole = refl;
     after = [];
-    goes = can_go (with_node M) (outs-Many node_and_word nowhere) (steps.repeated (steps.again (once M) (steps.again (once M) steps.stop)));
+    goes = can_go (with_node M) (outs-Many node_and_word no_place) (steps.repeated (steps.again (once M) (steps.again (once M) steps.stop)));
   })
       (b_called M (place 20 21)) (0, step (A M) (leaf.Call (codes "B") (place 20 21)), omega arith, refl, misplaced.calls (b_called M (place 20 21))),
-  only_b M (place 20 21) (leaf.Call (codes "B") (place 20 21) ∷ leaf.Keyword (codes "x") nowhere ∷ []) (simp leaf_equations) ((refl, refl, refl), (tt, tt)),
+  only_b M (place 20 21) (leaf.Call (codes "B") (place 20 21) ∷ leaf.Keyword (codes "x") no_place ∷ []) (simp leaf_equations) ((refl, refl, refl), (tt, tt)),
 )
 
 abbrev O : Element
-O = Maybe node_and_word nowhere
+O = Maybe node_and_word no_place
 
 pub optional : StandsNowhere (MisplacedCall (with_node O))
-optional = all_well (with_node O) (λ done does. by done (what_goes (with_node O) (outs-Maybe node_and_word nowhere) does), (b_well O, tt))
+optional = all_well (with_node O) (λ done does. by done (what_goes (with_node O) (outs-Maybe node_and_word no_place) does), (b_well O, tt))
   where
-    by : (done : List Step) → (done ≡ []) ⊎ Goes (with_node O) [] (A O) node_and_word done → EachStep (CallsWell (with_node O)) [] done
+    by : (done : List Step) → (done ≡ []) ⊎ GoesThrough (with_node O) [] (A O) node_and_word done → EachStep (CallsWell (with_node O)) [] done
     by done (inl is) = subst (EachStep (CallsWell (with_node O)) []) (sym is) tt
     by done (inr does) =
         let is : done ≡ step (A O) (leaf.Call (codes "B") (place 20 21)) ∷ [] =
@@ -164,15 +164,15 @@ optional = all_well (with_node O) (λ done does. by done (what_goes (with_node O
 
 module _ (s : Span) where
   abbrev I : Element
-  I = Group (both x_id (Call (codes "ID") s)) nowhere
+  I = Group (both x_id (Call (codes "ID") s)) no_place
 
-  pub token : StandsNowhere (MisplacedCall (row x_id (Call (codes "ID") s)))
+  pub token : StandsNowhere (MisplacedCall (two_parts x_id (Call (codes "ID") s)))
   token =
-      all_well (row x_id (Call (codes "ID") s)) (
-        ways_of_one (row x_id (Call (codes "ID") s)) (CallsWell (row x_id (Call (codes "ID") s)))
-            (pair_way _ (assign_way _) (call_way _ (λ f fragment is. one_no_id I f fragment is.0))) (first_well (row x_id (Call (codes "ID") s)), (none, tt)),
+      all_well (two_parts x_id (Call (codes "ID") s)) (
+        ways_of_one (two_parts x_id (Call (codes "ID") s)) (CallsWell (two_parts x_id (Call (codes "ID") s)))
+            (pair_way _ (assign_way _) (call_way _ (λ f fragment is. one_no_id I f fragment is.0))) (first_well (two_parts x_id (Call (codes "ID") s)), (none, tt)),
         tt,
       )
     where
-      none : CallsWell (row x_id (Call (codes "ID") s)) (step (the_rule I) x_leaf ∷ []) (step (the_rule I) (leaf.Call (codes "ID") s))
+      none : CallsWell (two_parts x_id (Call (codes "ID") s)) (step (the_rule I) x_leaf ∷ []) (step (the_rule I) (leaf.Call (codes "ID") s))
       none called (node r rule is _ _) _ = one_no_id I r rule is

@@ -15,7 +15,7 @@ use Rattle.lw_grammar.proofs.LeafLemmas.{leaf_equations}
 use Rattle.lw_faults.specs.Written.{term_calls}
 use Rattle.lw_faults.specs.Circles.{FragmentCalls, TerminalCalls, CircularCall}
 use Rattle.lw_faults.specs.Circles as circle
-use Rattle.lw_faults.specs.Worked.{StandsAlone, StandsNowhere, place, nowhere, fragment_rule, id_terminal, f_caller, x_and, fragment_calling, a_and, t_terminal, terminal_calling}
+use Rattle.lw_faults.specs.Worked.{StandsAlone, StandsNowhere, place, no_place, fragment_rule, terminal_id, f_caller, x_and, fragment_calling, a_and, t_terminal, terminal_calling}
 use Rattle.lw_faults.proofs.Every.{Every, every_of, every_at, differ, first_here, first_later, meant}
 use Rattle.lw_faults.proofs.TermLemmas.{call_equations}
 
@@ -28,7 +28,7 @@ module _ (name : List ℕ) where
   abbrev F : Rule
   F = fragment_rule (codes "F") (place 31 32) (x_and name)
 
-  f_leaves : leaves F.body ≡ leaf.Keyword (codes "x") nowhere ∷ leaf.Call name nowhere ∷ []
+  f_leaves : leaves F.body ≡ leaf.Keyword (codes "x") no_place ∷ leaf.Call name no_place ∷ []
   f_leaves = simp leaf_equations
 
   f_named : IsRule G (codes "F") 1 F
@@ -58,10 +58,10 @@ module _ (name : List ℕ) where
   id_calls_none q r (circle.directly caller called n s at has _) =
       none (subst (λ ls. Contains ls (n, s)) its_calls (subst (λ (x : Terminal). Contains (term_calls x.body) (n, s)) (sym same) has))
     where
-      same : id_terminal ≡ caller
-      same = every_at (λ x. id_terminal ≡ x) (id_terminal ∷ []) q caller (refl, tt) at
+      same : terminal_id ≡ caller
+      same = every_at (λ x. terminal_id ≡ x) (terminal_id ∷ []) q caller (refl, tt) at
 
-      its_calls : term_calls id_terminal.body ≡ []
+      its_calls : term_calls terminal_id.body ≡ []
       its_calls = simp call_equations
 
       none : ¬ Contains {X = List ℕ × Span} [] (n, s)
@@ -72,7 +72,7 @@ pub fragment_itself : StandsAlone (CircularCall (fragment_calling (codes "F"))) 
 fragment_itself = (circle.fragment_ 1 (F (codes "F")) refl (circle.directly (F (codes "F")) (F (codes "F")) (codes "F") refl refl itself (f_named (codes "F")) refl), others)
   where
     itself : RuleCalls (fragment_calling (codes "F")) (F (codes "F")) (codes "F")
-    itself = calls nowhere (subst (λ ls. Contains ls (leaf.Call (codes "F") nowhere)) (sym (f_leaves (codes "F"))) (1, omega arith, refl))
+    itself = calls no_place (subst (λ ls. Contains ls (leaf.Call (codes "F") no_place)) (sym (f_leaves (codes "F"))) (1, omega arith, refl))
 
     from_f : {q r : ℕ} → FragmentCalls (fragment_calling (codes "F")) q r → q ≡ 1
     from_f {q} (circle.directly caller fragment name at is _ _ _) = (fragment_at (codes "F") q caller at is).0
@@ -106,28 +106,28 @@ module _ (name : List ℕ) where
   abbrev T : Terminal
   T = t_terminal (term.Group (a_and name))
 
-  t_calls : term_calls T.body ≡ (name, nowhere) ∷ []
+  t_calls : term_calls T.body ≡ (name, no_place) ∷ []
   t_calls = simp call_equations
 
-  id_calls : term_calls id_terminal.body ≡ []
+  id_calls : term_calls terminal_id.body ≡ []
   id_calls = simp call_equations
 
   t_named : IsTerminal H (codes "T") 1 T
   t_named = meant declared_terminal declared_rule (codes "T") H.terminals H.rules 1 T (first_later (differ _ _ refl) (first_here refl)) (differ _ _ refl, tt)
 
-  id_named : IsTerminal H (codes "ID") 0 id_terminal
-  id_named = meant declared_terminal declared_rule (codes "ID") H.terminals H.rules 0 id_terminal (first_here refl) (differ _ _ refl, tt)
+  id_named : IsTerminal H (codes "ID") 0 terminal_id
+  id_named = meant declared_terminal declared_rule (codes "ID") H.terminals H.rules 0 terminal_id (first_here refl) (differ _ _ refl, tt)
 
   -- what calls anything is this terminal, and it calls this name
   caller_is : (q : ℕ) (caller : Terminal) (called : List ℕ) (s : Span) → slice_get H.terminals q ≡ Some caller → Contains (term_calls caller.body) (called, s) →
       (q ≡ 1) × (name ≡ called)
-  caller_is zero caller called s at has = absurd (none (subst (λ ls. Contains ls (called, s)) id_calls (subst (λ (x : Terminal). Contains (term_calls x.body) (called, s)) (sym (same_Some id_terminal caller at)) has)))
+  caller_is zero caller called s at has = absurd (none (subst (λ ls. Contains ls (called, s)) id_calls (subst (λ (x : Terminal). Contains (term_calls x.body) (called, s)) (sym (same_Some terminal_id caller at)) has)))
     where
       none : ¬ Contains {X = List ℕ × Span} [] (called, s)
       none (k, inside, is) = omega (arith, inside)
   caller_is (suc zero) caller called s at has = (
     refl,
-    every_of (λ x. name ≡ x.0) ((name, nowhere) ∷ []) (called, s) (refl, tt)
+    every_of (λ x. name ≡ x.0) ((name, no_place) ∷ []) (called, s) (refl, tt)
         (subst (λ ls. Contains ls (called, s)) t_calls (subst (λ (x : Terminal). Contains (term_calls x.body) (called, s)) (sym (same_Some T caller at)) has)),
   )
   caller_is (suc (suc q)) caller called s at has = absurd (none-some caller at)
@@ -137,10 +137,10 @@ module _ (name : List ℕ) where
   no_fragment (circle.over first _) = no_fragment first
 
 pub terminal_itself : StandsAlone (CircularCall (terminal_calling (codes "T"))) 0 (place 34 35) (codes "T")
-terminal_itself = (circle.terminal 1 (T (codes "T")) refl (circle.directly (T (codes "T")) (T (codes "T")) (codes "T") nowhere refl itself (t_named (codes "T"))), others)
+terminal_itself = (circle.terminal 1 (T (codes "T")) refl (circle.directly (T (codes "T")) (T (codes "T")) (codes "T") no_place refl itself (t_named (codes "T"))), others)
   where
-    itself : Contains (term_calls (T (codes "T")).body) (codes "T", nowhere)
-    itself = subst (λ ls. Contains ls (codes "T", nowhere)) (sym (t_calls (codes "T"))) (0, omega arith, refl)
+    itself : Contains (term_calls (T (codes "T")).body) (codes "T", no_place)
+    itself = subst (λ ls. Contains ls (codes "T", no_place)) (sym (t_calls (codes "T"))) (0, omega arith, refl)
 
     from_t : {q r : ℕ} → TerminalCalls (terminal_calling (codes "T")) q r → q ≡ 1
     from_t {q} (circle.directly caller called name s at has _) = (caller_is (codes "T") q caller name s at has).0

@@ -12,7 +12,7 @@ use Rattle.lw_faults.specs.Written.{HasDeclaration, InfersHere, IsKnownType}
 use Rattle.lw_faults.specs.Written as written
 use Rattle.lw_faults.specs.Circles.{ExtendsType, HasMemberType, CircularType}
 use Rattle.lw_faults.specs.Circles as circle
-use Rattle.lw_faults.specs.Worked.{StandsAlone, StandsNowhere, place, nowhere, types_alone, extends, a_extending, b_extending, union_of}
+use Rattle.lw_faults.specs.Worked.{StandsAlone, StandsNowhere, place, no_place, types_alone, extends, a_extending, b_extending, union_of}
 use Rattle.lw_faults.proofs.Every.{every_of, every_at, differ, first_here, first_later, meant, not_meant}
 
 none_there : {X : Type 0} (x : X) → ¬ Contains [] x
@@ -128,10 +128,10 @@ module _ (member : Member) where
   u_named = meant declared_union declared_interface (codes "U") W.unions [] 0 U (first_here refl) tt
 
 abbrev u_itself : Member
-u_itself = Named (codes "U") nowhere
+u_itself = Named (codes "U") no_place
 
 pub union_itself : StandsAlone (CircularType (W u_itself)) 0 (place 15 16) (codes "U")
-union_itself = (circle.union 0 (U u_itself) (u_named u_itself) (circle.directly 0 (U u_itself) nowhere (u_named u_itself) (0, omega arith, refl)), others)
+union_itself = (circle.union 0 (U u_itself) (u_named u_itself) (circle.directly 0 (U u_itself) no_place (u_named u_itself) (0, omega arith, refl)), others)
   where
     others : (f : ℕ) (t : Span) (n : List ℕ) → CircularType (W u_itself) f t n → (f ≡ 0) × (t ≡ place 15 16) × (n ≡ codes "U")
     others f t n (circle.interface i interface is _) = absurd (none-some interface is.first.there)
@@ -158,7 +158,7 @@ module _ (interfaces : List Interface) (member : Member) (other : NamesOther mem
   no_circular_union u union is has = no_circle has (ap (λ (x : UnionDef). x.name) (only_u member u union is.first.there))
 
 abbrev u_reference : Member
-u_reference = Refers (codes "U") nowhere
+u_reference = Refers (codes "U") no_place
 
 reference_apart : NamesOther u_reference
 reference_apart s is = cc
@@ -194,10 +194,10 @@ no_interface = a_alone (Literal (codes "a")) apart
     apart : NamesOther (Literal (codes "a"))
     apart s is = cc
 
-pub member_extends : StandsAlone (CircularType (Mixed (Named (codes "A") nowhere))) 0 (place 20 21) (codes "A")
-member_extends = a_alone (Named (codes "A") nowhere) (λ s is. differ (codes "A") (codes "U") refl (named s is))
+pub member_extends : StandsAlone (CircularType (Mixed (Named (codes "A") no_place))) 0 (place 20 21) (codes "A")
+member_extends = a_alone (Named (codes "A") no_place) (λ s is. differ (codes "A") (codes "U") refl (named s is))
   where
-    named : (s : Span) → Named (codes "A") nowhere ≡ Named (codes "U") s → codes "A" ≡ codes "U"
+    named : (s : Span) → Named (codes "A") no_place ≡ Named (codes "U") s → codes "A" ≡ codes "U"
     named s is = cc
 
 -- ---- an interface that extends an unknown type

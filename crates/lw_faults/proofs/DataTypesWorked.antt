@@ -16,7 +16,7 @@ use Rattle.lw_grammar.specs.Nodes.{IsDataType}
 use Rattle.lw_grammar.proofs.FirstLemmas.{first_item}
 use Rattle.lw_faults.specs.DataTypes.{MixedDataTypeRule, IsPlainMember, IsPlainUnion}
 use Rattle.lw_faults.specs.DataTypes as data_type
-use Rattle.lw_faults.specs.Worked.{StandsAlone, StandsNowhere, place, nowhere, entry_rule, x_id, union_of, id_element, resulting}
+use Rattle.lw_faults.specs.Worked.{StandsAlone, StandsNowhere, place, no_place, entry_rule, x_id, union_of, id_element, resulting}
 use Rattle.lw_faults.proofs.Every.{every_of, differ, first_here, meant, not_meant}
 use Rattle.lw_faults.proofs.NodeLemmas.{puts_makes, id_makes_none}
 
@@ -76,11 +76,11 @@ text f t n (data_type.returns rule name s has _ is _) = let both : given ≡ Ret
 -- ---- an inferred type
 
 abbrev inferring : RuleResult
-inferring = Infers (codes "B") nowhere
+inferring = Infers (codes "B") no_place
 
 pub inferred : StandsAlone (MixedDataTypeRule (resulting inferring [] id_element)) 0 (place 16 17) (codes "A")
 inferred = (
-  data_type.infers (A inferring [] id_element) (codes "B") nowhere (here inferring [] id_element)
+  data_type.infers (A inferring [] id_element) (codes "B") no_place (here inferring [] id_element)
       (id_is_text inferring [] (A inferring [] id_element) (here inferring [] id_element)) refl,
   only_a inferring [] id_element,
 )
@@ -93,7 +93,7 @@ inferred_node f t n (data_type.returns rule name s has text _ _) = x_makes infer
 -- ---- a union
 
 abbrev returned : RuleResult
-returned = Returns (codes "U") nowhere
+returned = Returns (codes "U") no_place
 
 module _ (member : Member) where
   abbrev us : List UnionDef
@@ -106,12 +106,12 @@ module _ (member : Member) where
   u_plain (u, union, is, all) =
       All-head IsPlainMember member [] (subst (λ (x : UnionDef). All IsPlainMember x.members) (first_item is.first u_named.first) all)
 
-pub nodes_by_union : StandsAlone (MixedDataTypeRule (resulting returned (us (Named (codes "A") nowhere)) id_element)) 0 (place 16 17) (codes "A")
+pub nodes_by_union : StandsAlone (MixedDataTypeRule (resulting returned (us (Named (codes "A") no_place)) id_element)) 0 (place 16 17) (codes "A")
 nodes_by_union = (
-  data_type.returns (A returned (us (Named (codes "A") nowhere)) id_element) (codes "U") nowhere (here returned (us (Named (codes "A") nowhere)) id_element)
-      (id_is_text returned (us (Named (codes "A") nowhere)) (A returned (us (Named (codes "A") nowhere)) id_element) (here returned (us (Named (codes "A") nowhere)) id_element))
-      refl (λ plain. elim (u_plain (Named (codes "A") nowhere) plain) [ ]),
-  only_a returned (us (Named (codes "A") nowhere)) id_element,
+  data_type.returns (A returned (us (Named (codes "A") no_place)) id_element) (codes "U") no_place (here returned (us (Named (codes "A") no_place)) id_element)
+      (id_is_text returned (us (Named (codes "A") no_place)) (A returned (us (Named (codes "A") no_place)) id_element) (here returned (us (Named (codes "A") no_place)) id_element))
+      refl (λ plain. elim (u_plain (Named (codes "A") no_place) plain) [ ]),
+  only_a returned (us (Named (codes "A") no_place)) id_element,
 )
 
 pub texts_by_union : StandsNowhere (MixedDataTypeRule (resulting returned (us (Literal (codes "a"))) id_element))

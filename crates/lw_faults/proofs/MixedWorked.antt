@@ -15,11 +15,11 @@ use Rattle.lw_grammar.specs.Subtypes.{IsDeclared, by_interface, by_union}
 use Rattle.lw_grammar.proofs.LeafLemmas.{leaf_equations}
 use Rattle.lw_faults.specs.Written.{InfersHere, IsInferredType}
 use Rattle.lw_faults.specs.Written as written
-use Rattle.lw_faults.specs.Steps.{Step, step, IsBehind, IsAct, IsNodeCall, IsCurrent}
+use Rattle.lw_faults.specs.Steps.{Step, step, IsBehind, IsAct, IsNodeCall, IsCurrentType}
 use Rattle.lw_faults.specs.Steps as steps
 use Rattle.lw_faults.specs.Properties.{MixedProperty, mixed, PutsInto, is_list}
 use Rattle.lw_faults.specs.Properties as property
-use Rattle.lw_faults.specs.Worked.{StandsAlone, StandsNowhere, place, nowhere, both, x_by, id_call, twice, returning_rule, unknown_twice}
+use Rattle.lw_faults.specs.Worked.{StandsAlone, StandsNowhere, place, no_place, both, x_by, calls_id, twice, rule_returning, unknown_twice}
 use Rattle.lw_faults.proofs.Every.{Every, every_of}
 use Rattle.lw_faults.proofs.AloneLemmas.{the_rule}
 use Rattle.lw_faults.proofs.StepLemmas.{step_written, IsWritten}
@@ -30,13 +30,13 @@ module _ (first second : Op) (s : Span) where
   G = twice first second s
 
   abbrev A : Rule
-  A = the_rule (Group (both (x_by first id_call (place 19 23)) (x_by second id_call s)) nowhere)
+  A = the_rule (Group (both (x_by first calls_id (place 19 23)) (x_by second calls_id s)) no_place)
 
   abbrev x_first : Leaf
-  x_first = leaf.Assign (codes "x") first id_call (place 19 23)
+  x_first = leaf.Assign (codes "x") first calls_id (place 19 23)
 
   abbrev x_second : Leaf
-  x_second = leaf.Assign (codes "x") second id_call s
+  x_second = leaf.Assign (codes "x") second calls_id s
 
   both_leaves : leaves A.body ≡ x_first ∷ x_second ∷ []
   both_leaves = simp leaf_equations
@@ -93,7 +93,7 @@ module _ (first second : Op) (s : Span) where
 
     pub mixed_found : is_list second ≢ is_list first → StandsAlone (MixedProperty G) 0 s (codes "x")
     mixed_found apart = (
-      mixed inferred (undeclared (codes "A")) (property.assigned A A (step A x_first ∷ []) id_call behind now) (property.assigned A A [] id_call ahead own) apart
+      mixed inferred (undeclared (codes "A")) (property.assigned A A (step A x_first ∷ []) calls_id behind now) (property.assigned A A [] calls_id ahead own) apart
           (inr (refl, later)),
       only_second,
     )
@@ -107,10 +107,10 @@ module _ (first second : Op) (s : Span) where
         behind : IsBehind G A (step A x_first ∷ []) (step A x_second)
         behind = record { within = (0, omega arith, refl); whole = refl; after = []; goes = pair_goes G (assign_goes G) (assign_goes G) }
 
-        own : IsCurrent G A [] (codes "A")
+        own : IsCurrentType G A [] (codes "A")
         own = steps.own (All-nil (λ (x : Step). ¬ IsAct x.leaf)) (All-nil (λ (x : Step). ¬ IsNodeCall G x.leaf)) (refl, refl)
 
-        now : IsCurrent G A (step A x_first ∷ []) (codes "A")
+        now : IsCurrentType G A (step A x_first ∷ []) (codes "A")
         now =
             steps.own
             (All-cons (λ (x : Step). ¬ IsAct x.leaf) (step A x_first) [] (λ is. elim is [ ]) (All-nil (λ (x : Step). ¬ IsAct x.leaf)))
@@ -132,9 +132,9 @@ lists = alike_nowhere Add Add (place 25 30) refl
 -- ---- a type that is unknown
 
 abbrev returns_u : Rule
-returns_u = returning_rule (codes "U") (Choice (both (x_by One id_call (place 29 33)) (x_by Add id_call (place 36 41))) nowhere)
+returns_u = rule_returning (codes "U") (Choice (both (x_by One calls_id (place 29 33)) (x_by Add calls_id (place 36 41))) no_place)
 
-u_leaves : leaves returns_u.body ≡ leaf.Assign (codes "x") One id_call (place 29 33) ∷ leaf.Assign (codes "x") Add id_call (place 36 41) ∷ []
+u_leaves : leaves returns_u.body ≡ leaf.Assign (codes "x") One calls_id (place 29 33) ∷ leaf.Assign (codes "x") Add calls_id (place 36 41) ∷ []
 u_leaves = simp leaf_equations
 
 -- its rule says what it returns, and has no action
@@ -143,7 +143,7 @@ IsAssignment (leaf.Assign p op v s) = Unit {0}
 IsAssignment _ = ⊥
 
 abbrev InfersNone : Rule → Type 0
-InfersNone rule = (rule.result ≡ Returns (codes "U") nowhere) × Every IsAssignment (leaves rule.body)
+InfersNone rule = (rule.result ≡ Returns (codes "U") no_place) × Every IsAssignment (leaves rule.body)
 
 infers_none : (rule : Rule) → Contains unknown_twice.rules rule → InfersNone rule
 infers_none rule has = every_of InfersNone (returns_u ∷ []) rule ((refl, subst (Every IsAssignment) (sym u_leaves) (tt, (tt, tt))), tt) has
@@ -151,11 +151,11 @@ infers_none rule has = every_of InfersNone (returns_u ∷ []) rule ((refl, subst
 none_inferred : (file : ℕ) (s : Span) (name : List ℕ) → ¬ InfersHere unknown_twice file s name
 none_inferred file s name (written.own rule has _ is) = absurd (other (sym is ∙ (infers_none rule has).0))
   where
-    other : Own ≡ Returns (codes "U") nowhere → ⊥
+    other : Own ≡ Returns (codes "U") no_place → ⊥
     other same = cc
 none_inferred file s name (written.infers rule has _ is) = absurd (other (sym is ∙ (infers_none rule has).0))
   where
-    other : Infers name s ≡ Returns (codes "U") nowhere → ⊥
+    other : Infers name s ≡ Returns (codes "U") no_place → ⊥
     other same = cc
 none_inferred file s name (written.acted rule a has there _) = every_of IsAssignment (leaves rule.body) (leaf.Act a) (infers_none rule has).1 there
 

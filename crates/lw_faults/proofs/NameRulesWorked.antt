@@ -13,7 +13,7 @@ use Rattle.lw_grammar.specs.NameRules.{IsNameRule, NamesNodesOf, FirstNames, IsC
 use Rattle.lw_grammar.specs.Subtypes.{same}
 use Rattle.lw_grammar.proofs.LeafLemmas.{leaf_equations, leaves-Assign, values-Call, values-Cross}
 use Rattle.lw_faults.specs.Names.{NoNameRule, nameless}
-use Rattle.lw_faults.specs.Worked.{StandsAlone, StandsNowhere, nowhere, alone, puts, both, row, by_its_name}
+use Rattle.lw_faults.specs.Worked.{StandsAlone, StandsNowhere, no_place, alone, puts, both, two_parts, by_its_name}
 use Rattle.lw_faults.proofs.Every.{Every, every_of, differ, first_here}
 use Rattle.lw_faults.proofs.AloneLemmas.{the_rule, only_one}
 use Rattle.lw_faults.proofs.AssignLemmas.{only_part, leaf_there, part_there}
@@ -40,24 +40,21 @@ module _ (s : Span) where
   abbrev A : Rule
   A = the_rule (by_its_name s)
 
-  x_leaf : Leaf
-  x_leaf = leaf.Assign (codes "x") One its_name nowhere
-
-  first_names_none : (name : List ℕ) → ¬ FirstNames (leaf.Assign (codes "x") One its_name nowhere ∷ []) name
+  first_names_none : (name : List ℕ) → ¬ FirstNames (leaf.Assign (codes "x") One its_name no_place ∷ []) name
   first_names_none name (here is) = differ (codes "x") (codes "name") refl is.0
   first_names_none name (later _ more) = elim more [ ]
 
   a_names_none : (name : List ℕ) → ¬ NamesNodesOf G (codes "A") name A
   a_names_none name (own, typed, below, all, has, names) =
-      let is : all ≡ leaf.Assign (codes "x") One its_name nowhere ∷ [] =
-      one_stays G (codes "x") its_name nowhere all (subst (λ ls. Expands G [] ls all) (leaves-Assign (codes "x") One its_name nowhere) has) in
+      let is : all ≡ leaf.Assign (codes "x") One its_name no_place ∷ [] =
+      one_stays G (codes "x") its_name no_place all (subst (λ ls. Expands G [] ls all) (leaves-Assign (codes "x") One its_name no_place) has) in
       first_names_none name (subst (λ ls. FirstNames ls name) is names)
 
   pub nameless_found : StandsAlone (NoNameRule G) 0 s (codes "A")
   nameless_found = (
-    nameless A (codes "x") One its_name nowhere (0, omega arith, refl)
-        (leaf_there A (codes "x") One its_name nowhere (Cross (codes "A") None s) refl (values-Cross (codes "A") None s))
-        (part_there A (codes "x") One its_name nowhere (Cross (codes "A") None s) refl (values-Cross (codes "A") None s) (Cross (codes "A") None s) refl) none,
+    nameless A (codes "x") One its_name no_place (0, omega arith, refl)
+        (leaf_there A (codes "x") One its_name no_place (Cross (codes "A") None s) refl (values-Cross (codes "A") None s))
+        (part_there A (codes "x") One its_name no_place (Cross (codes "A") None s) refl (values-Cross (codes "A") None s) (Cross (codes "A") None s) refl) none,
     others,
   )
     where
@@ -69,19 +66,19 @@ module _ (s : Span) where
       others f t n (nameless rule p op v u has assigns inside _) =
           let same_rule : A ≡ rule = every_of (λ x. A ≡ x) (A ∷ []) rule (refl, tt) has in
           let part : Cross (codes "A") None s ≡ Cross n None t =
-          only_part A (codes "x") One its_name nowhere (Cross (codes "A") None s) refl (values-Cross (codes "A") None s) p op v u (Cross n None t)
+          only_part A (codes "x") One its_name no_place (Cross (codes "A") None s) refl (values-Cross (codes "A") None s) p op v u (Cross n None t)
           (subst (λ (x : Rule). Contains (leaves x.body) (leaf.Assign p op v u)) (sym same_rule) assigns) inside in
           let found : IsIt (Cross n None t) = subst IsIt part (refl, refl) in (sym (ap (λ (x : Rule). x.file) same_rule), found.0, found.1)
 
   -- ---- with one
   abbrev N : Grammar
-  N = row (puts (codes "name") (codes "ID")) (by_its_name s)
+  N = two_parts (puts (codes "name") (codes "ID")) (by_its_name s)
 
   abbrev B : Rule
-  B = the_rule (Group (both (puts (codes "name") (codes "ID")) (by_its_name s)) nowhere)
+  B = the_rule (Group (both (puts (codes "name") (codes "ID")) (by_its_name s)) no_place)
 
   abbrev b_leaves : List Leaf
-  b_leaves = leaf.Assign (codes "name") One (value.Call (codes "ID") nowhere) nowhere ∷ leaf.Assign (codes "x") One its_name nowhere ∷ []
+  b_leaves = leaf.Assign (codes "name") One (value.Call (codes "ID") no_place) no_place ∷ leaf.Assign (codes "x") One its_name no_place ∷ []
 
   of_b : leaves B.body ≡ b_leaves
   of_b = simp leaf_equations
@@ -93,7 +90,7 @@ module _ (s : Span) where
     same,
     b_leaves,
     subst (λ ls. Expands N [] ls b_leaves) (sym of_b) (kept (λ r rule is. is) (kept (λ r rule is. is) nothing)),
-    here (refl, refl, subst (λ f. IsCallOf f (codes "ID")) (sym (value.outs-Call (codes "ID") nowhere)) refl),
+    here (refl, refl, subst (λ f. IsCallOf f (codes "ID")) (sym (value.outs-Call (codes "ID") no_place)) refl),
   )
 
   by_id : IsNameRule N (codes "A") (codes "ID")
@@ -104,13 +101,13 @@ module _ (s : Span) where
   Wants (leaf.Assign p op v u) = (wanted : List ℕ) (t : Span) → Contains (value_leaves v) (Cross wanted None t) → wanted ≡ codes "A"
   Wants _ = Unit {0}
 
-  wants_none : Wants (leaf.Assign (codes "name") One (value.Call (codes "ID") nowhere) nowhere)
+  wants_none : Wants (leaf.Assign (codes "name") One (value.Call (codes "ID") no_place) no_place)
   wants_none wanted t has =
-      let is : Calls (codes "ID") nowhere ≡ Cross wanted None t =
-      every_of (λ x. Calls (codes "ID") nowhere ≡ x) (Calls (codes "ID") nowhere ∷ []) (Cross wanted None t) (refl, tt)
-      (subst (λ ls. Contains ls (Cross wanted None t)) (values-Call (codes "ID") nowhere) has) in cc
+      let is : Calls (codes "ID") no_place ≡ Cross wanted None t =
+      every_of (λ x. Calls (codes "ID") no_place ≡ x) (Calls (codes "ID") no_place ∷ []) (Cross wanted None t) (refl, tt)
+      (subst (λ ls. Contains ls (Cross wanted None t)) (values-Call (codes "ID") no_place) has) in cc
 
-  wants_a : Wants (leaf.Assign (codes "x") One its_name nowhere)
+  wants_a : Wants (leaf.Assign (codes "x") One its_name no_place)
   wants_a wanted t has =
       (every_of IsIt (Cross (codes "A") None s ∷ []) (Cross wanted None t) ((refl, refl), tt)
       (subst (λ ls. Contains ls (Cross wanted None t)) (values-Cross (codes "A") None s) has)).1

@@ -21,7 +21,7 @@ use Rattle.lw_faults.specs.Written.{WritesCall, IsNoRule, HasDeclaration, Infers
 use Rattle.lw_faults.specs.Written as written
 use Rattle.lw_faults.specs.Names.{Duplicate, UnknownRule, UnknownType, rule_space, type_space}
 use Rattle.lw_faults.specs.Names as names
-use Rattle.lw_faults.specs.Worked.{StandsAlone, StandsNowhere, place, nowhere, entry_rule, named_rule, id_terminal, interface_of, x_id, y_id, alone, x_value, a_entry, behind_a, beside_interface, makes_declared}
+use Rattle.lw_faults.specs.Worked.{StandsAlone, StandsNowhere, place, no_place, entry_rule, plain_rule, terminal_id, interface_of, x_id, y_id, alone, x_value, a_entry, behind_a, beside_interface, makes_declared}
 use Rattle.lw_faults.proofs.Every.{Every, every_of, differ}
 use Rattle.lw_faults.proofs.AloneLemmas.{the_rule}
 use Rattle.lw_faults.proofs.AssignLemmas.{writes, leaf_there, part_there, IsCallHere}
@@ -53,10 +53,10 @@ module _ (name : List ℕ) where
   G = behind_a name
 
   abbrev second : Rule
-  second = named_rule name (place 25 26) y_id
+  second = plain_rule name (place 25 26) y_id
 
   abbrev id : Declaration
-  id = declared_terminal id_terminal
+  id = declared_terminal terminal_id
 
   abbrev IsSecond : Declaration → Type 0
   IsSecond x = (name ≡ codes "A") × (x.file ≡ 0) × (x.span ≡ place 25 26) × (x.name ≡ name)
@@ -114,10 +114,10 @@ module _ (name : List ℕ) where
   is_a : (rule : Rule) → Contains H.rules rule → A ≡ rule
   is_a rule has = every_of (λ x. A ≡ x) (A ∷ []) rule (refl, tt) has
 
-  x_leaf : (rule : Rule) (l : Leaf) → Contains H.rules rule → Contains (leaves rule.body) l → leaf.Assign (codes "x") One (value.Call (codes "ID") nowhere) nowhere ≡ l
+  x_leaf : (rule : Rule) (l : Leaf) → Contains H.rules rule → Contains (leaves rule.body) l → leaf.Assign (codes "x") One (value.Call (codes "ID") no_place) no_place ≡ l
   x_leaf rule l has there =
-      every_of (λ x. leaf.Assign (codes "x") One (value.Call (codes "ID") nowhere) nowhere ≡ x) (leaf.Assign (codes "x") One (value.Call (codes "ID") nowhere) nowhere ∷ []) l
-      (refl, tt) (subst (λ ls. Contains ls l) (leaves-Assign (codes "x") One (value.Call (codes "ID") nowhere) nowhere)
+      every_of (λ x. leaf.Assign (codes "x") One (value.Call (codes "ID") no_place) no_place ≡ x) (leaf.Assign (codes "x") One (value.Call (codes "ID") no_place) no_place ∷ []) l
+      (refl, tt) (subst (λ ls. Contains ls l) (leaves-Assign (codes "x") One (value.Call (codes "ID") no_place) no_place)
       (subst (λ (x : Rule). Contains (leaves x.body) l) (sym (is_a rule has)) there))
 
   infers_a : (f : ℕ) (t : Span) (n : List ℕ) → InfersHere H f t n → (f ≡ 0) × (t ≡ place 31 32) × (n ≡ codes "A")
@@ -129,7 +129,7 @@ module _ (name : List ℕ) where
       other same = cc
   infers_a f t n (written.acted rule a has there _) = absurd (other (x_leaf rule (leaf.Act a) has there))
     where
-      other : leaf.Assign (codes "x") One (value.Call (codes "ID") nowhere) nowhere ≡ leaf.Act a → ⊥
+      other : leaf.Assign (codes "x") One (value.Call (codes "ID") no_place) no_place ≡ leaf.Act a → ⊥
       other same = cc
 
   only_inferred : (f : ℕ) (t : Span) (n : List ℕ) → Duplicate H f t n → ((f ≡ 0) × (t ≡ place 31 32) × (n ≡ codes "A")) × (name ≡ codes "A")
@@ -142,7 +142,7 @@ module _ (name : List ℕ) where
         (
           (
             λ is. apart (codes "A") (codes "ID") (differ _ _ refl) is,
-            (λ is sooner. never_itself (declared_terminal id_terminal) sooner, tt),
+            (λ is sooner. never_itself (declared_terminal terminal_id) sooner, tt),
           ),
           tt,
         ),
@@ -177,10 +177,10 @@ module _ (v : Value0) (l : ValueLeaf) (parts : value_leaves v ≡ l ∷ []) wher
   abbrev R : Rule
   R = the_rule (x_value v)
 
-  only_call : (f : ℕ) (t : Span) (n : List ℕ) → UnknownRule K f t n → (f ≡ 0) × IsCallHere R (codes "x") One v nowhere l refl parts l t n × IsNoRule K n
+  only_call : (f : ℕ) (t : Span) (n : List ℕ) → UnknownRule K f t n → (f ≡ 0) × IsCallHere R (codes "x") One v no_place l refl parts l t n × IsNoRule K n
   only_call f t n (names.in_rule rule has wrote none) =
       let same : R ≡ rule = every_of (λ x. R ≡ x) (R ∷ []) rule (refl, tt) has in
-      (sym (ap (λ (x : Rule). x.file) same), writes R (codes "x") One v nowhere l refl parts t n (subst (λ (x : Rule). WritesCall x t n) (sym same) wrote), none)
+      (sym (ap (λ (x : Rule). x.file) same), writes R (codes "x") One v no_place l refl parts t n (subst (λ (x : Rule). WritesCall x t n) (sym same) wrote), none)
   only_call f t n (names.in_terminal terminal has called _) =
       let its_calls : term_calls terminal.body ≡ [] = every_of (λ (x : Terminal). term_calls x.body ≡ []) K.terminals terminal (simp call_equations, tt) has in
       absurd (none_there (n, t) (subst (λ ls. Contains ls (n, t)) its_calls called))
@@ -188,14 +188,14 @@ module _ (v : Value0) (l : ValueLeaf) (parts : value_leaves v ≡ l ∷ []) wher
   b_unknown : IsNoRule K (codes "B")
   b_unknown = (
     All-cons (λ (x : Rule). x.name ≢ codes "B") R [] (differ _ _ refl) (All-nil (λ (x : Rule). x.name ≢ codes "B")),
-    All-cons (λ (x : Terminal). x.name ≢ codes "B") id_terminal [] (differ _ _ refl) (All-nil (λ (x : Terminal). x.name ≢ codes "B")),
+    All-cons (λ (x : Terminal). x.name ≢ codes "B") terminal_id [] (differ _ _ refl) (All-nil (λ (x : Terminal). x.name ≢ codes "B")),
   )
 
-  assigned_here : Contains (leaves R.body) (leaf.Assign (codes "x") One v nowhere)
-  assigned_here = leaf_there R (codes "x") One v nowhere l refl parts
+  assigned_here : Contains (leaves R.body) (leaf.Assign (codes "x") One v no_place)
+  assigned_here = leaf_there R (codes "x") One v no_place l refl parts
 
   part_here : Contains (value_leaves v) l
-  part_here = part_there R (codes "x") One v nowhere l refl parts l refl
+  part_here = part_there R (codes "x") One v no_place l refl parts l refl
 
 abbrev calls_b : Value0
 calls_b = value.Call (codes "B") (place 21 22)
@@ -203,7 +203,7 @@ calls_b = value.Call (codes "B") (place 21 22)
 pub value_found : StandsAlone (UnknownRule (alone (x_value calls_b))) 0 (place 21 22) (codes "B")
 value_found = (
   names.in_rule (R calls_b (Calls (codes "B") (place 21 22)) parts) (0, omega arith, refl)
-      (written.assigned (codes "x") One calls_b nowhere (assigned_here calls_b _ parts) (part_here calls_b _ parts)) (b_unknown calls_b _ parts),
+      (written.assigned (codes "x") One calls_b no_place (assigned_here calls_b _ parts) (part_here calls_b _ parts)) (b_unknown calls_b _ parts),
   λ f t n is. let found = only_call calls_b (Calls (codes "B") (place 21 22)) parts f t n is in (found.0, found.1.0, found.1.1),
 )
   where
@@ -216,7 +216,7 @@ crosses_b = value.Cross (codes "A") (Some (codes "B")) (place 21 26)
 pub crossed : StandsAlone (UnknownRule (alone (x_value crosses_b))) 0 (place 21 26) (codes "B")
 crossed = (
   names.in_rule (R crosses_b (Cross (codes "A") (Some (codes "B")) (place 21 26)) parts) (0, omega arith, refl)
-      (written.crossed (codes "x") One crosses_b nowhere (codes "A") (assigned_here crosses_b _ parts) (part_here crosses_b _ parts)) (b_unknown crosses_b _ parts),
+      (written.crossed (codes "x") One crosses_b no_place (codes "A") (assigned_here crosses_b _ parts) (part_here crosses_b _ parts)) (b_unknown crosses_b _ parts),
   λ f t n is. let found = only_call crosses_b (Cross (codes "A") (Some (codes "B")) (place 21 26)) parts f t n is in (found.0, found.1.0, found.1.1),
 )
   where
@@ -225,8 +225,8 @@ crossed = (
 
 pub terminal : StandsNowhere (UnknownRule (alone x_id))
 terminal f t n is =
-    let found = only_call (value.Call (codes "ID") nowhere) (Calls (codes "ID") nowhere) (values-Call (codes "ID") nowhere) f t n is in
-    All-contains (λ (x : Terminal). x.name ≢ n) (id_terminal ∷ []) id_terminal found.2.1 (0, omega arith, refl) (sym found.1.1)
+    let found = only_call (value.Call (codes "ID") no_place) (Calls (codes "ID") no_place) (values-Call (codes "ID") no_place) f t n is in
+    All-contains (λ (x : Terminal). x.name ≢ n) (terminal_id ∷ []) terminal_id found.2.1 (0, omega arith, refl) (sym found.1.1)
 
 -- ---- a type
 
@@ -256,7 +256,7 @@ module _ (name : List ℕ) (s : Span) where
     where
       other : Own ≡ Returns n t → ⊥
       other same = cc
-  names_it f t n (written.extended interface has _) = absurd (none_there interface has)
+  names_it f t n (written.extending_type interface has _) = absurd (none_there interface has)
   names_it f t n (written.in_attribute interface attribute member has _ _ _) = absurd (none_there interface has)
   names_it f t n (written.in_union union member has _ _) = absurd (none_there union has)
   names_it f t n (written.crossed rule p op v u has there _) = absurd (not_assigned p op v u (d_leaf rule (leaf.Assign p op v u) has there))

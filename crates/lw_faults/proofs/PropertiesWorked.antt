@@ -21,11 +21,11 @@ use Rattle.lw_grammar.specs.Named.{IsRule, IsTerminal, IsInterface, IsUnion, dec
 use Rattle.lw_grammar.specs.Subtypes.{IsDeclared, by_interface, by_union, same}
 use Rattle.lw_grammar.proofs.FirstLemmas.{first_item}
 use Rattle.lw_grammar.proofs.LeafLemmas.{values-Call, values-Cross}
-use Rattle.lw_faults.specs.Attributes.{Kind, Plain, ReferencesTo, Lineage, HasAttribute, HasNoAttribute, IsKindOf, Takes}
+use Rattle.lw_faults.specs.Attributes.{Kind, Plain, ReferencesTo, Lineage, HasAttribute, HasNoAttribute, IsKindOf, TakesKind}
 use Rattle.lw_faults.specs.Attributes as kind
-use Rattle.lw_faults.specs.Properties.{MisfitsAttribute, IsRefused, UnknownProperty, WrongPropertyForm}
+use Rattle.lw_faults.specs.Properties.{MisfitsAttribute, IsRefusedKind, UnknownProperty, WrongPropertyForm}
 use Rattle.lw_faults.specs.Properties as property
-use Rattle.lw_faults.specs.Worked.{StandsAlone, StandsNowhere, nowhere, id_terminal, x_attribute, i_interface, with_attribute, j_interface, extended, u_union, united, x_by, id_call, i_reference}
+use Rattle.lw_faults.specs.Worked.{StandsAlone, StandsNowhere, no_place, terminal_id, x_attribute, i_interface, with_attribute, j_interface, extending_type, u_union, united, x_by, calls_id, i_reference}
 use Rattle.lw_faults.proofs.Every.{every_of, every_at, differ, first_here, first_later, meant, not_meant}
 use Rattle.lw_faults.proofs.LineageLemmas.{one_lineage}
 use Rattle.lw_faults.proofs.PutLemmas.{unknown_found, unknown_nowhere, misfit_found, misfit_nowhere}
@@ -64,81 +64,81 @@ module _ (list : Bool) (m : Member) (p : List ℕ) (op : Op) (v : Value0) (s : S
   no_id : (r : ℕ) (rule : Rule) → ¬ IsRule G (codes "ID") r rule
   no_id r rule = not_meant declared_rule declared_terminal (codes "ID") G.rules G.terminals r rule (differ _ _ refl, tt)
 
-  id_named : IsTerminal G (codes "ID") 0 id_terminal
-  id_named = meant declared_terminal declared_rule (codes "ID") G.terminals G.rules 0 id_terminal (first_here refl) (differ _ _ refl, tt)
+  id_named : IsTerminal G (codes "ID") 0 terminal_id
+  id_named = meant declared_terminal declared_rule (codes "ID") G.terminals G.rules 0 terminal_id (first_here refl) (differ _ _ refl, tt)
 
-  id_kind : (k : Kind) → IsKindOf G (Calls (codes "ID") nowhere) k → k ≡ Plain Text
+  id_kind : (k : Kind) → IsKindOf G (Calls (codes "ID") no_place) k → k ≡ Plain Text
   id_kind k (kind.terminal t terminal is) = ap (λ (x : Terminal). Plain x.gives) (first_item is.first id_named.first)
   id_kind k (kind.primitive r rule is _ _) = absurd (no_id r rule is)
   id_kind k (kind.text r rule is _ _) = absurd (no_id r rule is)
   id_kind k (kind.node r rule is _ _) = absurd (no_id r rule is)
 
-  reference_kind : (k : Kind) → IsKindOf G (Cross (codes "I") (Some (codes "ID")) nowhere) k → k ≡ ReferencesTo (codes "I")
+  reference_kind : (k : Kind) → IsKindOf G (Cross (codes "I") (Some (codes "ID")) no_place) k → k ≡ ReferencesTo (codes "I")
   reference_kind k kind.reference = refl
 
   -- each part of the value is of one kind
   abbrev HasKind : Value0 → Kind → Type 0
   HasKind w own = (x : ValueLeaf) (k : Kind) → Contains (value_leaves w) x → IsKindOf G x k → k ≡ own
 
-  id_has_kind : HasKind id_call (Plain Text)
+  id_has_kind : HasKind calls_id (Plain Text)
   id_has_kind x k has is = id_kind k (subst (λ l. IsKindOf G l k) (sym same_leaf) is)
     where
-      same_leaf : Calls (codes "ID") nowhere ≡ x
-      same_leaf = every_of (λ y. Calls (codes "ID") nowhere ≡ y) (Calls (codes "ID") nowhere ∷ []) x (refl, tt) (subst (λ ls. Contains ls x) (values-Call (codes "ID") nowhere) has)
+      same_leaf : Calls (codes "ID") no_place ≡ x
+      same_leaf = every_of (λ y. Calls (codes "ID") no_place ≡ y) (Calls (codes "ID") no_place ∷ []) x (refl, tt) (subst (λ ls. Contains ls x) (values-Call (codes "ID") no_place) has)
 
   reference_has_kind : HasKind i_reference (ReferencesTo (codes "I"))
   reference_has_kind x k has is = reference_kind k (subst (λ l. IsKindOf G l k) (sym same_leaf) is)
     where
-      same_leaf : Cross (codes "I") (Some (codes "ID")) nowhere ≡ x
+      same_leaf : Cross (codes "I") (Some (codes "ID")) no_place ≡ x
       same_leaf =
-          every_of (λ y. Cross (codes "I") (Some (codes "ID")) nowhere ≡ y) (Cross (codes "I") (Some (codes "ID")) nowhere ∷ []) x (refl, tt)
-          (subst (λ ls. Contains ls x) (values-Cross (codes "I") (Some (codes "ID")) nowhere) has)
+          every_of (λ y. Cross (codes "I") (Some (codes "ID")) no_place ≡ y) (Cross (codes "I") (Some (codes "ID")) no_place ∷ []) x (refl, tt)
+          (subst (λ ls. Contains ls x) (values-Cross (codes "I") (Some (codes "ID")) no_place) has)
 
-  id_there : Contains (value_leaves id_call) (Calls (codes "ID") nowhere)
-  id_there = subst (λ ls. Contains ls (Calls (codes "ID") nowhere)) (sym (values-Call (codes "ID") nowhere)) (0, omega arith, refl)
+  id_there : Contains (value_leaves calls_id) (Calls (codes "ID") no_place)
+  id_there = subst (λ ls. Contains ls (Calls (codes "ID") no_place)) (sym (values-Call (codes "ID") no_place)) (0, omega arith, refl)
 
-  reference_there : Contains (value_leaves i_reference) (Cross (codes "I") (Some (codes "ID")) nowhere)
+  reference_there : Contains (value_leaves i_reference) (Cross (codes "I") (Some (codes "ID")) no_place)
   reference_there =
-      subst (λ ls. Contains ls (Cross (codes "I") (Some (codes "ID")) nowhere)) (sym (values-Cross (codes "I") (Some (codes "ID")) nowhere)) (0, omega arith, refl)
+      subst (λ ls. Contains ls (Cross (codes "I") (Some (codes "ID")) no_place)) (sym (values-Cross (codes "I") (Some (codes "ID")) no_place)) (0, omega arith, refl)
 
   -- the attribute refuses what its one member does not take
-  refused : {k : Kind} → ¬ Takes G m k → IsRefused G (x_attribute list m) k
-  refused {k} none n has takes = none (subst (λ x. Takes G x k) (sym (every_of (λ x. m ≡ x) (m ∷ []) n (refl, tt) has)) takes)
+  refused : {k : Kind} → ¬ TakesKind G m k → IsRefusedKind G (x_attribute list m) k
+  refused {k} none n has takes = none (subst (λ x. TakesKind G x k) (sym (every_of (λ x. m ≡ x) (m ∷ []) n (refl, tt) has)) takes)
 
-  taken : {k : Kind} → Takes G m k → ¬ IsRefused G (x_attribute list m) k
+  taken : {k : Kind} → TakesKind G m k → ¬ IsRefusedKind G (x_attribute list m) k
   taken takes none = none m (0, omega arith, refl) takes
 
   -- a value of a kind that is taken fits, where the attribute is a list as the operator says
-  fits_one : (own : Kind) → list ≡ false → HasKind v own → Takes G m own → ¬ MisfitsAttribute G (x_attribute list m) v One
+  fits_one : (own : Kind) → list ≡ false → HasKind v own → TakesKind G m own → ¬ MisfitsAttribute G (x_attribute list m) v One
   fits_one own plain has takes (property.list is) = true≢false (sym is ∙ plain)
-  fits_one own plain has takes (property.value x k _ there is none) = taken takes (subst (IsRefused G (x_attribute list m)) (has x k there is) none)
+  fits_one own plain has takes (property.value x k _ there is none) = taken takes (subst (IsRefusedKind G (x_attribute list m)) (has x k there is) none)
 
-  fits_list : (own : Kind) → list ≡ true → HasKind v own → Takes G m own → ¬ MisfitsAttribute G (x_attribute list m) v Add
+  fits_list : (own : Kind) → list ≡ true → HasKind v own → TakesKind G m own → ¬ MisfitsAttribute G (x_attribute list m) v Add
   fits_list own plain has takes (property.no_list is) = true≢false (sym plain ∙ is)
-  fits_list own plain has takes (property.value x k _ there is none) = taken takes (subst (IsRefused G (x_attribute list m)) (has x k there is) none)
+  fits_list own plain has takes (property.value x k _ there is none) = taken takes (subst (IsRefusedKind G (x_attribute list m)) (has x k there is) none)
 
-  fits_flag : Takes G m (Plain Boolean) → ¬ MisfitsAttribute G (x_attribute list m) v Flag
+  fits_flag : TakesKind G m (Plain Boolean) → ¬ MisfitsAttribute G (x_attribute list m) v Flag
   fits_flag takes (property.no_flag none) = taken takes none
   fits_flag takes (property.value x k flag there is none) = flag refl
 
 -- ---- properties
 
 module _ (s : Span) where
-  pub undeclared : StandsAlone (UnknownProperty (with_attribute false (member.Plain Text) (Assign (codes "y") One id_call s))) 0 s (codes "y")
+  pub undeclared : StandsAlone (UnknownProperty (with_attribute false (member.Plain Text) (Assign (codes "y") One calls_id s))) 0 s (codes "y")
   undeclared =
-      unknown_found (i_interface false (member.Plain Text) ∷ []) [] (codes "I") (codes "y") One id_call s
-      (i_declared false (member.Plain Text) (codes "y") One id_call s)
-      (i_has_no_other false (member.Plain Text) (codes "y") One id_call s (differ _ _ refl))
+      unknown_found (i_interface false (member.Plain Text) ∷ []) [] (codes "I") (codes "y") One calls_id s
+      (i_declared false (member.Plain Text) (codes "y") One calls_id s)
+      (i_has_no_other false (member.Plain Text) (codes "y") One calls_id s (differ _ _ refl))
 
-  pub declared : StandsNowhere (UnknownProperty (with_attribute false (member.Plain Text) (x_by One id_call s)))
+  pub declared : StandsNowhere (UnknownProperty (with_attribute false (member.Plain Text) (x_by One calls_id s)))
   declared =
-      unknown_nowhere (i_interface false (member.Plain Text) ∷ []) [] (codes "I") (codes "x") One id_call s
-      (i_declared false (member.Plain Text) (codes "x") One id_call s)
-      (λ none. none (x_attribute false (member.Plain Text)) (i_has_x false (member.Plain Text) (codes "x") One id_call s))
+      unknown_nowhere (i_interface false (member.Plain Text) ∷ []) [] (codes "I") (codes "x") One calls_id s
+      (i_declared false (member.Plain Text) (codes "x") One calls_id s)
+      (λ none. none (x_attribute false (member.Plain Text)) (i_has_x false (member.Plain Text) (codes "x") One calls_id s))
 
   -- J extends I
   abbrev E : Grammar
-  E = extended (x_by One id_call s)
+  E = extending_type (x_by One calls_id s)
 
   abbrev i : Interface
   i = i_interface false (member.Plain Text)
@@ -164,12 +164,12 @@ module _ (s : Span) where
 
   pub in_extended : StandsNowhere (UnknownProperty E)
   in_extended =
-      unknown_nowhere (i ∷ j_interface ∷ []) [] (codes "J") (codes "x") One id_call s (by_interface 1 j_interface j_named)
+      unknown_nowhere (i ∷ j_interface ∷ []) [] (codes "J") (codes "x") One calls_id s (by_interface 1 j_interface j_named)
       (λ none. none (x_attribute false (member.Plain Text)) j_has_x)
 
   -- U is I
   abbrev U : Grammar
-  U = united (x_by One id_call s)
+  U = united (x_by One calls_id s)
 
   u_named : IsUnion U (codes "U") 0 u_union
   u_named = meant declared_union declared_interface (codes "U") U.unions U.interfaces 0 u_union (first_here refl) (differ _ _ refl, tt)
@@ -183,7 +183,7 @@ module _ (s : Span) where
       (subst (λ ls. slice_get (flat_map (λ (x : Interface). x.attributes) ls) has.at ≡ Some attribute) (one_lineage U has.all (kind.no_interface u_no_interface)) has.first.there)
 
   pub in_union : StandsAlone (UnknownProperty U) 0 s (codes "x")
-  in_union = unknown_found (i ∷ []) (u_union ∷ []) (codes "U") (codes "x") One id_call s (by_union 0 u_union u_named) u_has_none
+  in_union = unknown_found (i ∷ []) (u_union ∷ []) (codes "U") (codes "x") One calls_id s (by_union 0 u_union u_named) u_has_none
 
 -- ---- forms
 
@@ -204,30 +204,30 @@ abbrev text : Member
 text = member.Plain Text
 
 abbrev refers : Member
-refers = member.Refers (codes "I") nowhere
+refers = member.Refers (codes "I") no_place
 
 abbrev k_word : Value0
-k_word = value.Keyword (codes "k") nowhere
+k_word = value.Keyword (codes "k") no_place
 
 flag_apart : (op : Op) → op ≡ One → op ≢ Flag
 flag_apart op is was = let both : One ≡ Flag = sym is ∙ was in cc
 
 module _ (s : Span) where
-  pub one_into_list : StandsAlone (WrongPropertyForm (with_attribute true text (x_by One id_call s))) 0 s (codes "x")
-  one_into_list = form_found true text One id_call s (property.list refl)
+  pub one_into_list : StandsAlone (WrongPropertyForm (with_attribute true text (x_by One calls_id s))) 0 s (codes "x")
+  one_into_list = form_found true text One calls_id s (property.list refl)
 
-  pub added_to_list : StandsNowhere (WrongPropertyForm (with_attribute true text (x_by Add id_call s)))
+  pub added_to_list : StandsNowhere (WrongPropertyForm (with_attribute true text (x_by Add calls_id s)))
   added_to_list =
-      form_nowhere true text Add id_call s
-      (fits_list true text (codes "x") Add id_call s (Plain Text) refl (id_has_kind true text (codes "x") Add id_call s) kind.plain)
+      form_nowhere true text Add calls_id s
+      (fits_list true text (codes "x") Add calls_id s (Plain Text) refl (id_has_kind true text (codes "x") Add calls_id s) kind.plain)
 
-  pub added_to_one : StandsAlone (WrongPropertyForm (with_attribute false text (x_by Add id_call s))) 0 s (codes "x")
-  added_to_one = form_found false text Add id_call s (property.no_list refl)
+  pub added_to_one : StandsAlone (WrongPropertyForm (with_attribute false text (x_by Add calls_id s))) 0 s (codes "x")
+  added_to_one = form_found false text Add calls_id s (property.no_list refl)
 
-  pub one : StandsNowhere (WrongPropertyForm (with_attribute false text (x_by One id_call s)))
+  pub one : StandsNowhere (WrongPropertyForm (with_attribute false text (x_by One calls_id s)))
   one =
-      form_nowhere false text One id_call s
-      (fits_one false text (codes "x") One id_call s (Plain Text) refl (id_has_kind false text (codes "x") One id_call s) kind.plain)
+      form_nowhere false text One calls_id s
+      (fits_one false text (codes "x") One calls_id s (Plain Text) refl (id_has_kind false text (codes "x") One calls_id s) kind.plain)
 
   pub flag_into_text : StandsAlone (WrongPropertyForm (with_attribute false text (x_by Flag k_word s))) 0 s (codes "x")
   flag_into_text = form_found false text Flag k_word s (property.no_flag (refused false text (codes "x") Flag k_word s (λ takes. elim takes [ ])))
@@ -235,17 +235,17 @@ module _ (s : Span) where
   pub flag : StandsNowhere (WrongPropertyForm (with_attribute false (member.Plain Boolean) (x_by Flag k_word s)))
   flag = form_nowhere false (member.Plain Boolean) Flag k_word s (fits_flag false (member.Plain Boolean) (codes "x") Flag k_word s kind.plain)
 
-  pub text_for_reference : StandsAlone (WrongPropertyForm (with_attribute false refers (x_by One id_call s))) 0 s (codes "x")
+  pub text_for_reference : StandsAlone (WrongPropertyForm (with_attribute false refers (x_by One calls_id s))) 0 s (codes "x")
   text_for_reference =
-      form_found false refers One id_call s
-      (property.value (Calls (codes "ID") nowhere) (Plain Text) (flag_apart One refl) (id_there false refers (codes "x") One id_call s)
-      (kind.terminal 0 id_terminal (id_named false refers (codes "x") One id_call s))
-      (refused false refers (codes "x") One id_call s (λ takes. elim takes [ ])))
+      form_found false refers One calls_id s
+      (property.value (Calls (codes "ID") no_place) (Plain Text) (flag_apart One refl) (id_there false refers (codes "x") One calls_id s)
+      (kind.terminal 0 terminal_id (id_named false refers (codes "x") One calls_id s))
+      (refused false refers (codes "x") One calls_id s (λ takes. elim takes [ ])))
 
   pub reference_for_text : StandsAlone (WrongPropertyForm (with_attribute false text (x_by One i_reference s))) 0 s (codes "x")
   reference_for_text =
       form_found false text One i_reference s
-      (property.value (Cross (codes "I") (Some (codes "ID")) nowhere) (ReferencesTo (codes "I")) (flag_apart One refl)
+      (property.value (Cross (codes "I") (Some (codes "ID")) no_place) (ReferencesTo (codes "I")) (flag_apart One refl)
       (reference_there false text (codes "x") One i_reference s) kind.reference
       (refused false text (codes "x") One i_reference s (λ takes. elim takes [ ])))
 

@@ -13,12 +13,12 @@ use Rattle.lw_grammar.specs.declared.declared_types.UnionDef.{UnionDef}
 use Rattle.lw_grammar.specs.Leaves as leaf
 use Rattle.lw_grammar.specs.Leaves.{Leaf}
 use Rattle.lw_grammar.specs.Subtypes.{HasType, IsDeclared}
-use Rattle.lw_faults.specs.Steps.{Step, step, IsBehind, IsAct, IsNodeCall, IsCurrent}
+use Rattle.lw_faults.specs.Steps.{Step, step, IsBehind, IsAct, IsNodeCall, IsCurrentType}
 use Rattle.lw_faults.specs.Steps as steps
 use Rattle.lw_faults.specs.Attributes.{HasAttribute, HasNoAttribute}
 use Rattle.lw_faults.specs.Properties.{MisfitsAttribute, UnknownProperty, WrongPropertyForm}
 use Rattle.lw_faults.specs.Properties as property
-use Rattle.lw_faults.specs.Worked.{StandsAlone, StandsNowhere, returning_rule, returning}
+use Rattle.lw_faults.specs.Worked.{StandsAlone, StandsNowhere, rule_returning, returning}
 use Rattle.lw_faults.proofs.Every.{every_of}
 use Rattle.lw_faults.proofs.LineageLemmas.{one_attribute}
 use Rattle.lw_faults.proofs.StepLemmas.{ways_of_one, holds_behind, own_current}
@@ -26,7 +26,7 @@ use Rattle.lw_faults.proofs.WorkedSteps.{assign_way, assign_goes}
 
 module _ (interfaces : List Interface) (unions : List UnionDef) (type_name p : List ℕ) (op : Op) (v : Value0) (s : Span) where
   abbrev A : Rule
-  A = returning_rule type_name (Assign p op v s)
+  A = rule_returning type_name (Assign p op v s)
 
   abbrev G : Grammar
   G = returning interfaces unions type_name (Assign p op v s)
@@ -34,7 +34,7 @@ module _ (interfaces : List Interface) (unions : List UnionDef) (type_name p : L
   behind : IsBehind G A [] (step A (leaf.Assign p op v s))
   behind = record { within = (0, omega arith, refl); whole = refl; after = []; goes = assign_goes G }
 
-  current : IsCurrent G A [] type_name
+  current : IsCurrentType G A [] type_name
   current = steps.own (All-nil (λ (x : Step). ¬ IsAct x.leaf)) (All-nil (λ (x : Step). ¬ IsNodeCall G x.leaf)) (refl, refl)
 
   -- the assignment is the only step
@@ -53,9 +53,9 @@ module _ (interfaces : List Interface) (unions : List UnionDef) (type_name p : L
       holds_behind G IsOnly (ways_of_one G IsOnly (assign_way G) ((refl, refl, (refl, refl, refl, refl)), tt))
       (subst (λ rule. IsBehind G rule before x) (sym (the_rule is)) is)
 
-  current_type : {rule : Rule} {before : List Step} {x : Step} {t : List ℕ} → IsBehind G rule before x → IsCurrent G rule before t → t ≡ type_name
+  current_type : {rule : Rule} {before : List Step} {x : Step} {t : List ℕ} → IsBehind G rule before x → IsCurrentType G rule before t → t ≡ type_name
   current_type {rule} {before} {x} {t} is now =
-      let first : IsCurrent G rule [] t = subst (λ b. IsCurrent G rule b t) (only_step is).0 now in
+      let first : IsCurrentType G rule [] t = subst (λ b. IsCurrentType G rule b t) (only_step is).0 now in
       let typed : HasType G rule t = own_current G (All-nil (λ (x : Step). ¬ IsAct x.leaf)) (All-nil (λ (x : Step). ¬ IsNodeCall G x.leaf)) first in
       (subst (λ (r : Rule). HasType G r t) (sym (the_rule is)) typed).1
 

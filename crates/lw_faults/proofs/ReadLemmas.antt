@@ -1,5 +1,5 @@
 -- What an element, a value or a call reads, and which calls it leads to, by its form.
-use Rattle.std.proofs.Common.{◌≡◌, ℕ, ◌+◌, List, [], ◌∷◌, Some, None, ◌⊎◌, inl, inr, Contains, refl, sym, subst, arith}
+use Rattle.std.proofs.Common.{◌≡◌, ℕ, ◌+◌, List, [], ◌∷◌, Some, None, ◌⊎◌, inl, inr, Contains, refl, sym, subst}
 use Rattle.lw_grammar.specs.declared.grammar.Grammar.{Grammar}
 use Rattle.lw_grammar.specs.declared.rule.Element.{Element, out-Element}
 use Rattle.lw_grammar.specs.declared.rule.Element.TheOpen as layer
@@ -11,7 +11,7 @@ use Rattle.lw_grammar.specs.declared.rule.Rule.{Rule}
 use Rattle.lw_grammar.specs.Named.{IsRule}
 use Rattle.lw_grammar.specs.NameRules.{IsNameRule}
 use Rattle.lw_grammar.proofs.FirstLemmas.{first_item}
-use Rattle.lw_faults.specs.Reads.{IsTokenCall, Reads, ReadsLayer, ReadsAll, ReadsAgain, CallReads, ValueReads, ValueReadsLayer, ValueLeads, ValueLeadsLayer, Leads, LeadsLayer, LeadsAll}
+use Rattle.lw_faults.specs.Reads.{IsTokenCall, MayRead, ReadsLayer, ReadsAll, ReadsAgain, CallReads, ValueReads, ValueReadsLayer, ValueLeads, ValueLeadsLayer, Leads, LeadsLayer, LeadsAll}
 use Rattle.lw_faults.specs.Reads as read
 
 module _ (g : Grammar) where
@@ -22,10 +22,10 @@ module _ (g : Grammar) where
   ReadsBy (layer.Assign p op v s) n = ValueReads g v n
   ReadsBy (layer.Act a) n = n ≡ 0
   ReadsBy (layer.Group es s) n = ReadsAll g es n
-  ReadsBy (layer.Choice es s) n = (e : Element) × Contains es e × Reads g e n
-  ReadsBy (layer.Maybe e s) n = (n ≡ 0) ⊎ Reads g e n
+  ReadsBy (layer.Choice es s) n = (e : Element) × Contains es e × MayRead g e n
+  ReadsBy (layer.Maybe e s) n = (n ≡ 0) ⊎ MayRead g e n
   ReadsBy (layer.Many e s) n = ReadsAgain g e n
-  ReadsBy (layer.Some1 e s) n = (m : ℕ) × (k : ℕ) × Reads g e m × ReadsAgain g e k × (n ≡ m + k)
+  ReadsBy (layer.Some1 e s) n = (m : ℕ) × (k : ℕ) × MayRead g e m × ReadsAgain g e k × (n ≡ m + k)
 
   by_layer : {f : Element-F Element} {n : ℕ} → ReadsLayer g f n → ReadsBy f n
   by_layer read.keyword = refl
@@ -51,25 +51,18 @@ module _ (g : Grammar) where
   to_layer (layer.Many e s) n does = read.repeated does
   to_layer (layer.Some1 e s) n (m, k, does, others, is) = subst (ReadsLayer g (layer.Some1 e s)) (sym is) (read.repeated_once does others)
 
-  pub what_reads : {e : Element} {f : Element-F Element} {n : ℕ} → out-Element e ≡ f → Reads g e n → ReadsBy f n
+  pub what_reads : {e : Element} {f : Element-F Element} {n : ℕ} → out-Element e ≡ f → MayRead g e n → ReadsBy f n
   what_reads {e} {f} {n} is (read.reads does) = by_layer (subst (λ x. ReadsLayer g x n) is does)
 
-  pub can_read : {e : Element} {f : Element-F Element} {n : ℕ} → out-Element e ≡ f → ReadsBy f n → Reads g e n
+  pub can_read : {e : Element} {f : Element-F Element} {n : ℕ} → out-Element e ≡ f → ReadsBy f n → MayRead g e n
   can_read {e} {f} {n} is does = read.reads (subst (λ x. ReadsLayer g x n) (sym is) (to_layer f n does))
 
   -- ---- by a row
-  pub row_reads : {e : Element} {es : List Element} {n : ℕ} → ReadsAll g (e ∷ es) n → (m : ℕ) × (k : ℕ) × Reads g e m × ReadsAll g es k × (n ≡ m + k)
+  pub row_reads : {e : Element} {es : List Element} {n : ℕ} → ReadsAll g (e ∷ es) n → (m : ℕ) × (k : ℕ) × MayRead g e m × ReadsAll g es k × (n ≡ m + k)
   row_reads (read.more {m} {n} first others) = (m, n, first, others, refl)
 
   pub row_ends : {n : ℕ} → ReadsAll g [] n → n ≡ 0
   row_ends read.none = refl
-
-  -- what reads nothing is made of what reads nothing
-  pub row_of_none : {e : Element} {es : List Element} → ReadsAll g (e ∷ es) 0 → Reads g e 0 × ReadsAll g es 0
-  row_of_none {e} {es} all =
-      let parts = row_reads all in
-      let first : parts.0 ≡ 0 = omega (arith, parts.4) in
-      let others : parts.1 ≡ 0 = omega (arith, parts.4) in (subst (Reads g e) first parts.2, subst (ReadsAll g es) others parts.3)
 
   -- ---- by a value
   abbrev pub ValueReadsBy : Value0-F Value0 → ℕ → Type 0
@@ -90,17 +83,14 @@ module _ (g : Grammar) where
   pub what_value_reads : {v : Value0} {f : Value0-F Value0} {n : ℕ} → out-Value0 v ≡ f → ValueReads g v n → ValueReadsBy f n
   what_value_reads {v} {f} {n} is (read.value_reads does) = by_value (subst (λ x. ValueReadsLayer g x n) is does)
 
-  pub value_can_read : {v : Value0} {f : Value0-F Value0} {n : ℕ} → out-Value0 v ≡ f → ValueReadsLayer g f n → ValueReads g v n
-  value_can_read {v} {f} {n} is does = read.value_reads (subst (λ x. ValueReadsLayer g x n) (sym is) does)
-
   -- ---- by a call
   pub token_reads : {name : List ℕ} {n : ℕ} → IsTokenCall g name → CallReads g name n → n ≡ 1
   token_reads none (read.token _) = refl
   token_reads none (read.rule_ r rule is _) = absurd (none r rule is)
 
-  pub rule_reads : {name : List ℕ} {n r : ℕ} {rule : Rule} → IsRule g name r rule → CallReads g name n → Reads g rule.body n
+  pub rule_reads : {name : List ℕ} {n r : ℕ} {rule : Rule} → IsRule g name r rule → CallReads g name n → MayRead g rule.body n
   rule_reads {name} {n} {r} {rule} is (read.token none) = absurd (none r rule is)
-  rule_reads {name} {n} {r} {rule} is (read.rule_ q other was does) = subst (λ (x : Rule). Reads g x.body n) (first_item was.first is.first) does
+  rule_reads {name} {n} {r} {rule} is (read.rule_ q other was does) = subst (λ (x : Rule). MayRead g x.body n) (first_item was.first is.first) does
 
   -- ---- which calls come before any token
   abbrev pub LeadsBy : Element-F Element → List ℕ → Type 0

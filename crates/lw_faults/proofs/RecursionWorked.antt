@@ -11,10 +11,10 @@ use Rattle.lw_grammar.specs.declared.rule.Value0.TheVariants as value
 use Rattle.lw_grammar.specs.Named.{IsRule, IsEntry, declared_rule, declared_terminal}
 use Rattle.lw_grammar.specs.Reached.{entry}
 use Rattle.lw_grammar.proofs.FirstLemmas.{first_place}
-use Rattle.lw_faults.specs.Reads.{IsTokenCall, Reads, Leads, LeadsAll, ComesFirstTo, directly, over}
+use Rattle.lw_faults.specs.Reads.{IsTokenCall, MayRead, Leads, LeadsAll, ComesFirstTo, directly, over}
 use Rattle.lw_faults.specs.Reads as read
 use Rattle.lw_faults.specs.Derivations.{LeftRecursion, left_recursion}
-use Rattle.lw_faults.specs.Worked.{StandsAlone, StandsNowhere, place, nowhere, puts, fragment_rule, recursive_row, recursive_ways, recursive_rule, behind_fragment, left_recursive, right_recursive}
+use Rattle.lw_faults.specs.Worked.{StandsAlone, StandsNowhere, place, no_place, puts, fragment_rule, recursive_row, recursive_ways, recursive_rule, behind_fragment, left_recursive, right_recursive}
 use Rattle.lw_faults.proofs.Every.{differ, first_here, first_later, meant, not_meant}
 use Rattle.lw_faults.proofs.ReadLemmas.{what_reads, can_read, what_leads, can_lead, what_value_leads, rule_reads}
 use Rattle.lw_faults.proofs.WorkedReads.{puts_token, puts_leads, puts_can_lead}
@@ -24,7 +24,7 @@ module _ (body : Element) where
   G = behind_fragment body
 
   abbrev F : Rule
-  F = fragment_rule (codes "F") nowhere body
+  F = fragment_rule (codes "F") no_place body
 
   a_named : IsRule G (codes "A") 0 recursive_rule
   a_named = meant declared_rule declared_terminal (codes "A") G.rules G.terminals 0 recursive_rule (first_here refl) (differ _ _ refl, tt)
@@ -37,22 +37,22 @@ module _ (body : Element) where
 
   -- the rule leads to the fragment, and to itself where the fragment reads nothing
   abbrev IsLed : List ℕ → Type 0
-  IsLed name = (name ≡ codes "F") ⊎ ((name ≡ codes "A") × Reads G body 0)
+  IsLed name = (name ≡ codes "F") ⊎ ((name ≡ codes "A") × MayRead G body 0)
 
   row_leads : (name : List ℕ) → LeadsAll G recursive_row name → IsLed name
-  row_leads name (read.first does) = inl (what_leads G (outs-Call (codes "F") nowhere) does)
-  row_leads name (read.later none (read.first does)) = inr (puts_leads G does, rule_reads G f_named (what_reads G (outs-Call (codes "F") nowhere) none))
-  row_leads name (read.later _ (read.later _ (read.first does))) = absurd (what_leads G (outs-Keyword (codes "x") nowhere) does)
+  row_leads name (read.first does) = inl (what_leads G (outs-Call (codes "F") no_place) does)
+  row_leads name (read.later none (read.first does)) = inr (puts_leads G does, rule_reads G f_named (what_reads G (outs-Call (codes "F") no_place) none))
+  row_leads name (read.later _ (read.later _ (read.first does))) = absurd (what_leads G (outs-Keyword (codes "x") no_place) does)
   row_leads name (read.later _ (read.later _ (read.later _ does))) = elim does [ ]
 
   a_leads : (name : List ℕ) → Leads G recursive_rule.body name → IsLed name
-  a_leads name does = by (what_leads G (outs-Choice recursive_ways nowhere) does)
+  a_leads name does = by (what_leads G (outs-Choice recursive_ways no_place) does)
     where
       by : (e : Element) × Contains recursive_ways e × Leads G e name → IsLed name
       by (e, (zero, inside, is), led) =
-          absurd (what_value_leads G (value.outs-Keyword (codes "q") nowhere)
-          (what_leads G (outs-Assign (codes "v") One (value.Keyword (codes "q") nowhere) nowhere) (subst (λ x. Leads G x name) (sym is) led)))
-      by (e, (suc zero, inside, is), led) = row_leads name (what_leads G (outs-Group recursive_row nowhere) (subst (λ x. Leads G x name) (sym is) led))
+          absurd (what_value_leads G (value.outs-Keyword (codes "q") no_place)
+          (what_leads G (outs-Assign (codes "v") One (value.Keyword (codes "q") no_place) no_place) (subst (λ x. Leads G x name) (sym is) led)))
+      by (e, (suc zero, inside, is), led) = row_leads name (what_leads G (outs-Group recursive_row no_place) (subst (λ x. Leads G x name) (sym is) led))
       by (e, (suc (suc k), inside, is), led) = absurd (omega (arith, inside))
 
   module _ (to_id : (name : List ℕ) → Leads G body name → name ≡ codes "ID") where
@@ -77,7 +77,7 @@ module _ (body : Element) where
         (sym (ap (λ (x : Rule). x.file) is), sym (ap (λ (x : Rule). x.span) is), sym (ap (λ (x : Rule). x.name) is))
 
     -- where the fragment reads a token, the rule leads to the fragment alone
-    module _ (reads_some : ¬ Reads G body 0) where
+    module _ (reads_some : ¬ MayRead G body 0) where
       comes_to_f : {q r : ℕ} → ComesFirstTo G q r → (q ≡ 0) × (r ≡ 1)
       comes_to_f {q} {r} (directly caller rule name at led is) = by (directly_led q r caller rule name at led is)
         where
@@ -92,34 +92,34 @@ module _ (body : Element) where
   a_entry : IsEntry G 0 recursive_rule
   a_entry = first_here (refl, refl)
 
-  pub a_is : Reads G body 0 → LeftRecursion G 0 (place 16 17) (codes "A")
+  pub a_is : MayRead G body 0 → LeftRecursion G 0 (place 16 17) (codes "A")
   a_is none = left_recursion 0 recursive_rule (entry recursive_rule a_entry, refl) (directly recursive_rule recursive_rule (codes "A") refl leads a_named)
     where
-      f_none : Reads G (Call (codes "F") nowhere) 0
-      f_none = can_read G (outs-Call (codes "F") nowhere) (read.rule_ 1 F f_named none)
+      f_none : MayRead G (Call (codes "F") no_place) 0
+      f_none = can_read G (outs-Call (codes "F") no_place) (read.rule_ 1 F f_named none)
 
-      row : Leads G (Group recursive_row nowhere) (codes "A")
-      row =
-          can_lead G (outs-Group recursive_row nowhere)
+      two_parts : Leads G (Group recursive_row no_place) (codes "A")
+      two_parts =
+          can_lead G (outs-Group recursive_row no_place)
           (read.grouped (read.later f_none (read.first (puts_can_lead G (codes "a") (codes "A")))))
 
       leads : Leads G recursive_rule.body (codes "A")
-      leads = can_lead G (outs-Choice recursive_ways nowhere) (read.chosen (1, omega arith, refl) row)
+      leads = can_lead G (outs-Choice recursive_ways no_place) (read.chosen (1, omega arith, refl) two_parts)
 
 abbrev z_id : Element
 z_id = puts (codes "z") (codes "ID")
 
-optional_leads : (name : List ℕ) → Leads left_recursive (Maybe z_id nowhere) name → name ≡ codes "ID"
-optional_leads name does = puts_leads left_recursive (what_leads left_recursive (outs-Maybe z_id nowhere) does)
+optional_leads : (name : List ℕ) → Leads left_recursive (Maybe z_id no_place) name → name ≡ codes "ID"
+optional_leads name does = puts_leads left_recursive (what_leads left_recursive (outs-Maybe z_id no_place) does)
 
 pub found : StandsAlone (LeftRecursion left_recursive) 0 (place 16 17) (codes "A")
 found = (
-  a_is (Maybe z_id nowhere) (can_read left_recursive (outs-Maybe z_id nowhere) (inl refl)),
-  only_a (Maybe z_id nowhere) optional_leads,
+  a_is (Maybe z_id no_place) (can_read left_recursive (outs-Maybe z_id no_place) (inl refl)),
+  only_a (Maybe z_id no_place) optional_leads,
 )
 
 pub not_found : StandsNowhere (LeftRecursion right_recursive)
 not_found = none_is z_id (λ name does. puts_leads right_recursive does) reads_some
   where
-    reads_some : ¬ Reads right_recursive z_id 0
+    reads_some : ¬ MayRead right_recursive z_id 0
     reads_some none = let is = puts_token right_recursive (no_id z_id) none in omega (arith, is)

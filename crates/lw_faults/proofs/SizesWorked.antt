@@ -9,10 +9,10 @@ use Rattle.lw_grammar.specs.declared.rule.Value0.TheVariants as value
 use Rattle.lw_grammar.specs.Leaves.{leaves}
 use Rattle.lw_grammar.proofs.LeafLemmas.{leaves-Assign}
 use Rattle.lw_faults.specs.Entries.{TooManyRules, too_many, is_act, action_count}
-use Rattle.lw_faults.specs.Worked.{StandsAlone, StandsNowhere, nowhere, a_entry, many_rules}
+use Rattle.lw_faults.specs.Worked.{StandsAlone, StandsNowhere, no_place, a_entry, many_rules}
 
 no_action : count_by is_act (leaves a_entry.body) ≡ 0
-no_action = subst (λ ls. count_by is_act ls ≡ 0) (sym (leaves-Assign (codes "x") One (value.Call (codes "ID") nowhere) nowhere)) refl
+no_action = subst (λ ls. count_by is_act ls ≡ 0) (sym (leaves-Assign (codes "x") One (value.Call (codes "ID") no_place) no_place)) refl
 
 module _ (n : ℕ) where
   no_actions : action_count (many_rules n) ≡ 0
@@ -21,10 +21,10 @@ module _ (n : ℕ) where
   rules : length (replicate n a_entry) ≡ n
   rules = length-replicate n a_entry
 
-  pub many : 1023 < n → StandsAlone (TooManyRules (many_rules n)) 0 nowhere (codes "G")
+  pub many : 1023 < n → StandsAlone (TooManyRules (many_rules n)) 0 no_place (codes "G")
   many above = (too_many (omega (arith, above, no_actions, rules)), others)
     where
-      others : (f : ℕ) (t : Span) (name : List ℕ) → TooManyRules (many_rules n) f t name → (f ≡ 0) × (t ≡ nowhere) × (name ≡ codes "G")
+      others : (f : ℕ) (t : Span) (name : List ℕ) → TooManyRules (many_rules n) f t name → (f ≡ 0) × (t ≡ no_place) × (name ≡ codes "G")
       others f t name (too_many _) = (refl, refl, refl)
 
   pub few : n ≤ 1023 → StandsNowhere (TooManyRules (many_rules n))

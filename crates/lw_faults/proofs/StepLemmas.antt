@@ -14,9 +14,8 @@ use Rattle.lw_grammar.specs.Leaves as leaf
 use Rattle.lw_grammar.specs.Leaves.{Leaf, leaves, layer_leaves, IsFragmentCall}
 use Rattle.lw_grammar.specs.declared.rule.Element.TheFolds.{map-Element}
 use Rattle.lw_grammar.specs.Subtypes.{HasType}
-use Rattle.lw_grammar.proofs.FirstLemmas.{first_place, first_item}
 use Rattle.lw_grammar.proofs.LeafLemmas.{leaves_by}
-use Rattle.lw_faults.specs.Steps.{Step, step, Goes, GoesLayer, GoesAll, GoesAgain, IsBehind, IsAct, IsNodeCall, NoneActs, IsCurrent, CallsNode}
+use Rattle.lw_faults.specs.Steps.{Step, step, GoesThrough, GoesLayer, GoesAll, GoesAgain, IsBehind, IsAct, IsNodeCall, NoneActs, IsCurrentType, CallsNode}
 use Rattle.lw_faults.specs.Steps as steps
 use Rattle.lw_faults.proofs.Every.{Every, every_of}
 
@@ -45,10 +44,10 @@ module _ (g : Grammar) where
   GoesBy entered rule (layer.Assign p op v s) done = done ≡ step rule (leaf.Assign p op v s) ∷ []
   GoesBy entered rule (layer.Act a) done = done ≡ step rule (leaf.Act a) ∷ []
   GoesBy entered rule (layer.Group es s) done = GoesAll g entered rule es done
-  GoesBy entered rule (layer.Choice es s) done = (e : Element) × Contains es e × Goes g entered rule e done
-  GoesBy entered rule (layer.Maybe e s) done = (done ≡ []) ⊎ Goes g entered rule e done
+  GoesBy entered rule (layer.Choice es s) done = (e : Element) × Contains es e × GoesThrough g entered rule e done
+  GoesBy entered rule (layer.Maybe e s) done = (done ≡ []) ⊎ GoesThrough g entered rule e done
   GoesBy entered rule (layer.Many e s) done = GoesAgain g entered rule e done
-  GoesBy entered rule (layer.Some1 e s) done = (first : List Step) × (more : List Step) × Goes g entered rule e first × GoesAgain g entered rule e more × (done ≡ first ++ more)
+  GoesBy entered rule (layer.Some1 e s) done = (first : List Step) × (more : List Step) × GoesThrough g entered rule e first × GoesAgain g entered rule e more × (done ≡ first ++ more)
 
   by_layer : {entered : List ℕ} {rule : Rule} {f : Element-F Element} {done : List Step} → GoesLayer g entered rule f done → GoesBy entered rule f done
   by_layer steps.keyword = refl
@@ -64,29 +63,20 @@ module _ (g : Grammar) where
   by_layer (steps.repeated does) = does
   by_layer (steps.repeated_once {first} {more = rest} does others) = (first, rest, does, others, refl)
 
-  pub what_goes : {entered : List ℕ} {rule : Rule} {e : Element} {f : Element-F Element} {done : List Step} → out-Element e ≡ f → Goes g entered rule e done →
+  pub what_goes : {entered : List ℕ} {rule : Rule} {e : Element} {f : Element-F Element} {done : List Step} → out-Element e ≡ f → GoesThrough g entered rule e done →
       GoesBy entered rule f done
   what_goes {entered} {rule} {e} {f} {done} is (steps.goes does) = by_layer (subst (λ x. GoesLayer g entered rule x done) is does)
 
   pub can_go : {entered : List ℕ} {rule : Rule} {e : Element} {f : Element-F Element} {done : List Step} → out-Element e ≡ f → GoesLayer g entered rule f done →
-      Goes g entered rule e done
+      GoesThrough g entered rule e done
   can_go {entered} {rule} {e} {f} {done} is does = steps.goes (subst (λ x. GoesLayer g entered rule x done) (sym is) does)
 
   pub row_goes : {entered : List ℕ} {rule : Rule} {e : Element} {es : List Element} {done : List Step} → GoesAll g entered rule (e ∷ es) done →
-      (first : List Step) × (others : List Step) × Goes g entered rule e first × GoesAll g entered rule es others × (done ≡ first ++ others)
+      (first : List Step) × (others : List Step) × GoesThrough g entered rule e first × GoesAll g entered rule es others × (done ≡ first ++ others)
   row_goes (steps.more {first} {others} does rest) = (first, others, does, rest, refl)
 
   pub row_ends : {entered : List ℕ} {rule : Rule} {done : List Step} → GoesAll g entered rule [] done → done ≡ []
   row_ends steps.none = refl
-
-  -- a call of a fragment does what the fragment does, and another call is a step
-  pub fragment_goes : {entered : List ℕ} {rule fragment : Rule} {name : List ℕ} {s : Span} {done : List Step} {f : ℕ} → IsFragmentCall g (leaf.Call name s) f fragment →
-      ¬ Contains entered f → GoesLayer g entered rule (layer.Call name s) done → Goes g (f ∷ entered) fragment fragment.body done
-  fragment_goes {fragment} {f} is fresh (steps.called none) = absurd (none f fragment is)
-  fragment_goes {entered} {fragment} {done} {f} is fresh (steps.put_in q other was _ does) =
-      let first : Goes g (f ∷ entered) other other.body done = subst (λ n. Goes g (n ∷ entered) other other.body done) (first_place was.0.first is.0.first) does in
-      subst (λ (x : Rule). Goes g (f ∷ entered) x x.body done) (first_item was.0.first is.0.first) first
-  fragment_goes {entered} {f} is fresh (steps.looped q other was begun) = absurd (fresh (subst (Contains entered) (first_place was.0.first is.0.first) begun))
 
   pub call_goes : {entered : List ℕ} {rule : Rule} {name : List ℕ} {s : Span} {done : List Step} →
       ((f : ℕ) (fragment : Rule) → ¬ IsFragmentCall g (leaf.Call name s) f fragment) → GoesLayer g entered rule (layer.Call name s) done →
@@ -116,7 +106,7 @@ module _ (g : Grammar) where
   the_leaf l = (0, omega arith, refl)
 
   mutual
-    written : {entered : List ℕ} {rule : Rule} {e : Element} {done : List Step} → Contains g.rules rule → Within rule (leaves e) → Goes g entered rule e done →
+    written : {entered : List ℕ} {rule : Rule} {e : Element} {done : List Step} → Contains g.rules rule → Within rule (leaves e) → GoesThrough g entered rule e done →
         Every IsWritten done
     written {rule} {e} within holds (steps.goes does) =
         written_layer within (λ l has. holds l (subst (λ ls. Contains ls l) (sym (leaves_by e (out-Element e) refl)) has)) does
@@ -160,14 +150,14 @@ module _ (g : Grammar) where
 
   -- on each way through the rule this holds of each step and those before it
   abbrev pub HoldsOnWays : (List Step → Step → Type 0) → Rule → Type 0
-  HoldsOnWays P rule = (done : List Step) → Goes g [] rule rule.body done → EachStep P [] done
+  HoldsOnWays P rule = (done : List Step) → GoesThrough g [] rule rule.body done → EachStep P [] done
 
   pub holds_behind : {rule : Rule} {before : List Step} {at : Step} (P : List Step → Step → Type 0) → HoldsOnWays P rule → IsBehind g rule before at → P before at
   holds_behind {before} {at} P all is = at_place P [] before is.after at (all (before ++ at ∷ is.after) is.goes)
 
   -- ---- elements with one way
   abbrev pub HasWay : List ℕ → Rule → Element → List Step → Type 0
-  HasWay entered rule e way = (done : List Step) → Goes g entered rule e done → done ≡ way
+  HasWay entered rule e way = (done : List Step) → GoesThrough g entered rule e done → done ≡ way
 
   abbrev pub RowHasWay : List ℕ → Rule → List Element → List Step → Type 0
   RowHasWay entered rule es way = (done : List Step) → GoesAll g entered rule es done → done ≡ way
@@ -189,7 +179,7 @@ module _ (g : Grammar) where
 
   -- ---- the type that is current
   pub own_current : {rule : Rule} {done : List Step} {type_name : List ℕ} → NoneActs done → All (λ x. ¬ IsNodeCall g x.leaf) done →
-      IsCurrent g rule done type_name → HasType g rule type_name
+      IsCurrentType g rule done type_name → HasType g rule type_name
   own_current none_acts none_calls (steps.acted before after written a _) =
       absurd (All-contains (λ (x : Step). ¬ IsAct x.leaf) _ _ none_acts (Contains-append_right before (step written (leaf.Act a) ∷ after) _ (0, omega arith, refl)) steps.act)
   own_current none_acts none_calls (steps.called before after at called _ calls _ _) =

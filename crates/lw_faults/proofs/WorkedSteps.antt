@@ -10,7 +10,7 @@ use Rattle.lw_grammar.specs.declared.rule.Element.{Element}
 use Rattle.lw_grammar.specs.declared.rule.Element.TheVariants.{Keyword, Call, Assign, Act, Group, outs-Keyword, outs-Call, outs-Assign, outs-Act, outs-Group}
 use Rattle.lw_grammar.specs.Leaves as leaf
 use Rattle.lw_grammar.specs.Leaves.{IsFragmentCall}
-use Rattle.lw_faults.specs.Steps.{Step, step, Goes, GoesAll}
+use Rattle.lw_faults.specs.Steps.{Step, step, GoesThrough, GoesAll}
 use Rattle.lw_faults.specs.Steps as steps
 use Rattle.lw_faults.proofs.StepLemmas.{HasWay, RowHasWay, one_way, row_more, row_end, can_go, call_goes}
 
@@ -36,19 +36,19 @@ module _ (g : Grammar) {entered : List ℕ} {rule : Rule} where
   pair_way a b = row_way (row_more g a (row_more g b (row_end g)))
 
   -- and it can go that way
-  pub word_goes : {text : List ℕ} {s : Span} → Goes g entered rule (Keyword text s) []
+  pub word_goes : {text : List ℕ} {s : Span} → GoesThrough g entered rule (Keyword text s) []
   word_goes {text} {s} = can_go g (outs-Keyword text s) steps.keyword
 
-  pub assign_goes : {p : List ℕ} {op : Op} {v : Value0} {s : Span} → Goes g entered rule (Assign p op v s) (step rule (leaf.Assign p op v s) ∷ [])
+  pub assign_goes : {p : List ℕ} {op : Op} {v : Value0} {s : Span} → GoesThrough g entered rule (Assign p op v s) (step rule (leaf.Assign p op v s) ∷ [])
   assign_goes {p} {op} {v} {s} = can_go g (outs-Assign p op v s) steps.assigned
 
-  pub act_goes : {a : Action} → Goes g entered rule (Act a) (step rule (leaf.Act a) ∷ [])
+  pub act_goes : {a : Action} → GoesThrough g entered rule (Act a) (step rule (leaf.Act a) ∷ [])
   act_goes {a} = can_go g (outs-Act a) steps.acted
 
   pub token_goes : {name : List ℕ} {s : Span} → ((f : ℕ) (fragment : Rule) → ¬ IsFragmentCall g (leaf.Call name s) f fragment) →
-      Goes g entered rule (Call name s) (step rule (leaf.Call name s) ∷ [])
+      GoesThrough g entered rule (Call name s) (step rule (leaf.Call name s) ∷ [])
   token_goes {name} {s} none = can_go g (outs-Call name s) (steps.called none)
 
-  pub pair_goes : {one other : Element} {s : Span} {first second : List Step} → Goes g entered rule one first → Goes g entered rule other second →
-      Goes g entered rule (Group (one ∷ other ∷ []) s) (first ++ (second ++ []))
+  pub pair_goes : {one other : Element} {s : Span} {first second : List Step} → GoesThrough g entered rule one first → GoesThrough g entered rule other second →
+      GoesThrough g entered rule (Group (one ∷ other ∷ []) s) (first ++ (second ++ []))
   pair_goes {one} {other} {s} a b = can_go g (outs-Group (one ∷ other ∷ []) s) (steps.grouped (steps.more a (steps.more b steps.none)))

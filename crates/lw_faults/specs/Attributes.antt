@@ -65,13 +65,13 @@ module _ (g : Grammar) where
     reference_by_name : {wanted : List ℕ} {s : Span} → IsKindOf (Cross wanted None s) (ReferencesTo wanted)
 
   -- the member takes values of this kind. A text that is written out means `string`, and a union takes what one of its members takes.
-  pub data Takes : Member → Kind → Type 0 where
-    plain : {p : Primitive} → Takes (member.Plain p) (Plain p)
-    plain_text : {type_name : List ℕ} → Takes (member.Plain Text) (TextsOf type_name)
-    literal : {text : List ℕ} → Takes (member.Literal text) (Plain Text)
-    literal_text : {text type_name : List ℕ} → Takes (member.Literal text) (TextsOf type_name)
-    node : {name type_name : List ℕ} {s : Span} → IsSubtype g type_name name → Takes (member.Named name s) (NodesOf type_name)
-    text : {name : List ℕ} {s : Span} → Takes (member.Named name s) (TextsOf name)
-    union : {name : List ℕ} {s : Span} {kind : Kind} (u : ℕ) (union : UnionDef) (m : Member) → IsUnion g name u union → Contains union.members m → Takes m kind →
-        Takes (member.Named name s) kind
-    reference : {name wanted : List ℕ} {s : Span} → IsSubtype g wanted name → Takes (member.Refers name s) (ReferencesTo wanted)
+  pub data TakesKind : Member → Kind → Type 0 where
+    plain : {p : Primitive} → TakesKind (member.Plain p) (Plain p)
+    plain_text : {type_name : List ℕ} → TakesKind (member.Plain Text) (TextsOf type_name)
+    literal : {text : List ℕ} → TakesKind (member.Literal text) (Plain Text)
+    literal_text : {text type_name : List ℕ} → TakesKind (member.Literal text) (TextsOf type_name)
+    node : {name type_name : List ℕ} {s : Span} → IsSubtype g type_name name → TakesKind (member.Named name s) (NodesOf type_name)
+    text : {name : List ℕ} {s : Span} → TakesKind (member.Named name s) (TextsOf name)
+    union : {name : List ℕ} {s : Span} {kind : Kind} (u : ℕ) (union : UnionDef) (m : Member) → IsUnion g name u union → Contains union.members m → TakesKind m kind →
+        TakesKind (member.Named name s) kind
+    reference : {name wanted : List ℕ} {s : Span} → IsSubtype g wanted name → TakesKind (member.Refers name s) (ReferencesTo wanted)

@@ -8,7 +8,7 @@ use Rattle.lw_grammar.specs.declared.rule.Element.{Element, out-Element}
 use Rattle.lw_grammar.specs.declared.rule.Element.TheOpen.{Element-F, Group, Choice, Maybe, Many, Some1}
 use Rattle.lw_grammar.specs.Named.{IsEntry}
 use Rattle.lw_grammar.specs.Reached.{IsReached}
-use Rattle.lw_faults.specs.Reads.{Reads, ComesFirstTo}
+use Rattle.lw_faults.specs.Reads.{MayRead, ComesFirstTo}
 
 -- the parts of an element, itself too, at every depth
 pub data HoldsDirectly : Element-F Element → Element → Type 0 where
@@ -36,14 +36,14 @@ module _ (g : Grammar) where
 
   -- a rule other than the entry and fragments can read no token
   pub data ReadsNothing : ℕ → Span → List ℕ → Type 0 where
-    reads_nothing : (r : ℕ) (rule : Rule) → IsReachedRule r rule → rule.is_fragment ≡ false → ¬ IsEntryRule r → Reads g rule.body 0 →
+    reads_nothing : (r : ℕ) (rule : Rule) → IsReachedRule r rule → rule.is_fragment ≡ false → ¬ IsEntryRule r → MayRead g rule.body 0 →
         ReadsNothing rule.file rule.span rule.name
 
   -- what `*` or `+` repeats can read no token
   pub data RepeatsNothing : ℕ → Span → List ℕ → Type 0 where
     repeats_nothing : {s : Span} (r : ℕ) (rule : Rule) (e body : Element) → IsReachedRule r rule → HasPart rule.body e →
-        (out-Element e ≡ Many body s) ⊎ (out-Element e ≡ Some1 body s) → Reads g body 0 → RepeatsNothing rule.file s rule.name
+        (out-Element e ≡ Many body s) ⊎ (out-Element e ≡ Some1 body s) → MayRead g body 0 → RepeatsNothing rule.file s rule.name
 
   -- a rule has no finite sentence
   pub data NeverEnds : ℕ → Span → List ℕ → Type 0 where
-    never_ends : (r : ℕ) (rule : Rule) → IsReachedRule r rule → ((n : ℕ) → ¬ Reads g rule.body n) → NeverEnds rule.file rule.span rule.name
+    never_ends : (r : ℕ) (rule : Rule) → IsReachedRule r rule → ((n : ℕ) → ¬ MayRead g rule.body n) → NeverEnds rule.file rule.span rule.name

@@ -14,8 +14,8 @@ use Rattle.lw_grammar.specs.Leaves as leaf
 use Rattle.lw_grammar.specs.Leaves.{ValueLeaf, value_leaves}
 use Rattle.lw_grammar.specs.Subtypes.{HasType, IsDeclared, IsSubtype}
 use Rattle.lw_faults.specs.Written.{IsInferredType}
-use Rattle.lw_faults.specs.Steps.{Step, step, IsBehind, CallsNode, IsCurrent}
-use Rattle.lw_faults.specs.Attributes.{Kind, Plain, NodesOf, HasAttribute, HasNoAttribute, IsKindOf, Takes}
+use Rattle.lw_faults.specs.Steps.{Step, step, IsBehind, CallsNode, IsCurrentType}
+use Rattle.lw_faults.specs.Attributes.{Kind, Plain, NodesOf, HasAttribute, HasNoAttribute, IsKindOf, TakesKind}
 
 -- whether an operator puts its value at the end of a list
 abbrev pub is_list : Op → Bool
@@ -24,21 +24,21 @@ is_list _ = false
 
 module _ (g : Grammar) where
   -- no member of the attribute takes such a value
-  abbrev pub IsRefused : Attribute → Kind → Type 0
-  IsRefused attribute kind = (m : Member) → Contains attribute.members m → ¬ Takes g m kind
+  abbrev pub IsRefusedKind : Attribute → Kind → Type 0
+  IsRefusedKind attribute kind = (m : Member) → Contains attribute.members m → ¬ TakesKind g m kind
 
   -- the assignment has another form than the attribute: `?=` asks for `boolean` alone, the others for a list or none, and for their values
   pub data MisfitsAttribute (attribute : Attribute) (v : Value0) : Op → Type 0 where
-    no_flag : IsRefused attribute (Plain Boolean) → MisfitsAttribute attribute v Flag
+    no_flag : IsRefusedKind attribute (Plain Boolean) → MisfitsAttribute attribute v Flag
     no_list : attribute.list ≡ false → MisfitsAttribute attribute v Add
     list : attribute.list ≡ true → MisfitsAttribute attribute v One
-    value : {op : Op} (x : ValueLeaf) (kind : Kind) → op ≢ Flag → Contains (value_leaves v) x → IsKindOf g x kind → IsRefused attribute kind →
+    value : {op : Op} (x : ValueLeaf) (kind : Kind) → op ≢ Flag → Contains (value_leaves v) x → IsKindOf g x kind → IsRefusedKind attribute kind →
         MisfitsAttribute attribute v op
 
   -- an assignment or action puts something into a property that the declared type does not have
   pub data UnknownProperty : ℕ → Span → List ℕ → Type 0 where
     assigned : (rule written : Rule) (before : List Step) (p : List ℕ) (op : Op) (v : Value0) (s : Span) (type_name : List ℕ) →
-        IsBehind g rule before (step written (leaf.Assign p op v s)) → IsCurrent g rule before type_name → IsDeclared g type_name →
+        IsBehind g rule before (step written (leaf.Assign p op v s)) → IsCurrentType g rule before type_name → IsDeclared g type_name →
         HasNoAttribute g type_name p → UnknownProperty written.file s p
     acted : (rule written : Rule) (before : List Step) (a : Action) (put : List ℕ × Bool) → IsBehind g rule before (step written (leaf.Act a)) → a.put ≡ Some put →
         IsDeclared g a.type_name → HasNoAttribute g a.type_name put.0 → UnknownProperty written.file a.span put.0
@@ -46,19 +46,19 @@ module _ (g : Grammar) where
   -- what is put in has not the form of the declared property
   pub data WrongPropertyForm : ℕ → Span → List ℕ → Type 0 where
     assigned : (rule written : Rule) (before : List Step) (p : List ℕ) (op : Op) (v : Value0) (s : Span) (type_name : List ℕ) (attribute : Attribute) →
-        IsBehind g rule before (step written (leaf.Assign p op v s)) → IsCurrent g rule before type_name → IsDeclared g type_name →
+        IsBehind g rule before (step written (leaf.Assign p op v s)) → IsCurrentType g rule before type_name → IsDeclared g type_name →
         HasAttribute g type_name p attribute → MisfitsAttribute attribute v op → WrongPropertyForm written.file s p
     put_as_other : (rule written : Rule) (before : List Step) (a : Action) (put : List ℕ × Bool) (attribute : Attribute) →
         IsBehind g rule before (step written (leaf.Act a)) → a.put ≡ Some put → IsDeclared g a.type_name → HasAttribute g a.type_name put.0 attribute →
         attribute.list ≢ put.1 → WrongPropertyForm written.file a.span put.0
     put_not_taken : (rule written : Rule) (before : List Step) (a : Action) (put : List ℕ × Bool) (attribute : Attribute) (type_name : List ℕ) →
         IsBehind g rule before (step written (leaf.Act a)) → a.put ≡ Some put → IsDeclared g a.type_name → HasAttribute g a.type_name put.0 attribute →
-        IsCurrent g rule before type_name → IsRefused attribute (NodesOf type_name) → WrongPropertyForm written.file a.span put.0
+        IsCurrentType g rule before type_name → IsRefusedKind attribute (NodesOf type_name) → WrongPropertyForm written.file a.span put.0
 
   -- `PutsInto type p list file s`: at this place something is put into the property p of the type, at the end of a list or not
   pub data PutsInto : List ℕ → List ℕ → Bool → ℕ → Span → Type 0 where
     assigned : {type_name p : List ℕ} {op : Op} {s : Span} (rule written : Rule) (before : List Step) (v : Value0) →
-        IsBehind g rule before (step written (leaf.Assign p op v s)) → IsCurrent g rule before type_name → PutsInto type_name p (is_list op) written.file s
+        IsBehind g rule before (step written (leaf.Assign p op v s)) → IsCurrentType g rule before type_name → PutsInto type_name p (is_list op) written.file s
     acted : (rule written : Rule) (before : List Step) (a : Action) (put : List ℕ × Bool) → IsBehind g rule before (step written (leaf.Act a)) → a.put ≡ Some put →
         PutsInto a.type_name put.0 put.1 written.file a.span
 

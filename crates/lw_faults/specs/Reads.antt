@@ -20,8 +20,8 @@ module _ (g : Grammar) where
 
   mutual
     -- the element may read so many tokens
-    pub data Reads : Element → ℕ → Type 0 where
-      reads : {e : Element} {n : ℕ} → ReadsLayer (out-Element e) n → Reads e n
+    pub data MayRead : Element → ℕ → Type 0 where
+      reads : {e : Element} {n : ℕ} → ReadsLayer (out-Element e) n → MayRead e n
 
     pub data ReadsLayer : Element-F Element → ℕ → Type 0 where
       keyword : {text : List ℕ} {s : Span} → ReadsLayer (Keyword text s) 1
@@ -29,26 +29,26 @@ module _ (g : Grammar) where
       assigned : {p : List ℕ} {op : Op} {v : Value0} {s : Span} {n : ℕ} → ValueReads v n → ReadsLayer (Assign p op v s) n
       acted : {a : Action} → ReadsLayer (Act a) 0
       grouped : {es : List Element} {s : Span} {n : ℕ} → ReadsAll es n → ReadsLayer (Group es s) n
-      chosen : {es : List Element} {s : Span} {e : Element} {n : ℕ} → Contains es e → Reads e n → ReadsLayer (Choice es s) n
+      chosen : {es : List Element} {s : Span} {e : Element} {n : ℕ} → Contains es e → MayRead e n → ReadsLayer (Choice es s) n
       skipped : {e : Element} {s : Span} → ReadsLayer (Maybe e s) 0
-      taken : {e : Element} {s : Span} {n : ℕ} → Reads e n → ReadsLayer (Maybe e s) n
+      taken : {e : Element} {s : Span} {n : ℕ} → MayRead e n → ReadsLayer (Maybe e s) n
       repeated : {e : Element} {s : Span} {n : ℕ} → ReadsAgain e n → ReadsLayer (Many e s) n
-      repeated_once : {e : Element} {s : Span} {m n : ℕ} → Reads e m → ReadsAgain e n → ReadsLayer (Some1 e s) (m + n)
+      repeated_once : {e : Element} {s : Span} {m n : ℕ} → MayRead e m → ReadsAgain e n → ReadsLayer (Some1 e s) (m + n)
 
     -- each of a row, in order
     pub data ReadsAll : List Element → ℕ → Type 0 where
       none : ReadsAll [] 0
-      more : {e : Element} {es : List Element} {m n : ℕ} → Reads e m → ReadsAll es n → ReadsAll (e ∷ es) (m + n)
+      more : {e : Element} {es : List Element} {m n : ℕ} → MayRead e m → ReadsAll es n → ReadsAll (e ∷ es) (m + n)
 
     -- the same element any number of times
     pub data ReadsAgain : Element → ℕ → Type 0 where
       stop : {e : Element} → ReadsAgain e 0
-      again : {e : Element} {m n : ℕ} → Reads e m → ReadsAgain e n → ReadsAgain e (m + n)
+      again : {e : Element} {m n : ℕ} → MayRead e m → ReadsAgain e n → ReadsAgain e (m + n)
 
     -- a call by name
     pub data CallReads : List ℕ → ℕ → Type 0 where
       token : {name : List ℕ} → IsTokenCall name → CallReads name 1
-      rule_ : {name : List ℕ} {n : ℕ} (r : ℕ) (rule : Rule) → IsRule g name r rule → Reads rule.body n → CallReads name n
+      rule_ : {name : List ℕ} {n : ℕ} (r : ℕ) (rule : Rule) → IsRule g name r rule → MayRead rule.body n → CallReads name n
 
     pub data ValueReads : Value0 → ℕ → Type 0 where
       value_reads : {v : Value0} {n : ℕ} → ValueReadsLayer (out-Value0 v) n → ValueReads v n
@@ -90,7 +90,7 @@ module _ (g : Grammar) where
     -- of a row, in order: its first may come to it, or reads nothing, and one of the others may
     pub data LeadsAll : List Element → List ℕ → Type 0 where
       first : {e : Element} {es : List Element} {name : List ℕ} → Leads e name → LeadsAll (e ∷ es) name
-      later : {e : Element} {es : List Element} {name : List ℕ} → Reads e 0 → LeadsAll es name → LeadsAll (e ∷ es) name
+      later : {e : Element} {es : List Element} {name : List ℕ} → MayRead e 0 → LeadsAll es name → LeadsAll (e ∷ es) name
 
   -- By their numbers: the first rule may come to the second before it reads any token, over one call or more.
   pub data ComesFirstTo : ℕ → ℕ → Type 0 where

@@ -26,15 +26,15 @@ module _ (g : Grammar) where
   -- `Goes entered rule e steps`: the element e, written in this rule, may do these steps. A fragment that calls itself is looked into once:
   -- `entered` numbers those that are open.
   mutual
-    pub data Goes : List ℕ → Rule → Element → List Step → Type 0 where
-      goes : {entered : List ℕ} {rule : Rule} {e : Element} {steps : List Step} → GoesLayer entered rule (out-Element e) steps → Goes entered rule e steps
+    pub data GoesThrough : List ℕ → Rule → Element → List Step → Type 0 where
+      goes : {entered : List ℕ} {rule : Rule} {e : Element} {steps : List Step} → GoesLayer entered rule (out-Element e) steps → GoesThrough entered rule e steps
 
     pub data GoesLayer : List ℕ → Rule → Element-F Element → List Step → Type 0 where
       keyword : {entered : List ℕ} {rule : Rule} {text : List ℕ} {s : Span} → GoesLayer entered rule (Keyword text s) []
       called : {entered : List ℕ} {rule : Rule} {name : List ℕ} {s : Span} → ((f : ℕ) (fragment : Rule) → ¬ IsFragmentCall g (leaf.Call name s) f fragment) →
           GoesLayer entered rule (Call name s) (step rule (leaf.Call name s) ∷ [])
       put_in : {entered : List ℕ} {rule : Rule} {name : List ℕ} {s : Span} {steps : List Step} (f : ℕ) (fragment : Rule) →
-          IsFragmentCall g (leaf.Call name s) f fragment → ¬ Contains entered f → Goes (f ∷ entered) fragment fragment.body steps →
+          IsFragmentCall g (leaf.Call name s) f fragment → ¬ Contains entered f → GoesThrough (f ∷ entered) fragment fragment.body steps →
           GoesLayer entered rule (Call name s) steps
       looped : {entered : List ℕ} {rule : Rule} {name : List ℕ} {s : Span} (f : ℕ) (fragment : Rule) → IsFragmentCall g (leaf.Call name s) f fragment →
           Contains entered f → GoesLayer entered rule (Call name s) []
@@ -43,25 +43,25 @@ module _ (g : Grammar) where
       acted : {entered : List ℕ} {rule : Rule} {a : Action} → GoesLayer entered rule (Act a) (step rule (leaf.Act a) ∷ [])
       grouped : {entered : List ℕ} {rule : Rule} {es : List Element} {s : Span} {steps : List Step} → GoesAll entered rule es steps →
           GoesLayer entered rule (Group es s) steps
-      chosen : {entered : List ℕ} {rule : Rule} {es : List Element} {s : Span} {e : Element} {steps : List Step} → Contains es e → Goes entered rule e steps →
+      chosen : {entered : List ℕ} {rule : Rule} {es : List Element} {s : Span} {e : Element} {steps : List Step} → Contains es e → GoesThrough entered rule e steps →
           GoesLayer entered rule (Choice es s) steps
       skipped : {entered : List ℕ} {rule : Rule} {e : Element} {s : Span} → GoesLayer entered rule (Maybe e s) []
-      taken : {entered : List ℕ} {rule : Rule} {e : Element} {s : Span} {steps : List Step} → Goes entered rule e steps → GoesLayer entered rule (Maybe e s) steps
+      taken : {entered : List ℕ} {rule : Rule} {e : Element} {s : Span} {steps : List Step} → GoesThrough entered rule e steps → GoesLayer entered rule (Maybe e s) steps
       repeated : {entered : List ℕ} {rule : Rule} {e : Element} {s : Span} {steps : List Step} → GoesAgain entered rule e steps →
           GoesLayer entered rule (Many e s) steps
-      repeated_once : {entered : List ℕ} {rule : Rule} {e : Element} {s : Span} {first more : List Step} → Goes entered rule e first →
+      repeated_once : {entered : List ℕ} {rule : Rule} {e : Element} {s : Span} {first more : List Step} → GoesThrough entered rule e first →
           GoesAgain entered rule e more → GoesLayer entered rule (Some1 e s) (first ++ more)
 
     -- each of a row, in order
     pub data GoesAll : List ℕ → Rule → List Element → List Step → Type 0 where
       none : {entered : List ℕ} {rule : Rule} → GoesAll entered rule [] []
-      more : {entered : List ℕ} {rule : Rule} {e : Element} {es : List Element} {first others : List Step} → Goes entered rule e first →
+      more : {entered : List ℕ} {rule : Rule} {e : Element} {es : List Element} {first others : List Step} → GoesThrough entered rule e first →
           GoesAll entered rule es others → GoesAll entered rule (e ∷ es) (first ++ others)
 
     -- the same element any number of times
     pub data GoesAgain : List ℕ → Rule → Element → List Step → Type 0 where
       stop : {entered : List ℕ} {rule : Rule} {e : Element} → GoesAgain entered rule e []
-      again : {entered : List ℕ} {rule : Rule} {e : Element} {first others : List Step} → Goes entered rule e first → GoesAgain entered rule e others →
+      again : {entered : List ℕ} {rule : Rule} {e : Element} {first others : List Step} → GoesThrough entered rule e first → GoesAgain entered rule e others →
           GoesAgain entered rule e (first ++ others)
 
   -- On some way through the rule, which is no fragment, this step comes, and these before it.
@@ -69,7 +69,7 @@ module _ (g : Grammar) where
     pub within : Contains g.rules rule
     pub whole : rule.is_fragment ≡ false
     pub after : List Step
-    pub goes : Goes [] rule rule.body (before ++ at ∷ after)
+    pub goes : GoesThrough [] rule rule.body (before ++ at ∷ after)
 
   -- the step calls, without assigning it, a rule that makes nodes
   pub data CallsNode : Leaf → Rule → Type 0 where
@@ -89,9 +89,9 @@ NoneActs steps = All (λ x. ¬ IsAct x.leaf) steps
 module _ (g : Grammar) (rule : Rule) where
   -- The type that is current in the rule behind these steps: that of the last action, else of the rule of the last call of one that makes
   -- nodes, else of the rule itself.
-  pub data IsCurrent : List Step → List ℕ → Type 0 where
-    acted : (before after : List Step) (written : Rule) (a : Action) → NoneActs after → IsCurrent (before ++ step written (leaf.Act a) ∷ after) a.type_name
+  pub data IsCurrentType : List Step → List ℕ → Type 0 where
+    acted : (before after : List Step) (written : Rule) (a : Action) → NoneActs after → IsCurrentType (before ++ step written (leaf.Act a) ∷ after) a.type_name
     called : {type_name : List ℕ} (before after : List Step) (at : Step) (called : Rule) → NoneActs (before ++ at ∷ after) → CallsNode g at.leaf called →
-        All (λ x. ¬ IsNodeCall g x.leaf) after → HasType g called type_name → IsCurrent (before ++ at ∷ after) type_name
+        All (λ x. ¬ IsNodeCall g x.leaf) after → HasType g called type_name → IsCurrentType (before ++ at ∷ after) type_name
     own : {steps : List Step} {type_name : List ℕ} → NoneActs steps → All (λ x. ¬ IsNodeCall g x.leaf) steps → HasType g rule type_name →
-        IsCurrent steps type_name
+        IsCurrentType steps type_name

@@ -80,7 +80,7 @@ module _ (g : Grammar) where
   -- a type is named here: behind `returns` or `extends`, in a member, in a cross-reference, or in an action without `infer`
   pub data NamesType : ℕ → Span → List ℕ → Type 0 where
     returned : {s : Span} {name : List ℕ} (rule : Rule) → Contains g.rules rule → rule.result ≡ Returns name s → NamesType rule.file s name
-    extended : {s : Span} {name : List ℕ} (interface : Interface) → Contains g.interfaces interface → Contains interface.above (name, s) →
+    extending_type : {s : Span} {name : List ℕ} (interface : Interface) → Contains g.interfaces interface → Contains interface.above (name, s) →
         NamesType interface.file s name
     in_attribute : {s : Span} {name : List ℕ} (interface : Interface) (attribute : Attribute) (member : Member) → Contains g.interfaces interface →
         Contains interface.attributes attribute → Contains attribute.members member → MemberNames member s name → NamesType interface.file s name

@@ -12,7 +12,7 @@ ghost use Rattle.lw_grammar.specs.declared.fault.GrammarFault.{GrammarFault};
 ghost use Rattle.lw_grammar.specs.declared.grammar.Grammar.{Grammar};
 ghost use Rattle.lw_faults.specs.Derivations.{LeftRecursion, ReadsNothing, RepeatsNothing, NeverEnds};
 ghost use Rattle.lw_faults.specs.Faults.{IsTypeFault, IsCheckFault, AreTypeFaults, AreCheckFaults};
-ghost use Rattle.lw_faults.specs.Worked.{StandsAlone, StandsNowhere, place, nowhere, left_recursive, right_recursive, x_id, calling_b, alone, repeating, a_a, endless, word, makes_b, takes_b, row, action_and_word, acts_in_fragment, with_node, node_behind, node_before, node_and_word, puts, with_attribute, extended, united, x_by, id_call, i_reference, twice, unknown_twice, making_s, types_alone, extends, a_extending, b_extending, union_of, fragment_calling, terminal_calling, rules_alone, named_rule, in_file, a_entry, b_entry, entry_fragment, id_element, resulting, with_terminal, calling_terminal, crossing, assigning, y_id, node_rule, fragment_rule, x_value, behind_a, beside_interface, makes_declared, by_its_name, many_rules};
+ghost use Rattle.lw_faults.specs.Worked.{StandsAlone, StandsNowhere, place, no_place, left_recursive, right_recursive, x_id, calling_b, alone, repeating, a_a, endless, keyword_of, makes_b, takes_b, two_parts, action_and_word, acts_in_fragment, with_node, node_behind, node_before, node_and_word, puts, with_attribute, extending_type, united, x_by, calls_id, i_reference, twice, unknown_twice, making_s, types_alone, extends, a_extending, b_extending, union_of, fragment_calling, terminal_calling, of_rules, plain_rule, in_file, a_entry, b_entry, entry_fragment, id_element, resulting, with_terminal, calling_terminal, crossing, assigning, y_id, node_rule, fragment_rule, x_value, behind_a, beside_interface, makes_declared, by_its_name, many_rules};
 ghost use Rattle.lw_faults.specs.Names.{Duplicate, UnknownRule, UnknownType, NoNameRule};
 ghost use Rattle.lw_faults.specs.BadCalls.{BadCall, BadAssignment};
 ghost use Rattle.lw_faults.specs.Entries.{NoEntry, SecondEntry, EntryMakesNoNode, TooManyRules};
@@ -42,64 +42,64 @@ pub fn left_recursion()
 
 /// A rule that is called reads a token on every way; the entry rule need not.
 pub fn rules_that_read_nothing()
-    ensures optional { StandsAlone (ReadsNothing (calling_b (Maybe x_id nowhere))) 0 (place 24 25) (codes "B") }
+    ensures optional { StandsAlone (ReadsNothing (calling_b (Maybe x_id no_place))) 0 (place 24 25) (codes "B") }
     ensures always { StandsNowhere (ReadsNothing (calling_b x_id)) }
-    ensures entry { StandsNowhere (ReadsNothing (alone (Maybe x_id nowhere))) }
+    ensures entry { StandsNowhere (ReadsNothing (alone (Maybe x_id no_place))) }
 {}
 
 /// What is repeated reads a token each time.
 pub fn repeated_nothing()
-    ensures optional { StandsAlone (RepeatsNothing (repeating (Maybe x_id nowhere))) 0 (place 19 27) (codes "A") }
+    ensures optional { StandsAlone (RepeatsNothing (repeating (Maybe x_id no_place))) 0 (place 19 27) (codes "A") }
     ensures always { StandsNowhere (RepeatsNothing (repeating x_id)) }
 {}
 
 /// A rule that calls itself has to have a way without that call.
 pub fn rules_without_end()
     ensures always { StandsAlone (NeverEnds (endless a_a)) 0 (place 16 17) (codes "A") }
-    ensures optional { StandsNowhere (NeverEnds (endless (Maybe a_a nowhere))) }
+    ensures optional { StandsNowhere (NeverEnds (endless (Maybe a_a no_place))) }
 {}
 
 /// An action that makes the node is the first that a rule does, and one that takes the node so far is not. Keywords do not count, and
 /// what a fragment does stands in the fragment.
 pub fn misplaced_actions()
-    ensures behind { StandsAlone (MisplacedAction (row x_id (Act (makes_b (place 24 33))))) 0 (place 24 33) (codes "A") }
-    ensures before { (s : Span) → StandsNowhere (MisplacedAction (row (Act (makes_b s)) x_id)) }
-    ensures behind_keyword { (s : Span) → StandsNowhere (MisplacedAction (row (word (codes "k")) (Act (makes_b s)))) }
-    ensures repeated { StandsAlone (MisplacedAction (alone (Many action_and_word nowhere))) 0 (place 20 29) (codes "A") }
-    ensures optional { StandsNowhere (MisplacedAction (alone (Maybe action_and_word nowhere))) }
-    ensures takes_none { StandsAlone (MisplacedAction (row (Act (takes_b (place 19 38))) x_id)) 0 (place 19 38) (codes "A") }
-    ensures takes_some { (s : Span) → StandsNowhere (MisplacedAction (row x_id (Act (takes_b s)))) }
+    ensures behind { StandsAlone (MisplacedAction (two_parts x_id (Act (makes_b (place 24 33))))) 0 (place 24 33) (codes "A") }
+    ensures before { (s : Span) → StandsNowhere (MisplacedAction (two_parts (Act (makes_b s)) x_id)) }
+    ensures behind_keyword { (s : Span) → StandsNowhere (MisplacedAction (two_parts (keyword_of (codes "k")) (Act (makes_b s)))) }
+    ensures repeated { StandsAlone (MisplacedAction (alone (Many action_and_word no_place))) 0 (place 20 29) (codes "A") }
+    ensures optional { StandsNowhere (MisplacedAction (alone (Maybe action_and_word no_place))) }
+    ensures takes_none { StandsAlone (MisplacedAction (two_parts (Act (takes_b (place 19 38))) x_id)) 0 (place 19 38) (codes "A") }
+    ensures takes_some { (s : Span) → StandsNowhere (MisplacedAction (two_parts x_id (Act (takes_b s)))) }
     ensures in_fragment { StandsAlone (MisplacedAction acts_in_fragment) 0 (place 39 48) (codes "F") }
 {}
 
 /// A rule that makes nodes is called before anything is put into the node. A terminal may be called anywhere.
 pub fn misplaced_calls()
-    ensures behind { StandsAlone (MisplacedCall (with_node (Group node_behind nowhere))) 0 (place 24 25) (codes "B") }
-    ensures before { StandsNowhere (MisplacedCall (with_node (Group node_before nowhere))) }
-    ensures repeated { StandsAlone (MisplacedCall (with_node (Many node_and_word nowhere))) 0 (place 20 21) (codes "B") }
-    ensures optional { StandsNowhere (MisplacedCall (with_node (Maybe node_and_word nowhere))) }
-    ensures token { (s : Span) → StandsNowhere (MisplacedCall (row x_id (Call (codes "ID") s))) }
+    ensures behind { StandsAlone (MisplacedCall (with_node (Group node_behind no_place))) 0 (place 24 25) (codes "B") }
+    ensures before { StandsNowhere (MisplacedCall (with_node (Group node_before no_place))) }
+    ensures repeated { StandsAlone (MisplacedCall (with_node (Many node_and_word no_place))) 0 (place 20 21) (codes "B") }
+    ensures optional { StandsNowhere (MisplacedCall (with_node (Maybe node_and_word no_place))) }
+    ensures token { (s : Span) → StandsNowhere (MisplacedCall (two_parts x_id (Call (codes "ID") s))) }
 {}
 
 /// A declared type has the properties that it and what it extends declare. A union has none.
 pub fn unknown_properties()
-    ensures undeclared { StandsAlone (UnknownProperty (with_attribute false (Plain Text) (Assign (codes "y") One id_call (place 55 59)))) 0 (place 55 59) (codes "y") }
-    ensures declared { (s : Span) → StandsNowhere (UnknownProperty (with_attribute false (Plain Text) (x_by One id_call s))) }
-    ensures extended { (s : Span) → StandsNowhere (UnknownProperty (extended (x_by One id_call s))) }
-    ensures union_ { StandsAlone (UnknownProperty (united (x_by One id_call (place 67 71)))) 0 (place 67 71) (codes "x") }
+    ensures undeclared { StandsAlone (UnknownProperty (with_attribute false (Plain Text) (Assign (codes "y") One calls_id (place 55 59)))) 0 (place 55 59) (codes "y") }
+    ensures declared { (s : Span) → StandsNowhere (UnknownProperty (with_attribute false (Plain Text) (x_by One calls_id s))) }
+    ensures extended { (s : Span) → StandsNowhere (UnknownProperty (extending_type (x_by One calls_id s))) }
+    ensures union_ { StandsAlone (UnknownProperty (united (x_by One calls_id (place 67 71)))) 0 (place 67 71) (codes "x") }
 {}
 
 /// What is put into a declared property has its form: a list by `+=`, `boolean` by `?=`, and what is referred to by a cross-reference.
 pub fn property_forms()
-    ensures one_into_list { StandsAlone (WrongPropertyForm (with_attribute true (Plain Text) (x_by One id_call (place 57 61)))) 0 (place 57 61) (codes "x") }
-    ensures added_to_list { (s : Span) → StandsNowhere (WrongPropertyForm (with_attribute true (Plain Text) (x_by Add id_call s))) }
-    ensures added_to_one { StandsAlone (WrongPropertyForm (with_attribute false (Plain Text) (x_by Add id_call (place 55 60)))) 0 (place 55 60) (codes "x") }
-    ensures one { (s : Span) → StandsNowhere (WrongPropertyForm (with_attribute false (Plain Text) (x_by One id_call s))) }
-    ensures flag_into_text { StandsAlone (WrongPropertyForm (with_attribute false (Plain Text) (x_by Flag (value.Keyword (codes "k") nowhere) (place 55 61)))) 0 (place 55 61) (codes "x") }
-    ensures flag { (s : Span) → StandsNowhere (WrongPropertyForm (with_attribute false (Plain Boolean) (x_by Flag (value.Keyword (codes "k") nowhere) s))) }
-    ensures text_for_reference { StandsAlone (WrongPropertyForm (with_attribute false (Refers (codes "I") nowhere) (x_by One id_call (place 51 55)))) 0 (place 51 55) (codes "x") }
+    ensures one_into_list { StandsAlone (WrongPropertyForm (with_attribute true (Plain Text) (x_by One calls_id (place 57 61)))) 0 (place 57 61) (codes "x") }
+    ensures added_to_list { (s : Span) → StandsNowhere (WrongPropertyForm (with_attribute true (Plain Text) (x_by Add calls_id s))) }
+    ensures added_to_one { StandsAlone (WrongPropertyForm (with_attribute false (Plain Text) (x_by Add calls_id (place 55 60)))) 0 (place 55 60) (codes "x") }
+    ensures one { (s : Span) → StandsNowhere (WrongPropertyForm (with_attribute false (Plain Text) (x_by One calls_id s))) }
+    ensures flag_into_text { StandsAlone (WrongPropertyForm (with_attribute false (Plain Text) (x_by Flag (value.Keyword (codes "k") no_place) (place 55 61)))) 0 (place 55 61) (codes "x") }
+    ensures flag { (s : Span) → StandsNowhere (WrongPropertyForm (with_attribute false (Plain Boolean) (x_by Flag (value.Keyword (codes "k") no_place) s))) }
+    ensures text_for_reference { StandsAlone (WrongPropertyForm (with_attribute false (Refers (codes "I") no_place) (x_by One calls_id (place 51 55)))) 0 (place 51 55) (codes "x") }
     ensures reference_for_text { StandsAlone (WrongPropertyForm (with_attribute false (Plain Text) (x_by One i_reference (place 55 63)))) 0 (place 55 63) (codes "x") }
-    ensures reference { (s : Span) → StandsNowhere (WrongPropertyForm (with_attribute false (Refers (codes "I") nowhere) (x_by One i_reference s))) }
+    ensures reference { (s : Span) → StandsNowhere (WrongPropertyForm (with_attribute false (Refers (codes "I") no_place) (x_by One i_reference s))) }
 {}
 
 /// A property of an inferred type is a list each time that something is put into it, or never. Of an unknown type that is not asked.
@@ -114,7 +114,7 @@ pub fn mixed_properties()
 /// A rule that returns a declared type makes nodes of it and of what is below it.
 pub fn types_that_are_not_below()
     ensures apart { StandsAlone (NotASubtype (making_s [] (place 59 62))) 0 (place 59 62) (codes "S") }
-    ensures below { (s : Span) → StandsNowhere (NotASubtype (making_s ((codes "T", nowhere) ∷ []) s)) }
+    ensures below { (s : Span) → StandsNowhere (NotASubtype (making_s ((codes "T", no_place) ∷ []) s)) }
 {}
 
 /// No interface extends itself or what is no interface, and no union is a member of itself. A union may have an interface as a member that
@@ -124,10 +124,10 @@ pub fn circular_types()
     ensures first_of_two { CircularType (types_alone (a_extending (extends (codes "B")) ∷ b_extending (extends (codes "A")) ∷ []) []) 0 (place 20 21) (codes "A") }
     ensures second_of_two { CircularType (types_alone (a_extending (extends (codes "B")) ∷ b_extending (extends (codes "A")) ∷ []) []) 0 (place 45 46) (codes "B") }
     ensures other { StandsNowhere (CircularType (types_alone (a_extending (extends (codes "B")) ∷ b_extending [] ∷ []) [])) }
-    ensures union_ { StandsAlone (CircularType (types_alone [] (union_of (Named (codes "U") nowhere) ∷ []))) 0 (place 15 16) (codes "U") }
-    ensures references { StandsNowhere (CircularType (types_alone [] (union_of (Refers (codes "U") nowhere) ∷ []))) }
+    ensures union_ { StandsAlone (CircularType (types_alone [] (union_of (Named (codes "U") no_place) ∷ []))) 0 (place 15 16) (codes "U") }
+    ensures references { StandsNowhere (CircularType (types_alone [] (union_of (Refers (codes "U") no_place) ∷ []))) }
     ensures no_interface { StandsAlone (CircularType (types_alone (a_extending (extends (codes "U")) ∷ []) (union_of (Literal (codes "a")) ∷ []))) 0 (place 20 21) (codes "A") }
-    ensures member_extends { StandsAlone (CircularType (types_alone (a_extending (extends (codes "U")) ∷ []) (union_of (Named (codes "A") nowhere) ∷ []))) 0 (place 20 21) (codes "A") }
+    ensures member_extends { StandsAlone (CircularType (types_alone (a_extending (extends (codes "U")) ∷ []) (union_of (Named (codes "A") no_place) ∷ []))) 0 (place 20 21) (codes "A") }
     ensures unknown { StandsNowhere (CircularType (types_alone (a_extending (extends (codes "Z")) ∷ []) [])) }
 {}
 
@@ -141,13 +141,13 @@ pub fn circular_calls()
 
 /// The root file has one entry rule, which makes a node. What an imported file marks as an entry is none.
 pub fn entries()
-    ensures none { StandsAlone (NoEntry (rules_alone (named_rule (codes "A") nowhere x_id ∷ []))) 0 nowhere (codes "G") }
-    ensures imported { StandsAlone (NoEntry (rules_alone (in_file 1 a_entry ∷ []))) 0 nowhere (codes "G") }
-    ensures one { StandsNowhere (NoEntry (rules_alone (a_entry ∷ []))) }
-    ensures two { StandsAlone (SecondEntry (rules_alone (a_entry ∷ b_entry ∷ []))) 0 (place 31 32) (codes "B") }
-    ensures one_imported { StandsNowhere (SecondEntry (rules_alone (a_entry ∷ in_file 1 b_entry ∷ []))) }
+    ensures none { StandsAlone (NoEntry (of_rules (plain_rule (codes "A") no_place x_id ∷ []))) 0 no_place (codes "G") }
+    ensures imported { StandsAlone (NoEntry (of_rules (in_file 1 a_entry ∷ []))) 0 no_place (codes "G") }
+    ensures one { StandsNowhere (NoEntry (of_rules (a_entry ∷ []))) }
+    ensures two { StandsAlone (SecondEntry (of_rules (a_entry ∷ b_entry ∷ []))) 0 (place 31 32) (codes "B") }
+    ensures one_imported { StandsNowhere (SecondEntry (of_rules (a_entry ∷ in_file 1 b_entry ∷ []))) }
     ensures text { StandsAlone (EntryMakesNoNode (alone id_element)) 0 (place 16 17) (codes "A") }
-    ensures fragment_ { StandsAlone (EntryMakesNoNode (rules_alone (entry_fragment ∷ []))) 0 (place 25 26) (codes "A") }
+    ensures fragment_ { StandsAlone (EntryMakesNoNode (of_rules (entry_fragment ∷ []))) 0 (place 25 26) (codes "A") }
     ensures node { StandsNowhere (EntryMakesNoNode (alone x_id)) }
 {}
 
@@ -155,10 +155,10 @@ pub fn entries()
 pub fn data_types()
     ensures nodes_as_text { StandsAlone (MixedDataTypeRule (resulting (Gives Text) [] x_id)) 0 (place 16 17) (codes "A") }
     ensures text { StandsNowhere (MixedDataTypeRule (resulting (Gives Text) [] id_element)) }
-    ensures inferred { StandsAlone (MixedDataTypeRule (resulting (Infers (codes "B") nowhere) [] id_element)) 0 (place 16 17) (codes "A") }
-    ensures inferred_node { StandsNowhere (MixedDataTypeRule (resulting (Infers (codes "B") nowhere) [] x_id)) }
-    ensures nodes_by_union { StandsAlone (MixedDataTypeRule (resulting (Returns (codes "U") nowhere) (union_of (Named (codes "A") nowhere) ∷ []) id_element)) 0 (place 16 17) (codes "A") }
-    ensures texts_by_union { StandsNowhere (MixedDataTypeRule (resulting (Returns (codes "U") nowhere) (union_of (Literal (codes "a")) ∷ []) id_element)) }
+    ensures inferred { StandsAlone (MixedDataTypeRule (resulting (Infers (codes "B") no_place) [] id_element)) 0 (place 16 17) (codes "A") }
+    ensures inferred_node { StandsNowhere (MixedDataTypeRule (resulting (Infers (codes "B") no_place) [] x_id)) }
+    ensures nodes_by_union { StandsAlone (MixedDataTypeRule (resulting (Returns (codes "U") no_place) (union_of (Named (codes "A") no_place) ∷ []) id_element)) 0 (place 16 17) (codes "A") }
+    ensures texts_by_union { StandsNowhere (MixedDataTypeRule (resulting (Returns (codes "U") no_place) (union_of (Literal (codes "a")) ∷ []) id_element)) }
 {}
 
 /// A rule calls no terminal that is hidden or a fragment, a terminal no rule; a range goes up, and a cross-reference reads no node.
@@ -167,10 +167,10 @@ pub fn bad_calls()
     ensures fragment_ { StandsAlone (BadCall (calling_terminal false true)) 0 (place 21 22) (codes "T") }
     ensures token { StandsNowhere (BadCall (calling_terminal false false)) }
     ensures of_rule { StandsAlone (BadCall (with_terminal (term.Call (codes "A") (place 37 38)))) 0 (place 37 38) (codes "A") }
-    ensures of_terminal { StandsNowhere (BadCall (with_terminal (term.Call (codes "ID") nowhere))) }
+    ensures of_terminal { StandsNowhere (BadCall (with_terminal (term.Call (codes "ID") no_place))) }
     ensures down { StandsAlone (BadCall (with_terminal (term.Range (codes "b") (codes "a") (place 37 45)))) 0 (place 37 45) (codes "T") }
     ensures two_characters { StandsAlone (BadCall (with_terminal (term.Range (codes "ab") (codes "c") (place 37 46)))) 0 (place 37 46) (codes "T") }
-    ensures one_character { StandsNowhere (BadCall (with_terminal (term.Range (codes "a") (codes "a") nowhere))) }
+    ensures one_character { StandsNowhere (BadCall (with_terminal (term.Range (codes "a") (codes "a") no_place))) }
     ensures to_node { StandsAlone (BadCall (crossing y_id)) 0 (place 21 26) (codes "B") }
     ensures to_text { StandsNowhere (BadCall (crossing id_element)) }
 {}
@@ -179,8 +179,8 @@ pub fn bad_calls()
 pub fn bad_assignments()
     ensures flag_by_node { StandsAlone (BadAssignment (assigning Flag (place 19 23) node_rule)) 0 (place 19 23) (codes "x") }
     ensures node { (s : Span) → StandsNowhere (BadAssignment (assigning One s node_rule)) }
-    ensures flag_by_text { (s : Span) → StandsNowhere (BadAssignment (assigning Flag s (named_rule (codes "B") nowhere id_element))) }
-    ensures fragment_ { StandsAlone (BadAssignment (assigning One (place 19 22) (fragment_rule (codes "F") nowhere y_id))) 0 (place 19 22) (codes "x") }
+    ensures flag_by_text { (s : Span) → StandsNowhere (BadAssignment (assigning Flag s (plain_rule (codes "B") no_place id_element))) }
+    ensures fragment_ { StandsAlone (BadAssignment (assigning One (place 19 22) (fragment_rule (codes "F") no_place y_id))) 0 (place 19 22) (codes "x") }
 {}
 
 /// A name is declared once, and an inferred type is none that is declared.
@@ -207,11 +207,11 @@ pub fn unknown_types()
 /// A cross-reference that names no rule is to a type whose nodes have names.
 pub fn name_rules()
     ensures nameless { StandsAlone (NoNameRule (alone (by_its_name (place 21 24)))) 0 (place 21 24) (codes "A") }
-    ensures named { (s : Span) → StandsNowhere (NoNameRule (row (puts (codes "name") (codes "ID")) (by_its_name s))) }
+    ensures named { (s : Span) → StandsNowhere (NoNameRule (two_parts (puts (codes "name") (codes "ID")) (by_its_name s))) }
 {}
 
 /// Rules, terminals and actions are at most 1,024.
 pub fn sizes()
-    ensures too_many { StandsAlone (TooManyRules (many_rules 1024)) 0 nowhere (codes "G") }
+    ensures too_many { StandsAlone (TooManyRules (many_rules 1024)) 0 no_place (codes "G") }
     ensures most { StandsNowhere (TooManyRules (many_rules 1023)) }
 {}

@@ -15,7 +15,8 @@ use Rattle.lw_reading.specs.Reading.{Reads}
 use Rattle.lw_reading.specs.Reading as reading
 use Rattle.lw_lang.specs.Rows.{ReadsRow}
 use Rattle.lw_grammar.specs.KindTexts.{texts_of}
-use Rattle.lw_lang.specs.Language.{LanguageView, IfBroken, IsNamed, IsIssueWithin, IsSpanWithin}
+use Rattle.lw_syntax.specs.PlacesWithin.{IsWithin}
+use Rattle.lw_lang.specs.Language.{LanguageView, IfBroken, IsNamed, IsIssueWithin}
 use Rattle.lw_lang.specs.Ready.{seen_as, IsLanguageReady}
 use Rattle.lw_lang.specs.declared.language.Language.TheInside.{Inside}
 use Rattle.lw_lang.proofs.RowReading.{ReadsBy-from_row}
@@ -61,7 +62,7 @@ module _ (l : Inside) (seen : LanguageView) (is : seen_as l ≡ seen) (ready : I
     within = within_by_row _ (visible cut_tokens) (length text) _ (visible_known l.tokens.lexicon text cut_tokens cut) text refl row_here
 
 -- a character stands inside the text
-pub character_within : (text : List ℕ) (s : Span) → s.start < length text → IsCharacterAt text s → IsSpanWithin text s
+pub character_within : (text : List ℕ) (s : Span) → s.start < length text → IsCharacterAt text s → IsWithin text s
 character_within text s inside at =
     let behind : length (drop s.start text) ≡ length (encode_utf8 at.0) + length at.2 = ap length at.3 ∙ length-append (encode_utf8 at.0) at.2 in
     (omega (arith, inside), omega (arith, inside, behind, at.4, length-drop s.start text))

@@ -1,7 +1,7 @@
 -- What callers see of a language: its grammar, and the texts by which messages name its kinds.
 use Rattle.std.specs.Prelude.{ℕ, ◌<◌, ◌≤◌, List, length}
-use Rattle.lw_base.specs.declared.token.Span.{Span}
 use Rattle.lw_grammar.specs.declared.grammar.Grammar.{Grammar}
+use Rattle.lw_syntax.specs.PlacesWithin.{IsWithin}
 use Rattle.lw_reading.specs.declared.issue.Issue.{Issue}
 use Rattle.lw_reading.specs.declared.issue.Issue.TheVariants.{Lexical, Syntax, End, TooLarge}
 use Rattle.lw_reading.specs.declared.issue.Parsed.{Parsed}
@@ -16,14 +16,10 @@ abbrev pub IsNamed : List (List ℕ) → Issue → Type 0
 IsNamed texts (Syntax s kind) = kind.0 < length texts
 IsNamed texts _ = Unit {0}
 
--- a span whose ends are in the text or at its end
-abbrev pub IsSpanWithin : List ℕ → Span → Type 0
-IsSpanWithin text s = (s.start ≤ length text) × (s.end ≤ length text)
-
 -- the place of a fault is in the text or at its end
 abbrev pub IsIssueWithin : List ℕ → Issue → Type 0
-IsIssueWithin text (Lexical s) = IsSpanWithin text s
-IsIssueWithin text (Syntax s kind) = IsSpanWithin text s
+IsIssueWithin text (Lexical s) = IsWithin text s
+IsIssueWithin text (Syntax s kind) = IsWithin text s
 IsIssueWithin text (End at) = at ≤ length text
 IsIssueWithin text TooLarge = Unit {0}
 

@@ -10,7 +10,7 @@ use Rattle.lw_load.specs.Paths.{import_path}
 use Rattle.lw_load.specs.Loading.{Files, imports_in}
 use Rattle.lw_load.specs.Standing.{Stands}
 use Rattle.lw_load.specs.Opening.{IsFound}
-use Rattle.lw_load.specs.Walking.{Adds, Begins, Goes}
+use Rattle.lw_load.specs.Walking.{Adds, BeginsWalk, Goes}
 use Rattle.lw_load.proofs.Grown.{size_grown, stands_grown, stands_bare}
 use Rattle.lw_load.proofs.Ways.{Takes}
 
@@ -54,7 +54,7 @@ module _ (told : Option Files) (path : List ℕ) (old new : Walk) (file : Opened
 imports_counted : (g : Grammar) → length g.imports ≤ size g
 imports_counted g = omega arith
 
-pub keeps_begins : (told : Option Files) (root : List ℕ) (walk : Walk) → Begins told root walk → Keeps walk
+pub keeps_begins : (told : Option Files) (root : List ℕ) (walk : Walk) → BeginsWalk told root walk → Keeps walk
 keeps_begins told root walk b = record {
   size = size_added told root b.empty walk b.file b.is b.adds (b.size ∙ sym (ap size b.whole));
   fits = b.adds.fits;

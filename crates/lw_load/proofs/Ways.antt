@@ -17,7 +17,7 @@ use Rattle.lw_load.specs.Paths.{import_path}
 use Rattle.lw_load.specs.Loading.{Files, Address, root_address, import_address, LoadedFile, imports_of, IsAmong, size_of_all, LoadsNext, with_file, with_files, as_one, Loads}
 use Rattle.lw_load.specs.LoadFaults.{ArrivesAt, StopsAt, Stops, IsOfFiles}
 use Rattle.lw_load.specs.Opening.{IsFound, CannotLoad}
-use Rattle.lw_load.specs.Walking.{Adds, Begins, Goes}
+use Rattle.lw_load.specs.Walking.{Adds, BeginsWalk, Goes}
 use Rattle.lw_load.proofs.Denied.{same_text}
 use Rattle.lw_load.proofs.Routes.{Leads, leads_root, leads_known, leads_opened, leads_end, leads_only, leads_next, leads_nowhere}
 
@@ -166,7 +166,7 @@ same_loaded {a = a} {g = g} e h = ap (λ x. grammar_with x a.texts) e ∙ ap (λ
 -- ---- the walk
 
 -- the root was loaded
-way_begins : (files : Files) (root : List ℕ) (walk : Walk) → Begins (Some files) root walk → IsOnWay files root walk
+way_begins : (files : Files) (root : List ℕ) (walk : Walk) → BeginsWalk (Some files) root walk → IsOnWay files root walk
 way_begins files root walk b = record {
   first = f;
   more = [];
@@ -284,7 +284,7 @@ module _ (files : Files) (root : List ℕ) (walk : Walk) (way : IsOnWay files ro
 
 -- ---- where the store may tell its files
 
-pub told_begins : (told : Option Files) (root : List ℕ) (walk : Walk) → Begins told root walk → IfSome told (λ files. IsOnWay files root walk)
+pub told_begins : (told : Option Files) (root : List ℕ) (walk : Walk) → BeginsWalk told root walk → IfSome told (λ files. IsOnWay files root walk)
 told_begins None root walk b = tt
 told_begins (Some files) root walk b = way_begins files root walk b
 

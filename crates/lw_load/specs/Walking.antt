@@ -18,7 +18,7 @@ pub record Adds (old : Walk) (file : Opened) (new : Walk) : Type 0 where
   pub fits : new.size ≤ LARGEST_GRAMMAR
 
 -- the root was loaded
-pub record Begins (told : Option Files) (root : List ℕ) (walk : Walk) : Type 0 where
+pub record BeginsWalk (told : Option Files) (root : List ℕ) (walk : Walk) : Type 0 where
   pub file : Opened
   pub is : IsFound told root file
   pub empty : Walk

@@ -8,7 +8,7 @@ ghost use Rattle.lw_load.specs.Paths.{import_path};
 ghost use Rattle.lw_load.specs.Loading.{with_file};
 ghost use Rattle.lw_load.specs.LoadFaults.{CountsLoad};
 ghost use Rattle.lw_load.specs.Opening.{CannotLoad};
-ghost use Rattle.lw_load.specs.Walking.{Adds, Begins, Goes};
+ghost use Rattle.lw_load.specs.Walking.{Adds, BeginsWalk, Goes};
 
 use crate::fault::LoadFault;
 use crate::join::join;
@@ -44,7 +44,7 @@ impl Walk {
         root: &Name,
         store: &mut F,
     ) -> Result<Walk, LoadFault>
-        ensures begins { IfOk result (Begins (F.files store.old) root.now) }
+        ensures begins { IfOk result (BeginsWalk (F.files store.old) root.now) }
         ensures fault { IfErr result (λ fault. IfSome (F.files store.old) (λ files. CannotLoad files 0 root.now fault)) }
         ensures store { CountsLoad (F.count store.old) (F.count store.new) result }
         ensures files { F.files store.new ≡ F.files store.old }

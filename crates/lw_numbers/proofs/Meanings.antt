@@ -11,7 +11,7 @@ use Rattle.lw_numbers.specs.declared.standing.Place.{Place}
 use Rattle.lw_numbers.specs.declared.standing.Standing.{Standing}
 use Rattle.lw_numbers.specs.Numbering.{IsNumbered}
 use Rattle.lw_numbers.specs.Numbering as numbered
-use Rattle.lw_numbers.specs.Standing.{IsBefore, IsSooner, rule_, terminal_, place_of, StandsAs}
+use Rattle.lw_numbers.specs.Standing.{IsBefore, IsSooner, rule_, terminal_, declared_place, StandsAs}
 use Rattle.lw_numbers.specs.Tables.{Tables, AreNumbersOf}
 
 -- what stands before the earliest stands before each that is no earlier
@@ -47,7 +47,7 @@ module _ {X Y : Type 0} (declared_by : X → Declaration) (other_by : Y → Decl
   meant_before s t one two before = record {
     first = one.is_first;
     sooner = λ other has named.
-        before_all (place_of (declared_by one.item)) t.earliest (place_of (other_by other)) (subst (λ p. IsBefore p t.earliest) one.place before)
+        before_all (declared_place (declared_by one.item)) t.earliest (declared_place (other_by other)) (subst (λ p. IsBefore p t.earliest) one.place before)
         (two.none_sooner other has named);
   }
 
@@ -58,9 +58,9 @@ module _ {X Y : Type 0} (declared_by : X → Declaration) (other_by : Y → Decl
   -- what is meant stands before all of the other list
   pub before_where_meant : (s t : Standing) → StandsAs declared_by first xs name s → StandsAs other_by second others name t → (i : ℕ) (x : X) → Meant i x → IsBefore s.place t.earliest
   before_where_meant s t one two i x meant =
-      let same = ap (λ y. place_of (declared_by y)) (first_item meant.first one.is_first) ∙ sym one.place in
-      let before : IsBefore (place_of (declared_by x)) (place_of (other_by two.soonest)) = meant.sooner two.soonest two.among two.named in
-      subst (IsBefore s.place) (sym two.earliest) (subst (λ p. IsBefore p (place_of (other_by two.soonest))) same before)
+      let same = ap (λ y. declared_place (declared_by y)) (first_item meant.first one.is_first) ∙ sym one.place in
+      let before : IsBefore (declared_place (declared_by x)) (declared_place (other_by two.soonest)) = meant.sooner two.soonest two.among two.named in
+      subst (IsBefore s.place) (sym two.earliest) (subst (λ p. IsBefore p (declared_place (other_by two.soonest))) same before)
 
   -- what is meant is in the list
   pub not_meant : NoneHere → (i : ℕ) (x : X) → Meant i x → ⊥

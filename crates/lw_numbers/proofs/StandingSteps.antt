@@ -12,7 +12,7 @@ use Rattle.std.proofs.lemmas.Slice.Eq.{bytes_eq-Decides}
 use Rattle.lw_grammar.specs.Named.{Declaration, IsFirst}
 use Rattle.lw_numbers.specs.declared.standing.Place.{Place}
 use Rattle.lw_numbers.specs.declared.standing.Standing.{Standing}
-use Rattle.lw_numbers.specs.Standing.{IsBefore, place_of, Meets, StandsAs, StandAmong}
+use Rattle.lw_numbers.specs.Standing.{IsBefore, declared_place, Meets, StandsAs, StandAmong}
 
 -- ---- places
 
@@ -94,7 +94,7 @@ module _ {X : Type 0} (declared_by : X → Declaration) (first : ℕ) (xs : List
 
   -- the new one has the name, which stood there
   stands_met : (name : List ℕ) (old new : Standing) → (declared_by x).name ≡ name → StandsAs declared_by first xs name old →
-      Meets (place_of (declared_by x)) old new → StandsAs declared_by first (xs ++ x ∷ []) name new
+      Meets (declared_place (declared_by x)) old new → StandsAs declared_by first (xs ++ x ∷ []) name new
   stands_met name old new is stands (inl sooner) = record {
     at = stands.at;
     item = stands.item;
@@ -106,10 +106,10 @@ module _ {X : Type 0} (declared_by : X → Declaration) (first : ℕ) (xs : List
     named = is;
     earliest = ap (λ s. s.earliest) sooner.1;
     none_sooner = λ y has named before.
-        let still : IsBefore (place_of (declared_by y)) (place_of (declared_by x)) = subst (IsBefore (place_of (declared_by y))) (ap (λ s. s.earliest) sooner.1) before in
+        let still : IsBefore (declared_place (declared_by y)) (declared_place (declared_by x)) = subst (IsBefore (declared_place (declared_by y))) (ap (λ s. s.earliest) sooner.1) before in
         elim (old_or_new xs x y has) [
-          | inl was ↦ stands.none_sooner y was named (before_trans (place_of (declared_by y)) (place_of (declared_by x)) old.earliest still sooner.0)
-          | inr same ↦ not_before_itself (place_of (declared_by x)) (subst (λ z. IsBefore (place_of (declared_by z)) (place_of (declared_by x))) (sym same) still)
+          | inl was ↦ stands.none_sooner y was named (before_trans (declared_place (declared_by y)) (declared_place (declared_by x)) old.earliest still sooner.0)
+          | inr same ↦ not_before_itself (declared_place (declared_by x)) (subst (λ z. IsBefore (declared_place (declared_by z)) (declared_place (declared_by x))) (sym same) still)
         ];
   }
   stands_met name old new is stands (inr later) = record {
@@ -123,18 +123,18 @@ module _ {X : Type 0} (declared_by : X → Declaration) (first : ℕ) (xs : List
     named = stands.named;
     earliest = ap (λ s. s.earliest) later.1 ∙ stands.earliest;
     none_sooner = λ y has named before.
-        let still : IsBefore (place_of (declared_by y)) old.earliest = subst (IsBefore (place_of (declared_by y))) (ap (λ s. s.earliest) later.1) before in
+        let still : IsBefore (declared_place (declared_by y)) old.earliest = subst (IsBefore (declared_place (declared_by y))) (ap (λ s. s.earliest) later.1) before in
         elim (old_or_new xs x y has) [
           | inl was ↦ stands.none_sooner y was named still
-          | inr same ↦ later.0 (subst (λ z. IsBefore (place_of (declared_by z)) old.earliest) (sym same) still)
+          | inr same ↦ later.0 (subst (λ z. IsBefore (declared_place (declared_by z)) old.earliest) (sym same) still)
         ];
   }
 
   -- the new one is the first of its name
   pub record Begins (s : Standing) : Type 0 where
     pub number : s.number.0 ≡ first + length xs
-    pub place : s.place ≡ place_of (declared_by x)
-    pub earliest : s.earliest ≡ place_of (declared_by x)
+    pub place : s.place ≡ declared_place (declared_by x)
+    pub earliest : s.earliest ≡ declared_place (declared_by x)
 
   stands_first : (name : List ℕ) (s : Standing) → (declared_by x).name ≡ name → ((y : X) → Contains xs y → ¬ ((declared_by y).name ≡ name)) → Begins s →
       StandsAs declared_by first (xs ++ x ∷ []) name s
@@ -150,8 +150,8 @@ module _ {X : Type 0} (declared_by : X → Declaration) (first : ℕ) (xs : List
     earliest = begins.earliest;
     none_sooner = λ y has named before. elim (old_or_new xs x y has) [
       | inl was ↦ none y was named
-      | inr same ↦ not_before_itself (place_of (declared_by x))
-          (subst (λ z. IsBefore (place_of (declared_by z)) (place_of (declared_by x))) (sym same) (subst (IsBefore (place_of (declared_by y))) begins.earliest before))
+      | inr same ↦ not_before_itself (declared_place (declared_by x))
+          (subst (λ z. IsBefore (declared_place (declared_by z)) (declared_place (declared_by x))) (sym same) (subst (IsBefore (declared_place (declared_by y))) begins.earliest before))
     ];
   }
 
@@ -166,13 +166,13 @@ module _ {X : Type 0} (declared_by : X → Declaration) (first : ℕ) (xs : List
   others_still name (Some s) other stands = stands_still name s other stands
 
   one_stands : (name : List ℕ) (found : Option Standing) (new : Standing) → (declared_by x).name ≡ name → Among xs name found →
-      MatchOption found (Begins new) (λ old. Meets (place_of (declared_by x)) old new) → StandsAs declared_by first (xs ++ x ∷ []) name new
+      MatchOption found (Begins new) (λ old. Meets (declared_place (declared_by x)) old new) → StandsAs declared_by first (xs ++ x ∷ []) name new
   one_stands name None new is none begins = stands_first name new is none begins
   one_stands name (Some old) new is stands meets = stands_met name old new is stands meets
 
   -- the entries, with the standing of the new one's name put in
   stand_more : (before after : List (List ℕ × Standing)) (new : Standing) → StandAmong declared_by first xs before →
-      MatchOption (lookup (bytes_eq (declared_by x).name) before) (Begins new) (λ old. Meets (place_of (declared_by x)) old new) →
+      MatchOption (lookup (bytes_eq (declared_by x).name) before) (Begins new) (λ old. Meets (declared_place (declared_by x)) old new) →
       ((q : List ℕ) → lookup (bytes_eq q) after ≡ cond (bytes_eq (declared_by x).name q) (Some new) (lookup (bytes_eq q) before)) →
       StandAmong declared_by first (xs ++ x ∷ []) after
   stand_more before after new stand is updates q = subst (Among (xs ++ x ∷ []) q) (sym (updates q)) (by (bytes_eq (declared_by x).name q) refl)
@@ -184,7 +184,7 @@ module _ {X : Type 0} (declared_by : X → Declaration) (first : ℕ) (xs : List
       by true same =
           let is_q : (declared_by x).name ≡ q = decides.0 same in
           one_stands q (lookup (bytes_eq q) before) new is_q (stand q)
-          (subst (λ name. MatchOption (lookup (bytes_eq name) before) (Begins new) (λ old. Meets (place_of (declared_by x)) old new)) is_q is)
+          (subst (λ name. MatchOption (lookup (bytes_eq name) before) (Begins new) (λ old. Meets (declared_place (declared_by x)) old new)) is_q is)
       by false apart = others_still q (lookup (bytes_eq q) before) (λ is. true≢false (sym (decides.1 is) ∙ apart)) (stand q)
 
 -- new is the standing after one more declaration, at this place and of this number, where found was the one before
@@ -195,9 +195,9 @@ Continues place number found new =
 -- the same in a loop over items
 module _ {X : Type 0} (declared_by : X → Declaration) (first : ℕ) (items : List X) (i : ℕ) (x : X) (inside : i < length items) (there : x ≡ get_or items i x) where
   abbrev Goes : Option Standing → Standing → Type 0
-  Goes found new = MatchOption found (Begins declared_by first (take i items) x new) (λ old. Meets (place_of (declared_by x)) old new)
+  Goes found new = MatchOption found (Begins declared_by first (take i items) x new) (λ old. Meets (declared_place (declared_by x)) old new)
 
-  goes : (place : Place) (number : ℕ) → number ≡ first + i → place ≡ place_of (declared_by x) → (found : Option Standing) (new : Standing) →
+  goes : (place : Place) (number : ℕ) → number ≡ first + i → place ≡ declared_place (declared_by x) → (found : Option Standing) (new : Standing) →
       Continues place number found new → Goes found new
   goes place number counts is None new (a, b, c) = record {
     number = omega (arith, a, counts, length-take i items, inside);
@@ -207,7 +207,7 @@ module _ {X : Type 0} (declared_by : X → Declaration) (first : ℕ) (items : L
   goes place number counts is (Some old) new meets = subst (λ p. Meets p old new) is meets
 
   pub stand_next : (before after : List (List ℕ × Standing)) (new : Standing) (number : ℕ) (place : Place) (asked key : List ℕ) (found : Option Standing) →
-      StandAmong declared_by first (take i items) before → number ≡ first + i → place ≡ place_of (declared_by x) → asked ≡ (declared_by x).name →
+      StandAmong declared_by first (take i items) before → number ≡ first + i → place ≡ declared_place (declared_by x) → asked ≡ (declared_by x).name →
       key ≡ (declared_by x).name → found ≡ lookup (bytes_eq asked) before → Continues place number found new →
       ((q : List ℕ) → lookup (bytes_eq q) after ≡ cond (bytes_eq key q) (Some new) (lookup (bytes_eq q) before)) →
       StandAmong declared_by first (take (i + 1) items) after

@@ -11,8 +11,8 @@ use Rattle.lw_numbers.specs.declared.standing.Standing.{Standing}
 abbrev pub IsBefore : Place → Place → Type 0
 IsBefore one other = (one.file < other.file) ⊎ ((one.file ≡ other.file) × (one.start < other.start))
 
-abbrev pub place_of : Declaration → Place
-place_of declaration = record { file = declaration.file; start = declaration.span.start }
+abbrev pub declared_place : Declaration → Place
+declared_place declaration = record { file = declaration.file; start = declaration.span.start }
 
 -- the standing after one more declaration, at this place
 abbrev pub Meets : Place → Standing → Standing → Type 0
@@ -27,12 +27,12 @@ module _ {X : Type 0} (declared_by : X → Declaration) (first : ℕ) (xs : List
     pub item : X
     pub is_first : IsFirst (λ x. (declared_by x).name ≡ name) xs at item
     pub number : standing.number.0 ≡ first + at
-    pub place : standing.place ≡ place_of (declared_by item)
+    pub place : standing.place ≡ declared_place (declared_by item)
     pub soonest : X
     pub among : Contains xs soonest
     pub named : (declared_by soonest).name ≡ name
-    pub earliest : standing.earliest ≡ place_of (declared_by soonest)
-    pub none_sooner : (x : X) → Contains xs x → (declared_by x).name ≡ name → ¬ IsBefore (place_of (declared_by x)) standing.earliest
+    pub earliest : standing.earliest ≡ declared_place (declared_by soonest)
+    pub none_sooner : (x : X) → Contains xs x → (declared_by x).name ≡ name → ¬ IsBefore (declared_place (declared_by x)) standing.earliest
 
   -- these entries say of each name how it stands among xs, and of no other
   abbrev pub StandAmong : List (List ℕ × Standing) → Type 0

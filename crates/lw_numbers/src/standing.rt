@@ -1,7 +1,7 @@
 // How names stand among the rules, and among the terminals.
 ghost use Rattle.std.specs.Prelude.{◌≡◌, ◌+◌, ◌≤◌, ◌↔◌, IsTrue, IfOk, MatchOption, length};
 ghost use Rattle.lw_grammar.specs.Named.{Declaration, declared_rule, declared_terminal};
-ghost use Rattle.lw_numbers.specs.Standing.{IsBefore, IsSooner, Meets, place_of, StandAmong};
+ghost use Rattle.lw_numbers.specs.Standing.{IsBefore, IsSooner, Meets, declared_place, StandAmong};
 
 use indexmap::IndexMap;
 use lw_base::{Name, NoMemory, RuleId};
@@ -58,7 +58,7 @@ pub(crate) trait Declared {
         ensures { result.now ≡ (declaration self.now).name };
 
     fn place(&self) -> Place
-        ensures { result ≡ place_of (declaration self.now) };
+        ensures { result ≡ declared_place (declaration self.now) };
 }
 
 impl Declared for Rule {
