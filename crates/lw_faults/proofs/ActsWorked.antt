@@ -17,7 +17,7 @@ use Rattle.lw_faults.specs.Steps.{Step, step, GoesThrough, IsBehind}
 use Rattle.lw_faults.specs.Steps as steps
 use Rattle.lw_faults.specs.Misplaced.{MisplacedAction, simple, current}
 use Rattle.lw_faults.specs.Worked.{StandsAlone, StandsNowhere, place, no_place, keyword_of, x_id, makes_b, takes_b, both, alone, two_parts, action_and_word, calls_f, acts_f, acts_in_fragment}
-use Rattle.lw_faults.proofs.Every.{Every, every_of, differ, first_here, first_later, meant}
+use Rattle.lw_sentences.proofs.Every.{Every, every_of, differ, first_here, first_later, meant}
 use Rattle.lw_faults.proofs.AloneLemmas.{the_rule}
 use Rattle.lw_faults.proofs.StepLemmas.{EachStep, HoldsOnWays, HasWay, what_goes, can_go, holds_behind, ways_of_one, step_written, IsWritten}
 use Rattle.lw_faults.proofs.WorkedSteps.{word_way, assign_way, act_way, pair_way, word_goes, assign_goes, act_goes, pair_goes}
@@ -60,7 +60,7 @@ module _ (g : Grammar) where
 
 -- ---- an assignment and an action in a row
 
-abbrev x_leaf : Leaf
+abbrev pub x_leaf : Leaf
 x_leaf = leaf.Assign (codes "x") One (value.Call (codes "ID") no_place) no_place
 
 module _ (one other : Element) where

@@ -1,12 +1,15 @@
--- The grammar of one rule: its entry, its names and its rules.
-use Rattle.std.proofs.Common.{◌≡◌, ℕ, zero, suc, Some, codes, slice_get, refl}
+-- The grammar of one rule: its entry, its names and its rules; and that nothing is in an empty list.
+use Rattle.std.proofs.Common.{◌≡◌, ℕ, zero, suc, [], Some, Contains, codes, slice_get, refl, arith}
 use Rattle.std.proofs.lemmas.Option.{none-some, same_Some}
 use Rattle.lw_grammar.specs.declared.rule.Rule.{Rule}
 use Rattle.lw_grammar.specs.declared.rule.Element.{Element}
 use Rattle.lw_grammar.specs.Named.{IsRule, IsEntry, declared_rule, declared_terminal}
 use Rattle.lw_faults.specs.Reads.{IsTokenCall}
 use Rattle.lw_faults.specs.Worked.{place, entry_rule, alone}
-use Rattle.lw_faults.proofs.Every.{differ, first_here, meant, not_meant}
+use Rattle.lw_sentences.proofs.Every.{differ, first_here, meant, not_meant}
+
+pub none_there : {X : Type 0} (x : X) → ¬ Contains [] x
+none_there x (k, inside, is) = omega (arith, inside)
 
 module _ (body : Element) where
   abbrev pub the_rule : Rule

@@ -14,7 +14,7 @@ use Rattle.lw_faults.specs.Written.{WritesCall}
 use Rattle.lw_faults.specs.Written as written
 use Rattle.lw_faults.specs.BadCalls.{CrossesBy}
 use Rattle.lw_faults.specs.BadCalls as bad
-use Rattle.lw_faults.proofs.Every.{every_of}
+use Rattle.lw_sentences.proofs.Every.{every_of}
 
 module _ (rule : Rule) (p : List ℕ) (op : Op) (v : Value0) (s : Span) (l : ValueLeaf) (body : rule.body ≡ Assign p op v s) (parts : value_leaves v ≡ l ∷ []) where
   -- the assignment is the only leaf

@@ -24,7 +24,7 @@ use Rattle.lw_faults.specs.Written as written
 use Rattle.lw_faults.specs.BadCalls.{BadCall, CrossesBy, IsInOrder}
 use Rattle.lw_faults.specs.BadCalls as bad
 use Rattle.lw_faults.specs.Worked.{StandsAlone, StandsNowhere, place, no_place, entry_rule, plain_rule, terminal_id, x_id, y_id, id_element, x_value, t_terminal, with_terminal, calling_terminal, crossing}
-use Rattle.lw_faults.proofs.Every.{every_of, every_at, differ, first_here, first_later, meant, not_meant}
+use Rattle.lw_sentences.proofs.Every.{every_of, every_at, differ, first_here, first_later, meant, not_meant}
 use Rattle.lw_faults.proofs.AloneLemmas.{the_rule}
 use Rattle.lw_faults.proofs.AssignLemmas.{writes, crosses, part_there, leaf_there}
 use Rattle.lw_faults.proofs.NodeLemmas.{puts_makes, id_makes_none}

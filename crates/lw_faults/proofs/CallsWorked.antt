@@ -18,7 +18,8 @@ use Rattle.lw_faults.specs.Steps as steps
 use Rattle.lw_faults.specs.Misplaced.{MisplacedCall, misplaced_call, FillsNode}
 use Rattle.lw_faults.specs.Misplaced as misplaced
 use Rattle.lw_faults.specs.Worked.{StandsAlone, StandsNowhere, place, no_place, x_id, both, entry_rule, two_parts, node_rule, with_node, node_behind, node_before, node_and_word}
-use Rattle.lw_faults.proofs.Every.{Every, every_of, differ, first_here, first_later, meant}
+use Rattle.lw_sentences.proofs.Every.{Every, every_of, differ, first_here, first_later, meant}
+use Rattle.lw_faults.proofs.ActsWorked.{x_leaf}
 use Rattle.lw_faults.proofs.AloneLemmas.{the_rule, one_no_id}
 use Rattle.lw_faults.proofs.StepLemmas.{EachStep, HoldsOnWays, what_goes, can_go, holds_behind, ways_of_one, step_written, IsWritten}
 use Rattle.lw_faults.proofs.WorkedSteps.{word_way, assign_way, call_way, pair_way, word_goes, assign_goes, token_goes, pair_goes}
@@ -57,9 +58,6 @@ module _ (g : Grammar) where
   -- the first step comes where it may
   first_well : {l : Leaf} → LeafWell [] l
   first_well called calls (k, y, inside, _, _) = omega (arith, inside)
-
-abbrev x_leaf : Leaf
-x_leaf = leaf.Assign (codes "x") One (value.Call (codes "ID") no_place) no_place
 
 -- ---- with a rule B that makes nodes
 

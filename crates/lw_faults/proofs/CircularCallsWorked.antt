@@ -16,7 +16,7 @@ use Rattle.lw_faults.specs.Written.{term_calls}
 use Rattle.lw_faults.specs.Circles.{FragmentCalls, TerminalCalls, CircularCall}
 use Rattle.lw_faults.specs.Circles as circle
 use Rattle.lw_faults.specs.Worked.{StandsAlone, StandsNowhere, place, no_place, fragment_rule, terminal_id, f_caller, x_and, fragment_calling, a_and, t_terminal, terminal_calling}
-use Rattle.lw_faults.proofs.Every.{Every, every_of, every_at, differ, first_here, first_later, meant}
+use Rattle.lw_sentences.proofs.Every.{Every, every_of, every_at, differ, first_here, first_later, meant}
 use Rattle.lw_faults.proofs.TermLemmas.{call_equations}
 
 -- ---- a fragment

@@ -13,10 +13,8 @@ use Rattle.lw_faults.specs.Written as written
 use Rattle.lw_faults.specs.Circles.{ExtendsType, HasMemberType, CircularType}
 use Rattle.lw_faults.specs.Circles as circle
 use Rattle.lw_faults.specs.Worked.{StandsAlone, StandsNowhere, place, no_place, types_alone, extends, a_extending, b_extending, union_of}
-use Rattle.lw_faults.proofs.Every.{every_of, every_at, differ, first_here, first_later, meant, not_meant}
-
-none_there : {X : Type 0} (x : X) → ¬ Contains [] x
-none_there x (k, inside, is) = omega (arith, inside)
+use Rattle.lw_faults.proofs.AloneLemmas.{none_there}
+use Rattle.lw_sentences.proofs.Every.{every_of, every_at, differ, first_here, first_later, meant, not_meant}
 
 -- no type is inferred where no rule is
 infers_none : (interfaces : List Interface) (unions : List UnionDef) (file : ℕ) (s : Span) (name : List ℕ) → ¬ InfersHere (types_alone interfaces unions) file s name

@@ -1,6 +1,5 @@
 pub mod Sorted
 pub mod PhaseLemmas
-pub mod Every
 pub mod ReadLemmas
 pub mod StepLemmas
 pub mod WorkedReads

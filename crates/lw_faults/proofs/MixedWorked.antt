@@ -20,7 +20,7 @@ use Rattle.lw_faults.specs.Steps as steps
 use Rattle.lw_faults.specs.Properties.{MixedProperty, mixed, PutsInto, is_list}
 use Rattle.lw_faults.specs.Properties as property
 use Rattle.lw_faults.specs.Worked.{StandsAlone, StandsNowhere, place, no_place, both, x_by, calls_id, twice, rule_returning, unknown_twice}
-use Rattle.lw_faults.proofs.Every.{Every, every_of}
+use Rattle.lw_sentences.proofs.Every.{Every, every_of}
 use Rattle.lw_faults.proofs.AloneLemmas.{the_rule}
 use Rattle.lw_faults.proofs.StepLemmas.{step_written, IsWritten}
 use Rattle.lw_faults.proofs.WorkedSteps.{assign_goes, pair_goes}

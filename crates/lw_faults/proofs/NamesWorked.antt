@@ -22,13 +22,10 @@ use Rattle.lw_faults.specs.Written as written
 use Rattle.lw_faults.specs.Names.{Duplicate, UnknownRule, UnknownType, rule_space, type_space}
 use Rattle.lw_faults.specs.Names as names
 use Rattle.lw_faults.specs.Worked.{StandsAlone, StandsNowhere, place, no_place, entry_rule, plain_rule, terminal_id, interface_of, x_id, y_id, alone, x_value, a_entry, behind_a, beside_interface, makes_declared}
-use Rattle.lw_faults.proofs.Every.{Every, every_of, differ}
-use Rattle.lw_faults.proofs.AloneLemmas.{the_rule}
+use Rattle.lw_sentences.proofs.Every.{Every, every_of, differ}
+use Rattle.lw_faults.proofs.AloneLemmas.{none_there, the_rule}
 use Rattle.lw_faults.proofs.AssignLemmas.{writes, leaf_there, part_there, IsCallHere}
 use Rattle.lw_faults.proofs.TermLemmas.{call_equations}
-
-none_there : {X : Type 0} (x : X) → ¬ Contains [] x
-none_there x (k, inside, is) = omega (arith, inside)
 
 -- ---- a name that is declared twice
 

@@ -11,21 +11,9 @@ use Rattle.lw_grammar.specs.Nodes as nodes
 use Rattle.lw_grammar.proofs.LeafLemmas.{leaves-Assign, leaves-Call}
 use Rattle.lw_faults.specs.Reads.{IsTokenCall}
 use Rattle.lw_faults.specs.Worked.{no_place, puts, id_element}
-use Rattle.lw_faults.proofs.Every.{Every, every_of}
+use Rattle.lw_sentences.proofs.CallLemmas.{makes_none}
 
 module _ (g : Grammar) where
-  -- no leaf puts anything into a node, and none calls a rule
-  abbrev pub MakesNone : Leaf → Type 0
-  MakesNone (leaf.Keyword text s) = Unit {0}
-  MakesNone (leaf.Call name s) = IsTokenCall g name
-  MakesNone _ = ⊥
-
-  pub makes_none : (rule : Rule) (ls : List Leaf) → leaves rule.body ≡ ls → Every MakesNone ls → ¬ MakesNodes g rule
-  makes_none rule ls is all (nodes.assigns p op v s has) = every_of MakesNone ls (leaf.Assign p op v s) all (subst (λ xs. Contains xs (leaf.Assign p op v s)) is has)
-  makes_none rule ls is all (nodes.acts a has) = every_of MakesNone ls (leaf.Act a) all (subst (λ xs. Contains xs (leaf.Act a)) is has)
-  makes_none rule ls is all (nodes.calls name s r called has called_is _) =
-      every_of MakesNone ls (leaf.Call name s) all (subst (λ xs. Contains xs (leaf.Call name s)) is has) r called called_is
-
   -- a rule of one assignment makes nodes, and a rule that is a call of ID does not
   pub puts_makes : (rule : Rule) (p name : List ℕ) → rule.body ≡ puts p name → MakesNodes g rule
   puts_makes rule p name is =
@@ -33,4 +21,4 @@ module _ (g : Grammar) where
       (subst (λ e. Contains (leaves e) (leaf.Assign p One (value.Call name no_place) no_place)) (sym is) (rw leaves-Assign (0, omega arith, refl)))
 
   pub id_makes_none : (rule : Rule) → rule.body ≡ id_element → IsTokenCall g (codes "ID") → ¬ MakesNodes g rule
-  id_makes_none rule is none = makes_none rule _ (subst (λ e. leaves e ≡ leaf.Call (codes "ID") no_place ∷ []) (sym is) (leaves-Call (codes "ID") no_place)) (none, tt)
+  id_makes_none rule is none = makes_none g rule _ (subst (λ e. leaves e ≡ leaf.Call (codes "ID") no_place ∷ []) (sym is) (leaves-Call (codes "ID") no_place)) (none, tt)

@@ -26,7 +26,7 @@ use Rattle.lw_faults.specs.Attributes as kind
 use Rattle.lw_faults.specs.Properties.{MisfitsAttribute, IsRefusedKind, UnknownProperty, WrongPropertyForm}
 use Rattle.lw_faults.specs.Properties as property
 use Rattle.lw_faults.specs.Worked.{StandsAlone, StandsNowhere, no_place, terminal_id, x_attribute, i_interface, with_attribute, j_interface, extending_type, u_union, united, x_by, calls_id, i_reference}
-use Rattle.lw_faults.proofs.Every.{every_of, every_at, differ, first_here, first_later, meant, not_meant}
+use Rattle.lw_sentences.proofs.Every.{every_of, every_at, differ, first_here, first_later, meant, not_meant}
 use Rattle.lw_faults.proofs.LineageLemmas.{one_lineage}
 use Rattle.lw_faults.proofs.PutLemmas.{unknown_found, unknown_nowhere, misfit_found, misfit_nowhere}
 

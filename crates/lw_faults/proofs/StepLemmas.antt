@@ -17,7 +17,7 @@ use Rattle.lw_grammar.specs.Subtypes.{HasType}
 use Rattle.lw_grammar.proofs.LeafLemmas.{leaves_by}
 use Rattle.lw_faults.specs.Steps.{Step, step, GoesThrough, GoesLayer, GoesAll, GoesAgain, IsBehind, IsAct, IsNodeCall, NoneActs, IsCurrentType, CallsNode}
 use Rattle.lw_faults.specs.Steps as steps
-use Rattle.lw_faults.proofs.Every.{Every, every_of}
+use Rattle.lw_sentences.proofs.Every.{Every, every_of}
 
 every_append : {X : Type 0} (P : X → Type 0) (xs ys : List X) → Every P xs → Every P ys → Every P (xs ++ ys)
 every_append P [] ys one other = other

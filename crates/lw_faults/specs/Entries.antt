@@ -7,10 +7,6 @@ use Rattle.lw_grammar.specs.Leaves.{Leaf, Act, leaves}
 use Rattle.lw_grammar.specs.Named.{IsEntry}
 use Rattle.lw_grammar.specs.Nodes.{IsDataType}
 
--- the start of a file
-abbrev pub at_start : Span
-at_start = record { start = 0; end = 0 }
-
 abbrev pub is_act : Leaf → Bool
 is_act (Act a) = true
 is_act _ = false
@@ -18,7 +14,7 @@ is_act _ = false
 module _ (g : Grammar) where
   -- the root file has no entry rule
   pub data NoEntry : ℕ → Span → List ℕ → Type 0 where
-    no_entry : ((r : ℕ) (rule : Rule) → ¬ IsEntry g r rule) → NoEntry 0 at_start g.name
+    no_entry : ((r : ℕ) (rule : Rule) → ¬ IsEntry g r rule) → NoEntry 0 (record { start = 0; end = 0 }) g.name
 
   -- a rule of the root file is marked as the entry, and one before it is too
   pub data SecondEntry : ℕ → Span → List ℕ → Type 0 where
@@ -36,4 +32,4 @@ module _ (g : Grammar) where
 
   -- rules, terminals and actions number more than 1,024
   pub data TooManyRules : ℕ → Span → List ℕ → Type 0 where
-    too_many : 1024 < length g.rules + length g.terminals + action_count → TooManyRules 0 at_start g.name
+    too_many : 1024 < length g.rules + length g.terminals + action_count → TooManyRules 0 (record { start = 0; end = 0 }) g.name
