@@ -23,53 +23,81 @@ abbrev pub step : Rule → Leaf → Step
 step rule l = record { written = rule; leaf = l }
 
 module _ (g : Grammar) where
-  -- `Goes entered rule e steps`: the element e, written in this rule, may do these steps. A fragment that calls itself is looked into once:
-  -- `entered` numbers those that are open.
-  mutual
-    pub data GoesThrough : List ℕ → Rule → Element → List Step → Type 0 where
-      goes : {entered : List ℕ} {rule : Rule} {e : Element} {steps : List Step} → GoesLayer entered rule (out-Element e) steps → GoesThrough entered rule e steps
+  -- a call of a fragment, whose body stands here
+  abbrev pub PutsInFragment : Leaf → Type 0
+  PutsInFragment l = (f : ℕ) × (fragment : Rule) × IsFragmentCall g l f fragment
 
-    pub data GoesLayer : List ℕ → Rule → Element-F Element → List Step → Type 0 where
-      keyword : {entered : List ℕ} {rule : Rule} {text : List ℕ} {s : Span} → GoesLayer entered rule (Keyword text s) []
-      called : {entered : List ℕ} {rule : Rule} {name : List ℕ} {s : Span} → ((f : ℕ) (fragment : Rule) → ¬ IsFragmentCall g (leaf.Call name s) f fragment) →
-          GoesLayer entered rule (Call name s) (step rule (leaf.Call name s) ∷ [])
-      put_in : {entered : List ℕ} {rule : Rule} {name : List ℕ} {s : Span} {steps : List Step} (f : ℕ) (fragment : Rule) →
-          IsFragmentCall g (leaf.Call name s) f fragment → ¬ Contains entered f → GoesThrough (f ∷ entered) fragment fragment.body steps →
-          GoesLayer entered rule (Call name s) steps
-      looped : {entered : List ℕ} {rule : Rule} {name : List ℕ} {s : Span} (f : ℕ) (fragment : Rule) → IsFragmentCall g (leaf.Call name s) f fragment →
-          Contains entered f → GoesLayer entered rule (Call name s) []
-      assigned : {entered : List ℕ} {rule : Rule} {p : List ℕ} {op : Op} {v : Value0} {s : Span} →
-          GoesLayer entered rule (Assign p op v s) (step rule (leaf.Assign p op v s) ∷ [])
-      acted : {entered : List ℕ} {rule : Rule} {a : Action} → GoesLayer entered rule (Act a) (step rule (leaf.Act a) ∷ [])
-      grouped : {entered : List ℕ} {rule : Rule} {es : List Element} {s : Span} {steps : List Step} → GoesAll entered rule es steps →
-          GoesLayer entered rule (Group es s) steps
-      chosen : {entered : List ℕ} {rule : Rule} {es : List Element} {s : Span} {e : Element} {steps : List Step} → Contains es e → GoesThrough entered rule e steps →
-          GoesLayer entered rule (Choice es s) steps
-      skipped : {entered : List ℕ} {rule : Rule} {e : Element} {s : Span} → GoesLayer entered rule (Maybe e s) []
-      taken : {entered : List ℕ} {rule : Rule} {e : Element} {s : Span} {steps : List Step} → GoesThrough entered rule e steps → GoesLayer entered rule (Maybe e s) steps
-      repeated : {entered : List ℕ} {rule : Rule} {e : Element} {s : Span} {steps : List Step} → GoesAgain entered rule e steps →
-          GoesLayer entered rule (Many e s) steps
-      repeated_once : {entered : List ℕ} {rule : Rule} {e : Element} {s : Span} {first more : List Step} → GoesThrough entered rule e first →
-          GoesAgain entered rule e more → GoesLayer entered rule (Some1 e s) (first ++ more)
+  -- `GoesThrough rule e steps`: the element e, written in this rule, may do these steps, one after the other, fragments put in
+  mutual
+    pub data GoesThrough : Rule → Element → List Step → Type 0 where
+      goes : {rule : Rule} {e : Element} {steps : List Step} → GoesLayer rule (out-Element e) steps → GoesThrough rule e steps
+
+    pub data GoesLayer : Rule → Element-F Element → List Step → Type 0 where
+      keyword : {rule : Rule} {text : List ℕ} {s : Span} → GoesLayer rule (Keyword text s) []
+      called : {rule : Rule} {name : List ℕ} {s : Span} → ¬ PutsInFragment (leaf.Call name s) → GoesLayer rule (Call name s) (step rule (leaf.Call name s) ∷ [])
+      put_in : {rule : Rule} {name : List ℕ} {s : Span} {steps : List Step} (f : ℕ) (fragment : Rule) → IsFragmentCall g (leaf.Call name s) f fragment →
+          GoesThrough fragment fragment.body steps → GoesLayer rule (Call name s) steps
+      assigned : {rule : Rule} {p : List ℕ} {op : Op} {v : Value0} {s : Span} → GoesLayer rule (Assign p op v s) (step rule (leaf.Assign p op v s) ∷ [])
+      acted : {rule : Rule} {a : Action} → GoesLayer rule (Act a) (step rule (leaf.Act a) ∷ [])
+      grouped : {rule : Rule} {es : List Element} {s : Span} {steps : List Step} → GoesAll rule es steps → GoesLayer rule (Group es s) steps
+      chosen : {rule : Rule} {es : List Element} {s : Span} {e : Element} {steps : List Step} → Contains es e → GoesThrough rule e steps →
+          GoesLayer rule (Choice es s) steps
+      skipped : {rule : Rule} {e : Element} {s : Span} → GoesLayer rule (Maybe e s) []
+      taken : {rule : Rule} {e : Element} {s : Span} {steps : List Step} → GoesThrough rule e steps → GoesLayer rule (Maybe e s) steps
+      repeated : {rule : Rule} {e : Element} {s : Span} {steps : List Step} → GoesAgain rule e steps → GoesLayer rule (Many e s) steps
+      repeated_once : {rule : Rule} {e : Element} {s : Span} {first more : List Step} → GoesThrough rule e first → GoesAgain rule e more →
+          GoesLayer rule (Some1 e s) (first ++ more)
 
     -- each of a row, in order
-    pub data GoesAll : List ℕ → Rule → List Element → List Step → Type 0 where
-      none : {entered : List ℕ} {rule : Rule} → GoesAll entered rule [] []
-      more : {entered : List ℕ} {rule : Rule} {e : Element} {es : List Element} {first others : List Step} → GoesThrough entered rule e first →
-          GoesAll entered rule es others → GoesAll entered rule (e ∷ es) (first ++ others)
+    pub data GoesAll : Rule → List Element → List Step → Type 0 where
+      none : {rule : Rule} → GoesAll rule [] []
+      more : {rule : Rule} {e : Element} {es : List Element} {first others : List Step} → GoesThrough rule e first → GoesAll rule es others →
+          GoesAll rule (e ∷ es) (first ++ others)
 
     -- the same element any number of times
-    pub data GoesAgain : List ℕ → Rule → Element → List Step → Type 0 where
-      stop : {entered : List ℕ} {rule : Rule} {e : Element} → GoesAgain entered rule e []
-      again : {entered : List ℕ} {rule : Rule} {e : Element} {first others : List Step} → GoesThrough entered rule e first → GoesAgain entered rule e others →
-          GoesAgain entered rule e (first ++ others)
+    pub data GoesAgain : Rule → Element → List Step → Type 0 where
+      stop : {rule : Rule} {e : Element} → GoesAgain rule e []
+      again : {rule : Rule} {e : Element} {first others : List Step} → GoesThrough rule e first → GoesAgain rule e others → GoesAgain rule e (first ++ others)
+
+  -- `ComesTo rule e before l`: the element e, written in this rule, may do the steps `before`, and then it is at the leaf l, which is written in
+  -- it too: an assignment, an action or a call, also one of a fragment. What is in the middle of a repetition may have gone through it before.
+  mutual
+    pub data ComesTo : Rule → Element → List Step → Leaf → Type 0 where
+      comes : {rule : Rule} {e : Element} {before : List Step} {l : Leaf} → ComesLayer rule (out-Element e) before l → ComesTo rule e before l
+
+    pub data ComesLayer : Rule → Element-F Element → List Step → Leaf → Type 0 where
+      called : {rule : Rule} {name : List ℕ} {s : Span} → ComesLayer rule (Call name s) [] (leaf.Call name s)
+      assigned : {rule : Rule} {p : List ℕ} {op : Op} {v : Value0} {s : Span} → ComesLayer rule (Assign p op v s) [] (leaf.Assign p op v s)
+      acted : {rule : Rule} {a : Action} → ComesLayer rule (Act a) [] (leaf.Act a)
+      grouped : {rule : Rule} {es : List Element} {s : Span} {before : List Step} {l : Leaf} → ComesAlong rule es before l → ComesLayer rule (Group es s) before l
+      chosen : {rule : Rule} {es : List Element} {s : Span} {e : Element} {before : List Step} {l : Leaf} → Contains es e → ComesTo rule e before l →
+          ComesLayer rule (Choice es s) before l
+      taken : {rule : Rule} {e : Element} {s : Span} {before : List Step} {l : Leaf} → ComesTo rule e before l → ComesLayer rule (Maybe e s) before l
+      repeated : {rule : Rule} {e : Element} {s : Span} {turns before : List Step} {l : Leaf} → GoesAgain rule e turns → ComesTo rule e before l →
+          ComesLayer rule (Many e s) (turns ++ before) l
+      repeated_once : {rule : Rule} {e : Element} {s : Span} {turns before : List Step} {l : Leaf} → GoesAgain rule e turns → ComesTo rule e before l →
+          ComesLayer rule (Some1 e s) (turns ++ before) l
+
+    -- along a row, whose parts before it were gone through
+    pub data ComesAlong : Rule → List Element → List Step → Leaf → Type 0 where
+      here : {rule : Rule} {e : Element} {es : List Element} {before : List Step} {l : Leaf} → ComesTo rule e before l → ComesAlong rule (e ∷ es) before l
+      later : {rule : Rule} {e : Element} {es : List Element} {first before : List Step} {l : Leaf} → GoesThrough rule e first → ComesAlong rule es before l →
+          ComesAlong rule (e ∷ es) (first ++ before) l
+
+  -- `Begins rule before inside`: on some way through the rule, which is no fragment, these steps come before the body of `inside` begins, which is
+  -- the rule itself or a fragment that is put in.
+  pub data Begins : Rule → List Step → Rule → Type 0 where
+    itself : {rule : Rule} → Contains g.rules rule → rule.is_fragment ≡ false → Begins rule [] rule
+    put_in : {rule inside : Rule} {before more : List Step} (l : Leaf) (f : ℕ) (fragment : Rule) → Begins rule before inside →
+        ComesTo inside inside.body more l → IsFragmentCall g l f fragment → Begins rule (before ++ more) fragment
 
   -- On some way through the rule, which is no fragment, this step comes, and these before it.
   pub record IsBehind (rule : Rule) (before : List Step) (at : Step) : Type 0 where
-    pub within : Contains g.rules rule
-    pub whole : rule.is_fragment ≡ false
-    pub after : List Step
-    pub goes : GoesThrough [] rule rule.body (before ++ at ∷ after)
+    pub outside inside : List Step
+    pub begins : Begins rule outside at.written
+    pub comes : ComesTo at.written at.written.body inside at.leaf
+    pub single : ¬ PutsInFragment at.leaf
+    pub all : before ≡ outside ++ inside
 
   -- the step calls, without assigning it, a rule that makes nodes
   pub data CallsNode : Leaf → Rule → Type 0 where
