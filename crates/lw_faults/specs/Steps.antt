@@ -93,7 +93,8 @@ module _ (g : Grammar) where
 
   -- On some way through the rule, which is no fragment, this step comes, and these before it.
   pub record IsBehind (rule : Rule) (before : List Step) (at : Step) : Type 0 where
-    pub outside inside : List Step
+    pub outside : List Step
+    pub inside : List Step
     pub begins : Begins rule outside at.written
     pub comes : ComesTo at.written at.written.body inside at.leaf
     pub single : ¬ PutsInFragment at.leaf
