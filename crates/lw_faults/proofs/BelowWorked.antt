@@ -13,13 +13,13 @@ use Rattle.lw_grammar.specs.Subtypes.{IsDeclared, by_interface, InfersType, IsDi
 use Rattle.lw_grammar.specs.Subtypes as below
 use Rattle.lw_grammar.proofs.FirstLemmas.{first_item}
 use Rattle.lw_grammar.proofs.LeafLemmas.{leaf_equations}
-use Rattle.lw_faults.specs.Steps.{step, IsBehind}
+use Rattle.lw_faults.specs.Steps.{Step, step, IsBehind}
 use Rattle.lw_faults.specs.Properties.{NotASubtype}
 use Rattle.lw_faults.specs.Properties as property
 use Rattle.lw_faults.specs.Worked.{StandsAlone, StandsNowhere, no_place, interface_of, rule_returning, s_interface, s_action, making_s}
 use Rattle.lw_sentences.proofs.Every.{Every, every_of, differ, first_here, first_later, meant}
-use Rattle.lw_faults.proofs.StepLemmas.{step_written, IsWritten}
-use Rattle.lw_faults.proofs.WorkedSteps.{act_goes}
+use Rattle.lw_faults.proofs.StepLemmas.{holds_of_step, rule_there, own_step}
+use Rattle.lw_faults.proofs.WorkedSteps.{to_act}
 
 module _ (above : List (List ℕ × Span)) (s : Span) where
   abbrev G : Grammar
@@ -54,32 +54,27 @@ module _ (above : List (List ℕ × Span)) (s : Span) where
   IsAction rule (leaf.Act a) = (rule.file ≡ 0) × (a ≡ s_action s)
   IsAction rule _ = ⊥
 
-  written_action : (rule : Rule) (l : Leaf) → IsWritten G (step rule l) → IsAction rule l
-  written_action rule l is =
-      every_of (IsAction rule) (leaves rule.body) l
-      (every_of (λ (x : Rule). Every (IsAction x) (leaves x.body)) G.rules rule (subst (Every (IsAction A)) (sym a_leaves) ((refl, refl), tt), tt) is.0) is.1
+  only_action : {rule written : Rule} {before : List Step} {l : Leaf} → IsBehind G rule before (step written l) → IsAction written l
+  only_action is = holds_of_step G IsAction (subst (Every (IsAction A)) (sym a_leaves) ((refl, refl), tt), tt) is
 
   pub found : ¬ IsSubtype G (codes "S") (codes "T") → StandsAlone (NotASubtype G) 0 s (codes "S")
-  found apart = (property.acted A A [] (s_action s) (codes "T") ahead (refl, refl) t_declared apart, others)
+  found apart =
+      (property.acted A A [] (s_action s) (codes "T") (own_step G (0, omega arith, refl) refl (to_act G) (λ is. is.2)) (refl, refl) t_declared apart, others)
     where
-      ahead : IsBehind G A [] (step A (leaf.Act (s_action s)))
-      ahead = record { within = (0, omega arith, refl); whole = refl; after = []; goes = act_goes G }
-
       others : (f : ℕ) (t : Span) (n : List ℕ) → NotASubtype G f t n → (f ≡ 0) × (t ≡ s) × (n ≡ codes "S")
       others f t n (property.acted rule written before a type_name is _ _ _) =
-          let it = written_action written (leaf.Act a) (step_written G is) in (it.0, ap (λ x. x.span) it.1, ap (λ x. x.type_name) it.1)
+          let it = only_action is in (it.0, ap (λ x. x.span) it.1, ap (λ x. x.type_name) it.1)
       others f t n (property.called rule written called before name at type_name under is _ _ _ _ _) =
-          absurd (written_action written (leaf.Call n t) (step_written G is))
+          absurd (only_action is)
 
   pub nowhere_found : IsSubtype G (codes "S") (codes "T") → StandsNowhere (NotASubtype G)
   nowhere_found under f t n (property.acted rule written before a type_name is typed _ apart) =
-      let it = written_action written (leaf.Act a) (step_written G is) in
-      let rule_is : A ≡ rule = every_of (λ x. A ≡ x) (A ∷ []) rule (refl, tt) is.within in
+      let it = only_action is in
+      let rule_is : A ≡ rule = every_of (λ x. A ≡ x) (A ∷ []) rule (refl, tt) (rule_there G is) in
       let type_is : type_name ≡ codes "T" = (subst (λ (x : Rule). below.HasType G x type_name) (sym rule_is) typed).1 in
       let name_is : a.type_name ≡ codes "S" = ap (λ x. x.type_name) it.1 in
       apart (subst (IsSubtype G a.type_name) (sym type_is) (subst (λ x. IsSubtype G x (codes "T")) (sym name_is) under))
-  nowhere_found under f t n (property.called rule written called before name at type_name other is _ _ _ _ _) =
-      written_action written (leaf.Call n t) (step_written G is)
+  nowhere_found under f t n (property.called rule written called before name at type_name other is _ _ _ _ _) = only_action is
 
 -- S extends nothing
 nothing_above : (s : Span) (top : List ℕ) → ¬ IsDirectlyBelow (making_s [] s) (codes "S") top

@@ -1,28 +1,28 @@
 -- Calls of a rule that makes nodes that stand where they may not, and the same where they may.
-use Rattle.std.proofs.Common.{◌≡◌, ℕ, List, [], ◌∷◌, codes, Any, Contains, ◌⊎◌, inl, inr, refl, sym, ap, ◌∙◌, subst, arith, true≢false}
+use Rattle.std.proofs.Common.{◌≡◌, ℕ, List, [], ◌∷◌, codes, Any, Contains, refl, sym, ap, ◌∙◌, subst, arith, true≢false}
 use Rattle.lw_base.specs.declared.token.Span.{Span}
 use Rattle.lw_grammar.specs.declared.grammar.Grammar.{Grammar}
 use Rattle.lw_grammar.specs.declared.rule.Rule.{Rule}
 use Rattle.lw_grammar.specs.declared.rule.Op.TheVariants.{One}
 use Rattle.lw_grammar.specs.declared.rule.Element.{Element}
-use Rattle.lw_grammar.specs.declared.rule.Element.TheVariants.{Call, Group, Maybe, Many, outs-Maybe, outs-Many}
+use Rattle.lw_grammar.specs.declared.rule.Element.TheVariants.{Call, Group, Maybe, Many, outs-Many}
 use Rattle.lw_grammar.specs.declared.rule.Value0.TheVariants as value
 use Rattle.lw_grammar.specs.Leaves as leaf
-use Rattle.lw_grammar.specs.Leaves.{Leaf, leaves, IsFragmentCall}
+use Rattle.lw_grammar.specs.Leaves.{Leaf, leaves}
 use Rattle.lw_grammar.specs.Named.{IsRule, declared_rule, declared_terminal}
 use Rattle.lw_grammar.specs.Nodes.{MakesNodes, assigns}
 use Rattle.lw_grammar.proofs.FirstLemmas.{first_item}
 use Rattle.lw_grammar.proofs.LeafLemmas.{leaf_equations}
-use Rattle.lw_faults.specs.Steps.{Step, step, GoesThrough, CallsNode, node}
+use Rattle.lw_faults.specs.Steps.{Step, step, PutsInFragment, ComesTo, ComesLayer, IsBehind, CallsNode, node}
 use Rattle.lw_faults.specs.Steps as steps
 use Rattle.lw_faults.specs.Misplaced.{MisplacedCall, misplaced_call, FillsNode}
 use Rattle.lw_faults.specs.Misplaced as misplaced
-use Rattle.lw_faults.specs.Worked.{StandsAlone, StandsNowhere, place, no_place, x_id, both, entry_rule, two_parts, node_rule, with_node, node_behind, node_before, node_and_word}
+use Rattle.lw_faults.specs.Worked.{StandsAlone, StandsNowhere, place, no_place, x_id, both, entry_rule, alone, two_parts, node_rule, with_node, node_behind, node_before, node_and_word}
 use Rattle.lw_sentences.proofs.Every.{Every, every_of, differ, first_here, first_later, meant}
 use Rattle.lw_faults.proofs.ActsWorked.{x_leaf}
 use Rattle.lw_faults.proofs.AloneLemmas.{the_rule, one_no_id}
-use Rattle.lw_faults.proofs.StepLemmas.{EachStep, HoldsOnWays, what_goes, can_go, holds_behind, ways_of_one, step_written, IsWritten}
-use Rattle.lw_faults.proofs.WorkedSteps.{word_way, assign_way, call_way, pair_way, word_goes, assign_goes, token_goes, pair_goes}
+use Rattle.lw_faults.proofs.StepLemmas.{HoldsIn, HasNoFragment, can_come, holds_of_step, own_step, holds_behind}
+use Rattle.lw_faults.proofs.WorkedSteps.{word_goes, word_holds, assign_way, assign_goes, assign_holds, call_way, call_goes, call_holds, to_call, pair_goes, to_first, to_second, pair_holds, maybe_holds}
 
 -- ---- how calls are looked at
 
@@ -37,26 +37,17 @@ module _ (g : Grammar) where
 
   only_call : (file : ℕ) (s : Span) (name : List ℕ) → AllCallsAt file s name → (f : ℕ) (t : Span) (n : List ℕ) → MisplacedCall g f t n →
       (f ≡ file) × (t ≡ s) × (n ≡ name)
-  only_call file s name all f t n (misplaced_call rule written called before called_name at is _ _) = by (step_written g is)
-    where
-      by : IsWritten g (step written (leaf.Call n t)) → (written.file ≡ file) × (t ≡ s) × (n ≡ name)
-      by there =
-          every_of (CallsAt file s name written) (leaves written.body) (leaf.Call n t)
-          (every_of (λ (x : Rule). Every (CallsAt file s name x) (leaves x.body)) g.rules written all there.0) there.1
+  only_call file s name all f t n (misplaced_call rule written called before called_name at is _ _) = holds_of_step g (CallsAt file s name) all is
 
   -- the call comes where it may
-  abbrev LeafWell : List Step → Leaf → Type 0
-  LeafWell before l = (called : Rule) → CallsNode g l called → ¬ Any (λ y. FillsNode g y.leaf) before
+  abbrev CallsWell : List Step → Leaf → Type 0
+  CallsWell before l = (called : Rule) → CallsNode g l called → ¬ Any (λ y. FillsNode g y.leaf) before
 
-  abbrev CallsWell : List Step → Step → Type 0
-  CallsWell before x = LeafWell before x.leaf
-
-  all_well : Every (λ (rule : Rule). HoldsOnWays g CallsWell rule) g.rules → StandsNowhere (MisplacedCall g)
-  all_well all file s name (misplaced_call rule written called before called_name at is calls some) =
-      holds_behind g CallsWell (every_of (λ (x : Rule). HoldsOnWays g CallsWell x) g.rules rule all is.within) is called calls some
+  all_well : HasNoFragment g → Every (λ (rule : Rule). HoldsIn g CallsWell rule rule.body) g.rules → StandsNowhere (MisplacedCall g)
+  all_well none all file s name (misplaced_call rule written called before called_name at is calls some) = holds_behind g CallsWell none all is called calls some
 
   -- the first step comes where it may
-  first_well : {l : Leaf} → LeafWell [] l
+  first_well : {l : Leaf} → CallsWell [] l
   first_well called calls (k, y, inside, _, _) = omega (arith, inside)
 
 -- ---- with a rule B that makes nodes
@@ -82,11 +73,15 @@ module _ (body : Element) where
   b_called : (s : Span) → CallsNode G (leaf.Call (codes "B") s) node_rule
   b_called s = node 1 node_rule b_named refl b_makes
 
-  b_no_fragment : (s : Span) (f : ℕ) (fragment : Rule) → ¬ IsFragmentCall G (leaf.Call (codes "B") s) f fragment
-  b_no_fragment s f fragment is = true≢false (sym is.1 ∙ ap (λ (x : Rule). x.is_fragment) (first_item is.0.first b_named.first))
+  b_no_fragment : (s : Span) → ¬ PutsInFragment G (leaf.Call (codes "B") s)
+  b_no_fragment s (f, fragment, is) = true≢false (sym is.1 ∙ ap (λ (x : Rule). x.is_fragment) (first_item is.0.first b_named.first))
 
-  b_well : HoldsOnWays G (CallsWell G) node_rule
-  b_well = ways_of_one G (CallsWell G) (assign_way _) (first_well G, tt)
+  b_behind : {before : List Step} {s : Span} → ComesTo G A body before (leaf.Call (codes "B") s) → IsBehind G A before (step A (leaf.Call (codes "B") s))
+  b_behind {s} there = own_step G (0, omega arith, refl) refl there (b_no_fragment s)
+
+  -- the calls come where they may, since that of B makes none
+  nowhere_called : HoldsIn G (CallsWell G) A body → StandsNowhere (MisplacedCall G)
+  nowhere_called well = all_well G (refl, (refl, tt)) (well, (assign_holds G (CallsWell G) (first_well G), tt))
 
   -- the calls that are written stand at one place
   only_b : (s : Span) (ls : List Leaf) → leaves body ≡ ls → Every (CallsAt 0 s (codes "B") A) ls → (f : ℕ) (t : Span) (n : List ℕ) → MisplacedCall G f t n →
@@ -100,12 +95,7 @@ H = Group node_behind no_place
 
 pub behind : StandsAlone (MisplacedCall (with_node H)) 0 (place 24 25) (codes "B")
 behind = (
-  misplaced_call (A H) (A H) node_rule (step (A H) x_leaf ∷ []) (codes "B") (place 24 25) (record {
-    within = (0, omega arith, refl);
-    whole = refl;
-    after = [];
-    goes = pair_goes (with_node H) (assign_goes _) (token_goes _ (b_no_fragment H (place 24 25)));
-  })
+  misplaced_call (A H) (A H) node_rule (step (A H) x_leaf ∷ []) (codes "B") (place 24 25) (b_behind H (to_second _ (assign_goes _) (to_call _)))
       (b_called H (place 24 25)) (0, step (A H) x_leaf, omega arith, refl, misplaced.assigns),
   only_b H (place 24 25) (x_leaf ∷ leaf.Call (codes "B") (place 24 25) ∷ []) (simp leaf_equations) (tt, ((refl, refl, refl), tt)),
 )
@@ -116,31 +106,23 @@ J = Group node_before no_place
 
 pub before : StandsNowhere (MisplacedCall (with_node J))
 before =
-    all_well (with_node J) (
-      ways_of_one (with_node J) (CallsWell (with_node J)) (pair_way _ (call_way _ (b_no_fragment J no_place)) (assign_way _)) (
-        first_well (with_node J),
-        (λ called is has. elim is [ ], tt),
-      ),
-      (b_well J, tt),
-    )
+    nowhere_called J
+    (pair_holds _ (CallsWell (with_node J)) (call_way _ (b_no_fragment J no_place)) (call_holds _ (CallsWell (with_node J)) (first_well (with_node J)))
+    (assign_holds _ (λ before. CallsWell (with_node J) (step (A J) (leaf.Call (codes "B") no_place) ∷ before)) (λ called is has. elim is [ ])))
 
 -- ---- repeated or not
-
-module _ (body : Element) where
-  pub once : GoesThrough (with_node body) [] (A body) node_and_word (step (A body) (leaf.Call (codes "B") (place 20 21)) ∷ [])
-  once = pair_goes (with_node body) (token_goes _ (b_no_fragment body (place 20 21))) (word_goes _)
 
 abbrev M : Element
 M = Many node_and_word no_place
 
+again : ComesTo (with_node M) (A M) M (step (A M) (leaf.Call (codes "B") (place 20 21)) ∷ []) (leaf.Call (codes "B") (place 20 21))
+again =
+    can_come _ (outs-Many node_and_word no_place)
+    (ComesLayer.repeated (steps.again (pair_goes _ (call_goes _ (b_no_fragment M (place 20 21))) (word_goes _)) steps.stop) (to_first _ _ (to_call _)))
+
 pub repeated : StandsAlone (MisplacedCall (with_node M)) 0 (place 20 21) (codes "B")
 repeated = (
-  misplaced_call (A M) (A M) node_rule (step (A M) (leaf.Call (codes "B") (place 20 21)) ∷ []) (codes "B") (place 20 21) (record {
-    within = (0, omega arith, refl);
-    whole = refl;
-    after = [];
-    goes = can_go (with_node M) (outs-Many node_and_word no_place) (steps.repeated (steps.again (once M) (steps.again (once M) steps.stop)));
-  })
+  misplaced_call (A M) (A M) node_rule (step (A M) (leaf.Call (codes "B") (place 20 21)) ∷ []) (codes "B") (place 20 21) (b_behind M again)
       (b_called M (place 20 21)) (0, step (A M) (leaf.Call (codes "B") (place 20 21)), omega arith, refl, misplaced.calls (b_called M (place 20 21))),
   only_b M (place 20 21) (leaf.Call (codes "B") (place 20 21) ∷ leaf.Keyword (codes "x") no_place ∷ []) (simp leaf_equations) ((refl, refl, refl), (tt, tt)),
 )
@@ -149,14 +131,11 @@ abbrev O : Element
 O = Maybe node_and_word no_place
 
 pub optional : StandsNowhere (MisplacedCall (with_node O))
-optional = all_well (with_node O) (λ done does. by done (what_goes (with_node O) (outs-Maybe node_and_word no_place) does), (b_well O, tt))
-  where
-    by : (done : List Step) → (done ≡ []) ⊎ GoesThrough (with_node O) [] (A O) node_and_word done → EachStep (CallsWell (with_node O)) [] done
-    by done (inl is) = subst (EachStep (CallsWell (with_node O)) []) (sym is) tt
-    by done (inr does) =
-        let is : done ≡ step (A O) (leaf.Call (codes "B") (place 20 21)) ∷ [] =
-        pair_way (with_node O) (call_way _ (b_no_fragment O (place 20 21))) (word_way _) done does in
-        subst (EachStep (CallsWell (with_node O)) []) (sym is) (first_well (with_node O), tt)
+optional =
+    nowhere_called O
+    (maybe_holds _ (CallsWell (with_node O))
+    (pair_holds _ (CallsWell (with_node O)) (call_way _ (b_no_fragment O (place 20 21))) (call_holds _ (CallsWell (with_node O)) (first_well (with_node O)))
+    (word_holds _ _)))
 
 -- ---- a call of a terminal
 
@@ -166,11 +145,9 @@ module _ (s : Span) where
 
   pub token : StandsNowhere (MisplacedCall (two_parts x_id (Call (codes "ID") s)))
   token =
-      all_well (two_parts x_id (Call (codes "ID") s)) (
-        ways_of_one (two_parts x_id (Call (codes "ID") s)) (CallsWell (two_parts x_id (Call (codes "ID") s)))
-            (pair_way _ (assign_way _) (call_way _ (λ f fragment is. one_no_id I f fragment is.0))) (first_well (two_parts x_id (Call (codes "ID") s)), (none, tt)),
-        tt,
-      )
+      all_well (two_parts x_id (Call (codes "ID") s)) (refl, tt)
+      (pair_holds _ (CallsWell (alone I)) (assign_way _) (assign_holds _ (CallsWell (alone I)) (first_well (alone I)))
+      (call_holds _ (λ before. CallsWell (alone I) (step (the_rule I) x_leaf ∷ before)) none), tt)
     where
-      none : CallsWell (two_parts x_id (Call (codes "ID") s)) (step (the_rule I) x_leaf ∷ []) (step (the_rule I) (leaf.Call (codes "ID") s))
+      none : CallsWell (alone I) (step (the_rule I) x_leaf ∷ []) (leaf.Call (codes "ID") s)
       none called (node r rule is _ _) _ = one_no_id I r rule is

@@ -22,8 +22,8 @@ use Rattle.lw_faults.specs.Properties as property
 use Rattle.lw_faults.specs.Worked.{StandsAlone, StandsNowhere, place, no_place, both, x_by, calls_id, twice, rule_returning, unknown_twice}
 use Rattle.lw_sentences.proofs.Every.{Every, every_of}
 use Rattle.lw_faults.proofs.AloneLemmas.{the_rule}
-use Rattle.lw_faults.proofs.StepLemmas.{step_written, IsWritten}
-use Rattle.lw_faults.proofs.WorkedSteps.{assign_goes, pair_goes}
+use Rattle.lw_faults.proofs.StepLemmas.{holds_of_step, own_step}
+use Rattle.lw_faults.proofs.WorkedSteps.{assign_goes, to_assign, to_first, to_second}
 
 module _ (first second : Op) (s : Span) where
   abbrev G : Grammar
@@ -54,15 +54,13 @@ module _ (first second : Op) (s : Span) where
   IsPut rule (leaf.Act a) = ⊥
   IsPut rule _ = Unit {0}
 
-  written_put : (rule : Rule) (l : Leaf) → IsWritten G (step rule l) → IsPut rule l
-  written_put rule l is =
-      every_of (IsPut rule) (leaves rule.body) l
-      (every_of (λ (x : Rule). Every (IsPut x) (leaves x.body)) G.rules rule
-      (subst (Every (IsPut A)) (sym both_leaves) ((refl, refl, inl (refl, refl)), ((refl, refl, inr (refl, refl)), tt)), tt) is.0) is.1
+  only_put : {rule written : Rule} {before : List Step} {l : Leaf} → IsBehind G rule before (step written l) → IsPut written l
+  only_put is =
+      holds_of_step G IsPut (subst (Every (IsPut A)) (sym both_leaves) ((refl, refl, inl (refl, refl)), ((refl, refl, inr (refl, refl)), tt)), tt) is
 
   puts_either : {type_name p : List ℕ} {list : Bool} {file : ℕ} {t : Span} → PutsInto G type_name p list file t → (file ≡ 0) × (p ≡ codes "x") × IsEither list t
-  puts_either (property.assigned {p} {op} {s = t} rule written before v is _) = written_put written (leaf.Assign p op v t) (step_written G is)
-  puts_either (property.acted rule written before a put is _) = absurd (written_put written (leaf.Act a) (step_written G is))
+  puts_either (property.assigned rule written before v is _) = only_put is
+  puts_either (property.acted rule written before a put is _) = absurd (only_put is)
 
   pub alike_nowhere : is_list first ≡ is_list second → StandsNowhere (MixedProperty G)
   alike_nowhere alike file t name (mixed {list} {other} _ _ puts had apart _) = apart (by (puts_either puts).2 (puts_either had).2)
@@ -102,10 +100,10 @@ module _ (first second : Op) (s : Span) where
         inferred = (0, place 16 17, written.own A (0, omega arith, refl) refl refl)
 
         ahead : IsBehind G A [] (step A x_first)
-        ahead = record { within = (0, omega arith, refl); whole = refl; after = step A x_second ∷ []; goes = pair_goes G (assign_goes G) (assign_goes G) }
+        ahead = own_step G (0, omega arith, refl) refl (to_first G _ (to_assign G)) (λ is. is.2)
 
         behind : IsBehind G A (step A x_first ∷ []) (step A x_second)
-        behind = record { within = (0, omega arith, refl); whole = refl; after = []; goes = pair_goes G (assign_goes G) (assign_goes G) }
+        behind = own_step G (0, omega arith, refl) refl (to_second G (assign_goes G) (to_assign G)) (λ is. is.2)
 
         own : IsCurrentType G A [] (codes "A")
         own = steps.own (All-nil (λ (x : Step). ¬ IsAct x.leaf)) (All-nil (λ (x : Step). ¬ IsNodeCall G x.leaf)) (refl, refl)

@@ -1,5 +1,5 @@
--- What the elements of the written grammars do: each of these has one way.
-use Rattle.std.proofs.Common.{ℕ, List, [], ◌∷◌, ◌++◌}
+-- What the elements of the written grammars do and come to.
+use Rattle.std.proofs.Common.{◌≡◌, ℕ, List, [], ◌∷◌, ◌++◌, refl, sym, subst}
 use Rattle.lw_base.specs.declared.token.Span.{Span}
 use Rattle.lw_grammar.specs.declared.grammar.Grammar.{Grammar}
 use Rattle.lw_grammar.specs.declared.rule.Rule.{Rule}
@@ -7,48 +7,127 @@ use Rattle.lw_grammar.specs.declared.rule.Action.{Action}
 use Rattle.lw_grammar.specs.declared.rule.Op.{Op}
 use Rattle.lw_grammar.specs.declared.rule.Value0.{Value0}
 use Rattle.lw_grammar.specs.declared.rule.Element.{Element}
-use Rattle.lw_grammar.specs.declared.rule.Element.TheVariants.{Keyword, Call, Assign, Act, Group, outs-Keyword, outs-Call, outs-Assign, outs-Act, outs-Group}
+use Rattle.lw_grammar.specs.declared.rule.Element.TheVariants.{Keyword, Call, Assign, Act, Group, Maybe, outs-Keyword, outs-Call, outs-Assign, outs-Act, outs-Group, outs-Maybe}
+use Rattle.lw_grammar.specs.declared.rule.Element.TheOpen as layer
 use Rattle.lw_grammar.specs.Leaves as leaf
-use Rattle.lw_grammar.specs.Leaves.{IsFragmentCall}
-use Rattle.lw_faults.specs.Steps.{Step, step, GoesThrough, GoesAll}
+use Rattle.lw_grammar.specs.Leaves.{Leaf}
+use Rattle.lw_faults.specs.Steps.{Step, step, PutsInFragment, GoesThrough, GoesLayer, ComesTo, ComesLayer, ComesAlong}
 use Rattle.lw_faults.specs.Steps as steps
-use Rattle.lw_faults.proofs.StepLemmas.{HasWay, RowHasWay, one_way, row_more, row_end, can_go, call_goes}
+use Rattle.lw_faults.proofs.StepLemmas.{HasWay, HoldsIn, what_goes, can_go, what_comes, can_come}
 
-module _ (g : Grammar) {entered : List ℕ} {rule : Rule} where
-  pub word_way : {text : List ℕ} {s : Span} → HasWay g entered rule (Keyword text s) []
-  word_way {text} {s} = one_way g (outs-Keyword text s) (λ done is. is)
+module _ (g : Grammar) {rule : Rule} where
+  -- ---- these have one way
+  module _ {text : List ℕ} {s : Span} where
+    word_layer : (done : List Step) → GoesLayer g rule (layer.Keyword text s) done → done ≡ []
+    word_layer _ steps.keyword = refl
 
-  pub assign_way : {p : List ℕ} {op : Op} {v : Value0} {s : Span} → HasWay g entered rule (Assign p op v s) (step rule (leaf.Assign p op v s) ∷ [])
-  assign_way {p} {op} {v} {s} = one_way g (outs-Assign p op v s) (λ done is. is)
+    pub word_way : HasWay g rule (Keyword text s) []
+    word_way done does = word_layer done (what_goes g (outs-Keyword text s) does)
 
-  pub act_way : {a : Action} → HasWay g entered rule (Act a) (step rule (leaf.Act a) ∷ [])
-  act_way {a} = one_way g (outs-Act a) (λ done is. is)
+    pub word_goes : GoesThrough g rule (Keyword text s) []
+    word_goes = can_go g (outs-Keyword text s) steps.keyword
 
-  pub call_way : {name : List ℕ} {s : Span} → ((f : ℕ) (fragment : Rule) → ¬ IsFragmentCall g (leaf.Call name s) f fragment) →
-      HasWay g entered rule (Call name s) (step rule (leaf.Call name s) ∷ [])
-  call_way {name} {s} none = one_way g (outs-Call name s) (λ done does. call_goes g none does)
+    word_comes : (P : List Step → Leaf → Type 0) (before : List Step) (l : Leaf) → ComesLayer g rule (layer.Keyword text s) before l → P before l
+    word_comes P before l does = elim does [ ]
 
-  pub row_way : {es : List Element} {s : Span} {way : List Step} → RowHasWay g entered rule es way → HasWay g entered rule (Group es s) way
-  row_way {es} {s} all = one_way g (outs-Group es s) all
+    pub word_holds : (P : List Step → Leaf → Type 0) → HoldsIn g P rule (Keyword text s)
+    word_holds P before l does = word_comes P before l (what_comes g (outs-Keyword text s) does)
 
-  pub pair_way : {one other : Element} {s : Span} {first second : List Step} → HasWay g entered rule one first → HasWay g entered rule other second →
-      HasWay g entered rule (Group (one ∷ other ∷ []) s) (first ++ (second ++ []))
-  pair_way a b = row_way (row_more g a (row_more g b (row_end g)))
+  module _ {p : List ℕ} {op : Op} {v : Value0} {s : Span} where
+    assign_layer : (done : List Step) → GoesLayer g rule (layer.Assign p op v s) done → done ≡ step rule (leaf.Assign p op v s) ∷ []
+    assign_layer _ GoesLayer.assigned = refl
 
-  -- and it can go that way
-  pub word_goes : {text : List ℕ} {s : Span} → GoesThrough g entered rule (Keyword text s) []
-  word_goes {text} {s} = can_go g (outs-Keyword text s) steps.keyword
+    pub assign_way : HasWay g rule (Assign p op v s) (step rule (leaf.Assign p op v s) ∷ [])
+    assign_way done does = assign_layer done (what_goes g (outs-Assign p op v s) does)
 
-  pub assign_goes : {p : List ℕ} {op : Op} {v : Value0} {s : Span} → GoesThrough g entered rule (Assign p op v s) (step rule (leaf.Assign p op v s) ∷ [])
-  assign_goes {p} {op} {v} {s} = can_go g (outs-Assign p op v s) steps.assigned
+    pub assign_goes : GoesThrough g rule (Assign p op v s) (step rule (leaf.Assign p op v s) ∷ [])
+    assign_goes = can_go g (outs-Assign p op v s) GoesLayer.assigned
 
-  pub act_goes : {a : Action} → GoesThrough g entered rule (Act a) (step rule (leaf.Act a) ∷ [])
-  act_goes {a} = can_go g (outs-Act a) steps.acted
+    assign_comes : (P : List Step → Leaf → Type 0) → P [] (leaf.Assign p op v s) → (before : List Step) (l : Leaf) →
+        ComesLayer g rule (layer.Assign p op v s) before l → P before l
+    assign_comes P holds _ _ ComesLayer.assigned = holds
 
-  pub token_goes : {name : List ℕ} {s : Span} → ((f : ℕ) (fragment : Rule) → ¬ IsFragmentCall g (leaf.Call name s) f fragment) →
-      GoesThrough g entered rule (Call name s) (step rule (leaf.Call name s) ∷ [])
-  token_goes {name} {s} none = can_go g (outs-Call name s) (steps.called none)
+    pub assign_holds : (P : List Step → Leaf → Type 0) → P [] (leaf.Assign p op v s) → HoldsIn g P rule (Assign p op v s)
+    assign_holds P holds before l does = assign_comes P holds before l (what_comes g (outs-Assign p op v s) does)
 
-  pub pair_goes : {one other : Element} {s : Span} {first second : List Step} → GoesThrough g entered rule one first → GoesThrough g entered rule other second →
-      GoesThrough g entered rule (Group (one ∷ other ∷ []) s) (first ++ (second ++ []))
-  pair_goes {one} {other} {s} a b = can_go g (outs-Group (one ∷ other ∷ []) s) (steps.grouped (steps.more a (steps.more b steps.none)))
+    pub to_assign : ComesTo g rule (Assign p op v s) [] (leaf.Assign p op v s)
+    to_assign = can_come g (outs-Assign p op v s) ComesLayer.assigned
+
+  module _ {a : Action} where
+    act_layer : (done : List Step) → GoesLayer g rule (layer.Act a) done → done ≡ step rule (leaf.Act a) ∷ []
+    act_layer _ GoesLayer.acted = refl
+
+    pub act_way : HasWay g rule (Act a) (step rule (leaf.Act a) ∷ [])
+    act_way done does = act_layer done (what_goes g (outs-Act a) does)
+
+    pub act_goes : GoesThrough g rule (Act a) (step rule (leaf.Act a) ∷ [])
+    act_goes = can_go g (outs-Act a) GoesLayer.acted
+
+    act_comes : (P : List Step → Leaf → Type 0) → P [] (leaf.Act a) → (before : List Step) (l : Leaf) → ComesLayer g rule (layer.Act a) before l → P before l
+    act_comes P holds _ _ ComesLayer.acted = holds
+
+    pub act_holds : (P : List Step → Leaf → Type 0) → P [] (leaf.Act a) → HoldsIn g P rule (Act a)
+    act_holds P holds before l does = act_comes P holds before l (what_comes g (outs-Act a) does)
+
+    pub to_act : ComesTo g rule (Act a) [] (leaf.Act a)
+    to_act = can_come g (outs-Act a) ComesLayer.acted
+
+  module _ {name : List ℕ} {s : Span} where
+    call_layer : ¬ PutsInFragment g (leaf.Call name s) → (done : List Step) → GoesLayer g rule (layer.Call name s) done → done ≡ step rule (leaf.Call name s) ∷ []
+    call_layer none _ (GoesLayer.called _) = refl
+    call_layer none done (GoesLayer.put_in f fragment is _) = absurd (none (f, fragment, is))
+
+    pub call_way : ¬ PutsInFragment g (leaf.Call name s) → HasWay g rule (Call name s) (step rule (leaf.Call name s) ∷ [])
+    call_way none done does = call_layer none done (what_goes g (outs-Call name s) does)
+
+    pub call_goes : ¬ PutsInFragment g (leaf.Call name s) → GoesThrough g rule (Call name s) (step rule (leaf.Call name s) ∷ [])
+    call_goes none = can_go g (outs-Call name s) (GoesLayer.called none)
+
+    call_comes : (P : List Step → Leaf → Type 0) → P [] (leaf.Call name s) → (before : List Step) (l : Leaf) →
+        ComesLayer g rule (layer.Call name s) before l → P before l
+    call_comes P holds _ _ ComesLayer.called = holds
+
+    pub call_holds : (P : List Step → Leaf → Type 0) → P [] (leaf.Call name s) → HoldsIn g P rule (Call name s)
+    call_holds P holds before l does = call_comes P holds before l (what_comes g (outs-Call name s) does)
+
+    pub to_call : ComesTo g rule (Call name s) [] (leaf.Call name s)
+    to_call = can_come g (outs-Call name s) ComesLayer.called
+
+  -- ---- two in a row
+  pub to_first : {one : Element} (other : Element) {s : Span} {before : List Step} {l : Leaf} → ComesTo g rule one before l →
+      ComesTo g rule (Group (one ∷ other ∷ []) s) before l
+  to_first {one} other {s} there = can_come g (outs-Group (one ∷ other ∷ []) s) (ComesLayer.grouped (steps.here there))
+
+  module _ {one other : Element} where
+    module _ {s : Span} where
+      pub pair_goes : {first second : List Step} → GoesThrough g rule one first → GoesThrough g rule other second →
+          GoesThrough g rule (Group (one ∷ other ∷ []) s) (first ++ (second ++ []))
+      pair_goes a b = can_go g (outs-Group (one ∷ other ∷ []) s) (GoesLayer.grouped (steps.more a (steps.more b steps.none)))
+
+      pub to_second : {first before : List Step} {l : Leaf} → GoesThrough g rule one first → ComesTo g rule other before l →
+          ComesTo g rule (Group (one ∷ other ∷ []) s) (first ++ before) l
+      to_second does there = can_come g (outs-Group (one ∷ other ∷ []) s) (ComesLayer.grouped (steps.later does (steps.here there)))
+
+    module _ (P : List Step → Leaf → Type 0) {way : List Step} (has_way : HasWay g rule one way) (in_first : HoldsIn g P rule one)
+        (in_second : HoldsIn g (λ before l. P (way ++ before) l) rule other) where
+      along_second : (first before : List Step) (l : Leaf) → GoesThrough g rule one first → ComesAlong g rule (other ∷ []) before l → P (first ++ before) l
+      along_second first before l does (steps.here there) = subst (λ xs. P (xs ++ before) l) (sym (has_way first does)) (in_second before l there)
+      along_second first _ l does (steps.later _ along) = elim along [ ]
+
+      along_pair : (before : List Step) (l : Leaf) → ComesAlong g rule (one ∷ other ∷ []) before l → P before l
+      along_pair before l (steps.here there) = in_first before l there
+      along_pair _ l (steps.later {first} {before} does along) = along_second first before l does along
+
+      pair_layer : (s : Span) (before : List Step) (l : Leaf) → ComesLayer g rule (layer.Group (one ∷ other ∷ []) s) before l → P before l
+      pair_layer s before l (ComesLayer.grouped along) = along_pair before l along
+
+      pub pair_holds : {s : Span} → HoldsIn g P rule (Group (one ∷ other ∷ []) s)
+      pair_holds {s} before l does = pair_layer s before l (what_comes g (outs-Group (one ∷ other ∷ []) s) does)
+
+  -- ---- once or not
+  module _ {e : Element} {s : Span} (P : List Step → Leaf → Type 0) (inside : HoldsIn g P rule e) where
+    maybe_layer : (before : List Step) (l : Leaf) → ComesLayer g rule (layer.Maybe e s) before l → P before l
+    maybe_layer before l (ComesLayer.taken does) = inside before l does
+
+    pub maybe_holds : HoldsIn g P rule (Maybe e s)
+    maybe_holds before l does = maybe_layer before l (what_comes g (outs-Maybe e s) does)
