@@ -18,7 +18,7 @@ use Rattle.lw_faults.specs.Steps as steps
 use Rattle.lw_faults.specs.Misplaced.{MisplacedCall, misplaced_call, FillsNode}
 use Rattle.lw_faults.specs.Misplaced as misplaced
 use Rattle.lw_faults.specs.Worked.{StandsAlone, StandsNowhere, place, no_place, x_id, both, entry_rule, alone, two_parts, node_rule, with_node, node_behind, node_before, node_and_word}
-use Rattle.lw_sentences.proofs.Every.{Every, every_of, differ, first_here, first_later, meant}
+use Rattle.lw_sentences.proofs.Every.{Every, differ, first_here, first_later, meant}
 use Rattle.lw_faults.proofs.ActsWorked.{x_leaf}
 use Rattle.lw_faults.proofs.AloneLemmas.{the_rule, one_no_id}
 use Rattle.lw_faults.proofs.StepLemmas.{HoldsIn, HasNoFragment, can_come, holds_of_step, own_step, holds_behind}
@@ -145,9 +145,11 @@ module _ (s : Span) where
 
   pub token : StandsNowhere (MisplacedCall (two_parts x_id (Call (codes "ID") s)))
   token =
-      all_well (two_parts x_id (Call (codes "ID") s)) (refl, tt)
-      (pair_holds _ (CallsWell (alone I)) (assign_way _) (assign_holds _ (CallsWell (alone I)) (first_well (alone I)))
-      (call_holds _ (λ before. CallsWell (alone I) (step (the_rule I) x_leaf ∷ before)) none), tt)
+      all_well (two_parts x_id (Call (codes "ID") s)) (refl, tt) (
+        pair_holds _ (CallsWell (alone I)) (assign_way _) (assign_holds _ (CallsWell (alone I)) (first_well (alone I)))
+            (call_holds _ (λ before. CallsWell (alone I) (step (the_rule I) x_leaf ∷ before)) none),
+        tt,
+      )
     where
       none : CallsWell (alone I) (step (the_rule I) x_leaf ∷ []) (leaf.Call (codes "ID") s)
       none called (node r rule is _ _) _ = one_no_id I r rule is

@@ -1,10 +1,12 @@
 -- Properties that a declared type has not, or has in another form, and the same where it has them so.
 use Rattle.std.proofs.Common.{◌≡◌, ◌≢◌, ℕ, List, [], ◌∷◌, ◌++◌, Some, Bool, true, false, codes, slice_get, Contains, refl, sym, ap, ◌∙◌, subst, arith, true≢false}
 use Rattle.std.specs.List.{flat_map}
+use Rattle.std.proofs.lemmas.List.Elements.{All-nil}
 use Rattle.std.proofs.lemmas.Option.{none-some}
 use Rattle.lw_base.specs.declared.token.Span.{Span}
 use Rattle.lw_grammar.specs.declared.grammar.Grammar.{Grammar}
 use Rattle.lw_grammar.specs.declared.rule.Rule.{Rule}
+use Rattle.lw_grammar.specs.declared.rule.Element.{Element}
 use Rattle.lw_grammar.specs.declared.rule.Op.{Op}
 use Rattle.lw_grammar.specs.declared.rule.Op.TheVariants.{One, Add, Flag}
 use Rattle.lw_grammar.specs.declared.rule.Value0.{Value0}
@@ -16,50 +18,62 @@ use Rattle.lw_grammar.specs.declared.declared_types.Interface.{Interface}
 use Rattle.lw_grammar.specs.declared.declared_types.Attribute.{Attribute}
 use Rattle.lw_grammar.specs.declared.declared_types.Member.{Member}
 use Rattle.lw_grammar.specs.declared.declared_types.Member.TheVariants as member
-use Rattle.lw_grammar.specs.Leaves.{ValueLeaf, Calls, Cross, value_leaves}
+use Rattle.lw_grammar.specs.Leaves as leaf
+use Rattle.lw_grammar.specs.Leaves.{Leaf, leaves, ValueLeaf, Calls, Cross, value_leaves}
 use Rattle.lw_grammar.specs.Named.{IsRule, IsTerminal, IsInterface, IsUnion, declared_rule, declared_terminal, declared_interface, declared_union}
 use Rattle.lw_grammar.specs.Subtypes.{IsDeclared, by_interface, by_union, same}
 use Rattle.lw_grammar.proofs.FirstLemmas.{first_item}
-use Rattle.lw_grammar.proofs.LeafLemmas.{values-Call, values-Cross}
+use Rattle.lw_grammar.proofs.LeafLemmas.{leaf_equations, values-Call, values-Cross}
+use Rattle.lw_faults.specs.Steps.{Step, step, Begins, IsBehind, IsAct, IsNodeCall, IsCurrentType}
+use Rattle.lw_faults.specs.Steps as steps
 use Rattle.lw_faults.specs.Attributes.{Kind, Plain, ReferencesTo, Lineage, HasAttribute, HasNoAttribute, IsKindOf, TakesKind}
 use Rattle.lw_faults.specs.Attributes as kind
 use Rattle.lw_faults.specs.Properties.{MisfitsAttribute, IsRefusedKind, UnknownProperty, WrongPropertyForm}
 use Rattle.lw_faults.specs.Properties as property
-use Rattle.lw_faults.specs.Worked.{StandsAlone, StandsNowhere, no_place, terminal_id, x_attribute, i_interface, with_attribute, j_interface, extending_type, u_union, united, x_by, calls_id, i_reference}
-use Rattle.lw_sentences.proofs.Every.{every_of, every_at, differ, first_here, first_later, meant, not_meant}
+use Rattle.lw_faults.specs.Worked.{StandsAlone, StandsNowhere, no_place, of_rules, rule_returning, calls_endless, endless_fragment, with_endless, terminal_id, x_attribute, i_interface, with_attribute, j_interface, extending_type, u_union, united, x_by, calls_id, i_reference}
+use Rattle.lw_sentences.proofs.Every.{Every, every_of, every_at, differ, first_here, first_later, meant, not_meant}
 use Rattle.lw_faults.proofs.LineageLemmas.{one_lineage}
+use Rattle.lw_faults.proofs.StepLemmas.{holds_of_step}
+use Rattle.lw_faults.proofs.WorkedSteps.{to_assign, to_call, to_first}
 use Rattle.lw_faults.proofs.PutLemmas.{unknown_found, unknown_nowhere, misfit_found, misfit_nowhere}
 
 not_entered : ¬ Contains {X = ℕ} [] 0
 not_entered (k, inside, is) = omega (arith, inside)
 
--- ---- an interface with one attribute
+-- ---- an interface with one attribute, whatever the rules are
+
+module _ (rules : List Rule) (list : Bool) (m : Member) where
+  abbrev W : Grammar
+  W = record (of_rules rules) { interfaces = i_interface list m ∷ [] }
+
+  i_named : IsInterface W (codes "I") 0 (i_interface list m)
+  i_named = meant declared_interface declared_union (codes "I") W.interfaces W.unions 0 (i_interface list m) (first_here refl) tt
+
+  i_declared : IsDeclared W (codes "I")
+  i_declared = by_interface 0 (i_interface list m) i_named
+
+  i_lineage : Lineage W [] (codes "I") (i_interface list m ∷ [])
+  i_lineage = kind.interface 0 (i_interface list m) i_named not_entered kind.none
+
+  i_has_x : HasAttribute W (codes "I") (codes "x") (x_attribute list m)
+  i_has_x = record { lineage = i_interface list m ∷ []; all = i_lineage; at = 0; first = first_here refl }
+
+  i_has_no_other : (p : List ℕ) → p ≢ codes "x" → HasNoAttribute W (codes "I") p
+  i_has_no_other p other attribute has =
+      let attributes : List Interface → List Attribute = λ ls. flat_map (λ i. i.attributes) ls in
+      let there : slice_get (x_attribute list m ∷ []) has.at ≡ Some attribute =
+      subst (λ ls. slice_get (attributes ls) has.at ≡ Some attribute) (one_lineage W has.all i_lineage) has.first.there in
+      let is : x_attribute list m ≡ attribute = every_at (λ x. x_attribute list m ≡ x) (x_attribute list m ∷ []) has.at attribute (refl, tt) there in
+      other (sym has.first.does ∙ sym (ap (λ (x : Attribute). x.name) is))
+
+abbrev returns_i : Element → List Rule
+returns_i body = rule_returning (codes "I") body ∷ []
+
+-- ---- what is put in
 
 module _ (list : Bool) (m : Member) (p : List ℕ) (op : Op) (v : Value0) (s : Span) where
   abbrev G : Grammar
   G = with_attribute list m (Assign p op v s)
-
-  i_named : IsInterface G (codes "I") 0 (i_interface list m)
-  i_named = meant declared_interface declared_union (codes "I") G.interfaces G.unions 0 (i_interface list m) (first_here refl) tt
-
-  i_declared : IsDeclared G (codes "I")
-  i_declared = by_interface 0 (i_interface list m) i_named
-
-  i_lineage : Lineage G [] (codes "I") (i_interface list m ∷ [])
-  i_lineage = kind.interface 0 (i_interface list m) i_named not_entered kind.none
-
-  i_has_x : HasAttribute G (codes "I") (codes "x") (x_attribute list m)
-  i_has_x = record { lineage = i_interface list m ∷ []; all = i_lineage; at = 0; first = first_here refl }
-
-  i_has_no_other : p ≢ codes "x" → HasNoAttribute G (codes "I") p
-  i_has_no_other other attribute has =
-      let attributes : List Interface → List Attribute = λ ls. flat_map (λ i. i.attributes) ls in
-      let there : slice_get (x_attribute list m ∷ []) has.at ≡ Some attribute =
-      subst (λ ls. slice_get (attributes ls) has.at ≡ Some attribute) (one_lineage G has.all i_lineage) has.first.there in
-      let is : x_attribute list m ≡ attribute = every_at (λ x. x_attribute list m ≡ x) (x_attribute list m ∷ []) has.at attribute (refl, tt) there in
-      other (sym has.first.does ∙ sym (ap (λ (x : Attribute). x.name) is))
-
-  -- ---- what is put in
 
   no_id : (r : ℕ) (rule : Rule) → ¬ IsRule G (codes "ID") r rule
   no_id r rule = not_meant declared_rule declared_terminal (codes "ID") G.rules G.terminals r rule (differ _ _ refl, tt)
@@ -127,14 +141,14 @@ module _ (s : Span) where
   pub undeclared : StandsAlone (UnknownProperty (with_attribute false (member.Plain Text) (Assign (codes "y") One calls_id s))) 0 s (codes "y")
   undeclared =
       unknown_found (i_interface false (member.Plain Text) ∷ []) [] (codes "I") (codes "y") One calls_id s
-      (i_declared false (member.Plain Text) (codes "y") One calls_id s)
-      (i_has_no_other false (member.Plain Text) (codes "y") One calls_id s (differ _ _ refl))
+      (i_declared (returns_i (Assign (codes "y") One calls_id s)) false (member.Plain Text))
+      (i_has_no_other (returns_i (Assign (codes "y") One calls_id s)) false (member.Plain Text) (codes "y") (differ _ _ refl))
 
   pub declared : StandsNowhere (UnknownProperty (with_attribute false (member.Plain Text) (x_by One calls_id s)))
   declared =
       unknown_nowhere (i_interface false (member.Plain Text) ∷ []) [] (codes "I") (codes "x") One calls_id s
-      (i_declared false (member.Plain Text) (codes "x") One calls_id s)
-      (λ none. none (x_attribute false (member.Plain Text)) (i_has_x false (member.Plain Text) (codes "x") One calls_id s))
+      (i_declared (returns_i (x_by One calls_id s)) false (member.Plain Text))
+      (λ none. none (x_attribute false (member.Plain Text)) (i_has_x (returns_i (x_by One calls_id s)) false (member.Plain Text)))
 
   -- J extends I
   abbrev E : Grammar
@@ -185,20 +199,77 @@ module _ (s : Span) where
   pub in_union : StandsAlone (UnknownProperty U) 0 s (codes "x")
   in_union = unknown_found (i ∷ []) (u_union ∷ []) (codes "U") (codes "x") One calls_id s (by_union 0 u_union u_named) u_has_none
 
+-- ---- in a fragment that never ends
+
+module _ (s : Span) where
+  abbrev C : Grammar
+  C = with_endless s
+
+  abbrev F : Rule
+  F = endless_fragment s
+
+  f_named : IsRule C (codes "F") 1 F
+  f_named = meant declared_rule declared_terminal (codes "F") C.rules C.terminals 1 F (first_later (differ _ _ refl) (first_here refl)) (differ _ _ refl, tt)
+
+  abbrev y_leaf : Leaf
+  y_leaf = leaf.Assign (codes "y") One calls_id s
+
+  a_leaves : leaves calls_endless.body ≡ leaf.Call (codes "F") no_place ∷ []
+  a_leaves = simp leaf_equations
+
+  f_leaves : leaves F.body ≡ y_leaf ∷ leaf.Call (codes "F") no_place ∷ []
+  f_leaves = simp leaf_equations
+
+  -- the fragment is called first, and begins with the assignment
+  y_behind : IsBehind C calls_endless [] (step F y_leaf)
+  y_behind = record {
+    outside = [];
+    inside = [];
+    begins = Begins.put_in (leaf.Call (codes "F") no_place) 1 F (steps.itself (0, omega arith, refl) refl) (to_call C) (f_named, refl);
+    comes = to_first C _ (to_assign C);
+    single = λ is. is.2;
+    all = refl;
+  }
+
+  y_current : IsCurrentType C calls_endless [] (codes "I")
+  y_current = steps.own (All-nil (λ (x : Step). ¬ IsAct x.leaf)) (All-nil (λ (x : Step). ¬ IsNodeCall C x.leaf)) (refl, refl)
+
+  -- nothing else is put in
+  abbrev IsY : Rule → Leaf → Type 0
+  IsY rule (leaf.Assign q o w t) = (rule.file ≡ 0) × (t ≡ s) × (q ≡ codes "y")
+  IsY rule (leaf.Act a) = ⊥
+  IsY rule _ = Unit {0}
+
+  only_y : {rule written : Rule} {before : List Step} {l : Leaf} → IsBehind C rule before (step written l) → IsY written l
+  only_y is =
+      holds_of_step C IsY
+      (subst (Every (IsY calls_endless)) (sym a_leaves) (tt, tt), (subst (Every (IsY F)) (sym f_leaves) ((refl, refl, refl), (tt, tt)), tt)) is
+
+  pub in_endless : StandsAlone (UnknownProperty C) 0 s (codes "y")
+  in_endless = (
+    property.assigned calls_endless F [] (codes "y") One calls_id s (codes "I") y_behind y_current (i_declared C.rules false (member.Plain Text))
+        (i_has_no_other C.rules false (member.Plain Text) (codes "y") (differ _ _ refl)),
+    others,
+  )
+    where
+      others : (f : ℕ) (t : Span) (n : List ℕ) → UnknownProperty C f t n → (f ≡ 0) × (t ≡ s) × (n ≡ codes "y")
+      others f t n (property.assigned rule written before q o w u type_of is _ _ _) = only_y is
+      others f t n (property.acted rule written before a put is _ _ _) = absurd (only_y is)
+
 -- ---- forms
 
 module _ (list : Bool) (m : Member) (op : Op) (v : Value0) (s : Span) where
   form_found : MisfitsAttribute (with_attribute list m (x_by op v s)) (x_attribute list m) v op →
       StandsAlone (WrongPropertyForm (with_attribute list m (x_by op v s))) 0 s (codes "x")
   form_found =
-      misfit_found (i_interface list m ∷ []) [] (codes "I") (codes "x") op v s (i_declared list m (codes "x") op v s) (x_attribute list m)
-      (i_has_x list m (codes "x") op v s)
+      misfit_found (i_interface list m ∷ []) [] (codes "I") (codes "x") op v s (i_declared (returns_i (x_by op v s)) list m) (x_attribute list m)
+      (i_has_x (returns_i (x_by op v s)) list m)
 
   form_nowhere : ¬ MisfitsAttribute (with_attribute list m (x_by op v s)) (x_attribute list m) v op →
       StandsNowhere (WrongPropertyForm (with_attribute list m (x_by op v s)))
   form_nowhere =
-      misfit_nowhere (i_interface list m ∷ []) [] (codes "I") (codes "x") op v s (i_declared list m (codes "x") op v s) (x_attribute list m)
-      (i_has_x list m (codes "x") op v s)
+      misfit_nowhere (i_interface list m ∷ []) [] (codes "I") (codes "x") op v s (i_declared (returns_i (x_by op v s)) list m) (x_attribute list m)
+      (i_has_x (returns_i (x_by op v s)) list m)
 
 abbrev text : Member
 text = member.Plain Text

@@ -213,6 +213,16 @@ calls_id = value.Call (codes "ID") no_place
 abbrev pub i_reference : Value0
 i_reference = value.Cross (codes "I") (Some (codes "ID")) no_place
 
+-- a fragment that never ends: grammar G interface I { x: string } entry A returns I: F; fragment F: y=ID F;
+abbrev pub calls_endless : Rule
+calls_endless = rule_returning (codes "I") (Call (codes "F") no_place)
+
+abbrev pub endless_fragment : Span → Rule
+endless_fragment s = fragment_rule (codes "F") no_place (Group (both (Assign (codes "y") One calls_id s) (Call (codes "F") no_place)) no_place)
+
+abbrev pub with_endless : Span → Grammar
+with_endless s = record (of_rules (calls_endless ∷ endless_fragment s ∷ [])) { interfaces = i_interface false (Plain Text) ∷ [] }
+
 -- ---- a property of an inferred type, put in twice: grammar G entry A: x=ID x+=ID;
 
 abbrev pub twice : Op → Op → Span → Grammar

@@ -12,7 +12,7 @@ ghost use Rattle.lw_grammar.specs.declared.fault.GrammarFault.{GrammarFault};
 ghost use Rattle.lw_grammar.specs.declared.grammar.Grammar.{Grammar};
 ghost use Rattle.lw_faults.specs.Derivations.{LeftRecursion, ReadsNothing, RepeatsNothing, NeverEnds};
 ghost use Rattle.lw_faults.specs.Faults.{IsTypeFault, IsCheckFault, AreTypeFaults, AreCheckFaults};
-ghost use Rattle.lw_faults.specs.Worked.{StandsAlone, StandsNowhere, place, no_place, left_recursive, right_recursive, x_id, calling_b, alone, repeating, a_a, endless, keyword_of, makes_b, takes_b, two_parts, action_and_word, acts_in_fragment, with_node, node_behind, node_before, node_and_word, puts, with_attribute, extending_type, united, x_by, calls_id, i_reference, twice, unknown_twice, making_s, types_alone, extends, a_extending, b_extending, union_of, fragment_calling, terminal_calling, of_rules, plain_rule, in_file, a_entry, b_entry, entry_fragment, id_element, resulting, with_terminal, calling_terminal, crossing, assigning, y_id, node_rule, fragment_rule, x_value, behind_a, beside_interface, makes_declared, by_its_name, many_rules};
+ghost use Rattle.lw_faults.specs.Worked.{StandsAlone, StandsNowhere, place, no_place, left_recursive, right_recursive, x_id, calling_b, alone, repeating, a_a, endless, keyword_of, makes_b, takes_b, two_parts, action_and_word, acts_in_fragment, with_node, node_behind, node_before, node_and_word, puts, with_attribute, extending_type, united, x_by, calls_id, i_reference, with_endless, twice, unknown_twice, making_s, types_alone, extends, a_extending, b_extending, union_of, fragment_calling, terminal_calling, of_rules, plain_rule, in_file, a_entry, b_entry, entry_fragment, id_element, resulting, with_terminal, calling_terminal, crossing, assigning, y_id, node_rule, fragment_rule, x_value, behind_a, beside_interface, makes_declared, by_its_name, many_rules};
 ghost use Rattle.lw_faults.specs.Names.{Duplicate, UnknownRule, UnknownType, NoNameRule};
 ghost use Rattle.lw_faults.specs.BadCalls.{BadCall, BadAssignment};
 ghost use Rattle.lw_faults.specs.Entries.{NoEntry, SecondEntry, EntryMakesNoNode, TooManyRules};
@@ -81,12 +81,14 @@ pub fn misplaced_calls()
     ensures token { (s : Span) → StandsNowhere (MisplacedCall (two_parts x_id (Call (codes "ID") s))) }
 {}
 
-/// A declared type has the properties that it and what it extends declare. A union has none.
+/// A declared type has the properties that it and what it extends declare. A union has none. What a fragment puts in is looked at, even
+/// where the fragment never ends.
 pub fn unknown_properties()
     ensures undeclared { StandsAlone (UnknownProperty (with_attribute false (Plain Text) (Assign (codes "y") One calls_id (place 55 59)))) 0 (place 55 59) (codes "y") }
     ensures declared { (s : Span) → StandsNowhere (UnknownProperty (with_attribute false (Plain Text) (x_by One calls_id s))) }
     ensures extended { (s : Span) → StandsNowhere (UnknownProperty (extending_type (x_by One calls_id s))) }
     ensures union_ { StandsAlone (UnknownProperty (united (x_by One calls_id (place 67 71)))) 0 (place 67 71) (codes "x") }
+    ensures endless { StandsAlone (UnknownProperty (with_endless (place 70 74))) 0 (place 70 74) (codes "y") }
 {}
 
 /// What is put into a declared property has its form: a list by `+=`, `boolean` by `?=`, and what is referred to by a cross-reference.

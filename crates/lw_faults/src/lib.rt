@@ -13,7 +13,8 @@
 //! - `specs/Steps.antt`: the ways through a rule, fragments put in. A way is the list of its steps,
 //!   which are assignments, actions and calls that are not assigned; of each step it is known in
 //!   whose body it is written. What is repeated stands on a way any number of times, so that it comes
-//!   behind itself.
+//!   behind itself. A step is come to behind what is done before it, whether or not the way has an end:
+//!   a fragment that never ends is looked into, and what stands behind a call of it is not come to.
 //!
 //! `specs/Attributes.antt` adds which attributes a declared type has, and which values one takes. The
 //! other files have the faults by their subject.
