@@ -13,7 +13,7 @@ use Rattle.lw_grammar.specs.Leaves as leaf
 use Rattle.lw_grammar.specs.Leaves.{Leaf, leaves}
 use Rattle.lw_grammar.specs.Named.{IsRule, declared_rule, declared_terminal}
 use Rattle.lw_grammar.proofs.LeafLemmas.{leaf_equations}
-use Rattle.lw_faults.specs.Steps.{Step, step, ComesTo, ComesLayer, Begins}
+use Rattle.lw_faults.specs.Steps.{Step, step, GetsTo, ComesLayer, BodyBegins}
 use Rattle.lw_faults.specs.Steps as steps
 use Rattle.lw_faults.specs.Misplaced.{MisplacedAction, simple, current}
 use Rattle.lw_faults.specs.Worked.{StandsAlone, StandsNowhere, place, no_place, keyword_of, x_id, makes_b, takes_b, both, alone, two_parts, action_and_word, calls_f, acts_f, acts_in_fragment}
@@ -117,7 +117,7 @@ M = the_rule (Many action_and_word no_place)
 many_leaves : leaves M.body ≡ leaf.Act word_act ∷ leaf.Keyword (codes "x") no_place ∷ []
 many_leaves = simp leaf_equations
 
-again : ComesTo (alone (Many action_and_word no_place)) M M.body (step M (leaf.Act word_act) ∷ []) (leaf.Act word_act)
+again : GetsTo (alone (Many action_and_word no_place)) M M.body (step M (leaf.Act word_act) ∷ []) (leaf.Act word_act)
 again =
     can_come _ (outs-Many action_and_word no_place) (ComesLayer.repeated (steps.again (pair_goes _ (act_goes _) (word_goes _)) steps.stop) (to_first _ _ (to_act _)))
 
@@ -144,9 +144,9 @@ f_named =
 abbrev f_act : Action
 f_act = makes_b (place 39 48)
 
-f_begins : Begins acts_in_fragment calls_f (step calls_f x_leaf ∷ []) acts_f
+f_begins : BodyBegins acts_in_fragment calls_f (step calls_f x_leaf ∷ []) acts_f
 f_begins =
-    Begins.put_in (leaf.Call (codes "F") no_place) 1 acts_f (steps.itself (0, omega arith, refl) refl) (to_second acts_in_fragment (assign_goes _) (to_call _))
+    BodyBegins.put_in (leaf.Call (codes "F") no_place) 1 acts_f (steps.itself (0, omega arith, refl) refl) (to_second acts_in_fragment (assign_goes _) (to_call _))
     (f_named, refl)
 
 calls_leaves : leaves calls_f.body ≡ x_leaf ∷ leaf.Call (codes "F") no_place ∷ []

@@ -13,7 +13,7 @@ use Rattle.lw_grammar.specs.Named.{IsRule, declared_rule, declared_terminal}
 use Rattle.lw_grammar.specs.Nodes.{MakesNodes, assigns}
 use Rattle.lw_grammar.proofs.FirstLemmas.{first_item}
 use Rattle.lw_grammar.proofs.LeafLemmas.{leaf_equations}
-use Rattle.lw_faults.specs.Steps.{Step, step, PutsInFragment, ComesTo, ComesLayer, IsBehind, CallsNode, node}
+use Rattle.lw_faults.specs.Steps.{Step, step, PutsInFragment, GetsTo, ComesLayer, IsBehind, CallsNode, node}
 use Rattle.lw_faults.specs.Steps as steps
 use Rattle.lw_faults.specs.Misplaced.{MisplacedCall, misplaced_call, FillsNode}
 use Rattle.lw_faults.specs.Misplaced as misplaced
@@ -76,7 +76,7 @@ module _ (body : Element) where
   b_no_fragment : (s : Span) → ¬ PutsInFragment G (leaf.Call (codes "B") s)
   b_no_fragment s (f, fragment, is) = true≢false (sym is.1 ∙ ap (λ (x : Rule). x.is_fragment) (first_item is.0.first b_named.first))
 
-  b_behind : {before : List Step} {s : Span} → ComesTo G A body before (leaf.Call (codes "B") s) → IsBehind G A before (step A (leaf.Call (codes "B") s))
+  b_behind : {before : List Step} {s : Span} → GetsTo G A body before (leaf.Call (codes "B") s) → IsBehind G A before (step A (leaf.Call (codes "B") s))
   b_behind {s} there = own_step G (0, omega arith, refl) refl there (b_no_fragment s)
 
   -- the calls come where they may, since that of B makes none
@@ -115,7 +115,7 @@ before =
 abbrev M : Element
 M = Many node_and_word no_place
 
-again : ComesTo (with_node M) (A M) M (step (A M) (leaf.Call (codes "B") (place 20 21)) ∷ []) (leaf.Call (codes "B") (place 20 21))
+again : GetsTo (with_node M) (A M) M (step (A M) (leaf.Call (codes "B") (place 20 21)) ∷ []) (leaf.Call (codes "B") (place 20 21))
 again =
     can_come _ (outs-Many node_and_word no_place)
     (ComesLayer.repeated (steps.again (pair_goes _ (call_goes _ (b_no_fragment M (place 20 21))) (word_goes _)) steps.stop) (to_first _ _ (to_call _)))

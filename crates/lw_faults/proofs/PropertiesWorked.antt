@@ -24,7 +24,7 @@ use Rattle.lw_grammar.specs.Named.{IsRule, IsTerminal, IsInterface, IsUnion, dec
 use Rattle.lw_grammar.specs.Subtypes.{IsDeclared, by_interface, by_union, same}
 use Rattle.lw_grammar.proofs.FirstLemmas.{first_item}
 use Rattle.lw_grammar.proofs.LeafLemmas.{leaf_equations, values-Call, values-Cross}
-use Rattle.lw_faults.specs.Steps.{Step, step, Begins, IsBehind, IsAct, IsNodeCall, IsCurrentType}
+use Rattle.lw_faults.specs.Steps.{Step, step, BodyBegins, IsBehind, IsAct, IsNodeCall, IsCurrentType}
 use Rattle.lw_faults.specs.Steps as steps
 use Rattle.lw_faults.specs.Attributes.{Kind, Plain, ReferencesTo, Lineage, HasAttribute, HasNoAttribute, IsKindOf, TakesKind}
 use Rattle.lw_faults.specs.Attributes as kind
@@ -225,7 +225,7 @@ module _ (s : Span) where
   y_behind = record {
     outside = [];
     inside = [];
-    begins = Begins.put_in (leaf.Call (codes "F") no_place) 1 F (steps.itself (0, omega arith, refl) refl) (to_call C) (f_named, refl);
+    begins = BodyBegins.put_in (leaf.Call (codes "F") no_place) 1 F (steps.itself (0, omega arith, refl) refl) (to_call C) (f_named, refl);
     comes = to_first C _ (to_assign C);
     single = λ is. is.2;
     all = refl;

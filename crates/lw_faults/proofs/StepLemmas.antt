@@ -12,7 +12,7 @@ use Rattle.lw_grammar.specs.Leaves.{Leaf, leaves, layer_leaves, IsFragmentCall}
 use Rattle.lw_grammar.specs.declared.rule.Element.TheFolds.{map-Element}
 use Rattle.lw_grammar.specs.Subtypes.{HasType}
 use Rattle.lw_grammar.proofs.LeafLemmas.{leaves_by}
-use Rattle.lw_faults.specs.Steps.{Step, step, PutsInFragment, GoesThrough, GoesLayer, ComesTo, ComesLayer, ComesAlong, Begins, IsBehind, IsAct, IsNodeCall, NoneActs, IsCurrentType}
+use Rattle.lw_faults.specs.Steps.{Step, step, PutsInFragment, GoesThrough, GoesLayer, GetsTo, ComesLayer, ComesAlong, BodyBegins, IsBehind, IsAct, IsNodeCall, NoneActs, IsCurrentType}
 use Rattle.lw_faults.specs.Steps as steps
 use Rattle.lw_sentences.proofs.Every.{Every, every_of}
 
@@ -28,10 +28,10 @@ module _ (g : Grammar) where
     pub can_go : {done : List Step} → GoesLayer g rule f done → GoesThrough g rule e done
     can_go {done} does = steps.goes (subst (λ x. GoesLayer g rule x done) (sym is) does)
 
-    pub what_comes : {before : List Step} {l : Leaf} → ComesTo g rule e before l → ComesLayer g rule f before l
+    pub what_comes : {before : List Step} {l : Leaf} → GetsTo g rule e before l → ComesLayer g rule f before l
     what_comes {before} {l} (steps.comes does) = subst (λ x. ComesLayer g rule x before l) is does
 
-    pub can_come : {before : List Step} {l : Leaf} → ComesLayer g rule f before l → ComesTo g rule e before l
+    pub can_come : {before : List Step} {l : Leaf} → ComesLayer g rule f before l → GetsTo g rule e before l
     can_come {before} {l} does = steps.comes (subst (λ x. ComesLayer g rule x before l) (sym is) does)
 
   -- ---- a step is written in the body of its rule
@@ -51,7 +51,7 @@ module _ (g : Grammar) where
       Contains-append_right (leaves x) (RowLeaves es) l (chosen_leaf es e l (k, omega (arith, inside), is) has)
 
   mutual
-    written : {rule : Rule} {e : Element} {before : List Step} {l : Leaf} → ComesTo g rule e before l → Contains (leaves e) l
+    written : {rule : Rule} {e : Element} {before : List Step} {l : Leaf} → GetsTo g rule e before l → Contains (leaves e) l
     written {e} {l} (steps.comes does) = subst (λ ls. Contains ls l) (sym (leaves_by e (out-Element e) refl)) (written_layer does)
 
     written_layer : {rule : Rule} {f : Element-F Element} {before : List Step} {l : Leaf} → ComesLayer g rule f before l → Contains (LayerLeaves f) l
@@ -72,9 +72,9 @@ module _ (g : Grammar) where
   called_rule (leaf.Call name s) f fragment is = (at_its_number g.rules f fragment is.0.first.there, is.1)
   called_rule _ f fragment is = absurd is
 
-  pub inside_rule : {rule inside : Rule} {before : List Step} → Begins g rule before inside → Contains g.rules inside
+  pub inside_rule : {rule inside : Rule} {before : List Step} → BodyBegins g rule before inside → Contains g.rules inside
   inside_rule (steps.itself has _) = has
-  inside_rule (Begins.put_in l f fragment _ _ is) = (called_rule l f fragment is).0
+  inside_rule (BodyBegins.put_in l f fragment _ _ is) = (called_rule l f fragment is).0
 
   -- what holds of each leaf of each body
   pub holds_of_step : {rule : Rule} {before : List Step} {at : Step} (P : Rule → Leaf → Type 0) → Every (λ (x : Rule). Every (P x) (leaves x.body)) g.rules →
@@ -84,30 +84,30 @@ module _ (g : Grammar) where
       (every_of (λ (x : Rule). Every (P x) (leaves x.body)) g.rules at.written all (inside_rule is.begins)) (written is.comes)
 
   -- ---- the ways through a rule
-  outside_rule : {rule inside : Rule} {before : List Step} → Begins g rule before inside → Contains g.rules rule
+  outside_rule : {rule inside : Rule} {before : List Step} → BodyBegins g rule before inside → Contains g.rules rule
   outside_rule (steps.itself has _) = has
-  outside_rule (Begins.put_in _ _ _ sooner _ _) = outside_rule sooner
+  outside_rule (BodyBegins.put_in _ _ _ sooner _ _) = outside_rule sooner
 
   pub rule_there : {rule : Rule} {before : List Step} {at : Step} → IsBehind g rule before at → Contains g.rules rule
   rule_there is = outside_rule is.begins
 
   -- a step that the rule's own body comes to
-  pub own_step : {rule : Rule} {before : List Step} {l : Leaf} → Contains g.rules rule → rule.is_fragment ≡ false → ComesTo g rule rule.body before l →
+  pub own_step : {rule : Rule} {before : List Step} {l : Leaf} → Contains g.rules rule → rule.is_fragment ≡ false → GetsTo g rule rule.body before l →
       ¬ PutsInFragment g l → IsBehind g rule before (step rule l)
   own_step {before} has whole there single =
       record { outside = []; inside = before; begins = steps.itself has whole; comes = there; single = single; all = refl }
 
   -- wherever the element comes to, this holds of the steps before and of what is there
   abbrev pub HoldsIn : (List Step → Leaf → Type 0) → Rule → Element → Type 0
-  HoldsIn P rule e = (before : List Step) (l : Leaf) → ComesTo g rule e before l → P before l
+  HoldsIn P rule e = (before : List Step) (l : Leaf) → GetsTo g rule e before l → P before l
 
   -- no rule is a fragment
   abbrev pub HasNoFragment : Type 0
   HasNoFragment = Every (λ (x : Rule). x.is_fragment ≡ false) g.rules
 
-  begins_itself : {rule inside : Rule} {before : List Step} → HasNoFragment → Begins g rule before inside → before ≡ []
+  begins_itself : {rule inside : Rule} {before : List Step} → HasNoFragment → BodyBegins g rule before inside → before ≡ []
   begins_itself none (steps.itself _ _) = refl
-  begins_itself none (Begins.put_in l f fragment _ _ is) =
+  begins_itself none (BodyBegins.put_in l f fragment _ _ is) =
       let there = called_rule l f fragment is in
       absurd (true≢false (sym there.1 ∙ every_of (λ (x : Rule). x.is_fragment ≡ false) g.rules fragment none there.0))
 

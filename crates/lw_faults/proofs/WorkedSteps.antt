@@ -11,7 +11,7 @@ use Rattle.lw_grammar.specs.declared.rule.Element.TheVariants.{Keyword, Call, As
 use Rattle.lw_grammar.specs.declared.rule.Element.TheOpen as layer
 use Rattle.lw_grammar.specs.Leaves as leaf
 use Rattle.lw_grammar.specs.Leaves.{Leaf}
-use Rattle.lw_faults.specs.Steps.{Step, step, PutsInFragment, GoesThrough, GoesLayer, ComesTo, ComesLayer, ComesAlong}
+use Rattle.lw_faults.specs.Steps.{Step, step, PutsInFragment, GoesThrough, GoesLayer, GetsTo, ComesLayer, ComesAlong}
 use Rattle.lw_faults.specs.Steps as steps
 use Rattle.lw_faults.proofs.StepLemmas.{HasWay, HoldsIn, what_goes, can_go, what_comes, can_come}
 
@@ -50,7 +50,7 @@ module _ (g : Grammar) {rule : Rule} where
     pub assign_holds : (P : List Step → Leaf → Type 0) → P [] (leaf.Assign p op v s) → HoldsIn g P rule (Assign p op v s)
     assign_holds P holds before l does = assign_comes P holds before l (what_comes g (outs-Assign p op v s) does)
 
-    pub to_assign : ComesTo g rule (Assign p op v s) [] (leaf.Assign p op v s)
+    pub to_assign : GetsTo g rule (Assign p op v s) [] (leaf.Assign p op v s)
     to_assign = can_come g (outs-Assign p op v s) ComesLayer.assigned
 
   module _ {a : Action} where
@@ -69,7 +69,7 @@ module _ (g : Grammar) {rule : Rule} where
     pub act_holds : (P : List Step → Leaf → Type 0) → P [] (leaf.Act a) → HoldsIn g P rule (Act a)
     act_holds P holds before l does = act_comes P holds before l (what_comes g (outs-Act a) does)
 
-    pub to_act : ComesTo g rule (Act a) [] (leaf.Act a)
+    pub to_act : GetsTo g rule (Act a) [] (leaf.Act a)
     to_act = can_come g (outs-Act a) ComesLayer.acted
 
   module _ {name : List ℕ} {s : Span} where
@@ -90,12 +90,12 @@ module _ (g : Grammar) {rule : Rule} where
     pub call_holds : (P : List Step → Leaf → Type 0) → P [] (leaf.Call name s) → HoldsIn g P rule (Call name s)
     call_holds P holds before l does = call_comes P holds before l (what_comes g (outs-Call name s) does)
 
-    pub to_call : ComesTo g rule (Call name s) [] (leaf.Call name s)
+    pub to_call : GetsTo g rule (Call name s) [] (leaf.Call name s)
     to_call = can_come g (outs-Call name s) ComesLayer.called
 
   -- ---- two in a row
-  pub to_first : {one : Element} (other : Element) {s : Span} {before : List Step} {l : Leaf} → ComesTo g rule one before l →
-      ComesTo g rule (Group (one ∷ other ∷ []) s) before l
+  pub to_first : {one : Element} (other : Element) {s : Span} {before : List Step} {l : Leaf} → GetsTo g rule one before l →
+      GetsTo g rule (Group (one ∷ other ∷ []) s) before l
   to_first {one} other {s} there = can_come g (outs-Group (one ∷ other ∷ []) s) (ComesLayer.grouped (steps.here there))
 
   module _ {one other : Element} where
@@ -104,8 +104,8 @@ module _ (g : Grammar) {rule : Rule} where
           GoesThrough g rule (Group (one ∷ other ∷ []) s) (first ++ (second ++ []))
       pair_goes a b = can_go g (outs-Group (one ∷ other ∷ []) s) (GoesLayer.grouped (steps.more a (steps.more b steps.none)))
 
-      pub to_second : {first before : List Step} {l : Leaf} → GoesThrough g rule one first → ComesTo g rule other before l →
-          ComesTo g rule (Group (one ∷ other ∷ []) s) (first ++ before) l
+      pub to_second : {first before : List Step} {l : Leaf} → GoesThrough g rule one first → GetsTo g rule other before l →
+          GetsTo g rule (Group (one ∷ other ∷ []) s) (first ++ before) l
       to_second does there = can_come g (outs-Group (one ∷ other ∷ []) s) (ComesLayer.grouped (steps.later does (steps.here there)))
 
     module _ (P : List Step → Leaf → Type 0) {way : List Step} (has_way : HasWay g rule one way) (in_first : HoldsIn g P rule one)

@@ -59,44 +59,44 @@ module _ (g : Grammar) where
       stop : {rule : Rule} {e : Element} → GoesAgain rule e []
       again : {rule : Rule} {e : Element} {first others : List Step} → GoesThrough rule e first → GoesAgain rule e others → GoesAgain rule e (first ++ others)
 
-  -- `ComesTo rule e before l`: the element e, written in this rule, may do the steps `before`, and then it is at the leaf l, which is written in
+  -- `GetsTo rule e before l`: the element e, written in this rule, may do the steps `before`, and then it is at the leaf l, which is written in
   -- it too: an assignment, an action or a call, also one of a fragment. What is in the middle of a repetition may have gone through it before.
   mutual
-    pub data ComesTo : Rule → Element → List Step → Leaf → Type 0 where
-      comes : {rule : Rule} {e : Element} {before : List Step} {l : Leaf} → ComesLayer rule (out-Element e) before l → ComesTo rule e before l
+    pub data GetsTo : Rule → Element → List Step → Leaf → Type 0 where
+      comes : {rule : Rule} {e : Element} {before : List Step} {l : Leaf} → ComesLayer rule (out-Element e) before l → GetsTo rule e before l
 
     pub data ComesLayer : Rule → Element-F Element → List Step → Leaf → Type 0 where
       called : {rule : Rule} {name : List ℕ} {s : Span} → ComesLayer rule (Call name s) [] (leaf.Call name s)
       assigned : {rule : Rule} {p : List ℕ} {op : Op} {v : Value0} {s : Span} → ComesLayer rule (Assign p op v s) [] (leaf.Assign p op v s)
       acted : {rule : Rule} {a : Action} → ComesLayer rule (Act a) [] (leaf.Act a)
       grouped : {rule : Rule} {es : List Element} {s : Span} {before : List Step} {l : Leaf} → ComesAlong rule es before l → ComesLayer rule (Group es s) before l
-      chosen : {rule : Rule} {es : List Element} {s : Span} {e : Element} {before : List Step} {l : Leaf} → Contains es e → ComesTo rule e before l →
+      chosen : {rule : Rule} {es : List Element} {s : Span} {e : Element} {before : List Step} {l : Leaf} → Contains es e → GetsTo rule e before l →
           ComesLayer rule (Choice es s) before l
-      taken : {rule : Rule} {e : Element} {s : Span} {before : List Step} {l : Leaf} → ComesTo rule e before l → ComesLayer rule (Maybe e s) before l
-      repeated : {rule : Rule} {e : Element} {s : Span} {turns before : List Step} {l : Leaf} → GoesAgain rule e turns → ComesTo rule e before l →
+      taken : {rule : Rule} {e : Element} {s : Span} {before : List Step} {l : Leaf} → GetsTo rule e before l → ComesLayer rule (Maybe e s) before l
+      repeated : {rule : Rule} {e : Element} {s : Span} {turns before : List Step} {l : Leaf} → GoesAgain rule e turns → GetsTo rule e before l →
           ComesLayer rule (Many e s) (turns ++ before) l
-      repeated_once : {rule : Rule} {e : Element} {s : Span} {turns before : List Step} {l : Leaf} → GoesAgain rule e turns → ComesTo rule e before l →
+      repeated_once : {rule : Rule} {e : Element} {s : Span} {turns before : List Step} {l : Leaf} → GoesAgain rule e turns → GetsTo rule e before l →
           ComesLayer rule (Some1 e s) (turns ++ before) l
 
     -- along a row, whose parts before it were gone through
     pub data ComesAlong : Rule → List Element → List Step → Leaf → Type 0 where
-      here : {rule : Rule} {e : Element} {es : List Element} {before : List Step} {l : Leaf} → ComesTo rule e before l → ComesAlong rule (e ∷ es) before l
+      here : {rule : Rule} {e : Element} {es : List Element} {before : List Step} {l : Leaf} → GetsTo rule e before l → ComesAlong rule (e ∷ es) before l
       later : {rule : Rule} {e : Element} {es : List Element} {first before : List Step} {l : Leaf} → GoesThrough rule e first → ComesAlong rule es before l →
           ComesAlong rule (e ∷ es) (first ++ before) l
 
-  -- `Begins rule before inside`: on some way through the rule, which is no fragment, these steps come before the body of `inside` begins, which is
+  -- `BodyBegins rule before inside`: on some way through the rule, which is no fragment, these steps come before the body of `inside` begins, which is
   -- the rule itself or a fragment that is put in.
-  pub data Begins : Rule → List Step → Rule → Type 0 where
-    itself : {rule : Rule} → Contains g.rules rule → rule.is_fragment ≡ false → Begins rule [] rule
-    put_in : {rule inside : Rule} {before more : List Step} (l : Leaf) (f : ℕ) (fragment : Rule) → Begins rule before inside →
-        ComesTo inside inside.body more l → IsFragmentCall g l f fragment → Begins rule (before ++ more) fragment
+  pub data BodyBegins : Rule → List Step → Rule → Type 0 where
+    itself : {rule : Rule} → Contains g.rules rule → rule.is_fragment ≡ false → BodyBegins rule [] rule
+    put_in : {rule inside : Rule} {before more : List Step} (l : Leaf) (f : ℕ) (fragment : Rule) → BodyBegins rule before inside →
+        GetsTo inside inside.body more l → IsFragmentCall g l f fragment → BodyBegins rule (before ++ more) fragment
 
   -- On some way through the rule, which is no fragment, this step comes, and these before it.
   pub record IsBehind (rule : Rule) (before : List Step) (at : Step) : Type 0 where
     pub outside : List Step
     pub inside : List Step
-    pub begins : Begins rule outside at.written
-    pub comes : ComesTo at.written at.written.body inside at.leaf
+    pub begins : BodyBegins rule outside at.written
+    pub comes : GetsTo at.written at.written.body inside at.leaf
     pub single : ¬ PutsInFragment at.leaf
     pub all : before ≡ outside ++ inside
 
