@@ -51,7 +51,7 @@ module _ (g : Grammar) where
       Contains-append_right (leaves x) (RowLeaves es) l (chosen_leaf es e l (k, omega (arith, inside), is) has)
 
   mutual
-    written : {rule : Rule} {e : Element} {before : List Step} {l : Leaf} → GetsTo g rule e before l → Contains (leaves e) l
+    pub written : {rule : Rule} {e : Element} {before : List Step} {l : Leaf} → GetsTo g rule e before l → Contains (leaves e) l
     written {e} {l} (steps.comes does) = subst (λ ls. Contains ls l) (sym (leaves_by e (out-Element e) refl)) (written_layer does)
 
     written_layer : {rule : Rule} {f : Element-F Element} {before : List Step} {l : Leaf} → ComesLayer g rule f before l → Contains (LayerLeaves f) l
