@@ -1,17 +1,18 @@
--- What a name means, by how it stands among the rules and among the terminals.
-use Rattle.std.proofs.Common.{◌≡◌, ℕ, List, length, Option, Some, None, MatchOption, Contains, bytes_eq, inl, inr, sym, ap, ◌∙◌, subst, arith}
+-- What a name means, by how it stands in both lists of its space.
+use Rattle.std.proofs.Common.{◌≡◌, ℕ, ◌+◌, refl, List, ◌<◌, length, get_or, Option, Some, None, MatchOption, Contains, bytes_eq, inl, inr, sym, ap, ◌∙◌, subst, arith}
 use Rattle.std.specs.Map.{lookup}
 use Rattle.std.proofs.lemmas.Bool.{cases_order}
 use Rattle.std.proofs.lemmas.Option.{slice_get_within, get_or_from_slice_get}
-use Rattle.lw_base.specs.declared.numbers.RuleId.{RuleId}
 use Rattle.lw_grammar.specs.declared.grammar.Grammar.{Grammar}
-use Rattle.lw_grammar.specs.Named.{Declaration, IsMeant, declared_rule, declared_terminal}
+use Rattle.lw_grammar.specs.declared.declared_types.Interface.{Interface}
+use Rattle.lw_grammar.specs.declared.declared_types.UnionDef.{UnionDef}
+use Rattle.lw_grammar.specs.Named.{Declaration, IsMeant, IsInterface, IsUnion, declared_rule, declared_terminal, declared_interface, declared_union}
 use Rattle.lw_grammar.proofs.FirstLemmas.{first_item}
 use Rattle.lw_numbers.specs.declared.standing.Place.{Place}
 use Rattle.lw_numbers.specs.declared.standing.Standing.{Standing}
 use Rattle.lw_numbers.specs.Numbering.{IsNumbered}
 use Rattle.lw_numbers.specs.Numbering as numbered
-use Rattle.lw_numbers.specs.Standing.{IsBefore, IsSooner, rule_, terminal_, declared_place, StandsAs}
+use Rattle.lw_numbers.specs.Standing.{IsAhead, IsBefore, declared_place, StandsAs}
 use Rattle.lw_numbers.specs.Tables.{Tables, AreNumbersOf}
 
 -- what stands before the earliest stands before each that is no earlier
@@ -30,6 +31,16 @@ before_all a earliest other (inr (file, lt)) none = elim (cases_order other.file
   | inr (inl sooner) ↦ absurd (none (inl sooner))
   | inr (inr later) ↦ inl (omega (arith, file, later))
 ]
+
+module _ {X Y : Type 0} (declared_by : X → Declaration) (other_by : Y → Declaration) (name : List ℕ) (xs : List X) (others : List Y) (i : ℕ) (x : X)
+    (meant : IsMeant declared_by other_by name xs others i x) where
+  pub meant_inside : i < length xs
+  meant_inside = slice_get_within xs i x meant.first.there
+
+  -- what is read at its place is what is meant
+  pub meant_read : (y : X) → y ≡ get_or xs i y → IsMeant declared_by other_by name xs others i y
+  meant_read y read =
+      subst (IsMeant declared_by other_by name xs others i) (sym (get_or_from_slice_get xs i x y meant.first.there) ∙ sym read) meant
 
 module _ {X Y : Type 0} (declared_by : X → Declaration) (other_by : Y → Declaration) (name : List ℕ) (first second : ℕ) (xs : List X) (others : List Y) where
   abbrev Meant : ℕ → X → Type 0
@@ -67,61 +78,88 @@ module _ {X Y : Type 0} (declared_by : X → Declaration) (other_by : Y → Decl
   not_meant none i x meant =
       none x (i, slice_get_within xs i x meant.first.there, get_or_from_slice_get xs i x x meant.first.there) meant.first.does
 
-module _ (g : Grammar) (name : List ℕ) where
-  abbrev RuleStands : Standing → Type 0
-  RuleStands = StandsAs declared_rule 0 g.rules name
+  abbrev pub AmongHere : Option Standing → Type 0
+  AmongHere found = MatchOption found NoneHere (StandsAs declared_by first xs name)
 
-  abbrev TerminalStands : Standing → Type 0
-  TerminalStands = StandsAs declared_terminal (length g.rules) g.terminals name
+  abbrev pub AmongThere : Option Standing → Type 0
+  AmongThere found = MatchOption found NoneThere (StandsAs other_by second others name)
 
-  numbered_rule : (s : Standing) (one : RuleStands s) → IsMeant declared_rule declared_terminal name g.rules g.terminals one.at one.item → IsNumbered g name s.number.0
-  numbered_rule s one meant = let is : s.number.0 ≡ one.at = omega (arith, one.number) in subst (IsNumbered g name) (sym is) (numbered.rule_ one.at one.item meant)
+  -- what is ahead is meant
+  pub ahead_is_meant : (one other : Option Standing) → AmongHere one → AmongThere other → (n : ℕ) → IsAhead one other n →
+      (at : ℕ) × (item : X) × (n ≡ first + at) × Meant at item
+  ahead_is_meant None other none there n ahead = absurd ahead
+  ahead_is_meant (Some s) None one none n ahead = (one.at, one.item, sym ahead ∙ one.number, meant_alone s one none)
+  ahead_is_meant (Some s) (Some t) one two n ahead = (one.at, one.item, sym ahead.1 ∙ one.number, meant_before s t one two ahead.0)
 
-  numbered_terminal : (s : Standing) (one : TerminalStands s) → IsMeant declared_terminal declared_rule name g.terminals g.rules one.at one.item → IsNumbered g name s.number.0
-  numbered_terminal s one meant = subst (IsNumbered g name) (sym one.number) (numbered.terminal one.at one.item meant)
+  -- and where it is not ahead, it is not meant
+  pub not_ahead : (one other : Option Standing) → AmongHere one → AmongThere other → ((n : ℕ) → ¬ IsAhead one other n) → (i : ℕ) (x : X) → ¬ Meant i x
+  not_ahead None other none there not i x meant = not_meant none i x meant
+  not_ahead (Some s) None one none not i x meant = not s.number refl
+  not_ahead (Some s) (Some t) one two not i x meant = not s.number (before_where_meant s t one two i x meant, refl)
 
-  sooner_is_meant : (r t : Standing) → RuleStands r → TerminalStands t → (id : RuleId) → IsSooner r t id → IsNumbered g name id.0
-  sooner_is_meant r t rule term id (rule_ before) =
-      numbered_rule r rule (meant_before declared_rule declared_terminal name 0 (length g.rules) g.rules g.terminals r t rule term before)
-  sooner_is_meant r t rule term id (terminal_ before) =
-      numbered_terminal t term (meant_before declared_terminal declared_rule name (length g.rules) 0 g.terminals g.rules t r term rule before)
+module _ (g : Grammar) (name : List ℕ) (tables : Tables) (are : AreNumbersOf g tables) where
+  abbrev pub at_name : List (List ℕ × Standing) → Option Standing
+  at_name entries = lookup (bytes_eq name) entries
 
-  none_is_meant : (r t : Standing) → RuleStands r → TerminalStands t → ((id : RuleId) → ¬ IsSooner r t id) → (n : ℕ) → IsNumbered g name n → ⊥
-  none_is_meant r t rule term none n (numbered.rule_ i x meant) =
-      none r.number (rule_ (before_where_meant declared_rule declared_terminal name 0 (length g.rules) g.rules g.terminals r t rule term i x meant))
-  none_is_meant r t rule term none n (numbered.terminal i x meant) =
-      none t.number (terminal_ (before_where_meant declared_terminal declared_rule name (length g.rules) 0 g.terminals g.rules t r term rule i x meant))
+  module _ {r t : Option Standing} (is_r : r ≡ at_name tables.rules) (is_t : t ≡ at_name tables.terminals) where
+    rules_here : AmongHere declared_rule declared_terminal name 0 (length g.rules) g.rules g.terminals r
+    rules_here = subst (AmongHere declared_rule declared_terminal name 0 (length g.rules) g.rules g.terminals) (sym is_r) (are.rules name)
 
-  module _ (tables : Tables) (are : AreNumbersOf g tables) where
-    abbrev as_rule : Option Standing
-    as_rule = lookup (bytes_eq name) tables.rules
+    terminals_here : AmongThere declared_rule declared_terminal name 0 (length g.rules) g.rules g.terminals t
+    terminals_here = subst (AmongThere declared_rule declared_terminal name 0 (length g.rules) g.rules g.terminals) (sym is_t) (are.terminals name)
 
-    abbrev as_terminal : Option Standing
-    as_terminal = lookup (bytes_eq name) tables.terminals
+    pub rule_ahead : (n : ℕ) → IsAhead r t n → IsNumbered g name n
+    rule_ahead n ahead =
+        let (at, rule, is, meant) = ahead_is_meant declared_rule declared_terminal name 0 (length g.rules) g.rules g.terminals r t rules_here terminals_here n ahead in
+        let same : at ≡ n = omega (arith, is) in subst (IsNumbered g name) same (numbered.rule_ at rule meant)
 
-    abbrev Among : {X : Type 0} → (X → Declaration) → ℕ → List X → Option Standing → Type 0
-    Among {X = X} declared_by first xs found = MatchOption found ((x : X) → Contains xs x → ¬ ((declared_by x).name ≡ name)) (StandsAs declared_by first xs name)
+    pub terminal_ahead : (n : ℕ) → IsAhead t r n → IsNumbered g name n
+    terminal_ahead n ahead =
+        let (at, terminal, is, meant) = ahead_is_meant declared_terminal declared_rule name (length g.rules) 0 g.terminals g.rules t r terminals_here rules_here n ahead in
+        subst (IsNumbered g name) (sym is) (numbered.terminal at terminal meant)
 
-    rule_found : {found : Option Standing} → found ≡ as_rule → Among declared_rule 0 g.rules found
-    rule_found is = subst (Among declared_rule 0 g.rules) (sym is) (are.rules name)
+    pub neither_ahead : ((n : ℕ) → ¬ IsAhead r t n) → ((n : ℕ) → ¬ IsAhead t r n) → (n : ℕ) → ¬ IsNumbered g name n
+    neither_ahead no_rule no_terminal n (numbered.rule_ _ x meant) =
+        not_ahead declared_rule declared_terminal name 0 (length g.rules) g.rules g.terminals r t rules_here terminals_here no_rule n x meant
+    neither_ahead no_rule no_terminal _ (numbered.terminal i x meant) =
+        not_ahead declared_terminal declared_rule name (length g.rules) 0 g.terminals g.rules t r terminals_here rules_here no_terminal i x meant
 
-    terminal_found : {found : Option Standing} → found ≡ as_terminal → Among declared_terminal (length g.rules) g.terminals found
-    terminal_found is = subst (Among declared_terminal (length g.rules) g.terminals) (sym is) (are.terminals name)
+  module _ {i u : Option Standing} (is_i : i ≡ at_name tables.interfaces) (is_u : u ≡ at_name tables.unions) where
+    interfaces_here : AmongHere declared_interface declared_union name 0 0 g.interfaces g.unions i
+    interfaces_here = subst (AmongHere declared_interface declared_union name 0 0 g.interfaces g.unions) (sym is_i) (are.interfaces name)
 
-    pub both : (r t : Standing) → Some r ≡ as_rule → Some t ≡ as_terminal → (result : Option RuleId) →
-        MatchOption result ((id : RuleId) → ¬ IsSooner r t id) (IsSooner r t) → MatchOption result ((n : ℕ) → ¬ IsNumbered g name n) (λ id. IsNumbered g name id.0)
-    both r t is was None none = none_is_meant r t (rule_found is) (terminal_found was) none
-    both r t is was (Some id) sooner = sooner_is_meant r t (rule_found is) (terminal_found was) id sooner
+    unions_here : AmongThere declared_interface declared_union name 0 0 g.interfaces g.unions u
+    unions_here = subst (AmongThere declared_interface declared_union name 0 0 g.interfaces g.unions) (sym is_u) (are.unions name)
 
-    pub rule_alone : (r : Standing) → Some r ≡ as_rule → None ≡ as_terminal → IsNumbered g name r.number.0
-    rule_alone r is none =
-        numbered_rule r (rule_found is) (meant_alone declared_rule declared_terminal name 0 (length g.rules) g.rules g.terminals r (rule_found is) (terminal_found none))
+    interface_ahead : (n : ℕ) → IsAhead i u n → (x : Interface) × IsInterface g name n x
+    interface_ahead n ahead =
+        let (at, x, is, meant) = ahead_is_meant declared_interface declared_union name 0 0 g.interfaces g.unions i u interfaces_here unions_here n ahead in
+        let same : at ≡ n = omega (arith, is) in (x, subst (λ k. IsInterface g name k x) same meant)
 
-    pub terminal_alone : (t : Standing) → None ≡ as_rule → Some t ≡ as_terminal → IsNumbered g name t.number.0
-    terminal_alone t none is =
-        numbered_terminal t (terminal_found is) (meant_alone declared_terminal declared_rule name (length g.rules) 0 g.terminals g.rules t (terminal_found is) (rule_found none))
+    pub interface_inside : (n : ℕ) → IsAhead i u n → n < length g.interfaces
+    interface_inside n ahead =
+        let (x, meant) = interface_ahead n ahead in meant_inside declared_interface declared_union name g.interfaces g.unions n x meant
 
-    pub neither : None ≡ as_rule → None ≡ as_terminal → (n : ℕ) → IsNumbered g name n → ⊥
-    neither none nor n (numbered.rule_ i x meant) = not_meant declared_rule declared_terminal name 0 (length g.rules) g.rules g.terminals (rule_found none) i x meant
-    neither none nor n (numbered.terminal i x meant) =
-        not_meant declared_terminal declared_rule name (length g.rules) 0 g.terminals g.rules (terminal_found nor) i x meant
+    pub interface_read : (n : ℕ) → IsAhead i u n → (y : Interface) → y ≡ get_or g.interfaces n y → IsInterface g name n y
+    interface_read n ahead =
+        let (x, meant) = interface_ahead n ahead in meant_read declared_interface declared_union name g.interfaces g.unions n x meant
+
+    union_ahead : (n : ℕ) → IsAhead u i n → (x : UnionDef) × IsUnion g name n x
+    union_ahead n ahead =
+        let (at, x, is, meant) = ahead_is_meant declared_union declared_interface name 0 0 g.unions g.interfaces u i unions_here interfaces_here n ahead in
+        let same : at ≡ n = omega (arith, is) in (x, subst (λ k. IsUnion g name k x) same meant)
+
+    pub union_inside : (n : ℕ) → IsAhead u i n → n < length g.unions
+    union_inside n ahead =
+        let (x, meant) = union_ahead n ahead in meant_inside declared_union declared_interface name g.unions g.interfaces n x meant
+
+    pub union_read : (n : ℕ) → IsAhead u i n → (y : UnionDef) → y ≡ get_or g.unions n y → IsUnion g name n y
+    union_read n ahead =
+        let (x, meant) = union_ahead n ahead in meant_read declared_union declared_interface name g.unions g.interfaces n x meant
+
+    pub neither_declared : ((n : ℕ) → ¬ IsAhead i u n) → ((n : ℕ) → ¬ IsAhead u i n) →
+        ((n : ℕ) (x : Interface) → ¬ IsInterface g name n x) × ((n : ℕ) (x : UnionDef) → ¬ IsUnion g name n x)
+    neither_declared no_interface no_union = (
+      not_ahead declared_interface declared_union name 0 0 g.interfaces g.unions i u interfaces_here unions_here no_interface,
+      not_ahead declared_union declared_interface name 0 0 g.unions g.interfaces u i unions_here interfaces_here no_union,
+    )

@@ -186,6 +186,12 @@ module _ (g : Grammar) where
   numbers-le =
       omega (arith, length-le-sum_by rule_size (λ r. omega arith) g.rules, length-le-sum_by terminal_size (λ t. omega arith) g.terminals)
 
+  pub interfaces-le : length g.interfaces ≤ size g
+  interfaces-le = omega (arith, length-le-sum_by interface_size (λ i. omega arith) g.interfaces)
+
+  pub unions-le : length g.unions ≤ size g
+  unions-le = omega (arith, length-le-sum_by union_size (λ u. omega arith) g.unions)
+
 -- ---- the forms of elements that a small grammar has
 
 pub size-Act : (a : Action) → element_size (element.Act a) ≡ 2

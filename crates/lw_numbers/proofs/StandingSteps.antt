@@ -99,7 +99,7 @@ module _ {X : Type 0} (declared_by : X → Declaration) (first : ℕ) (xs : List
     at = stands.at;
     item = stands.item;
     is_first = first_stays xs (x ∷ []) stands.at stands.item stands.is_first;
-    number = ap (λ s. s.number.0) sooner.1 ∙ stands.number;
+    number = ap (λ s. s.number) sooner.1 ∙ stands.number;
     place = ap (λ s. s.place) sooner.1 ∙ stands.place;
     soonest = x;
     among = last_in xs x;
@@ -116,7 +116,7 @@ module _ {X : Type 0} (declared_by : X → Declaration) (first : ℕ) (xs : List
     at = stands.at;
     item = stands.item;
     is_first = first_stays xs (x ∷ []) stands.at stands.item stands.is_first;
-    number = ap (λ s. s.number.0) later.1 ∙ stands.number;
+    number = ap (λ s. s.number) later.1 ∙ stands.number;
     place = ap (λ s. s.place) later.1 ∙ stands.place;
     soonest = stands.soonest;
     among = Contains-append_left xs (x ∷ []) stands.soonest stands.among;
@@ -132,7 +132,7 @@ module _ {X : Type 0} (declared_by : X → Declaration) (first : ℕ) (xs : List
 
   -- the new one is the first of its name
   pub record Begins (s : Standing) : Type 0 where
-    pub number : s.number.0 ≡ first + length xs
+    pub number : s.number ≡ first + length xs
     pub place : s.place ≡ declared_place (declared_by x)
     pub earliest : s.earliest ≡ declared_place (declared_by x)
 
@@ -190,7 +190,7 @@ module _ {X : Type 0} (declared_by : X → Declaration) (first : ℕ) (xs : List
 -- new is the standing after one more declaration, at this place and of this number, where found was the one before
 abbrev pub Continues : Place → ℕ → Option Standing → Standing → Type 0
 Continues place number found new =
-    MatchOption found ((new.number.0 ≡ number) × (new.place ≡ place) × (new.earliest ≡ place)) (λ old. Meets place old new)
+    MatchOption found ((new.number ≡ number) × (new.place ≡ place) × (new.earliest ≡ place)) (λ old. Meets place old new)
 
 -- the same in a loop over items
 module _ {X : Type 0} (declared_by : X → Declaration) (first : ℕ) (items : List X) (i : ℕ) (x : X) (inside : i < length items) (there : x ≡ get_or items i x) where

@@ -1,4 +1,5 @@
 pub mod FirstUses
 pub mod Numbering
+pub mod Presence
 pub mod Standing
 pub mod Tables

@@ -7,9 +7,15 @@ use Rattle.lw_grammar.specs.declared.rule.Rule.{Rule}
 use Rattle.lw_grammar.specs.declared.rule.RuleResult.{RuleResult}
 use Rattle.lw_grammar.specs.declared.rule.RuleResult.TheVariants.{Own, Returns, Gives, Infers}
 use Rattle.lw_grammar.specs.declared.terminal.Terminal.{Terminal}
+use Rattle.lw_grammar.specs.declared.declared_types.Interface.{Interface}
+use Rattle.lw_grammar.specs.declared.declared_types.UnionDef.{UnionDef}
 use Rattle.lw_grammar.specs.Kinds.{first_uses}
 use Rattle.lw_grammar.specs.Leaves.{Leaf, Assign, Act, leaves}
-use Rattle.lw_grammar.specs.Named.{IsRule, IsTerminal}
+use Rattle.lw_grammar.specs.Named.{IsRule, IsTerminal, IsInterface, IsUnion}
+use Rattle.lw_numbers.specs.declared.called.Called.{Called}
+use Rattle.lw_numbers.specs.declared.called.Called.TheVariants as called
+use Rattle.lw_numbers.specs.declared.declares.Declares.{Declares}
+use Rattle.lw_numbers.specs.declared.declares.Declares.TheVariants as declares
 
 -- the number of the rule or terminal that a name means
 pub data IsNumbered (g : Grammar) (name : List ℕ) : ℕ → Type 0 where
@@ -52,3 +58,17 @@ leaf_properties _ = []
 
 abbrev pub property_names : Grammar → List (List ℕ)
 property_names g = first_uses [] (flat_map (λ i. map (λ a. a.name) i.attributes) g.interfaces ++ flat_map (λ rule. flat_map leaf_properties (leaves rule.body)) g.rules)
+
+-- ---- what a name means
+
+-- the rule or terminal that a name means, with its place among them, or nothing
+abbrev pub Means : Grammar → List ℕ → Called → Type 0
+Means g name (called.Rule r rule) = IsRule g name r rule.now
+Means g name (called.Terminal t x) = IsTerminal g name t x.now
+Means g name called.Nothing = (n : ℕ) → ¬ IsNumbered g name n
+
+-- the interface or union that a name means, with its place among them, or nothing
+abbrev pub MeansType : Grammar → List ℕ → Declares → Type 0
+MeansType g name (declares.Interface i x) = IsInterface g name i x.now
+MeansType g name (declares.Union u x) = IsUnion g name u x.now
+MeansType g name declares.Nothing = ((i : ℕ) (x : Interface) → ¬ IsInterface g name i x) × ((u : ℕ) (x : UnionDef) → ¬ IsUnion g name u x)

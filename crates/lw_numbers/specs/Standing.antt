@@ -1,8 +1,7 @@
 -- How a name stands among declarations: where its first one is, and how far to the front it is declared at all. By these it is known
--- what a name means that is a rule's and a terminal's.
-use Rattle.std.specs.Prelude.{ℕ, ◌≡◌, ◌+◌, ◌<◌, ◌⊎◌, List, Contains, MatchOption, bytes_eq}
+-- what a name means that stands in both lists of its space: among rules and terminals, or among interfaces and unions.
+use Rattle.std.specs.Prelude.{ℕ, ◌≡◌, ◌+◌, ◌<◌, ◌⊎◌, List, Option, Some, None, Contains, MatchOption, bytes_eq}
 use Rattle.std.specs.Map.{lookup}
-use Rattle.lw_base.specs.declared.numbers.RuleId.{RuleId}
 use Rattle.lw_grammar.specs.Named.{Declaration, IsFirst}
 use Rattle.lw_numbers.specs.declared.standing.Place.{Place}
 use Rattle.lw_numbers.specs.declared.standing.Standing.{Standing}
@@ -26,7 +25,7 @@ module _ {X : Type 0} (declared_by : X → Declaration) (first : ℕ) (xs : List
     pub at : ℕ
     pub item : X
     pub is_first : IsFirst (λ x. (declared_by x).name ≡ name) xs at item
-    pub number : standing.number.0 ≡ first + at
+    pub number : standing.number ≡ first + at
     pub place : standing.place ≡ declared_place (declared_by item)
     pub soonest : X
     pub among : Contains xs soonest
@@ -39,7 +38,9 @@ module _ {X : Type 0} (declared_by : X → Declaration) (first : ℕ) (xs : List
   StandAmong entries =
       (name : List ℕ) → MatchOption (lookup (bytes_eq name) entries) ((x : X) → Contains xs x → ¬ ((declared_by x).name ≡ name)) (StandsAs name)
 
--- the number of what a name means that stands among the rules and among the terminals
-pub data IsSooner (rule terminal : Standing) : RuleId → Type 0 where
-  rule_ : IsBefore rule.place terminal.earliest → IsSooner rule terminal rule.number
-  terminal_ : IsBefore terminal.place rule.earliest → IsSooner rule terminal terminal.number
+-- of a name that stands so in one list of its space and so in the other, the first in the one list stands before all in the other,
+-- and this is its number
+abbrev pub IsAhead : Option Standing → Option Standing → ℕ → Type 0
+IsAhead None other n = ⊥
+IsAhead (Some one) None n = one.number ≡ n
+IsAhead (Some one) (Some other) n = IsBefore one.place other.earliest × (one.number ≡ n)

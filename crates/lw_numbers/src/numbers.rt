@@ -6,7 +6,7 @@ ghost use Rattle.lw_numbers.specs.Numbering.{IsNumbered, type_names, property_na
 ghost use Rattle.lw_numbers.specs.Tables.{AreNumbersOf};
 
 use crate::first_uses::FirstUses;
-use crate::standing::{Standing, sooner, standings};
+use crate::standing::{Standing, number_ahead, standings};
 use indexmap::IndexMap;
 use lw_base::{Name, NoMemory, PropId, RuleId, TypeId};
 use lw_grammar::Grammar;
@@ -16,8 +16,10 @@ use std::marker::Model;
 /// The numbers of the names of a grammar's rules, terminals, types and properties.
 #[derive(Drop)]
 pub struct Numbers {
-    rules: IndexMap<Name, Standing>,
-    terminals: IndexMap<Name, Standing>,
+    pub(crate) rules: IndexMap<Name, Standing>,
+    pub(crate) terminals: IndexMap<Name, Standing>,
+    pub(crate) interfaces: IndexMap<Name, Standing>,
+    pub(crate) unions: IndexMap<Name, Standing>,
     uses: FirstUses,
 }
 
@@ -27,7 +29,7 @@ impl Model for Numbers {
 
     ghost Value = { Tables };
 
-    ghost view = { λ a. record { rules = a.rules.entries; terminals = a.terminals.entries; types = a.uses.types.keys; properties = a.uses.properties.keys } };
+    ghost view = { λ a. record { rules = a.rules.entries; terminals = a.terminals.entries; interfaces = a.interfaces.entries; unions = a.unions.entries; types = a.uses.types.keys; properties = a.uses.properties.keys } };
 
     ghost invariant = { λ a. (length a.uses.types.keys ≤ 65535) × (length a.uses.properties.keys ≤ 65535) };
 }
@@ -41,9 +43,13 @@ impl Numbers {
         let uses = FirstUses::of(alloc, g)?;
         let rules = standings(alloc, 0, g.rules.as_slice())?;
         let terminals = standings(alloc, g.rules.len() as u16, g.terminals.as_slice())?;
+        let interfaces = standings(alloc, 0, g.interfaces.as_slice())?;
+        let unions = standings(alloc, 0, g.unions.as_slice())?;
         Ok(Numbers {
             rules,
             terminals,
+            interfaces,
+            unions,
             uses,
         })
     }
@@ -54,12 +60,13 @@ impl Numbers {
         ensures { (g : Grammar) → AreNumbersOf g self.now →
             MatchOption result ((n : ℕ) → ¬ IsNumbered g name.now n) (λ id. IsNumbered g name.now id.0) }
     {
-        match (self.rules.get(name), self.terminals.get(name)) {
-            (Some(rule), Some(terminal)) => sooner(rule, terminal),
-            (Some(rule), None) => Some(rule.number),
-            (None, Some(terminal)) => Some(terminal.number),
-            (None, None) => None,
-        }
+        let rule = self.rules.get(name);
+        let terminal = self.terminals.get(name);
+        let number = match number_ahead(rule, terminal) {
+            Some(number) => number,
+            None => number_ahead(terminal, rule)?,
+        };
+        Some(RuleId(number))
     }
 
     /// The number of the type of this name.

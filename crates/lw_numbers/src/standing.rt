@@ -1,11 +1,12 @@
-// How names stand among the rules, and among the terminals.
-ghost use Rattle.std.specs.Prelude.{◌≡◌, ◌+◌, ◌≤◌, ◌↔◌, IsTrue, IfOk, MatchOption, length};
-ghost use Rattle.lw_grammar.specs.Named.{Declaration, declared_rule, declared_terminal};
-ghost use Rattle.lw_numbers.specs.Standing.{IsBefore, IsSooner, Meets, declared_place, StandAmong};
+// How names stand among the rules, the terminals, the interfaces and the unions.
+ghost use Rattle.std.specs.Prelude.{◌≡◌, ◌+◌, ◌≤◌, ◌↔◌, ℕ, IsTrue, IsSomeAnd, IfOk, MatchOption, length};
+ghost use Rattle.std.specs.Option.{option_copied};
+ghost use Rattle.lw_grammar.specs.Named.{Declaration, declared_rule, declared_terminal, declared_interface, declared_union};
+ghost use Rattle.lw_numbers.specs.Standing.{IsAhead, IsBefore, Meets, declared_place, StandAmong};
 
 use indexmap::IndexMap;
-use lw_base::{Name, NoMemory, RuleId};
-use lw_grammar::{Rule, Terminal};
+use lw_base::{Name, NoMemory};
+use lw_grammar::{Interface, Rule, Terminal, UnionDef};
 use std::alloc::Global;
 
 /// Where a declaration stands: the number of its file in load order, and the start of its name there.
@@ -28,7 +29,7 @@ impl Place {
 #[derive(Clone, Copy, Debug, PartialEq, Eq)]
 pub struct Standing {
     /// The number of the first declaration of the name.
-    pub number: RuleId,
+    pub number: u16,
     /// Where that stands.
     pub place: Place,
     /// The place that no declaration of the name stands before.
@@ -50,7 +51,7 @@ impl Standing {
     }
 }
 
-/// A rule or a terminal.
+/// What is declared by a name.
 pub(crate) trait Declared {
     ghost declaration: { Self → Declaration };
 
@@ -91,6 +92,36 @@ impl Declared for Terminal {
     }
 }
 
+impl Declared for Interface {
+    ghost declaration = { declared_interface };
+
+    fn name(&self) -> &Name {
+        &self.name
+    }
+
+    fn place(&self) -> Place {
+        Place {
+            file: self.file,
+            start: self.span.start,
+        }
+    }
+}
+
+impl Declared for UnionDef {
+    ghost declaration = { declared_union };
+
+    fn name(&self) -> &Name {
+        &self.name
+    }
+
+    fn place(&self) -> Place {
+        Place {
+            file: self.file,
+            start: self.span.start,
+        }
+    }
+}
+
 /// How each name stands among these, which are numbered from `first`.
 pub(crate) fn standings<T: Declared>(
     alloc: Global,
@@ -107,7 +138,7 @@ pub(crate) fn standings<T: Declared>(
         let standing = match standings.get(item.name()) {
             Some(standing) => standing.met_at(place),
             None => Standing {
-                number: RuleId(number),
+                number,
                 place,
                 earliest: place,
             },
@@ -118,15 +149,29 @@ pub(crate) fn standings<T: Declared>(
     Ok(standings)
 }
 
-/// The number of what a name means that is a rule's and a terminal's: none where both stand at one place.
-pub(crate) fn sooner(rule: &Standing, terminal: &Standing) -> Option<RuleId>
-    ensures { MatchOption result ((n : RuleId) → ¬ IsSooner rule.now terminal.now n) (IsSooner rule.now terminal.now) }
+/// The number of the first declaration in the one list, where it stands before all in the other.
+pub(crate) fn number_ahead(one: Option<&Standing>, other: Option<&Standing>) -> Option<u16>
+    ensures { MatchOption result ((n : ℕ) → ¬ IsAhead (option_copied one.entry) (option_copied other.entry) n) (IsAhead (option_copied one.entry) (option_copied other.entry)) }
 {
-    if rule.place.is_before(terminal.earliest) {
-        return Some(rule.number);
+    match (one, other) {
+        (None, _) => None,
+        (Some(one), None) => Some(one.number),
+        (Some(one), Some(other)) => {
+            if one.place.is_before(other.earliest) {
+                Some(one.number)
+            } else {
+                None
+            }
+        }
     }
-    if terminal.place.is_before(rule.earliest) {
-        return Some(terminal.number);
+}
+
+/// Whether one of the declarations stands before the place.
+pub(crate) fn begins_before(standing: Option<&Standing>, place: Place) -> bool
+    ensures { IsTrue result ↔ IsSomeAnd (option_copied standing.entry) (λ s. IsBefore s.earliest place) }
+{
+    match standing {
+        Some(standing) => standing.earliest.is_before(place),
+        None => false,
     }
-    None
 }

@@ -1,9 +1,10 @@
-// The numbers of the names of one small grammar, and the names back.
+// The numbers of the names of one small grammar, what they mean, and the names back.
 ghost use Rattle.std.specs.Prelude.{◌≡◌, ◌+◌, ◌*◌, ◌≤◌, ◌∷◌, [], IfOk, length, sum_by};
 ghost use Rattle.lw_grammar.specs.Size.{size, element_size, term_size};
+ghost use Rattle.lw_numbers.specs.Tables.{AreNumbersOf};
 
-use crate::Numbers;
-use lw_base::{Items, Name, NoMemory, PropId, RuleId, Span, TypeId};
+use crate::{Called, Declares, Numbers};
+use lw_base::{Items, Name, NoMemory, PropId, Span, TypeId};
 use lw_grammar::{
     Action, Attribute, Element, Grammar, Interface, Op, Primitive, Rule, RuleResult, TermElement,
     Terminal, UnionDef, Value0,
@@ -211,59 +212,135 @@ fn grammar(alloc: Global) -> Result<Grammar, NoMemory>
     })
 }
 
-fn numbers(alloc: Global) -> Result<Numbers, NoMemory> {
+const NAMES: [&str; 9] = [
+    "Circle", "ID", "Later", "Same", "Shape", "Any", "Ring", "area", "first",
+];
+
+const ROWS: &str = "Circle: 0 2 -; rule 0 at 10; nothing; true true false false
+ID: 4 - -; terminal 1 at 40; nothing; true true false false
+Later: 5 4 -; terminal 2 at 50; nothing; true false false false
+Same: - 5 -; nothing; nothing; true false false false
+Shape: - 0 -; nothing; interface 0 Shape; false false true true
+Any: - 1 -; nothing; union 0 Any; false false true true
+Ring: - 3 -; nothing; nothing; false false false false
+area: - - 0; nothing; nothing; false false false false
+first: - - 5; nothing; nothing; false false false false
+";
+
+fn number_text(alloc: Global, number: Option<u16>) -> Result<String, NoMemory> {
+    Ok(match number {
+        Some(number) => format!(in alloc; "{number}")?,
+        None => format!(in alloc; "-")?,
+    })
+}
+
+/// The numbers of the rule or terminal, of the type and of the property of this name.
+fn numbers_text(alloc: Global, numbers: &Numbers, name: &Name) -> Result<String, NoMemory> {
+    let rule = number_text(alloc, numbers.rule(name).map(|id| id.0))?;
+    let of_type = number_text(alloc, numbers.type_of(name).map(|id| id.0))?;
+    let property = number_text(alloc, numbers.prop(name).map(|id| id.0))?;
+    Ok(format!(in alloc; "{rule} {of_type} {property}")?)
+}
+
+/// What the name means, with its place among its kind and where it stands.
+fn called_text(alloc: Global, called: Called) -> Result<String, NoMemory> {
+    Ok(match called {
+        Called::Rule(place, rule) => format!(in alloc; "rule {place} at {}", rule.span.start)?,
+        Called::Terminal(place, terminal) => {
+            format!(in alloc; "terminal {place} at {}", terminal.span.start)?
+        }
+        Called::Nothing => format!(in alloc; "nothing")?,
+    })
+}
+
+fn declared_text(alloc: Global, declares: Declares) -> Result<String, NoMemory> {
+    Ok(match declares {
+        Declares::Interface(place, interface) => {
+            format!(in alloc; "interface {place} {}", interface.name)?
+        }
+        Declares::Union(place, union) => format!(in alloc; "union {place} {}", union.name)?,
+        Declares::Nothing => format!(in alloc; "nothing")?,
+    })
+}
+
+/// Whether the name is called and declared, and whether before a place of the first file.
+fn presence_text(alloc: Global, numbers: &Numbers, name: &Name) -> Result<String, NoMemory> {
+    let called = numbers.is_called(name);
+    let sooner = numbers.called_before(name, 0, 45);
+    let declared = numbers.is_declared(name);
+    let declared_sooner = numbers.declared_before(name, 0, 1);
+    Ok(format!(in alloc; "{called} {sooner} {declared} {declared_sooner}")?)
+}
+
+fn row_text(alloc: Global, g: &Grammar, numbers: &Numbers, name: &Name) -> Result<String, NoMemory>
+    requires { AreNumbersOf g.now numbers.now }
+{
+    let found = numbers_text(alloc, numbers, name)?;
+    let called = called_text(alloc, numbers.called(g, name))?;
+    let declared = declared_text(alloc, numbers.declared(g, name))?;
+    let presence = presence_text(alloc, numbers, name)?;
+    Ok(format!(in alloc; "{name}: {found}; {called}; {declared}; {presence}\n")?)
+}
+
+fn put_row(
+    alloc: Global,
+    shown: &mut String,
+    g: &Grammar,
+    numbers: &Numbers,
+    text: &str,
+) -> Result<(), NoMemory>
+    requires { AreNumbersOf g.now numbers.now }
+{
+    let name = Name::from_text(alloc, text)?;
+    let row = row_text(alloc, g, numbers, &name)?;
+    shown.push_str(row.as_str())?;
+    Ok(())
+}
+
+fn rows_text(alloc: Global, g: &Grammar) -> Result<String, NoMemory>
+    requires { size g.now ≤ 65535 }
+{
+    let numbers = Numbers::of(alloc, g)?;
+    let mut shown = String::new(alloc);
+    for text in NAMES {
+        put_row(alloc, &mut shown, g, &numbers, text)?;
+    }
+    Ok(shown)
+}
+
+/// The names of types and of properties, in the order of their numbers.
+fn names_text(alloc: Global, numbers: &Numbers) -> Result<String, NoMemory> {
+    let mut shown = String::new(alloc);
+    for number in 0..numbers.type_count() {
+        shown.push_str(numbers.type_name(TypeId(number as u16)).text())?;
+        shown.push_str(" ")?;
+    }
+    for number in 0..numbers.prop_count() {
+        shown.push_str(numbers.prop_name(PropId(number as u16)).text())?;
+        shown.push_str(" ")?;
+    }
+    Ok(shown)
+}
+
+fn all_text(alloc: Global) -> Result<String, NoMemory> {
     let g = grammar(alloc)?;
-    Numbers::of(alloc, &g)
+    rows_text(alloc, &g)
+}
+
+fn all_names(alloc: Global) -> Result<String, NoMemory> {
+    let g = grammar(alloc)?;
+    let numbers = Numbers::of(alloc, &g)?;
+    names_text(alloc, &numbers)
 }
 
 #[test]
-fn a_name_means_what_stands_first(rt: HostRuntime) -> Result<(), Fail> {
-    let numbers = numbers(rt.alloc())?;
-    let rows = [
-        ("Circle", Some(RuleId(0))),
-        ("ID", Some(RuleId(4))),
-        ("Later", Some(RuleId(5))),
-        ("Same", None),
-        ("Shape", None),
-    ];
-    for (name, number) in rows {
-        let name = Name::from_text(rt.alloc(), name)?;
-        assert_eq!(rt; numbers.rule(&name), number, "{name}");
-    }
-    Ok(())
-}
-
-#[test]
-fn types_are_numbered_as_they_are_first_named(rt: HostRuntime) -> Result<(), Fail> {
-    let numbers = numbers(rt.alloc())?;
-    let names = ["Shape", "Any", "Circle", "Ring", "Later", "Same"];
-    assert_eq!(rt; numbers.type_count(), names.len());
-    for (number, text) in names.iter().enumerate() {
-        assert!(rt; number < numbers.type_count());
-        let id = TypeId(number as u16);
-        assert_eq!(rt; numbers.type_name(id).text(), *text);
-        let name = Name::from_text(rt.alloc(), text)?;
-        assert_eq!(rt; numbers.type_of(&name), Some(id));
-    }
+fn names_are_numbered_and_mean_what_stands_first(rt: HostRuntime) -> Result<(), Fail> {
+    let shown = all_text(rt.alloc())?;
+    let names = all_names(rt.alloc())?;
+    assert_eq!(rt; shown.as_str(), ROWS);
     assert_eq!(rt;
-        numbers.type_of(&Name::from_text(rt.alloc(), "area")?),
-        None
+        names.as_str(),
+        "Shape Any Circle Ring Later Same area name inner size last first "
     );
-    Ok(())
-}
-
-#[test]
-fn properties_are_numbered_as_they_are_first_named(rt: HostRuntime) -> Result<(), Fail> {
-    let numbers = numbers(rt.alloc())?;
-    let names = ["area", "name", "inner", "size", "last", "first"];
-    assert_eq!(rt; numbers.prop_count(), names.len());
-    for (number, text) in names.iter().enumerate() {
-        assert!(rt; number < numbers.prop_count());
-        let id = PropId(number as u16);
-        assert_eq!(rt; numbers.prop_name(id).text(), *text);
-        let name = Name::from_text(rt.alloc(), text)?;
-        assert_eq!(rt; numbers.prop(&name), Some(id));
-    }
-    assert_eq!(rt; numbers.prop(&Name::from_text(rt.alloc(), "Any")?), None);
     Ok(())
 }

@@ -18,7 +18,7 @@ loop-item-preserved g c =
             | in-Some w ↦ subst (λ r. Continues place loop.number (option_copied r) new) (sym w.in-Some.is)
                 (subst (Meets place w.in-Some.standing.now) (sym w.standing-is) w.met_at-standing.ensures)
             | in-None w ↦ subst (λ r. Continues place loop.number (option_copied r) new) (sym w.in-None.is)
-                (ap (λ s. s.number.0) w.standing-is, ap (λ s. s.place) w.standing-is, ap (λ s. s.earliest) w.standing-is)
+                (ap (λ s. s.number) w.standing-is, ap (λ s. s.place) w.standing-is, ap (λ s. s.earliest) w.standing-is)
           ])
           c.in_ok-insert.ensures.updates.0,
     )

@@ -1,0 +1,6 @@
+mod Edges
+mod EndLemmas
+mod Flags
+mod Growing
+mod Spreading
+pub mod WalkLemmas
