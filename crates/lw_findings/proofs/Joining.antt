@@ -1,11 +1,13 @@
 -- What is found in parts: nothing, one, one part after the other, item by item; and as a fault of a number.
-use Rattle.std.proofs.Common.{◌≡◌, ℕ, zero, suc, ◌+◌, ◌<◌, ◌≤◌, List, [], ◌∷◌, ◌++◌, ◌⊎◌, ◌↔◌, inl, inr, Contains, get_or, length, map, take, refl, sym, ap, ◌∙◌, subst, arith}
+use Rattle.std.proofs.Common.{◌≡◌, ℕ, zero, suc, ◌+◌, ◌<◌, ◌≤◌, List, [], ◌∷◌, ◌++◌, ◌⊎◌, ◌↔◌, inl, inr, Some, Contains, slice_get, get_or, length, map, take, refl, sym, ap, ◌∙◌, subst, arith}
 use Rattle.std.proofs.lemmas.List.{map-append, take_all, take_more}
 use Rattle.std.proofs.lemmas.List.Elements.{Contains-append_left, Contains-push, Contains-push_cases}
+use Rattle.std.proofs.lemmas.Bool.{cases_lt}
+use Rattle.std.proofs.lemmas.Option.{same_Some, slice_get_within}
 use Rattle.lw_base.specs.declared.token.Span.{Span}
 use Rattle.lw_grammar.specs.declared.fault.GrammarFault.{GrammarFault}
 use Rattle.lw_faults.specs.Faults.{fault}
-use Rattle.lw_findings.specs.Finding.{Finds, IsTold, OfSome, OneIf}
+use Rattle.lw_findings.specs.Finding.{Finds, IsTold, OfSome, AtSome, AtSomeBelow, OneIf}
 
 -- ---- parts
 
@@ -100,6 +102,41 @@ module _ {X Y : Type 0} (has : X → Y → Type 0) where
   -- after the last
   pub Finds-all : {a b : List Y} (xs : List X) (n : ℕ) → length xs ≤ n → Finds (OfSome has (take n xs)) a b → Finds (OfSome has xs) a b
   Finds-all {a} {b} xs n past finds = let P : List X → Type 0 = λ ys. Finds (OfSome has ys) a b in subst P (take_all n xs past) finds
+
+-- ---- item by item, by their places
+
+module _ {X Y : Type 0} (has : ℕ → X → Y → Type 0) (xs : List X) where
+  at_none : (y : Y) → ¬ AtSomeBelow has 0 xs y
+  at_none y (i, x, below, at, so) = omega (arith, below)
+
+  at_more : (n : ℕ) (x : X) → slice_get xs n ≡ Some x → (y : Y) → AtSomeBelow has n xs y ⊎ has n x y → AtSomeBelow has (n + 1) xs y
+  at_more n x there y (inl (i, z, below, at, so)) = (i, z, omega (arith, below), at, so)
+  at_more n x there y (inr so) = (n, x, omega arith, there, so)
+
+  at_less : (n : ℕ) (x : X) → slice_get xs n ≡ Some x → (y : Y) → AtSomeBelow has (n + 1) xs y → AtSomeBelow has n xs y ⊎ has n x y
+  at_less n x there y (i, z, below, at, so) = elim (cases_lt i n) [
+    | inl lt ↦ inl (i, z, lt, at, so)
+    | inr ge ↦
+        let place : i ≡ n = omega (arith, below, ge) in
+        let same : z ≡ x = same_Some z x (sym at ∙ ap (slice_get xs) place ∙ there) in
+        let P : ℕ → Type 0 = λ k. has k z y in
+        let Q : X → Type 0 = λ w. has n w y in
+        inr (subst Q same (subst P place so))
+  ]
+
+  -- before the first item
+  pub Finds-at-none : (a : List Y) → Finds (AtSomeBelow has 0 xs) a a
+  Finds-at-none a = Finds-nothing at_none
+
+  -- a turn over one more item
+  pub Finds-at-more : {a b c : List Y} (n : ℕ) (x : X) → slice_get xs n ≡ Some x → Finds (AtSomeBelow has n xs) a b → Finds (has n x) b c →
+      Finds (AtSomeBelow has (n + 1) xs) a c
+  Finds-at-more n x there before now = Finds-iff (λ y. (at_more n x there y, at_less n x there y)) (Finds-then before now)
+
+  -- after the last
+  pub Finds-at-all : {a b : List Y} (n : ℕ) → length xs ≤ n → Finds (AtSomeBelow has n xs) a b → Finds (AtSome has xs) a b
+  Finds-at-all n past finds =
+      Finds-iff (λ y. (λ (i, x, below, at, so). (i, x, at, so), λ (i, x, at, so). let inside = slice_get_within xs i x at in (i, x, omega (arith, past, inside), at, so))) finds
 
 -- ---- items by what they are read as
 

@@ -1,5 +1,5 @@
 -- What is found wrong with a grammar, one fault after the other; and in the same words what else is gathered.
-use Rattle.std.specs.Prelude.{ℕ, ◌≡◌, ◌⊎◌, ◌↔◌, List, Contains}
+use Rattle.std.specs.Prelude.{ℕ, ◌≡◌, ◌<◌, ◌⊎◌, ◌↔◌, List, Some, Contains, slice_get}
 use Rattle.lw_base.specs.declared.token.Span.{Span}
 use Rattle.lw_grammar.specs.declared.fault.GrammarFault.{GrammarFault}
 
@@ -14,6 +14,14 @@ IsTold number told f = (f.number ≡ number) × told f.file f.span f.name
 -- what one of the items has
 abbrev pub OfSome : {X Y : Type 0} → (X → Y → Type 0) → List X → Y → Type 0
 OfSome {X} has xs y = (x : X) × Contains xs x × has x y
+
+-- the same, where it depends on the item's place
+abbrev pub AtSome : {X Y : Type 0} → (ℕ → X → Y → Type 0) → List X → Y → Type 0
+AtSome {X} has xs y = (i : ℕ) × (x : X) × (slice_get xs i ≡ Some x) × has i x y
+
+-- and is below this one
+abbrev pub AtSomeBelow : {X Y : Type 0} → (ℕ → X → Y → Type 0) → ℕ → List X → Y → Type 0
+AtSomeBelow {X} has n xs y = (i : ℕ) × (x : X) × (i < n) × (slice_get xs i ≡ Some x) × has i x y
 
 -- this one, where that holds
 abbrev pub OneIf : {Y : Type 0} → Type 0 → Y → Y → Type 0

@@ -1,5 +1,5 @@
 // The faults that were found so far.
-ghost use Rattle.std.specs.Prelude.{◌≡◌, [], OnOk, IfOk, Contains, map};
+ghost use Rattle.std.specs.Prelude.{◌≡◌, ◌↔◌, IsTrue, [], OnOk, IfOk, Contains, map};
 ghost use Rattle.lw_faults.specs.Faults.{fault, AreFaults};
 ghost use Rattle.lw_findings.specs.Finding.{Finds};
 ghost use Rattle.lw_findings.specs.Telling.{told_fault};
@@ -50,6 +50,13 @@ impl Findings {
         let told = Told::new(alloc, number, file, span, name)?;
         self.found.push(told)?;
         Ok(())
+    }
+
+    /// Whether none was found.
+    pub fn is_empty(&self) -> bool
+        ensures { IsTrue result ↔ (self.now ≡ []) }
+    {
+        self.found.is_empty()
     }
 
     /// The list of all that were found, in the order of faults, each once.

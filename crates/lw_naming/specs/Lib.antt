@@ -1,0 +1,4 @@
+pub mod NameUses
+pub mod Wrong
+pub mod Attributes
+pub mod Rounds

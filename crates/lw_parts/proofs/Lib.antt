@@ -1,0 +1,13 @@
+mod Places
+mod EntryLemmas
+mod NamingLemmas
+mod SiteLemmas
+mod CharLemmas
+mod MeaningLemmas
+mod BadCallLemmas
+mod DataTypeLemmas
+mod AssignmentLemmas
+mod GraphLemmas
+mod EdgeLemmas
+mod CircleLemmas
+mod PlainLemmas

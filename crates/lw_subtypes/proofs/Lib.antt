@@ -1,0 +1,13 @@
+pub mod Climbing
+pub mod Deciding
+pub mod Expanding
+pub mod Finding
+pub mod Joining
+pub mod Lists
+pub mod Making
+pub mod Meanings
+pub mod Placing
+pub mod Reaching
+pub mod Rows
+pub mod Speaking
+pub mod Typing

@@ -1,0 +1,10 @@
+pub mod Above
+pub mod Ascending
+pub mod Kin
+pub mod KinGraph
+pub mod KinOf
+pub mod Kinship
+pub mod Lists
+pub mod Makers
+pub mod PutIn
+pub mod Spoken
