@@ -11,7 +11,7 @@ use Rattle.lw_graph.specs.Walks.{HasNode}
 use Rattle.lw_faults.specs.Faults.{fault}
 use Rattle.lw_faults.specs.Reads.{ComesFirstTo}
 use Rattle.lw_faults.specs.Derivations.{IsEntryRule, LeftRecursion, left_recursion, ReadsNothing, reads_nothing, RepeatsNothing, repeats_nothing, NeverEnds, never_ends}
-use Rattle.lw_findings.specs.Finding.{IsTold}
+use Rattle.lw_findings.specs.Finding.{IsFaultOf}
 use Rattle.lw_derivations.specs.Reading.{RuleFlags, IsReadingOf}
 use Rattle.lw_derivations.specs.Telling.{SpeaksOf, RepeatsAt, TellsRepeats}
 
@@ -25,23 +25,23 @@ module _ (g : Grammar) (number : ℕ) (told : ℕ → Span → List ℕ → Type
 
   told_of : ((k : ℕ) (rule : Rule) → slice_get g.rules k ≡ Some rule → so k rule → told rule.file rule.span rule.name) →
       ((file : ℕ) (s : Span) (name : List ℕ) → told file s name → Comes file s name) →
-      (f : GrammarFault) → ((k : ℕ) × (rule : Rule) × (slice_get g.rules k ≡ Some rule) × (so k rule × SpeaksOf number rule f)) ↔ IsTold number told f
+      (f : GrammarFault) → ((k : ℕ) × (rule : Rule) × (slice_get g.rules k ≡ Some rule) × (so k rule × SpeaksOf number rule f)) ↔ IsFaultOf number told f
   told_of makes comes f = (forth, back)
     where
-      forth : (k : ℕ) × (rule : Rule) × (slice_get g.rules k ≡ Some rule) × (so k rule × SpeaksOf number rule f) → IsTold number told f
-      forth (k, rule, at, (is, of)) = subst (IsTold number told) (sym of) (refl, makes k rule at is)
+      forth : (k : ℕ) × (rule : Rule) × (slice_get g.rules k ≡ Some rule) × (so k rule × SpeaksOf number rule f) → IsFaultOf number told f
+      forth (k, rule, at, (is, of)) = subst (IsFaultOf number told) (sym of) (refl, makes k rule at is)
 
       named : f.number ≡ number → Comes f.file f.span f.name → (k : ℕ) × (rule : Rule) × (slice_get g.rules k ≡ Some rule) × (so k rule × SpeaksOf number rule f)
       named n (k, rule, at, is, file, s, name) = (k, rule, at, (is, same_fault f number rule.file rule.span rule.name n (sym file) (sym s) (sym name)))
 
-      back : IsTold number told f → (k : ℕ) × (rule : Rule) × (slice_get g.rules k ≡ Some rule) × (so k rule × SpeaksOf number rule f)
+      back : IsFaultOf number told f → (k : ℕ) × (rule : Rule) × (slice_get g.rules k ≡ Some rule) × (so k rule × SpeaksOf number rule f)
       back (n, does) = named n (comes f.file f.span f.name does)
 
 module _ (g : Grammar) (flags : RuleFlags) (are : IsReadingOf g flags) where
   -- ---- left recursion
   module _ (round : List Bool) (goes : (r : ℕ) → HasNode round r ↔ ComesFirstTo g r r) where
     pub told_left : (f : GrammarFault) →
-        ((k : ℕ) × (rule : Rule) × (slice_get g.rules k ≡ Some rule) × ((HasNode flags.reached k × HasNode round k) × SpeaksOf 7 rule f)) ↔ IsTold 7 (LeftRecursion g) f
+        ((k : ℕ) × (rule : Rule) × (slice_get g.rules k ≡ Some rule) × ((HasNode flags.reached k × HasNode round k) × SpeaksOf 7 rule f)) ↔ IsFaultOf 7 (LeftRecursion g) f
     told_left = told_of g 7 (LeftRecursion g) (λ k rule. HasNode flags.reached k × HasNode round k)
         (λ k rule at is. left_recursion k rule ((are.reached k).0 is.0, at) ((goes k).0 is.1)) (λ file s name does. comes does)
       where
@@ -68,7 +68,7 @@ module _ (g : Grammar) (flags : RuleFlags) (are : IsReadingOf g flags) where
         by None _ same = cc
         by (Some r) is same = none (subst (IsEntryRule g) (same_Some r k same) is)
 
-    pub told_nothing : (f : GrammarFault) → ((k : ℕ) × (rule : Rule) × (slice_get g.rules k ≡ Some rule) × (SoNothing k rule × SpeaksOf 8 rule f)) ↔ IsTold 8 (ReadsNothing g) f
+    pub told_nothing : (f : GrammarFault) → ((k : ℕ) × (rule : Rule) × (slice_get g.rules k ≡ Some rule) × (SoNothing k rule × SpeaksOf 8 rule f)) ↔ IsFaultOf 8 (ReadsNothing g) f
     told_nothing = told_of g 8 (ReadsNothing g) SoNothing
         (λ k rule at is. reads_nothing k rule ((are.reached k).0 is.0, at) is.1 (no_entry k is.2) ((are.nothing k rule at).0 is.3)) (λ file s name does. comes does)
       where
@@ -78,7 +78,7 @@ module _ (g : Grammar) (flags : RuleFlags) (are : IsReadingOf g flags) where
 
   -- ---- what never ends
   pub told_ends : (f : GrammarFault) →
-      ((k : ℕ) × (rule : Rule) × (slice_get g.rules k ≡ Some rule) × ((HasNode flags.reached k × ¬ HasNode flags.ends k) × SpeaksOf 10 rule f)) ↔ IsTold 10 (NeverEnds g) f
+      ((k : ℕ) × (rule : Rule) × (slice_get g.rules k ≡ Some rule) × ((HasNode flags.reached k × ¬ HasNode flags.ends k) × SpeaksOf 10 rule f)) ↔ IsFaultOf 10 (NeverEnds g) f
   told_ends = told_of g 10 (NeverEnds g) (λ k rule. HasNode flags.reached k × ¬ HasNode flags.ends k)
       (λ k rule at is. never_ends k rule ((are.reached k).0 is.0, at) (λ n may. is.1 ((are.ends k rule at).1 (n, may)))) (λ file s name does. comes does)
     where
@@ -93,12 +93,12 @@ module _ (g : Grammar) (flags : RuleFlags) (are : IsReadingOf g flags) where
       (k : ℕ) × (rule : Rule) × (slice_get g.rules k ≡ Some rule) × HasNode flags.reached k × RepeatsAt g rule.body s × (rule.file ≡ file) × (rule.name ≡ name)
 
   pub told_repeats : (f : GrammarFault) →
-      ((k : ℕ) × (rule : Rule) × (slice_get g.rules k ≡ Some rule) × (HasNode flags.reached k × TellsRepeats g rule rule.body f)) ↔ IsTold 9 (RepeatsNothing g) f
+      ((k : ℕ) × (rule : Rule) × (slice_get g.rules k ≡ Some rule) × (HasNode flags.reached k × TellsRepeats g rule rule.body f)) ↔ IsFaultOf 9 (RepeatsNothing g) f
   told_repeats f = (forth, λ told. back told.0 told.1)
     where
-      forth : (k : ℕ) × (rule : Rule) × (slice_get g.rules k ≡ Some rule) × (HasNode flags.reached k × TellsRepeats g rule rule.body f) → IsTold 9 (RepeatsNothing g) f
+      forth : (k : ℕ) × (rule : Rule) × (slice_get g.rules k ≡ Some rule) × (HasNode flags.reached k × TellsRepeats g rule rule.body f) → IsFaultOf 9 (RepeatsNothing g) f
       forth (k, rule, at, (has, (s, (part, body, held, marked, none), of))) =
-          subst (IsTold 9 (RepeatsNothing g)) (sym of) (refl, repeats_nothing k rule part body ((are.reached k).0 has, at) held marked none)
+          subst (IsFaultOf 9 (RepeatsNothing g)) (sym of) (refl, repeats_nothing k rule part body ((are.reached k).0 has, at) held marked none)
 
       comes : {file : ℕ} {s : Span} {name : List ℕ} → RepeatsNothing g file s name → ComesFrom file s name
       comes (repeats_nothing r rule part body within held marked none) =

@@ -7,7 +7,7 @@ ghost use Rattle.lw_graph.specs.Walks.{HasNode};
 ghost use Rattle.lw_faults.specs.Reads.{ComesFirstTo, MayRead};
 ghost use Rattle.lw_faults.specs.Faults.{fault};
 ghost use Rattle.lw_faults.specs.Derivations.{LeftRecursion, ReadsNothing, RepeatsNothing, NeverEnds};
-ghost use Rattle.lw_findings.specs.Finding.{Finds, IsTold};
+ghost use Rattle.lw_findings.specs.Finding.{Finds, IsFaultOf};
 ghost use Rattle.lw_derivations.specs.Known.{AreKnown};
 ghost use Rattle.lw_derivations.specs.Reading.{IsReadingOf};
 ghost use Rattle.lw_derivations.specs.Telling.{SpeaksOf, TellsRepeats};
@@ -45,8 +45,8 @@ pub fn find_derivation_faults(
     requires numbered { AreNumbersOf g.now numbers.now }
     requires related { AreNameRulesOf g.now name_rules.now }
     requires read { IsReadingOf g.now reading.now }
-    ensures { OnOk result (Finds (λ f. IsTold 7 (LeftRecursion g.now) f ⊎ IsTold 8 (ReadsNothing g.now) f ⊎ IsTold 9 (RepeatsNothing g.now) f
-        ⊎ IsTold 10 (NeverEnds g.now) f) found.old found.new) }
+    ensures { OnOk result (Finds (λ f. IsFaultOf 7 (LeftRecursion g.now) f ⊎ IsFaultOf 8 (ReadsNothing g.now) f ⊎ IsFaultOf 9 (RepeatsNothing g.now) f
+        ⊎ IsFaultOf 10 (NeverEnds g.now) f) found.old found.new) }
 {
     let names = Names {
         g,
@@ -67,7 +67,7 @@ fn find_left_recursion(
 ) -> Result<(), NoMemory>
     requires known { AreKnown names.now }
     requires read { IsReadingOf names.now.g.now reading.now }
-    ensures { OnOk result (Finds (IsTold 7 (LeftRecursion names.now.g.now)) found.old found.new) }
+    ensures { OnOk result (Finds (IsFaultOf 7 (LeftRecursion names.now.g.now)) found.old found.new) }
 {
     let round = left_recursive(alloc, names, reading)?;
     tell_left_recursion(alloc, names.g, reading, &round, found)
@@ -91,7 +91,7 @@ fn tell_left_recursion(
 ) -> Result<(), NoMemory>
     requires read { IsReadingOf g.now reading.now }
     requires round { (r : ℕ) → HasNode round.now r ↔ ComesFirstTo g.now r r }
-    ensures { OnOk result (Finds (IsTold 7 (LeftRecursion g.now)) found.old found.new) }
+    ensures { OnOk result (Finds (IsFaultOf 7 (LeftRecursion g.now)) found.old found.new) }
 {
     for (number, rule) in g.rules.as_slice().iter().enumerate() {
         let is_so = comes_round(reading, round, number);
@@ -113,7 +113,7 @@ fn find_reading_nothing(
     found: &mut Findings,
 ) -> Result<(), NoMemory>
     requires { IsReadingOf g.now reading.now }
-    ensures { OnOk result (Finds (IsTold 8 (ReadsNothing g.now)) found.old found.new) }
+    ensures { OnOk result (Finds (IsFaultOf 8 (ReadsNothing g.now)) found.old found.new) }
 {
     let first = entry(g);
     for (number, rule) in g.rules.as_slice().iter().enumerate() {
@@ -139,7 +139,7 @@ fn find_never_ending(
     found: &mut Findings,
 ) -> Result<(), NoMemory>
     requires { IsReadingOf g.now reading.now }
-    ensures { OnOk result (Finds (IsTold 10 (NeverEnds g.now)) found.old found.new) }
+    ensures { OnOk result (Finds (IsFaultOf 10 (NeverEnds g.now)) found.old found.new) }
 {
     for (number, rule) in g.rules.as_slice().iter().enumerate() {
         let is_so = never_ends(reading, number);
@@ -178,7 +178,7 @@ fn find_repeating_nothing(
 ) -> Result<(), NoMemory>
     requires known { AreKnown names.now }
     requires read { IsReadingOf names.now.g.now reading.now }
-    ensures { OnOk result (Finds (IsTold 9 (RepeatsNothing names.now.g.now)) found.old found.new) }
+    ensures { OnOk result (Finds (IsFaultOf 9 (RepeatsNothing names.now.g.now)) found.old found.new) }
 {
     for (number, rule) in names.g.rules.as_slice().iter().enumerate() {
         names.find_in_rule(alloc, reading, number, rule, found)?;

@@ -7,7 +7,7 @@ use Rattle.std.proofs.lemmas.Option.{same_Some, slice_get_within}
 use Rattle.lw_base.specs.declared.token.Span.{Span}
 use Rattle.lw_grammar.specs.declared.fault.GrammarFault.{GrammarFault}
 use Rattle.lw_faults.specs.Faults.{fault}
-use Rattle.lw_findings.specs.Finding.{Finds, IsTold, OfSome, AtSome, AtSomeBelow, OneIf}
+use Rattle.lw_findings.specs.Finding.{Finds, IsFaultOf, OfSome, AtSome, AtSomeBelow, OneIf}
 
 -- ---- parts
 
@@ -181,12 +181,12 @@ Finds-pushed {X} {Y} read xs ys x is =
 -- ---- faults of a number
 
 module _ {number : ℕ} (told : ℕ → Span → List ℕ → Type 0) where
-  pub told_fault_of : {f : GrammarFault} (file : ℕ) (s : Span) (name : List ℕ) → f ≡ fault number file s name → told file s name → IsTold number told f
-  told_fault_of file s name is so = subst (IsTold number told) (sym is) (refl, so)
+  pub told_fault_of : {f : GrammarFault} (file : ℕ) (s : Span) (name : List ℕ) → f ≡ fault number file s name → told file s name → IsFaultOf number told f
+  told_fault_of file s name is so = subst (IsFaultOf number told) (sym is) (refl, so)
 
-  pub Finds-told : {P : GrammarFault → Type 0} {a b : List GrammarFault} → ((f : GrammarFault) → P f → IsTold number told f) →
-      ((file : ℕ) (s : Span) (name : List ℕ) → told file s name → P (fault number file s name)) → Finds P a b → Finds (IsTold number told) a b
+  pub Finds-told : {P : GrammarFault → Type 0} {a b : List GrammarFault} → ((f : GrammarFault) → P f → IsFaultOf number told f) →
+      ((file : ℕ) (s : Span) (name : List ℕ) → told file s name → P (fault number file s name)) → Finds P a b → Finds (IsFaultOf number told) a b
   Finds-told {P} into from finds = Finds-iff (λ f. (into f, λ is. back f is)) finds
     where
-      back : (f : GrammarFault) → IsTold number told f → P f
+      back : (f : GrammarFault) → IsFaultOf number told f → P f
       back f is = let Q : ℕ → Type 0 = λ n. P (fault n f.file f.span f.name) in subst Q (sym is.0) (from f.file f.span f.name is.1)

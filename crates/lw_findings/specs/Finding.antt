@@ -8,8 +8,8 @@ pub record Finds {Y : Type 0} (is_so : Y → Type 0) (old new : List Y) : Type 0
   pub exact : (y : Y) → Contains new y ↔ (Contains old y ⊎ is_so y)
 
 -- a fault of this number, told by its file, its place and the name
-abbrev pub IsTold : ℕ → (ℕ → Span → List ℕ → Type 0) → GrammarFault → Type 0
-IsTold number told f = (f.number ≡ number) × told f.file f.span f.name
+abbrev pub IsFaultOf : ℕ → (ℕ → Span → List ℕ → Type 0) → GrammarFault → Type 0
+IsFaultOf number told f = (f.number ≡ number) × told f.file f.span f.name
 
 -- what one of the items has
 abbrev pub OfSome : {X Y : Type 0} → (X → Y → Type 0) → List X → Y → Type 0

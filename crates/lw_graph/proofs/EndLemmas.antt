@@ -2,7 +2,7 @@
 use Rattle.std.proofs.Common.{ℕ, [], ◌∷◌, length, Contains, inl, inr, sym, ap, ◌∙◌, subst}
 use Rattle.std.proofs.lemmas.List.Elements.{Contains-append_left}
 use Rattle.lw_graph.specs.declared.front.Front.{Front}
-use Rattle.lw_graph.specs.Ending.{RunsOut, runs_out, KnowsEnded}
+use Rattle.lw_graph.specs.Ending.{RunsDry, runs_out, KnowsEnded}
 use Rattle.lw_graph.specs.Growth.{Gains}
 use Rattle.lw_graph.specs.Walks.{Links, HasEdge, Walks, stay, go, GoesRound, HasNode}
 use Rattle.lw_graph.proofs.Growing.{Pops, in_one}
@@ -14,7 +14,7 @@ module _ (graph : Links) where
   goes_on_round {node} edge stay = (node, edge, stay)
   goes_on_round edge (go {b} first rest) = (b, first, Walks-push rest edge)
 
-  pub not_round : {node : ℕ} → RunsOut graph node → GoesRound graph node → ⊥
+  pub not_round : {node : ℕ} → RunsDry graph node → GoesRound graph node → ⊥
   not_round (runs_out ends) (next, edge, walk) = not_round (ends next edge) (goes_on_round edge walk)
 
   -- one fewer waits
@@ -37,6 +37,6 @@ module _ (graph : Links) where
     ];
     ended = λ n has. elim (gains.only n has) [
       | inl was ↦ knows.ended n was
-      | inr now ↦ subst (RunsOut graph) (in_one node now.0) (runs_out (λ next edge. knows.ended next (all next edge)))
+      | inr now ↦ subst (RunsDry graph) (in_one node now.0) (runs_out (λ next edge. knows.ended next (all next edge)))
     ];
   }

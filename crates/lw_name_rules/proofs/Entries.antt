@@ -16,7 +16,7 @@ use Rattle.lw_numbers.proofs.StandingSteps.{first_stays, first_new, old_or_new}
 use Rattle.lw_subtypes.proofs.Climbing.{has_at}
 use Rattle.lw_subtypes.specs.Kinship.{TypeTable, AreSubtypesOf, StandsBelow, below}
 use Rattle.lw_subtypes.specs.Kinship as kin
-use Rattle.lw_name_rules.specs.NameTable.{AreNameRulesOf, NamesBy, IsPut, Puts, PutsRule, IsNumberedIn}
+use Rattle.lw_name_rules.specs.NameTable.{AreNameRulesOf, NamesBy, IsPut, PutsNames, PutsRule, IsNumberedIn}
 
 -- what is lent from where it is found
 module _ {A : Type 0} (none : Type 0) (some : A → Type 0) where
@@ -39,13 +39,13 @@ put_both one other called (Some was) mid new first then = subst (λ o. IsPut oth
 
 module _ (called : List ℕ) where
   pub puts_as : (one other : List ℕ → Type 0) (old new : List (List ℕ × List ℕ)) → ((wanted : List ℕ) → one wanted → other wanted) →
-      ((wanted : List ℕ) → other wanted → one wanted) → Puts one called old new → Puts other called old new
+      ((wanted : List ℕ) → other wanted → one wanted) → PutsNames one called old new → PutsNames other called old new
   puts_as one other old new to from puts wanted =
       put_as (one wanted) (other wanted) called (lookup (bytes_eq wanted) old) (lookup (bytes_eq wanted) new) (to wanted) (from wanted) (puts wanted)
 
   -- one after the other
-  pub puts_then : (one other : List ℕ → Type 0) (old mid new : List (List ℕ × List ℕ)) → Puts one called old mid → Puts other called mid new →
-      Puts (λ wanted. one wanted ⊎ other wanted) called old new
+  pub puts_then : (one other : List ℕ → Type 0) (old mid new : List (List ℕ × List ℕ)) → PutsNames one called old mid → PutsNames other called mid new →
+      PutsNames (λ wanted. one wanted ⊎ other wanted) called old new
   puts_then one other old mid new first then wanted =
       put_both (one wanted) (other wanted) called (lookup (bytes_eq wanted) old) (lookup (bytes_eq wanted) mid) (lookup (bytes_eq wanted) new) (first wanted) (then wanted)
 
@@ -121,7 +121,7 @@ module _ (g : Grammar) (rule : Rule) where
         subst (λ name. NamesNodesOf g wanted name rule) (sym is) (own, typed, below_it, names.0, names.1, names.2)
     by_type wanted (Some was) new is = is
 
-    pub puts_named : (old new : List (List ℕ × List ℕ)) → Puts (IsSubtype g own) called old new → PutsRule g rule old new
+    pub puts_named : (old new : List (List ℕ × List ℕ)) → PutsNames (IsSubtype g own) called old new → PutsRule g rule old new
     puts_named old new puts wanted = by_type wanted (lookup (bytes_eq wanted) old) (lookup (bytes_eq wanted) new) (puts wanted)
 
 -- ---- the rules one after another

@@ -22,7 +22,7 @@ use Rattle.lw_grammar.proofs.KeptLemmas.{there}
 use Rattle.lw_sentences.proofs.Every.{Every}
 use Rattle.lw_subtypes.proofs.Deciding.{cases_text}
 use Rattle.lw_subtypes.proofs.Expanding.{first_or_later}
-use Rattle.lw_name_rules.specs.Searching.{NamesNone, Finds, ends, names, passes, enters, skips}
+use Rattle.lw_name_rules.specs.Searching.{NamesNone, FindsName, ends, names, passes, enters, skips}
 
 -- ---- the name that one leaf calls
 
@@ -114,7 +114,7 @@ module _ (g : Grammar) where
   -- ---- the search
 
   -- it finds one thing
-  finds_once : {seen : List ℕ} {ls : List Leaf} {a b : Option (List ℕ)} → Finds g seen ls a → Finds g seen ls b → a ≡ b
+  finds_once : {seen : List ℕ} {ls : List Leaf} {a b : Option (List ℕ)} → FindsName g seen ls a → FindsName g seen ls b → a ≡ b
   finds_once ends ends = refl
   finds_once (names {leaf} {called} is) (names {called = other} was) = ap Some (one_name leaf called other is was)
   finds_once (names {called} is) (passes none _ _) = absurd (none called is)
@@ -128,8 +128,8 @@ module _ (g : Grammar) where
   finds_once (enters r rule calls _ _) (passes _ not _) = absurd (not r rule calls)
   finds_once (enters {seen} {leaf} {ls} r rule calls fresh more) (enters {found} q other was _ others) =
       let same = one_fragment leaf r q rule other calls was in
-      let first = subst (λ n. Finds g (seen ++ n ∷ []) (leaves other.body ++ ls) found) (sym same.0) others in
-      finds_once more (subst (λ (x : Rule). Finds g (seen ++ r ∷ []) (leaves x.body ++ ls) found) (sym same.1) first)
+      let first = subst (λ n. FindsName g (seen ++ n ∷ []) (leaves other.body ++ ls) found) (sym same.0) others in
+      finds_once more (subst (λ (x : Rule). FindsName g (seen ++ r ∷ []) (leaves x.body ++ ls) found) (sym same.1) first)
   finds_once (enters {seen} {leaf} r rule calls fresh _) (skips q other was again _) =
       absurd (fresh (subst (Contains seen) (sym (one_fragment leaf r q rule other calls was).0) again))
   finds_once (skips {leaf} r rule calls _ _) (names {called} is) = absurd (call_names_none leaf r rule calls called is)
@@ -178,11 +178,11 @@ module _ (g : Grammar) where
     grown : Within seen after
     finished : AreFinished around after
     passed : Every (IsPassed after) ls
-    goes_on : (found : Option (List ℕ)) → Finds g after rest found → Finds g seen (ls ++ rest) found
+    goes_on : (found : Option (List ℕ)) → FindsName g after rest found → FindsName g seen (ls ++ rest) found
 
   -- all are the leaves ls with their fragments put in: it finds their first name, or goes past ls where there is none
   data Goes (around seen : List ℕ) (ls all rest : List Leaf) : Type 0 where
-    stops : (called : List ℕ) → FirstNames all called → Finds g seen (ls ++ rest) (Some called) → Goes around seen ls all rest
+    stops : (called : List ℕ) → FirstNames all called → FindsName g seen (ls ++ rest) (Some called) → Goes around seen ls all rest
     goes : NoneNamed all → GoesPast around seen ls rest → Goes around seen ls all rest
 
   -- one leaf more, in front
@@ -191,7 +191,7 @@ module _ (g : Grammar) where
       begins : Within seen begun
       none : NoneNamed front
       passed : (after : List ℕ) → Within begun after → IsPassed after leaf
-      goes_on : (found : Option (List ℕ)) → Finds g begun (ls ++ rest) found → Finds g seen (leaf ∷ (ls ++ rest)) found
+      goes_on : (found : Option (List ℕ)) → FindsName g begun (ls ++ rest) found → FindsName g seen (leaf ∷ (ls ++ rest)) found
 
     leads : (front all : List Leaf) → Leads front all → Goes around begun ls all rest → Goes around seen (leaf ∷ ls) (front ++ all) rest
     leads front all to (stops called first found) = stops called (first_right front to.none first) (to.goes_on (Some called) found)
@@ -281,15 +281,15 @@ module _ (g : Grammar) where
   ]
 
   -- so what it finds is the first name of the rule's leaves
-  pub finds_first : (rule : Rule) (all : List Leaf) (found : Option (List ℕ)) → HasLeaves g rule all → Finds g [] (leaves rule.body) found →
+  pub finds_first : (rule : Rule) (all : List Leaf) (found : Option (List ℕ)) → HasLeaves g rule all → FindsName g [] (leaves rule.body) found →
       MatchOption found (NoneNamed all) (FirstNames all)
   finds_first rule all found has is = by (searches has [] [] (λ r none. none) (λ r x none. absurd (in_none r none)))
     where
       in_none : (r : ℕ) → ¬ Contains [] r
       in_none r (k, inside, is) = omega arith
 
-      same : (other : Option (List ℕ)) → Finds g [] (leaves rule.body ++ []) other → other ≡ found
-      same other was = finds_once (subst (λ ls. Finds g [] ls other) (append-nil (leaves rule.body)) was) is
+      same : (other : Option (List ℕ)) → FindsName g [] (leaves rule.body ++ []) other → other ≡ found
+      same other was = finds_once (subst (λ ls. FindsName g [] ls other) (append-nil (leaves rule.body)) was) is
 
       by : Goes [] [] (leaves rule.body) all [] → MatchOption found (NoneNamed all) (FirstNames all)
       by (stops called first was) = subst (λ o. MatchOption o (NoneNamed all) (FirstNames all)) (same (Some called) was) first

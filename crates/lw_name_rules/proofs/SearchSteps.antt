@@ -16,7 +16,7 @@ use Rattle.lw_grammar.specs.Leaves.{Leaf, Call, leaves, IsFragmentCall}
 use Rattle.lw_grammar.specs.Named.{IsTerminal}
 use Rattle.lw_numbers.specs.Numbering.{IsNumbered, rule_}
 use Rattle.lw_subtypes.proofs.Meanings.{no_rule_too}
-use Rattle.lw_name_rules.specs.Searching.{CallsNoFragment, Finds, enters, skips, ahead, unseen_leaves}
+use Rattle.lw_name_rules.specs.Searching.{CallsNoFragment, FindsName, enters, skips, ahead, unseen_leaves}
 use Rattle.lw_name_rules.specs.declared.first_name.Search.{Search}
 use Rattle.lw_leaves.specs.declared.body.BodyLeaf.{BodyLeaf}
 use Rattle.lw_leaves.specs.Parts.{leaf_of}
@@ -96,14 +96,14 @@ module _ (seen after : List ℕ) (r : ℕ) (put : after ≡ insert_key nat_eq se
   was_there again = put ∙ ap (λ b. if b then seen else seen ++ r ∷ []) again
 
   module _ (g : Grammar) (leaf : Leaf) (rule : Rule) (calls : IsFragmentCall g leaf r rule) (ls : List Leaf) (found : Option (List ℕ)) where
-    pub finds_inside : list_any (nat_eq r) seen ≡ false → Finds g after (leaves rule.body ++ ls) found → Finds g seen (leaf ∷ ls) found
+    pub finds_inside : list_any (nat_eq r) seen ≡ false → FindsName g after (leaves rule.body ++ ls) found → FindsName g seen (leaf ∷ ls) found
     finds_inside new more =
         enters r rule calls (not_from_Decides (list_any (nat_eq r) seen) (is_member-Decides Decides-eqb seen r) new)
-        (subst (λ keys. Finds g keys (leaves rule.body ++ ls) found) (was_new new) more)
+        (subst (λ keys. FindsName g keys (leaves rule.body ++ ls) found) (was_new new) more)
 
-    pub finds_behind : list_any (nat_eq r) seen ≡ true → Finds g after ls found → Finds g seen (leaf ∷ ls) found
+    pub finds_behind : list_any (nat_eq r) seen ≡ true → FindsName g after ls found → FindsName g seen (leaf ∷ ls) found
     finds_behind again more =
-        skips r rule calls ((is_member-Decides Decides-eqb seen r).0 again) (subst (λ keys. Finds g keys ls found) (was_there again) more)
+        skips r rule calls ((is_member-Decides Decides-eqb seen r).0 again) (subst (λ keys. FindsName g keys ls found) (was_there again) more)
 
   pub fewer_unseen : (rules : List Rule) (rule : Rule) → slice_get rules r ≡ Some rule → list_any (nat_eq r) seen ≡ false →
       unseen_leaves 0 after rules + length (leaves rule.body) ≤ unseen_leaves 0 seen rules

@@ -21,8 +21,8 @@ abbrev pub IsPut : (passes : Type 0) → List ℕ → Option (List ℕ) → Opti
 IsPut passes called old new = MatchOption old (MatchOption new (¬ passes) (λ now. (now ≡ called) × passes)) (λ was. new ≡ Some was)
 
 -- each type that passes has an entry now, and the new ones are this name
-abbrev pub Puts : (List ℕ → Type 0) → List ℕ → List (List ℕ × List ℕ) → List (List ℕ × List ℕ) → Type 0
-Puts passes called old new = (wanted : List ℕ) → IsPut (passes wanted) called (lookup (bytes_eq wanted) old) (lookup (bytes_eq wanted) new)
+abbrev pub PutsNames : (List ℕ → Type 0) → List ℕ → List (List ℕ × List ℕ) → List (List ℕ × List ℕ) → Type 0
+PutsNames passes called old new = (wanted : List ℕ) → IsPut (passes wanted) called (lookup (bytes_eq wanted) old) (lookup (bytes_eq wanted) new)
 
 -- one of these numbers is the type's
 abbrev pub IsNumberedIn : (names : List (List ℕ)) → (numbers : List ℕ) → List ℕ → Type 0

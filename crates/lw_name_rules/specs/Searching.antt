@@ -18,15 +18,15 @@ module _ (g : Grammar) where
   CallsNoFragment leaf = (r : ℕ) (rule : Rule) → ¬ IsFragmentCall g leaf r rule
 
   -- what a search finds that has looked into the fragments of these numbers, and has these leaves ahead
-  pub data Finds : List ℕ → List Leaf → Option (List ℕ) → Type 0 where
-    ends : {seen : List ℕ} → Finds seen [] None
-    names : {seen : List ℕ} {leaf : Leaf} {ls : List Leaf} {called : List ℕ} → Names leaf called → Finds seen (leaf ∷ ls) (Some called)
-    passes : {seen : List ℕ} {leaf : Leaf} {ls : List Leaf} {found : Option (List ℕ)} → NamesNone leaf → CallsNoFragment leaf → Finds seen ls found →
-        Finds seen (leaf ∷ ls) found
+  pub data FindsName : List ℕ → List Leaf → Option (List ℕ) → Type 0 where
+    ends : {seen : List ℕ} → FindsName seen [] None
+    names : {seen : List ℕ} {leaf : Leaf} {ls : List Leaf} {called : List ℕ} → Names leaf called → FindsName seen (leaf ∷ ls) (Some called)
+    passes : {seen : List ℕ} {leaf : Leaf} {ls : List Leaf} {found : Option (List ℕ)} → NamesNone leaf → CallsNoFragment leaf → FindsName seen ls found →
+        FindsName seen (leaf ∷ ls) found
     enters : {seen : List ℕ} {leaf : Leaf} {ls : List Leaf} {found : Option (List ℕ)} (r : ℕ) (rule : Rule) → IsFragmentCall g leaf r rule →
-        ¬ Contains seen r → Finds (seen ++ r ∷ []) (leaves rule.body ++ ls) found → Finds seen (leaf ∷ ls) found
+        ¬ Contains seen r → FindsName (seen ++ r ∷ []) (leaves rule.body ++ ls) found → FindsName seen (leaf ∷ ls) found
     skips : {seen : List ℕ} {leaf : Leaf} {ls : List Leaf} {found : Option (List ℕ)} (r : ℕ) (rule : Rule) → IsFragmentCall g leaf r rule →
-        Contains seen r → Finds seen ls found → Finds seen (leaf ∷ ls) found
+        Contains seen r → FindsName seen ls found → FindsName seen (leaf ∷ ls) found
 
 -- the leaves that a search has ahead, the next one first
 abbrev pub ahead : Search → List Leaf

@@ -5,7 +5,7 @@ ghost use Rattle.lw_grammar.specs.NameRules.{Names};
 ghost use Rattle.lw_leaves.specs.Parts.{leaf_of};
 ghost use Rattle.lw_numbers.specs.Tables.{AreNumbersOf};
 ghost use Rattle.lw_name_rules.specs.NameTable.{NamesBy};
-ghost use Rattle.lw_name_rules.specs.Searching.{CallsNoFragment, Finds, NamesNone, ahead, work_left};
+ghost use Rattle.lw_name_rules.specs.Searching.{CallsNoFragment, FindsName, NamesNone, ahead, work_left};
 
 use indexmap::IndexSet;
 use lw_base::{Name, NoMemory};
@@ -24,7 +24,7 @@ struct Search<'g> {
 }
 
 impl<'g> Search<'g> {
-    /// Puts the leaves of a body before those that are ahead.
+    /// PutsNames the leaves of a body before those that are ahead.
     fn look_into(&mut self, alloc: Global, body: &'g Element) -> Result<(), NoMemory>
         ensures ahead { OnOk result (ahead self.new ≡ leaves body.now ++ ahead self.old) }
         ensures seen { OnOk result (self.new.seen.keys ≡ self.old.seen.keys) }
@@ -46,8 +46,8 @@ impl<'g> Search<'g> {
     ) -> Result<(), NoMemory>
         requires numbered { AreNumbersOf g.now numbers.now }
         requires nameless { NamesNone (leaf_of leaf) }
-        ensures finds { OnOk result ((found : Option (List ℕ)) → Finds g.now self.new.seen.keys (ahead self.new) found →
-            Finds g.now self.old.seen.keys (leaf_of leaf.entry ∷ ahead self.old) found) }
+        ensures finds { OnOk result ((found : Option (List ℕ)) → FindsName g.now self.new.seen.keys (ahead self.new) found →
+            FindsName g.now self.old.seen.keys (leaf_of leaf.entry ∷ ahead self.old) found) }
         ensures nearer { OnOk result (work_left g.now self.new ≤ work_left g.now self.old) }
     {
         let Some((number, rule)) = fragment_called(g, numbers, leaf) else {

@@ -6,7 +6,7 @@ ghost use Rattle.lw_grammar.specs.Size.{size};
 ghost use Rattle.lw_grammar.specs.Subtypes.{HasType, IsSubtype};
 ghost use Rattle.lw_numbers.specs.Tables.{AreNumbersOf};
 ghost use Rattle.lw_subtypes.specs.Kinship.{AreSubtypesOf};
-ghost use Rattle.lw_name_rules.specs.NameTable.{AreNameRulesOf, Puts, PutsRule, IsNumberedIn};
+ghost use Rattle.lw_name_rules.specs.NameTable.{AreNameRulesOf, PutsNames, PutsRule, IsNumberedIn};
 
 use crate::first_name::first_name;
 use indexmap::IndexMap;
@@ -74,7 +74,7 @@ fn type_of(rule: &Rule) -> Option<&Name>
     }
 }
 
-/// Puts in what the rule names nodes by, for each type whose nodes it names and that has no entry.
+/// PutsNames in what the rule names nodes by, for each type whose nodes it names and that has no entry.
 fn put_rule(
     alloc: Global,
     g: &Grammar,
@@ -97,7 +97,7 @@ fn put_rule(
     Ok(())
 }
 
-/// Puts the name in for a type and those that it is below, where they have no entry.
+/// PutsNames the name in for a type and those that it is below, where they have no entry.
 fn put_above(
     alloc: Global,
     subtypes: &Subtypes,
@@ -105,7 +105,7 @@ fn put_above(
     name: &Name,
     called: &mut IndexMap<Name, Name>,
 ) -> Result<(), NoMemory>
-    ensures { OnOk result ((g : Grammar) → AreSubtypesOf g subtypes.now → Puts (IsSubtype g own.now) name.now called.old.entries called.new.entries) }
+    ensures { OnOk result ((g : Grammar) → AreSubtypesOf g subtypes.now → PutsNames (IsSubtype g own.now) name.now called.old.entries called.new.entries) }
 {
     put(alloc, own, name, called)?;
     let Some(number) = subtypes.number(own) else {
@@ -115,7 +115,7 @@ fn put_above(
     Ok(())
 }
 
-/// Puts the name in for the types of these numbers, where they have no entry.
+/// PutsNames the name in for the types of these numbers, where they have no entry.
 fn put_each(
     alloc: Global,
     subtypes: &Subtypes,
@@ -123,7 +123,7 @@ fn put_each(
     name: &Name,
     called: &mut IndexMap<Name, Name>,
 ) -> Result<(), NoMemory>
-    ensures { OnOk result (Puts (IsNumberedIn subtypes.now.names numbers.now) name.now called.old.entries called.new.entries) }
+    ensures { OnOk result (PutsNames (IsNumberedIn subtypes.now.names numbers.now) name.now called.old.entries called.new.entries) }
 {
     for number in numbers {
         put_numbered(alloc, subtypes, *number as usize, name, called)?;
@@ -131,7 +131,7 @@ fn put_each(
     Ok(())
 }
 
-/// Puts the name in for the type of this number, where it has no entry.
+/// PutsNames the name in for the type of this number, where it has no entry.
 fn put_numbered(
     alloc: Global,
     subtypes: &Subtypes,
@@ -139,7 +139,7 @@ fn put_numbered(
     name: &Name,
     called: &mut IndexMap<Name, Name>,
 ) -> Result<(), NoMemory>
-    ensures { OnOk result (Puts (λ wanted. slice_get subtypes.now.names number ≡ Some wanted) name.now called.old.entries called.new.entries) }
+    ensures { OnOk result (PutsNames (λ wanted. slice_get subtypes.now.names number ≡ Some wanted) name.now called.old.entries called.new.entries) }
 {
     match subtypes.name(number) {
         Some(wanted) => put(alloc, wanted, name, called),
@@ -147,14 +147,14 @@ fn put_numbered(
     }
 }
 
-/// Puts the name in for a type, where it has no entry.
+/// PutsNames the name in for a type, where it has no entry.
 fn put(
     alloc: Global,
     wanted: &Name,
     name: &Name,
     called: &mut IndexMap<Name, Name>,
 ) -> Result<(), NoMemory>
-    ensures { OnOk result (Puts (λ type_name. wanted.now ≡ type_name) name.now called.old.entries called.new.entries) }
+    ensures { OnOk result (PutsNames (λ type_name. wanted.now ≡ type_name) name.now called.old.entries called.new.entries) }
 {
     if !called.contains_key(wanted) {
         called.insert(wanted.copy(alloc)?, name.copy(alloc)?)?;

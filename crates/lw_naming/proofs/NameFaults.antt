@@ -13,7 +13,7 @@ use Rattle.lw_faults.specs.Written.{IsNoRule}
 use Rattle.lw_faults.specs.Circles.{CircularType}
 use Rattle.lw_faults.specs.Circles as circle
 use Rattle.lw_faults.specs.Faults.{fault}
-use Rattle.lw_findings.specs.Finding.{Finds, IsTold, OfSome}
+use Rattle.lw_findings.specs.Finding.{Finds, IsFaultOf, OfSome}
 use Rattle.lw_findings.proofs.Joining.{Finds-iff, Finds-then}
 use Rattle.lw_naming.specs.declared.mentions.Role.{Role}
 use Rattle.lw_naming.specs.declared.mentions.Role.TheVariants.{DeclaresRule, DeclaresType, InfersType, CallsRule, NamesType, WantsNameRule}
@@ -26,13 +26,13 @@ use Rattle.lw_naming.proofs.Said.{CallsHere, by_rule, by_terminal, WantsHere, wa
 
 -- a fault of a number is told by what tells it
 told_by : (number : ℕ) (told : ℕ → Span → List ℕ → Type 0) (P : GrammarFault → Type 0) →
-    ((file : ℕ) (s : Span) (name : List ℕ) → told file s name → P (fault number file s name)) → (f : GrammarFault) → IsTold number told f → P f
+    ((file : ℕ) (s : Span) (name : List ℕ) → told file s name → P (fault number file s name)) → (f : GrammarFault) → IsFaultOf number told f → P f
 told_by number told P from f is = let Q : ℕ → Type 0 = λ n. P (fault n f.file f.span f.name) in subst Q (sym is.0) (from f.file f.span f.name is.1)
 
 module _ (g : Grammar) where
   abbrev pub IsNameFault : GrammarFault → Type 0
   IsNameFault f =
-      IsTold 4 (Duplicate g) f ⊎ IsTold 5 (UnknownRule g) f ⊎ IsTold 6 (UnknownType g) f ⊎ IsTold 18 (NoNameRule g) f ⊎ IsTold 19 (CircularType g) f
+      IsFaultOf 4 (Duplicate g) f ⊎ IsFaultOf 5 (UnknownRule g) f ⊎ IsFaultOf 6 (UnknownType g) f ⊎ IsFaultOf 18 (NoNameRule g) f ⊎ IsFaultOf 19 (CircularType g) f
 
   -- what is found in parts
   abbrev IsPart : GrammarFault → Type 0

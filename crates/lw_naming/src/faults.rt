@@ -5,7 +5,7 @@ ghost use Rattle.lw_numbers.specs.Tables.{AreNumbersOf};
 ghost use Rattle.lw_name_rules.specs.NameTable.{AreNameRulesOf};
 ghost use Rattle.lw_faults.specs.Names.{Duplicate, UnknownRule, UnknownType, NoNameRule};
 ghost use Rattle.lw_faults.specs.Circles.{CircularType};
-ghost use Rattle.lw_findings.specs.Finding.{Finds, IsTold};
+ghost use Rattle.lw_findings.specs.Finding.{Finds, IsFaultOf};
 
 use crate::attributes::find_second_attributes;
 use crate::names::KnownNames;
@@ -28,7 +28,7 @@ pub fn find_name_faults(
     requires numbered { AreNumbersOf g.now numbers.now }
     requires ruled { AreNameRulesOf g.now name_rules.now }
     requires small { size g.now ≤ 65535 }
-    ensures { OnOk result (Finds (λ f. IsTold 4 (Duplicate g.now) f ⊎ IsTold 5 (UnknownRule g.now) f ⊎ IsTold 6 (UnknownType g.now) f ⊎ IsTold 18 (NoNameRule g.now) f ⊎ IsTold 19 (CircularType g.now) f) found.old found.new) }
+    ensures { OnOk result (Finds (λ f. IsFaultOf 4 (Duplicate g.now) f ⊎ IsFaultOf 5 (UnknownRule g.now) f ⊎ IsFaultOf 6 (UnknownType g.now) f ⊎ IsFaultOf 18 (NoNameRule g.now) f ⊎ IsFaultOf 19 (CircularType g.now) f) found.old found.new) }
 {
     let names = KnownNames::of(alloc, g, numbers, name_rules)?;
     names.find_wrong(alloc, found)?;

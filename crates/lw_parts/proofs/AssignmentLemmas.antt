@@ -14,9 +14,9 @@ use Rattle.lw_grammar.specs.Named.{IsRule, IsTerminal}
 use Rattle.lw_numbers.specs.Numbering.{IsNumbered}
 use Rattle.lw_faults.specs.BadCalls.{BadAssignment, flag, fragment_}
 use Rattle.lw_faults.specs.Faults.{fault}
-use Rattle.lw_findings.specs.Finding.{Finds, IsTold, OfSome}
+use Rattle.lw_findings.specs.Finding.{Finds, IsFaultOf, OfSome}
 use Rattle.lw_findings.proofs.Joining.{Finds-told, told_fault_of}
-use Rattle.lw_parts.specs.Sites.{Assigned, Site, site, PartCalls, LeafCalls}
+use Rattle.lw_parts.specs.Sites.{Assigned, Site, site, PartCalls, LeafSites}
 use Rattle.lw_parts.specs.BadSites.{IsMisused, PutsBadly, BadPutBy, BadPut, HasBadPut}
 use Rattle.lw_parts.proofs.MeaningLemmas.{one_rule, never_both, no_rule}
 
@@ -37,7 +37,7 @@ module _ (g : Grammar) where
 
   module _ (rule : Rule) (stands : Contains g.rules rule) (f : GrammarFault) where
     a_put : (p : List ℕ) (op : Op) (v : Value0) (s t : Span) (name : List ℕ) → Contains (leaves rule.body) (leaf.Assign p op v s) →
-        Contains (value_leaves v) (leaf.Calls name t) → BadPutBy g rule name (Assigned p op s) f → IsTold 22 (BadAssignment g) f
+        Contains (value_leaves v) (leaf.Calls name t) → BadPutBy g rule name (Assigned p op s) f → IsFaultOf 22 (BadAssignment g) f
     a_put p op v s t name has inside ((r, called, is, inl whole), told) =
         told_fault_of (BadAssignment g) rule.file s p told (fragment_ rule p op v s t name r called stands has inside is whole)
     a_put p op v s t name has inside ((r, called, is, inr (flagged, makes)), told) =
@@ -45,7 +45,7 @@ module _ (g : Grammar) where
         told_fault_of (BadAssignment g) rule.file s p told (flag rule p v s t name r called stands (subst P flagged has) inside is makes)
 
     part_put : (p : List ℕ) (op : Op) (v : Value0) (s : Span) → Contains (leaves rule.body) (leaf.Assign p op v s) → (part : ValueLeaf) →
-        Contains (value_leaves v) part → (call : Site) → PartCalls g (Assigned p op s) part call → BadPut g rule call f → IsTold 22 (BadAssignment g) f
+        Contains (value_leaves v) part → (call : Site) → PartCalls g (Assigned p op s) part call → BadPut g rule call f → IsFaultOf 22 (BadAssignment g) f
     part_put p op v s has (leaf.Literal text t) inside call is bad = absurd is
     part_put p op v s has (leaf.Calls name t) inside call is bad =
         let P : Site → Type 0 = λ x. BadPut g rule x f in a_put p op v s t name has inside (subst P is bad)
@@ -53,13 +53,13 @@ module _ (g : Grammar) where
     part_put p op v s has (leaf.Cross wanted None t) inside call (name, is_name, is) bad =
         let P : Site → Type 0 = λ x. BadPut g rule x f in absurd (subst P is bad)
 
-    leaf_put : (l : Leaf) → Contains (leaves rule.body) l → (call : Site) → LeafCalls g l call → BadPut g rule call f → IsTold 22 (BadAssignment g) f
+    leaf_put : (l : Leaf) → Contains (leaves rule.body) l → (call : Site) → LeafSites g l call → BadPut g rule call f → IsFaultOf 22 (BadAssignment g) f
     leaf_put (leaf.Keyword text s) has call is bad = absurd is
     leaf_put (leaf.Call name s) has call is bad = let P : Site → Type 0 = λ x. BadPut g rule x f in absurd (subst P is bad)
     leaf_put (leaf.Assign p op v s) has call (part, inside, is) bad = part_put p op v s has part inside call is bad
     leaf_put (leaf.Act a) has call is bad = absurd is
 
-  puts_to : (f : GrammarFault) → OfSome (HasBadPut g) g.rules f → IsTold 22 (BadAssignment g) f
+  puts_to : (f : GrammarFault) → OfSome (HasBadPut g) g.rules f → IsFaultOf 22 (BadAssignment g) f
   puts_to f (rule, stands, (call, (l, has, is), bad)) = leaf_put rule stands f l has call is bad
 
   puts_from : (file : ℕ) (s : Span) (name : List ℕ) → BadAssignment g file s name → OfSome (HasBadPut g) g.rules (fault 22 file s name)
@@ -68,5 +68,5 @@ module _ (g : Grammar) where
   puts_from _ _ _ (fragment_ rule p op v s t name r called stands has inside is whole) =
       (rule, stands, (site name t (Assigned p op s), (leaf.Assign p op v s, has, (leaf.Calls name t, inside, refl)), ((r, called, is, inl whole), refl)))
 
-  pub found_bad_puts : {a b : List GrammarFault} → Finds (OfSome (HasBadPut g) g.rules) a b → Finds (IsTold 22 (BadAssignment g)) a b
+  pub found_bad_puts : {a b : List GrammarFault} → Finds (OfSome (HasBadPut g) g.rules) a b → Finds (IsFaultOf 22 (BadAssignment g)) a b
   found_bad_puts finds = Finds-told (BadAssignment g) puts_to puts_from finds

@@ -18,9 +18,9 @@ use Rattle.lw_faults.specs.BadCalls as bad
 use Rattle.lw_faults.specs.Faults.{fault}
 use Rattle.lw_faults.specs.Written.{WritesCall, plain, assigned, term_calls, term_ranges}
 use Rattle.lw_faults.specs.Written as writes
-use Rattle.lw_findings.specs.Finding.{Finds, IsTold, OfSome}
+use Rattle.lw_findings.specs.Finding.{Finds, IsFaultOf, OfSome}
 use Rattle.lw_findings.proofs.Joining.{Finds-then, Finds-told, told_fault_of}
-use Rattle.lw_parts.specs.Sites.{Plain, Assigned, Crossed, ByName, Site, site, CrossCalls, PartCalls, LeafCalls}
+use Rattle.lw_parts.specs.Sites.{Plain, Assigned, Crossed, ByName, Site, site, CrossCalls, PartCalls, LeafSites}
 use Rattle.lw_parts.specs.BadSites.{is_written, is_cross, IsUncallable, IsBadSite, HasBadSite, HasBadPart}
 use Rattle.lw_parts.proofs.MeaningLemmas.{one_rule, one_terminal, never_both, no_rule, no_terminal}
 
@@ -57,7 +57,7 @@ module _ (g : Grammar) where
       let P : Site → Type 0 = λ x. WritesCall rule x.place x.name in subst P (sym is) (assigned p op v t has inside)
   part_writes rule p op v t has (leaf.Cross wanted by s) inside call is written = cross_writes rule p op v t has wanted by s inside call is written
 
-  leaf_writes : (rule : Rule) (l : Leaf) → Contains (leaves rule.body) l → (call : Site) → LeafCalls g l call → is_written call.how ≡ true →
+  leaf_writes : (rule : Rule) (l : Leaf) → Contains (leaves rule.body) l → (call : Site) → LeafSites g l call → is_written call.how ≡ true →
       WritesCall rule call.place call.name
   leaf_writes rule (leaf.Keyword text s) has call is written = absurd is
   leaf_writes rule (leaf.Call name s) has call is written = let P : Site → Type 0 = λ x. WritesCall rule x.place x.name in subst P (sym is) (plain has)
@@ -89,7 +89,7 @@ module _ (g : Grammar) where
       let P : Site → Type 0 = λ x. is_cross x.how ≡ true in let put : false ≡ true = subst P is cross in absurd (false≢true put)
   part_crosses rule p op v t has (leaf.Cross wanted by s) inside call is cross = cross_crosses rule p op v t has wanted by s inside call is
 
-  leaf_crosses : (rule : Rule) (l : Leaf) → Contains (leaves rule.body) l → (call : Site) → LeafCalls g l call → is_cross call.how ≡ true →
+  leaf_crosses : (rule : Rule) (l : Leaf) → Contains (leaves rule.body) l → (call : Site) → LeafSites g l call → is_cross call.how ≡ true →
       CrossesBy g rule call.place call.name
   leaf_crosses rule (leaf.Keyword text s) has call is cross = absurd is
   leaf_crosses rule (leaf.Call name s) has call is cross =
@@ -110,7 +110,7 @@ module _ (g : Grammar) where
   abbrev Bad : GrammarFault → Type 0
   Bad f = OfSome (HasBadSite g) g.rules f ⊎ OfSome (HasBadPart g) g.terminals f
 
-  bad_to : (f : GrammarFault) → Bad f → IsTold 21 (BadCall g) f
+  bad_to : (f : GrammarFault) → Bad f → IsFaultOf 21 (BadCall g) f
   bad_to f (inl (rule, stands, (call, (l, has, is), (inl (t, x, is_terminal, written, either), told)))) =
       told_fault_of (BadCall g) rule.file call.place call.name told (hidden rule t x stands (leaf_writes rule l has call is written) is_terminal either)
   bad_to f (inl (rule, stands, (call, (l, has, is), (inr (r, by, is_by, cross, not), told)))) =
@@ -127,5 +127,5 @@ module _ (g : Grammar) where
   bad_from _ s name (crossed rule r by stands crosses is_by not) = inl (from_crossed rule stands s name crosses r by is_by not)
 
   pub found_bad_calls : {a b c : List GrammarFault} → Finds (OfSome (HasBadSite g) g.rules) a b → Finds (OfSome (HasBadPart g) g.terminals) b c →
-      Finds (IsTold 21 (BadCall g)) a c
+      Finds (IsFaultOf 21 (BadCall g)) a c
   found_bad_calls one other = Finds-told (BadCall g) bad_to bad_from (Finds-then one other)

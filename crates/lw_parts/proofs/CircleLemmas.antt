@@ -15,9 +15,9 @@ use Rattle.lw_faults.specs.Circles.{FragmentCalls, TerminalCalls, CircularCall, 
 use Rattle.lw_faults.specs.Circles as circles
 use Rattle.lw_faults.specs.Faults.{fault}
 use Rattle.lw_graph.specs.Walks.{Links, HasEdge, Walks, stay, go, HasNode, GoesRound}
-use Rattle.lw_findings.specs.Finding.{Finds, IsTold, AtSome}
+use Rattle.lw_findings.specs.Finding.{Finds, IsFaultOf, AtSome}
 use Rattle.lw_findings.proofs.Joining.{Finds-iff, Finds-then, Finds-told, told_fault_of}
-use Rattle.lw_parts.specs.Sites.{Plain, Assigned, Crossed, ByName, Site, site, CrossCalls, PartCalls, LeafCalls, HasSite}
+use Rattle.lw_parts.specs.Sites.{Plain, Assigned, Crossed, ByName, Site, site, CrossCalls, PartCalls, LeafSites, HasSite}
 use Rattle.lw_parts.specs.Edges.{Edge, StayBelow, MeansFragment, CallsFragment, IsFragmentEdge, IsTerminalEdge, CircularFragment, CircularTerminal, RuleIn, TerminalIn}
 use Rattle.lw_parts.proofs.GraphLemmas.{HasJust}
 
@@ -61,7 +61,7 @@ module _ (g : Grammar) where
         let P : Site → Type 0 = λ x. RuleCalls g rule x.name in subst P (sym is) (reached.assigns p op v t has (reached.calls s inside))
     part_calls p op v t has (leaf.Cross wanted by s) inside call is = cross_calls p op v t has wanted by s inside call is
 
-    site_calls : (l : Leaf) → Contains (leaves rule.body) l → (call : Site) → LeafCalls g l call → RuleCalls g rule call.name
+    site_calls : (l : Leaf) → Contains (leaves rule.body) l → (call : Site) → LeafSites g l call → RuleCalls g rule call.name
     site_calls (leaf.Keyword text s) has call is = absurd is
     site_calls (leaf.Call name s) has call is = let P : Site → Type 0 = λ x. RuleCalls g rule x.name in subst P (sym is) (reached.calls s has)
     site_calls (leaf.Assign p op v t) has call (part, inside, is) = part_calls p op v t has part inside call is
@@ -178,7 +178,7 @@ module _ (g : Grammar) where
   abbrev OnCircle : GrammarFault → Type 0
   OnCircle f = AtSome (CircularFragment g) g.rules f ⊎ AtSome (CircularTerminal g) g.terminals f
 
-  circle_to : (f : GrammarFault) → OnCircle f → IsTold 20 (CircularCall g) f
+  circle_to : (f : GrammarFault) → OnCircle f → IsFaultOf 20 (CircularCall g) f
   circle_to f (inl (r, rule, at, (round, told))) = told_fault_of (CircularCall g) rule.file rule.span rule.name told (fragment_ r rule at round)
   circle_to f (inr (t, x, at, (round, told))) = told_fault_of (CircularCall g) x.file x.span x.name told (terminal t x at round)
 
@@ -187,5 +187,5 @@ module _ (g : Grammar) where
   circle_from _ _ _ (terminal t x at calls_itself) = inr (t, x, at, (calls_itself, refl))
 
   pub found_circles : {a b c : List GrammarFault} → Finds (AtSome (CircularFragment g) g.rules) a b → Finds (AtSome (CircularTerminal g) g.terminals) b c →
-      Finds (IsTold 20 (CircularCall g)) a c
+      Finds (IsFaultOf 20 (CircularCall g)) a c
   found_circles one other = Finds-told (CircularCall g) circle_to circle_from (Finds-then one other)

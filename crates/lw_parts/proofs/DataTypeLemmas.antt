@@ -12,7 +12,7 @@ use Rattle.lw_grammar.specs.Named.{IsInterface, declared_interface, declared_uni
 use Rattle.lw_sentences.proofs.Meaning.{one_of_two}
 use Rattle.lw_faults.specs.DataTypes.{MixedDataTypeRule, gives, infers, returns, IsPlainUnion}
 use Rattle.lw_faults.specs.Faults.{fault}
-use Rattle.lw_findings.specs.Finding.{Finds, IsTold, AtSome}
+use Rattle.lw_findings.specs.Finding.{Finds, IsFaultOf, AtSome}
 use Rattle.lw_findings.proofs.Joining.{Finds-told, told_fault_of}
 use Rattle.lw_parts.specs.Parts.{IsMixed, MixedHere}
 use Rattle.lw_parts.proofs.Places.{stands_in, place_in}
@@ -34,7 +34,7 @@ module _ (g : Grammar) where
   mixed_rule rule stands (Gives p) is mixed = gives rule p stands is mixed
   mixed_rule rule stands (Infers name s) is mixed = infers rule name s stands mixed is
 
-  mixed_to : (f : GrammarFault) → AtSome (MixedHere g) g.rules f → IsTold 13 (MixedDataTypeRule g) f
+  mixed_to : (f : GrammarFault) → AtSome (MixedHere g) g.rules f → IsFaultOf 13 (MixedDataTypeRule g) f
   mixed_to f (r, rule, at, (mixed, told)) =
       told_fault_of (MixedDataTypeRule g) rule.file rule.span rule.name told (mixed_rule rule (stands_in g.rules r rule at) rule.result refl mixed)
 
@@ -46,5 +46,5 @@ module _ (g : Grammar) where
   mixed_from _ _ _ (infers rule name s stands so is) = here rule stands (subst (IsMixed g rule) (sym is) so)
   mixed_from _ _ _ (returns rule name s stands so is none) = here rule stands (subst (IsMixed g rule) (sym is) (so, none))
 
-  pub found_mixed : {a b : List GrammarFault} → Finds (AtSome (MixedHere g) g.rules) a b → Finds (IsTold 13 (MixedDataTypeRule g)) a b
+  pub found_mixed : {a b : List GrammarFault} → Finds (AtSome (MixedHere g) g.rules) a b → Finds (IsFaultOf 13 (MixedDataTypeRule g)) a b
   found_mixed finds = Finds-told (MixedDataTypeRule g) mixed_to mixed_from finds

@@ -5,7 +5,7 @@ use Rattle.lw_grammar.specs.declared.grammar.Grammar.{Grammar}
 use Rattle.lw_faults.specs.BadCalls.{BadCall, BadAssignment}
 use Rattle.lw_faults.specs.DataTypes.{MixedDataTypeRule}
 use Rattle.lw_faults.specs.Entries.{NoEntry, SecondEntry, EntryMakesNoNode, TooManyRules}
-use Rattle.lw_findings.specs.Finding.{Finds, IsTold}
+use Rattle.lw_findings.specs.Finding.{Finds, IsFaultOf}
 use Rattle.lw_findings.proofs.Joining.{Finds-iff, Finds-then}
 use Rattle.lw_parts.specs.Plain as is
 use Rattle.lw_parts.specs.Plain.{IsPlainFault}
@@ -13,14 +13,14 @@ use Rattle.lw_parts.specs.Plain.{IsPlainFault}
 module _ (g : Grammar) where
   -- those of the entry rule
   abbrev pub IsEntryFault : GrammarFault → Type 0
-  IsEntryFault f = (IsTold 1 (NoEntry g) f ⊎ IsTold 2 (SecondEntry g) f) ⊎ IsTold 3 (EntryMakesNoNode g) f
+  IsEntryFault f = (IsFaultOf 1 (NoEntry g) f ⊎ IsFaultOf 2 (SecondEntry g) f) ⊎ IsFaultOf 3 (EntryMakesNoNode g) f
 
   -- those of calls
   abbrev pub IsCallFault : GrammarFault → Type 0
-  IsCallFault f = IsTold 21 (BadCall g) f ⊎ IsTold 22 (BadAssignment g) f
+  IsCallFault f = IsFaultOf 21 (BadCall g) f ⊎ IsFaultOf 22 (BadAssignment g) f
 
   abbrev InTurn : GrammarFault → Type 0
-  InTurn f = ((IsEntryFault f ⊎ IsTold 13 (MixedDataTypeRule g) f) ⊎ IsCallFault f) ⊎ IsTold 23 (TooManyRules g) f
+  InTurn f = ((IsEntryFault f ⊎ IsFaultOf 13 (MixedDataTypeRule g) f) ⊎ IsCallFault f) ⊎ IsFaultOf 23 (TooManyRules g) f
 
   of_turn : (f : GrammarFault) → InTurn f → IsPlainFault g f
   of_turn f (inl (inl (inl (inl (inl so))))) = is.no_entry so
@@ -40,6 +40,6 @@ module _ (g : Grammar) where
   in_turn f (is.bad_assignment so) = inl (inr (inr so))
   in_turn f (is.too_many_rules so) = inr so
 
-  pub found_plain : {a b c d e : List GrammarFault} → Finds IsEntryFault a b → Finds (IsTold 13 (MixedDataTypeRule g)) b c → Finds IsCallFault c d →
-      Finds (IsTold 23 (TooManyRules g)) d e → Finds (IsPlainFault g) a e
+  pub found_plain : {a b c d e : List GrammarFault} → Finds IsEntryFault a b → Finds (IsFaultOf 13 (MixedDataTypeRule g)) b c → Finds IsCallFault c d →
+      Finds (IsFaultOf 23 (TooManyRules g)) d e → Finds (IsPlainFault g) a e
   found_plain entries mixed calls sizes = Finds-iff (λ f. (of_turn f, in_turn f)) (Finds-then (Finds-then (Finds-then entries mixed) calls) sizes)

@@ -4,13 +4,13 @@ use Rattle.lw_grammar.specs.declared.grammar.Grammar.{Grammar}
 use Rattle.lw_faults.specs.BadCalls.{BadCall, BadAssignment}
 use Rattle.lw_faults.specs.DataTypes.{MixedDataTypeRule}
 use Rattle.lw_faults.specs.Entries.{NoEntry, SecondEntry, EntryMakesNoNode, TooManyRules}
-use Rattle.lw_findings.specs.Finding.{IsTold}
+use Rattle.lw_findings.specs.Finding.{IsFaultOf}
 
 pub data IsPlainFault (g : Grammar) (f : GrammarFault) : Type 0 where
-  no_entry : IsTold 1 (NoEntry g) f → IsPlainFault g f
-  second_entry : IsTold 2 (SecondEntry g) f → IsPlainFault g f
-  entry_makes_no_node : IsTold 3 (EntryMakesNoNode g) f → IsPlainFault g f
-  mixed_data_type_rule : IsTold 13 (MixedDataTypeRule g) f → IsPlainFault g f
-  bad_call : IsTold 21 (BadCall g) f → IsPlainFault g f
-  bad_assignment : IsTold 22 (BadAssignment g) f → IsPlainFault g f
-  too_many_rules : IsTold 23 (TooManyRules g) f → IsPlainFault g f
+  no_entry : IsFaultOf 1 (NoEntry g) f → IsPlainFault g f
+  second_entry : IsFaultOf 2 (SecondEntry g) f → IsPlainFault g f
+  entry_makes_no_node : IsFaultOf 3 (EntryMakesNoNode g) f → IsPlainFault g f
+  mixed_data_type_rule : IsFaultOf 13 (MixedDataTypeRule g) f → IsPlainFault g f
+  bad_call : IsFaultOf 21 (BadCall g) f → IsPlainFault g f
+  bad_assignment : IsFaultOf 22 (BadAssignment g) f → IsPlainFault g f
+  too_many_rules : IsFaultOf 23 (TooManyRules g) f → IsPlainFault g f

@@ -49,10 +49,10 @@ module _ (g : Grammar) where
   PartCalls how (leaf.Calls name s) call = call ≡ site name s how
   PartCalls how (leaf.Cross wanted rule s) call = CrossCalls wanted rule s call
 
-  abbrev pub LeafCalls : Leaf → Site → Type 0
-  LeafCalls (leaf.Call name s) call = call ≡ site name s Plain
-  LeafCalls (leaf.Assign p op v s) call = OfSome (PartCalls (Assigned p op s)) (value_leaves v) call
-  LeafCalls _ call = ⊥
+  abbrev pub LeafSites : Leaf → Site → Type 0
+  LeafSites (leaf.Call name s) call = call ≡ site name s Plain
+  LeafSites (leaf.Assign p op v s) call = OfSome (PartCalls (Assigned p op s)) (value_leaves v) call
+  LeafSites _ call = ⊥
 
   abbrev pub HasSite : Rule → Site → Type 0
-  HasSite rule = OfSome LeafCalls (leaves rule.body)
+  HasSite rule = OfSome LeafSites (leaves rule.body)

@@ -1,7 +1,7 @@
 // Assignments of what may not be assigned so.
 ghost use Rattle.std.specs.Prelude.{◌≡◌, ◌↔◌, IsTrue, OnOk, Some, slice_get};
 ghost use Rattle.lw_faults.specs.BadCalls.{BadAssignment};
-ghost use Rattle.lw_findings.specs.Finding.{Finds, IsTold};
+ghost use Rattle.lw_findings.specs.Finding.{Finds, IsFaultOf};
 ghost use Rattle.lw_parts.specs.Knowing.{Knows};
 ghost use Rattle.lw_parts.specs.Sites.{site_of};
 ghost use Rattle.lw_parts.specs.BadSites.{IsMisused, PutsBadly, BadPut, HasBadPut};
@@ -21,7 +21,7 @@ pub(crate) fn find_bad_assignments(
     found: &mut Findings,
 ) -> Result<(), NoMemory>
     requires { Knows checker.now }
-    ensures { OnOk result (Finds (IsTold 22 (BadAssignment checker.now.g.now)) found.old found.new) }
+    ensures { OnOk result (Finds (IsFaultOf 22 (BadAssignment checker.now.g.now)) found.old found.new) }
 {
     for rule in checker.g.rules.as_slice() {
         find_bad_puts(alloc, checker, rule, found)?;

@@ -4,7 +4,7 @@ ghost use Rattle.lw_grammar.specs.Nodes.{IsDataType};
 ghost use Rattle.lw_faults.specs.BadCalls.{BadCall};
 ghost use Rattle.lw_faults.specs.Written.{term_calls, term_ranges};
 ghost use Rattle.lw_leaves.specs.Parts.{term_call_of, term_range_of};
-ghost use Rattle.lw_findings.specs.Finding.{Finds, IsTold, OfSome};
+ghost use Rattle.lw_findings.specs.Finding.{Finds, IsFaultOf, OfSome};
 ghost use Rattle.lw_parts.specs.Knowing.{Knows};
 ghost use Rattle.lw_parts.specs.Sites.{site_of, how_of};
 ghost use Rattle.lw_parts.specs.BadSites.{is_written, is_cross, IsUncallable, IsBadSite, BadSite, HasBadSite, CallsRule, BadRange, HasBadPart};
@@ -28,7 +28,7 @@ pub(crate) fn find_bad_calls(
     found: &mut Findings,
 ) -> Result<(), NoMemory>
     requires { Knows checker.now }
-    ensures { OnOk result (Finds (IsTold 21 (BadCall checker.now.g.now)) found.old found.new) }
+    ensures { OnOk result (Finds (IsFaultOf 21 (BadCall checker.now.g.now)) found.old found.new) }
 {
     find_in_rules(alloc, checker, found)?;
     find_in_terminals(alloc, checker, found)?;

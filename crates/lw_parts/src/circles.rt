@@ -1,7 +1,7 @@
 // Fragments and terminals that call themselves.
 ghost use Rattle.std.specs.Prelude.{OnOk};
 ghost use Rattle.lw_faults.specs.Circles.{CircularCall};
-ghost use Rattle.lw_findings.specs.Finding.{Finds, IsTold, AtSome};
+ghost use Rattle.lw_findings.specs.Finding.{Finds, IsFaultOf, AtSome};
 ghost use Rattle.lw_parts.specs.Knowing.{Knows};
 ghost use Rattle.lw_parts.specs.Edges.{CircularFragment, CircularTerminal, RuleIn, TerminalIn};
 
@@ -22,7 +22,7 @@ pub fn find_circular_calls(
     found: &mut Findings,
 ) -> Result<(), NoMemory>
     requires { Knows checker.now }
-    ensures { OnOk result (Finds (IsTold 20 (CircularCall checker.now.g.now)) found.old found.new) }
+    ensures { OnOk result (Finds (IsFaultOf 20 (CircularCall checker.now.g.now)) found.old found.new) }
 {
     find_circular_fragments(alloc, checker, found)?;
     find_circular_terminals(alloc, checker, found)?;

@@ -1,7 +1,7 @@
 // Data type rules and what they say of their type.
 ghost use Rattle.std.specs.Prelude.{◌≡◌, ◌↔◌, IsTrue, OnOk, All, Some, slice_get};
 ghost use Rattle.lw_faults.specs.DataTypes.{MixedDataTypeRule, IsPlainMember, IsPlainUnion};
-ghost use Rattle.lw_findings.specs.Finding.{Finds, IsTold};
+ghost use Rattle.lw_findings.specs.Finding.{Finds, IsFaultOf};
 ghost use Rattle.lw_parts.specs.Knowing.{Knows};
 ghost use Rattle.lw_parts.specs.Parts.{IsMixed, MixedHere};
 
@@ -20,7 +20,7 @@ pub(crate) fn find_mixed_data_types(
     found: &mut Findings,
 ) -> Result<(), NoMemory>
     requires { Knows checker.now }
-    ensures { OnOk result (Finds (IsTold 13 (MixedDataTypeRule checker.now.g.now)) found.old found.new) }
+    ensures { OnOk result (Finds (IsFaultOf 13 (MixedDataTypeRule checker.now.g.now)) found.old found.new) }
 {
     for (r, rule) in checker.g.rules.as_slice().iter().enumerate() {
         find_mixed(alloc, checker, r, rule, found)?;

@@ -5,7 +5,7 @@ ghost use Rattle.lw_grammar.specs.Leaves.{leaves};
 ghost use Rattle.lw_grammar.specs.Named.{IsEntry};
 ghost use Rattle.lw_faults.specs.Entries.{NoEntry, SecondEntry, EntryMakesNoNode, TooManyRules, is_act};
 ghost use Rattle.lw_leaves.specs.Parts.{leaf_of};
-ghost use Rattle.lw_findings.specs.Finding.{Finds, IsTold, OfSome};
+ghost use Rattle.lw_findings.specs.Finding.{Finds, IsFaultOf, OfSome};
 ghost use Rattle.lw_parts.specs.Knowing.{Knows};
 ghost use Rattle.lw_parts.specs.Parts.{IsMarked, MarkedAgain};
 
@@ -28,7 +28,7 @@ pub(crate) fn find_no_entry(
     g: &Grammar,
     found: &mut Findings,
 ) -> Result<(), NoMemory>
-    ensures { OnOk result (Finds (IsTold 1 (NoEntry g.now)) found.old found.new) }
+    ensures { OnOk result (Finds (IsFaultOf 1 (NoEntry g.now)) found.old found.new) }
 {
     if entry(g).is_some() {
         return Ok(());
@@ -42,7 +42,7 @@ pub(crate) fn find_second_entries(
     g: &Grammar,
     found: &mut Findings,
 ) -> Result<(), NoMemory>
-    ensures { OnOk result (Finds (IsTold 2 (SecondEntry g.now)) found.old found.new) }
+    ensures { OnOk result (Finds (IsFaultOf 2 (SecondEntry g.now)) found.old found.new) }
 {
     match entry(g) {
         Some((first, _)) => find_marked(alloc, &g.rules.as_slice()[first + 1..], found),
@@ -57,7 +57,7 @@ pub(crate) fn find_entry_without_node(
     found: &mut Findings,
 ) -> Result<(), NoMemory>
     requires { Knows checker.now }
-    ensures { OnOk result (Finds (IsTold 3 (EntryMakesNoNode checker.now.g.now)) found.old found.new) }
+    ensures { OnOk result (Finds (IsFaultOf 3 (EntryMakesNoNode checker.now.g.now)) found.old found.new) }
 {
     match entry(checker.g) {
         Some((r, rule)) if rule.is_fragment || checker.is_data_type(r, rule) => {
@@ -73,7 +73,7 @@ pub(crate) fn find_too_many_rules(
     g: &Grammar,
     found: &mut Findings,
 ) -> Result<(), NoMemory>
-    ensures { OnOk result (Finds (IsTold 23 (TooManyRules g.now)) found.old found.new) }
+    ensures { OnOk result (Finds (IsFaultOf 23 (TooManyRules g.now)) found.old found.new) }
 {
     let actions = actions_of(alloc, g.rules.as_slice())?;
     let count = g.rules.len().saturating_add(g.terminals.len());

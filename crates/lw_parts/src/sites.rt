@@ -6,7 +6,7 @@ ghost use Rattle.lw_grammar.specs.Leaves.{value_leaves};
 ghost use Rattle.lw_name_rules.specs.NameTable.{AreNameRulesOf};
 ghost use Rattle.lw_leaves.specs.Parts.{leaf_of, value_leaf_of};
 ghost use Rattle.lw_findings.specs.Finding.{Finds, OfSome};
-ghost use Rattle.lw_parts.specs.Sites.{Site, site_of, how_of, CrossCalls, PartCalls, LeafCalls, HasSite};
+ghost use Rattle.lw_parts.specs.Sites.{Site, site_of, how_of, CrossCalls, PartCalls, LeafSites, HasSite};
 
 use lw_base::{Name, NoMemory, Span};
 use lw_grammar::{Op, Rule, Value0};
@@ -59,7 +59,7 @@ fn put_leaf<'g>(
     name_rules: &'g NameRules,
 ) -> Result<(), NoMemory>
     ensures { (g : Grammar) → AreNameRulesOf g name_rules.now →
-        OnOk result (Finds (LeafCalls g (leaf_of leaf.entry)) (map site_of sites.old.items) (map site_of sites.new.items)) }
+        OnOk result (Finds (LeafSites g (leaf_of leaf.entry)) (map site_of sites.old.items) (map site_of sites.new.items)) }
 {
     match leaf {
         BodyLeaf::Call(name, span) => {

@@ -11,7 +11,7 @@ use Rattle.lw_grammar.specs.Named.{IsRule, IsInterface, IsUnion}
 use Rattle.lw_grammar.specs.Subtypes.{HasType, InfersType, IsDirectlyBelow, IsSubtype, same, up}
 use Rattle.lw_grammar.specs.Subtypes as subtype
 use Rattle.lw_grammar.proofs.FirstLemmas.{first_item}
-use Rattle.lw_subtypes.specs.PutIn.{StandsWithin, here, put_in}
+use Rattle.lw_subtypes.specs.PutIn.{HeldWithin, here, put_in}
 use Rattle.lw_subtypes.specs.Lists.{SomeAt}
 use Rattle.lw_subtypes.specs.Kin.{Kin, OfType, OfBody, IsEdge, InterfaceLeads, MemberLeads, PutsUp, RuleLeads, LeadsUp}
 use Rattle.lw_subtypes.proofs.Expanding.{fragment_there, has_leaves, leaves_within}
@@ -31,7 +31,7 @@ module _ (g : Grammar) where
 
   -- a leaf that stands within the rule makes the type of this name
   abbrev Makes : Rule → List ℕ → Type 0
-  Makes rule name = (leaf : Leaf) × StandsWithin g rule leaf × PutsUp g leaf (OfType name)
+  Makes rule name = (leaf : Leaf) × HeldWithin g rule leaf × PutsUp g leaf (OfType name)
 
   abbrev IsBelow : Kin → List ℕ → Type 0
   IsBelow (OfType name) top = IsSubtype g name top
@@ -63,7 +63,7 @@ module _ (g : Grammar) where
     by_leaf from r rule (Keyword text s) at has feeds rest = absurd feeds
     by_leaf from r rule (Call name s) at has (q, called, is, inl (whole, from_is)) rest = subst (λ k. IsBelow k top) (sym from_is) (λ other at' x makes.
         let same : other ≡ called = same_Some other called (sym at' ∙ is.first.there) in
-        let inside : StandsWithin g called makes.0 = subst (λ (y : Rule). StandsWithin g y makes.0) same makes.1 in
+        let inside : HeldWithin g called makes.0 = subst (λ (y : Rule). HeldWithin g y makes.0) same makes.1 in
         rest rule at x (makes.0, put_in (Call name s) q called has (is, whole) inside, makes.2))
     by_leaf from r rule (Call name s) at has (q, called, is, inr (below, typed, from_is)) rest = subst (λ k. IsBelow k top) (sym from_is)
         (rest rule at below (Call name s, here has (no_fragment name q called is below typed), (q, called, is, inr (below, typed, refl))))
@@ -120,7 +120,7 @@ module _ (g : Grammar) where
   over_fragment r rule (Assign p op v s) f fragment at has calls = absurd calls
   over_fragment r rule (Act a) f fragment at has calls = absurd calls
 
-  into_body : {rule : Rule} {leaf : Leaf} (r : ℕ) (from : Kin) → slice_get g.rules r ≡ Some rule → StandsWithin g rule leaf → PutsUp g leaf from → Climbs from (OfBody r)
+  into_body : {rule : Rule} {leaf : Leaf} (r : ℕ) (from : Kin) → slice_get g.rules r ≡ Some rule → HeldWithin g rule leaf → PutsUp g leaf from → Climbs from (OfBody r)
   into_body {rule} {leaf} r from at (here has kept) feeds = go (over_leaf r rule leaf from at has feeds) stay
   into_body {rule} {leaf} r from at (put_in call f fragment has calls inside) feeds =
       Climbs-trans (into_body f from (fragment_there g call f fragment calls) inside feeds) (go (over_fragment r rule call f fragment at has calls) stay)

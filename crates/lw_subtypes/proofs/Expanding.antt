@@ -9,7 +9,7 @@ use Rattle.lw_grammar.specs.Leaves.{Leaf, Keyword, Call, Assign, Act, leaves, Is
 use Rattle.lw_grammar.specs.Leaves as expand
 use Rattle.lw_grammar.proofs.KeptLemmas.{there}
 use Rattle.lw_grammar.proofs.FirstLemmas.{first_place, first_item}
-use Rattle.lw_subtypes.specs.PutIn.{StandsWithin, here, put_in}
+use Rattle.lw_subtypes.specs.PutIn.{HeldWithin, here, put_in}
 use Rattle.lw_subtypes.proofs.Deciding.{CallsFragment, cases_fragment}
 use Rattle.lw_subtypes.proofs.Lists.{below_has, first_or_later, numbers_below, the_first, without}
 
@@ -86,9 +86,9 @@ module _ (g : Grammar) where
   abbrev StandsAmong : List Leaf → Leaf → Type 0
   StandsAmong ls leaf =
       (Contains ls leaf × IsKept leaf)
-      ⊎ ((call : Leaf) × (f : ℕ) × (fragment : Rule) × Contains ls call × IsFragmentCall g call f fragment × StandsWithin g fragment leaf)
+      ⊎ ((call : Leaf) × (f : ℕ) × (fragment : Rule) × Contains ls call × IsFragmentCall g call f fragment × HeldWithin g fragment leaf)
 
-  to_within : (rule : Rule) (leaf : Leaf) → StandsAmong (leaves rule.body) leaf → StandsWithin g rule leaf
+  to_within : (rule : Rule) (leaf : Leaf) → StandsAmong (leaves rule.body) leaf → HeldWithin g rule leaf
   to_within rule leaf (inl is) = here is.0 is.1
   to_within rule leaf (inr (call, f, fragment, has, calls, inside)) = put_in call f fragment has calls inside
 
@@ -121,7 +121,7 @@ module _ (g : Grammar) where
   longer (at_once has kept) = at_once has kept
   longer (over call f fragment has calls fresh inside) = over call f fragment has calls fresh (longer inside)
 
-  all_apart : {rule : Rule} {leaf : Leaf} → StandsWithin g rule leaf → (n : ℕ) × StandsApart [] n rule leaf
+  all_apart : {rule : Rule} {leaf : Leaf} → HeldWithin g rule leaf → (n : ℕ) × StandsApart [] n rule leaf
   all_apart (here has kept) = (0, at_once has kept)
   all_apart (put_in call f fragment has calls inside) =
       let rest = all_apart inside in (suc rest.0, over call f fragment has calls (λ has. omega (arith, has.1)) rest.1)
@@ -204,7 +204,7 @@ module _ (g : Grammar) where
   ]
 
   -- a rule's leaves, fragments put in, are those that stand within it
-  pub leaves_within : (rule : Rule) (all : List Leaf) → HasLeaves g rule all → (leaf : Leaf) → Contains all leaf ↔ StandsWithin g rule leaf
+  pub leaves_within : (rule : Rule) (all : List Leaf) → HasLeaves g rule all → (leaf : Leaf) → Contains all leaf ↔ HeldWithin g rule leaf
   leaves_within rule all is leaf = (
     λ has. to_within rule leaf (from_expansion leaf is has),
     λ within. let way = all_apart within in in_expansion leaf is (apart_once way.0 (omega arith) way.1),

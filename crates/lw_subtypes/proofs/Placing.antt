@@ -11,7 +11,7 @@ use Rattle.lw_grammar.specs.Leaves.{Leaf, Keyword, Call, Assign, Act}
 use Rattle.lw_graph.specs.Walks.{Links, HasEdge}
 use Rattle.lw_subtypes.specs.declared.kinship.Kinship.{Kinship}
 use Rattle.lw_subtypes.specs.Kin.{Kin, OfType, OfBody, IsEdge, InterfaceLeads, MemberLeads, UnionLeads, RuleLeads, LeadsUp, PutsUp, HasNumber, Placed}
-use Rattle.lw_subtypes.specs.KinGraph.{HasRoom, HasRoomFor, HasRoomForNames, PutsKin, IsKinship}
+use Rattle.lw_subtypes.specs.KinGraph.{HasRoomYet, HasRoomFor, HasRoomForNames, PutsKin, IsKinship}
 use Rattle.lw_subtypes.specs.Spoken.{AreNames}
 use Rattle.lw_subtypes.specs.Lists.{SomeAt, SomeBefore, PutsEdges}
 use Rattle.lw_subtypes.proofs.Joining.{joins_then, joins_same, joins_none, joins_first, some_before_more, some_before_all}
@@ -95,14 +95,14 @@ module _ {A : Type 0} (xs : List A) (E : ℕ → A → Kin → Kin → Type 0) w
   puts_kin_all n all before = puts_same (λ from to. some_before_all xs (λ k x. E k x from to) n all) before
 
 module _ (g : Grammar) where
-  pub room_stays : {R : Kin → Kin → Type 0} {a b : Kinship} → HasRoom g a → PutsKin R a b → HasRoom g b
+  pub room_stays : {R : Kin → Kin → Type 0} {a b : Kinship} → HasRoomYet g a → PutsKin R a b → HasRoomYet g b
   room_stays room put = record {
     few = room.few;
     nodes = put.edges_put.nodes ∙ room.nodes ∙ ap (λ names. length names + length g.rules) (sym put.names_stay);
   }
 
   -- there is a node for what a leaf puts up
-  pub room_for : (kinship : Kinship) → HasRoom g kinship → (leaf : Leaf) (kin : Kin) → PutsUp g leaf kin → HasRoomFor kinship kin
+  pub room_for : (kinship : Kinship) → HasRoomYet g kinship → (leaf : Leaf) (kin : Kin) → PutsUp g leaf kin → HasRoomFor kinship kin
   room_for kinship room (Keyword text s) kin puts = absurd puts
   room_for kinship room (Call name s) kin (q, called, is, inl (whole, kin_is)) =
       let inside = slice_get_within g.rules q called is.first.there in
@@ -118,7 +118,7 @@ no_member_leads union (Plain primitive) not from to leads = leads
 no_member_leads union (Literal text) not from to leads = leads
 
 -- all edges, put into a graph of none
-pub all_kinship : (g : Grammar) (start last : Kinship) {one two : Kinship} → AreNames g start.names.keys → IsDistinct bytes_eq start.names.keys → HasRoom g start →
+pub all_kinship : (g : Grammar) (start last : Kinship) {one two : Kinship} → AreNames g start.names.keys → IsDistinct bytes_eq start.names.keys → HasRoomYet g start →
     ((a b : ℕ) → ¬ HasEdge start.graph a b) → PutsKin (λ from to. SomeAt g.interfaces (λ k interface. InterfaceLeads g k interface from to)) start one →
     PutsKin (λ from to. SomeAt g.unions (λ k union. UnionLeads g k union from to)) one two →
     PutsKin (λ from to. SomeAt g.rules (λ k rule. RuleLeads g k rule from to)) two last → IsKinship g last

@@ -9,7 +9,7 @@ use Rattle.lw_subtypes.specs.Lists.{PutsEdges}
 use Rattle.lw_subtypes.specs.Spoken.{AreNames}
 
 -- there is a node for each name and for each rule
-pub record HasRoom (g : Grammar) (kinship : Kinship) : Type 0 where
+pub record HasRoomYet (g : Grammar) (kinship : Kinship) : Type 0 where
   pub few : length g.rules ≤ 65535
   pub nodes : kinship.graph.nodes ≡ length kinship.names.keys + length g.rules
 

@@ -6,8 +6,8 @@ use Rattle.lw_grammar.specs.Leaves.{Leaf, leaves, IsFragmentCall}
 
 module _ (g : Grammar) where
   -- the leaf stands in the rule's body and calls no fragment, or it stands so within a fragment that the body calls
-  pub data StandsWithin : Rule → Leaf → Type 0 where
+  pub data HeldWithin : Rule → Leaf → Type 0 where
     here : {rule : Rule} {leaf : Leaf} → Contains (leaves rule.body) leaf → ((f : ℕ) (fragment : Rule) → ¬ IsFragmentCall g leaf f fragment) →
-        StandsWithin rule leaf
+        HeldWithin rule leaf
     put_in : {rule : Rule} {leaf : Leaf} (call : Leaf) (f : ℕ) (fragment : Rule) → Contains (leaves rule.body) call → IsFragmentCall g call f fragment →
-        StandsWithin fragment leaf → StandsWithin rule leaf
+        HeldWithin fragment leaf → HeldWithin rule leaf

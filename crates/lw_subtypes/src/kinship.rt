@@ -7,7 +7,7 @@ ghost use Rattle.lw_leaves.specs.Parts.{leaf_of};
 ghost use Rattle.lw_numbers.specs.Tables.{AreNumbersOf};
 ghost use Rattle.lw_subtypes.specs.Kin.{HasNumber, IsEdge, ExtendsUp, InterfaceLeads, HoldsUp, UnionLeads, LeafLeads, LeavesLead, ResultLeads, RuleLeads};
 ghost use Rattle.lw_subtypes.specs.KinOf.{kin_of};
-ghost use Rattle.lw_subtypes.specs.KinGraph.{HasRoom, HasRoomFor, HasRoomForNames, IsKinship, PutsKin};
+ghost use Rattle.lw_subtypes.specs.KinGraph.{HasRoomYet, HasRoomFor, HasRoomForNames, IsKinship, PutsKin};
 ghost use Rattle.lw_subtypes.specs.Lists.{SomeAt};
 
 use crate::declared::{is_meant_interface, is_meant_union};
@@ -50,7 +50,7 @@ impl Kinship {
         requires { size g.now ≤ 65535 }
         ensures names { IfOk result (λ kinship. kinship.names.keys ≡ names.keys) }
         ensures distinct { IfOk result (λ kinship. IsDistinct bytes_eq kinship.names.keys) }
-        ensures room { IfOk result (HasRoom g.now) }
+        ensures room { IfOk result (HasRoomYet g.now) }
         ensures empty { IfOk result (λ kinship. (a b : ℕ) → ¬ HasEdge kinship.graph a b) }
     {
         let graph = Graph::new(alloc, names.len() + g.rules.len())?;
@@ -60,7 +60,7 @@ impl Kinship {
     /// Puts in what interfaces extend.
     fn put_interfaces(&mut self, g: &Grammar, numbers: &Numbers) -> Result<(), NoMemory>
         requires numbers { AreNumbersOf g.now numbers.now }
-        requires room { HasRoom g.now self.old }
+        requires room { HasRoomYet g.now self.old }
         ensures { OnOk result (PutsKin (λ from to. SomeAt g.now.interfaces (λ k interface. InterfaceLeads g.now k interface from to)) self.old self.new) }
     {
         for (number, interface) in g.interfaces.as_slice().iter().enumerate() {
@@ -84,7 +84,7 @@ impl Kinship {
     /// Puts in the members of unions.
     fn put_unions(&mut self, g: &Grammar, numbers: &Numbers) -> Result<(), NoMemory>
         requires numbers { AreNumbersOf g.now numbers.now }
-        requires room { HasRoom g.now self.old }
+        requires room { HasRoomYet g.now self.old }
         ensures { OnOk result (PutsKin (λ from to. SomeAt g.now.unions (λ k union. UnionLeads g.now k union from to)) self.old self.new) }
     {
         for (number, union) in g.unions.as_slice().iter().enumerate() {
@@ -110,7 +110,7 @@ impl Kinship {
     /// Puts in what is inferred from rules.
     fn put_rules(&mut self, alloc: Global, g: &Grammar, numbers: &Numbers) -> Result<(), NoMemory>
         requires numbers { AreNumbersOf g.now numbers.now }
-        requires room { HasRoom g.now self.old }
+        requires room { HasRoomYet g.now self.old }
         ensures { OnOk result (PutsKin (λ from to. SomeAt g.now.rules (λ k rule. RuleLeads g.now k rule from to)) self.old self.new) }
     {
         for (number, rule) in g.rules.as_slice().iter().enumerate() {
@@ -128,7 +128,7 @@ impl Kinship {
         rule: &Rule,
     ) -> Result<(), NoMemory>
         requires numbers { AreNumbersOf g.now numbers.now }
-        requires room { HasRoom g.now self.old }
+        requires room { HasRoomYet g.now self.old }
         requires number { number < length g.now.rules }
         ensures { OnOk result (PutsKin (RuleLeads g.now number rule.now) self.old self.new) }
     {
@@ -147,7 +147,7 @@ impl Kinship {
         found: &[BodyLeaf<'_>],
     ) -> Result<(), NoMemory>
         requires numbers { AreNumbersOf g.now numbers.now }
-        requires room { HasRoom g.now self.old }
+        requires room { HasRoomYet g.now self.old }
         requires number { number < length g.now.rules }
         ensures { OnOk result (PutsKin (LeavesLead g.now number (map leaf_of found.now)) self.old self.new) }
     {
@@ -165,7 +165,7 @@ impl Kinship {
         leaf: &BodyLeaf<'_>,
     ) -> Result<(), NoMemory>
         requires numbers { AreNumbersOf g.now numbers.now }
-        requires room { HasRoom g.now self.old }
+        requires room { HasRoomYet g.now self.old }
         requires number { number < length g.now.rules }
         ensures { OnOk result (PutsKin (LeafLeads g.now number (leaf_of leaf.now)) self.old self.new) }
     {
@@ -184,7 +184,7 @@ impl Kinship {
         rule: &Rule,
     ) -> Result<(), NoMemory>
         requires numbers { AreNumbersOf g.now numbers.now }
-        requires room { HasRoom g.now self.old }
+        requires room { HasRoomYet g.now self.old }
         requires number { number < length g.now.rules }
         ensures { OnOk result (PutsKin (ResultLeads g.now number rule.now) self.old self.new) }
     {

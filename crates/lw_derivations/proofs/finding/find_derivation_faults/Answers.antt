@@ -1,7 +1,7 @@
 use Rattle.std.proofs.Common.{◌⊎◌}
 use Rattle.std.proofs.lemmas.Result.{on_ok_weaker}
 use Rattle.lw_faults.specs.Derivations.{LeftRecursion, ReadsNothing, RepeatsNothing, NeverEnds}
-use Rattle.lw_findings.specs.Finding.{IsTold}
+use Rattle.lw_findings.specs.Finding.{IsFaultOf}
 use Rattle.lw_derivations.proofs.FindsLemmas.{Finds-then}
 use Rattle.lw_derivations.proofs.finding.find_derivation_faults.Goals as goal
 
@@ -14,9 +14,9 @@ returns c =
     let new = c.find_never_ending.new.found in
     on_ok_weaker c.find_never_ending.result
     (λ ends.
-    Finds-then (IsTold 7 (LeftRecursion g)) (λ f. IsTold 8 (ReadsNothing g) f ⊎ IsTold 9 (RepeatsNothing g) f ⊎ IsTold 10 (NeverEnds g) f) _ (λ f. (λ is. is, λ is. is))
+    Finds-then (IsFaultOf 7 (LeftRecursion g)) (λ f. IsFaultOf 8 (ReadsNothing g) f ⊎ IsFaultOf 9 (RepeatsNothing g) f ⊎ IsFaultOf 10 (NeverEnds g) f) _ (λ f. (λ is. is, λ is. is))
     c.args.found.now left new c.in_ok-find_left_recursion.ensures
-    (Finds-then (IsTold 8 (ReadsNothing g)) (λ f. IsTold 9 (RepeatsNothing g) f ⊎ IsTold 10 (NeverEnds g) f) _ (λ f. (λ is. is, λ is. is)) left nothing new
+    (Finds-then (IsFaultOf 8 (ReadsNothing g)) (λ f. IsFaultOf 9 (RepeatsNothing g) f ⊎ IsFaultOf 10 (NeverEnds g) f) _ (λ f. (λ is. is, λ is. is)) left nothing new
     c.in_ok-find_reading_nothing.ensures
-    (Finds-then (IsTold 9 (RepeatsNothing g)) (IsTold 10 (NeverEnds g)) _ (λ f. (λ is. is, λ is. is)) nothing repeats new c.in_ok-find_repeating_nothing.ensures ends)))
+    (Finds-then (IsFaultOf 9 (RepeatsNothing g)) (IsFaultOf 10 (NeverEnds g)) _ (λ f. (λ is. is, λ is. is)) nothing repeats new c.in_ok-find_repeating_nothing.ensures ends)))
     c.find_never_ending.ensures

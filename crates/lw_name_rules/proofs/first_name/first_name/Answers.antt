@@ -1,7 +1,7 @@
 use Rattle.std.proofs.Common.{◌≡◌, ◌-◌, [], ◌++◌, ◌∙◌, take, Some, None, map, reverse, sym, ap, subst}
 use Rattle.lw_leaves.specs.Parts.{leaf_of}
 use Rattle.lw_subtypes.proofs.Expanding.{has_leaves}
-use Rattle.lw_name_rules.specs.Searching.{Finds, ends, names}
+use Rattle.lw_name_rules.specs.Searching.{FindsName, ends, names}
 use Rattle.lw_name_rules.proofs.FirstName.{finds_first}
 use Rattle.lw_name_rules.proofs.SearchSteps.{next_leaf}
 use Rattle.lw_name_rules.proofs.first_name.first_name.Goals as goal
@@ -16,7 +16,7 @@ returns-in-Some-name_called c =
       all.0,
       all.1,
       finds_first g rule all.0 (Some called) all.1 (c.loop-leaf.invariant (Some called)
-          (subst (λ ls. Finds g search.seen.keys ls (Some called)) (sym (next_leaf search.waiting.items c.pop.new.self.items c.in-Some.leaf c.in-Some.ensures.items))
+          (subst (λ ls. FindsName g search.seen.keys ls (Some called)) (sym (next_leaf search.waiting.items c.pop.new.self.items c.in-Some.leaf c.in-Some.ensures.items))
           (names c.in-Some-name_called.ensures))),
     )
 
@@ -29,4 +29,4 @@ returns c called (all, has, first) =
     let none : search.waiting.items ≡ [] =
     pop.items ∙ ap (λ rest. rest ++ []) (pop.rest ∙ ap (λ n. take (n - 1) search.waiting.items) pop.cases.0) in
     finds_first g rule all None has (c.loop-leaf.invariant None
-    (subst (λ items. Finds g search.seen.keys (map leaf_of (reverse items)) None) (sym none) ends)) called first
+    (subst (λ items. FindsName g search.seen.keys (map leaf_of (reverse items)) None) (sym none) ends)) called first

@@ -2,16 +2,16 @@ use Rattle.std.proofs.Common.{ap, map, ◌∙◌}
 use Rattle.lw_grammar.specs.Leaves.{leaves}
 use Rattle.lw_leaves.specs.Parts.{leaf_of}
 use Rattle.lw_findings.proofs.Joining.{Finds-more, Finds-all, Finds-read}
-use Rattle.lw_parts.specs.Sites.{LeafCalls}
+use Rattle.lw_parts.specs.Sites.{LeafSites}
 use Rattle.lw_parts.proofs.sites.call_sites.Goals as goal
 
 pub loop-leaf-preserved : goal.loop-leaf-preserved
 loop-leaf-preserved c = λ g known.
-    Finds-more (λ leaf. LeafCalls g (leaf_of leaf)) c.deref-leaf-items.result.now c.loop-leaf.leaf-index c.leaf-item.result c.loop-leaf-test.true c.leaf-item.is
+    Finds-more (λ leaf. LeafSites g (leaf_of leaf)) c.deref-leaf-items.result.now c.loop-leaf.leaf-index c.leaf-item.result c.loop-leaf-test.true c.leaf-item.is
     (c.loop-leaf.invariant g known) (c.in_ok-put_leaf.ensures g known)
 
 pub returns : goal.returns
 returns c = λ g known.
     let found = c.deref-leaf-items.result.now in
-    Finds-read leaf_of (LeafCalls g) found (leaves c.args.rule.now.body) (ap (map leaf_of) c.deref-leaf-items.ensures.value ∙ c.in_ok-leaves.ensures)
-    (Finds-all (λ leaf. LeafCalls g (leaf_of leaf)) found c.loop-leaf.leaf-index c.loop-leaf-test.false (c.loop-leaf.invariant g known))
+    Finds-read leaf_of (LeafSites g) found (leaves c.args.rule.now.body) (ap (map leaf_of) c.deref-leaf-items.ensures.value ∙ c.in_ok-leaves.ensures)
+    (Finds-all (λ leaf. LeafSites g (leaf_of leaf)) found c.loop-leaf.leaf-index c.loop-leaf-test.false (c.loop-leaf.invariant g known))

@@ -3,9 +3,9 @@ use Rattle.lw_grammar.specs.declared.grammar.Grammar.{Grammar}
 use Rattle.lw_name_rules.specs.NameTable.{AreNameRulesOf}
 use Rattle.lw_leaves.specs.Parts.{leaf_of}
 use Rattle.lw_findings.specs.Finding.{Finds, OfSome}
-use Rattle.lw_parts.specs.Sites.{site_of, LeafCalls}
+use Rattle.lw_parts.specs.Sites.{site_of, LeafSites}
 use Rattle.lw_parts.proofs.sites.call_sites.Given as goal
 
 abbrev pub invariant-loop-leaf : goal.invariant-loop-leaf
 invariant-loop-leaf l = (g : Grammar) → AreNameRulesOf g l.fn.name_rules →
-    Finds (OfSome (λ leaf. LeafCalls g (leaf_of leaf)) (take l.leaf-index l.leaf-items)) [] (map site_of l.sites.items)
+    Finds (OfSome (λ leaf. LeafSites g (leaf_of leaf)) (take l.leaf-index l.leaf-items)) [] (map site_of l.sites.items)

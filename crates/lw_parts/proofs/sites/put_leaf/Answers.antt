@@ -2,10 +2,10 @@ use Rattle.std.proofs.Common.{map, sym, subst}
 use Rattle.lw_leaves.specs.declared.body.BodyLeaf.{BodyLeaf}
 use Rattle.lw_leaves.specs.Parts.{leaf_of}
 use Rattle.lw_findings.specs.Finding.{Finds}
-use Rattle.lw_parts.specs.Sites.{site_of, LeafCalls}
+use Rattle.lw_parts.specs.Sites.{site_of, LeafSites}
 use Rattle.lw_parts.proofs.sites.put_leaf.Goals as goal
 
 pub returns-in_ok-put_value-in-Assign : goal.returns-in_ok-put_value-in-Assign
 returns-in_ok-put_value-in-Assign c = λ g known.
-    let P : BodyLeaf → Type 0 = λ leaf. Finds (LeafCalls g (leaf_of leaf)) (map site_of c.args.sites.now.items) (map site_of c.put_value.new.sites.items) in
+    let P : BodyLeaf → Type 0 = λ leaf. Finds (LeafSites g (leaf_of leaf)) (map site_of c.args.sites.now.items) (map site_of c.put_value.new.sites.items) in
     subst P (sym c.in-Assign.is) (c.in_ok-put_value-in-Assign.ensures g known)

@@ -3,7 +3,7 @@ use Rattle.std.specs.List.{list_any}
 use Rattle.std.proofs.lemmas.List.{length-append}
 use Rattle.lw_grammar.specs.Leaves.{leaves}
 use Rattle.lw_leaves.specs.Parts.{leaf_of}
-use Rattle.lw_name_rules.specs.Searching.{Finds, passes, ahead, unseen_leaves}
+use Rattle.lw_name_rules.specs.Searching.{FindsName, passes, ahead, unseen_leaves}
 use Rattle.lw_name_rules.proofs.FirstName.{fragment_there}
 use Rattle.lw_name_rules.proofs.SearchSteps.{is_new, is_there, length-ahead, finds_inside, finds_behind, fewer_unseen}
 use Rattle.lw_name_rules.proofs.first_name.Search.go_past.Goals as goal
@@ -20,7 +20,7 @@ returns-in_ok-look_into-clause-finds c found more =
     let seen = c.in_ok-look_into.ensures.seen in
     finds_inside old.seen.keys put c.in-Some.number c.in_ok-insert.ensures.keys g (leaf_of c.args.leaf) rule c.in-Some.ensures (ahead old) found
     (is_new c.in_ok-insert.field-0 (list_any (nat_eq c.in-Some.number) old.seen.keys) c.in_ok-insert.ensures.added c.if-branch.true)
-    (subst (λ ls. Finds g put ls found) c.in_ok-look_into.ensures.ahead (subst (λ keys. Finds g keys (ahead c.look_into.new.self) found) seen more))
+    (subst (λ ls. FindsName g put ls found) c.in_ok-look_into.ensures.ahead (subst (λ keys. FindsName g keys (ahead c.look_into.new.self) found) seen more))
 
 pub returns-in_ok-look_into-clause-nearer : goal.returns-in_ok-look_into-clause-nearer
 returns-in_ok-look_into-clause-nearer c =
