@@ -1,5 +1,5 @@
 -- How many tokens may be read: any number, or none.
-use Rattle.std.proofs.Common.{◌≡◌, ℕ, ◌+◌, Bool, true, false, refl, sym, subst, arith, true≢false}
+use Rattle.std.proofs.Common.{ℕ, ◌+◌, Bool, true, false, refl, sym, arith, true≢false}
 use Rattle.std.specs.Prelude.{IsTrue}
 use Rattle.lw_derivations.specs.Passing.{Admits}
 

@@ -1,10 +1,9 @@
 -- What calls and cross-references pass, by what their names mean.
-use Rattle.std.proofs.Common.{◌≡◌, ℕ, ◌↔◌, List, Bool, Option, refl, sym, ap, ◌∙◌, subst}
+use Rattle.std.proofs.Common.{ℕ, ◌↔◌, List, Bool, Option, subst}
 use Rattle.std.specs.Prelude.{IsTrue}
 use Rattle.lw_grammar.specs.declared.grammar.Grammar.{Grammar}
 use Rattle.lw_grammar.specs.declared.rule.Rule.{Rule}
 use Rattle.lw_grammar.specs.Named.{IsRule}
-use Rattle.lw_grammar.specs.NameRules.{IsNameRule}
 use Rattle.lw_grammar.proofs.FirstLemmas.{first_place}
 use Rattle.lw_faults.specs.Reads.{IsTokenCall}
 use Rattle.lw_graph.specs.Walks.{HasNode}

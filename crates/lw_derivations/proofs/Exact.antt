@@ -1,5 +1,5 @@
 -- What exact flags say of elements.
-use Rattle.std.proofs.Common.{◌≡◌, ℕ, ◌↔◌, List, Bool, true, false, refl, subst}
+use Rattle.std.proofs.Common.{List, Bool, false, refl, subst}
 use Rattle.lw_grammar.specs.declared.grammar.Grammar.{Grammar}
 use Rattle.lw_grammar.specs.declared.rule.Element.{Element}
 use Rattle.lw_faults.specs.Reads.{MayRead}

@@ -1,9 +1,9 @@
 -- Faults that are found, one kind after the other.
-use Rattle.std.proofs.Common.{◌≡◌, ℕ, ◌+◌, ◌<◌, ◌≤◌, ◌↔◌, List, length, slice_get, Some, ◌⊎◌, inl, inr, Contains}
+use Rattle.std.proofs.Common.{◌≡◌, ℕ, ◌+◌, ◌≤◌, ◌↔◌, List, length, slice_get, Some, ◌⊎◌, inl, inr, Contains}
 use Rattle.lw_grammar.specs.declared.fault.GrammarFault.{GrammarFault}
 use Rattle.lw_findings.specs.Finding.{Finds}
 use Rattle.lw_derivations.specs.Edges.{SomeBelow}
-use Rattle.lw_derivations.proofs.BelowLemmas.{below_none, below_more, below_all}
+use Rattle.lw_derivations.proofs.BelowLemmas.{below_more, below_all}
 
 pub both_ways : {P Q R : Type 0} → P ↔ Q → Q ↔ R → P ↔ R
 both_ways one two = (λ p. two.0 (one.0 p), λ r. one.1 (two.1 r))

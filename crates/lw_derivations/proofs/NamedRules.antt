@@ -1,11 +1,10 @@
 -- Rules that are meant by names.
-use Rattle.std.proofs.Common.{◌≡◌, ℕ, ◌↔◌, List, Option, Result, OnOk, Contains, refl, sym, ◌∙◌, subst}
+use Rattle.std.proofs.Common.{◌≡◌, ℕ, ◌↔◌, List, Option, Result, OnOk, Contains, refl, sym, subst}
 use Rattle.std.proofs.lemmas.Result.{on_ok_weaker}
 use Rattle.lw_grammar.specs.declared.grammar.Grammar.{Grammar}
 use Rattle.lw_grammar.specs.declared.rule.Rule.{Rule}
 use Rattle.lw_grammar.specs.Named.{IsRule}
 use Rattle.lw_grammar.proofs.FirstLemmas.{first_place}
-use Rattle.lw_faults.specs.Reads.{IsTokenCall}
 use Rattle.lw_derivations.specs.Crossing.{IsReadBy}
 use Rattle.lw_graph.specs.Walks.{Links}
 use Rattle.lw_derivations.specs.Edges.{AddsEdges, IsNamedSo}

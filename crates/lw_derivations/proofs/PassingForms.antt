@@ -1,5 +1,5 @@
 -- What passes, by its form, and one part of a row after the other.
-use Rattle.std.proofs.Common.{◌≡◌, ℕ, zero, suc, ◌+◌, ◌<◌, ◌≤◌, ◌↔◌, List, [], ◌∷◌, Bool, true, false, length, get_or, drop, ◌⊎◌, inl, inr, Contains, refl, sym, ap, ◌∙◌, subst, arith, add-one, drop-cons, true≢false}
+use Rattle.std.proofs.Common.{◌≡◌, ℕ, zero, suc, ◌+◌, ◌<◌, ◌≤◌, ◌↔◌, List, [], ◌∷◌, Bool, length, get_or, drop, Contains, sym, ap, ◌∙◌, subst, arith, add-one, drop-cons}
 use Rattle.std.specs.Prelude.{IsTrue}
 use Rattle.std.proofs.lemmas.List.{drop_all}
 use Rattle.lw_grammar.specs.declared.grammar.Grammar.{Grammar}
@@ -11,7 +11,6 @@ use Rattle.lw_grammar.specs.declared.rule.Value0.TheOpen as value
 use Rattle.lw_grammar.specs.declared.rule.Value0.TheOpen.{Value0-F}
 use Rattle.lw_derivations.specs.Passing.{CallPasses, CrossPasses, ValuePasses, ValuePassesLayer, SomeValuePasses, Passes, PassesLayer, EachPasses, SomePass}
 use Rattle.lw_derivations.specs.Passing as pass
-use Rattle.lw_derivations.proofs.ReadingPasses.{some_of, some_value_of}
 
 -- what is read at a place stands there
 pub read_there : {X : Type 0} (xs : List X) (i : ℕ) (x : X) → i < length xs → x ≡ get_or xs i x → Contains xs x

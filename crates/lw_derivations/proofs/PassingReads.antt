@@ -1,13 +1,11 @@
 -- What passes may read as many tokens, where each flag that is set is just.
-use Rattle.std.proofs.Common.{◌≡◌, ℕ, zero, suc, ◌+◌, ◌<◌, List, [], ◌∷◌, Bool, Option, Some, None, Contains, refl, sym, ◌∙◌, subst, arith}
-use Rattle.std.proofs.lemmas.Option.{same_Some}
+use Rattle.std.proofs.Common.{ℕ, suc, ◌+◌, List, ◌∷◌, Bool, Option, Some, None, Contains, refl, sym, subst, arith}
 use Rattle.lw_grammar.specs.declared.grammar.Grammar.{Grammar}
 use Rattle.lw_grammar.specs.declared.rule.Element.{Element}
 use Rattle.lw_grammar.specs.declared.rule.Element.TheOpen.{Element-F}
 use Rattle.lw_grammar.specs.declared.rule.Value0.{Value0}
 use Rattle.lw_grammar.specs.declared.rule.Value0.TheOpen as value
 use Rattle.lw_grammar.specs.declared.rule.Value0.TheOpen.{Value0-F}
-use Rattle.lw_grammar.specs.declared.rule.Rule.{Rule}
 use Rattle.lw_base.specs.declared.token.Span.{Span}
 use Rattle.lw_faults.specs.Reads.{MayRead, ReadsLayer, ReadsAll, CallReads, ValueReads, ValueReadsLayer}
 use Rattle.lw_faults.specs.Reads as read

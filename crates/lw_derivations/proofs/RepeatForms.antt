@@ -1,5 +1,5 @@
 -- What repeats nothing in an element, by its form.
-use Rattle.std.proofs.Common.{◌≡◌, ℕ, ◌↔◌, List, ◌⊎◌, inl, inr, Contains, refl, sym, ap, ◌∙◌, subst}
+use Rattle.std.proofs.Common.{◌≡◌, ◌↔◌, ◌⊎◌, inl, inr, refl, sym, ap, ◌∙◌, subst}
 use Rattle.lw_base.specs.declared.token.Span.{Span}
 use Rattle.lw_grammar.specs.declared.fault.GrammarFault.{GrammarFault}
 use Rattle.lw_grammar.specs.declared.grammar.Grammar.{Grammar}

@@ -1,15 +1,13 @@
 -- Flags stay just as they grow, and in the end they are exact.
-use Rattle.std.proofs.Common.{◌≡◌, ℕ, ◌+◌, ◌<◌, ◌≤◌, ◌↔◌, List, Bool, true, false, length, get_or, set, take, drop, ◌++◌, slice_get, Some, ◌⊎◌, inl, inr, refl, sym, ap, ◌∙◌, subst, arith, true≢false}
-use Rattle.std.specs.Prelude.{replicate}
-use Rattle.std.proofs.lemmas.Bool.{cases_eq, cases_lt}
-use Rattle.std.proofs.lemmas.List.{get_or-set_other, get_or-replicate, get_or_past, length-replicate}
+use Rattle.std.proofs.Common.{◌≡◌, ℕ, ◌≤◌, List, Bool, true, false, length, set, take, drop, ◌++◌, slice_get, Some, inl, inr, sym, ap, ◌∙◌, subst, arith}
+use Rattle.std.proofs.lemmas.Bool.{cases_eq}
+use Rattle.std.proofs.lemmas.List.{get_or-set_other}
 use Rattle.std.proofs.lemmas.Option.{same_Some, slice_get_within}
 use Rattle.std.proofs.Math.Seq.{take-append_seam}
 use Rattle.lw_grammar.specs.declared.grammar.Grammar.{Grammar}
 use Rattle.lw_grammar.specs.declared.rule.Rule.{Rule}
-use Rattle.lw_graph.specs.Walks.{HasNode}
 use Rattle.lw_derivations.specs.Passing.{MayPass, Passes, IsJust, IsSettledAt}
-use Rattle.lw_derivations.specs.Rounds.{unset, StaysJust, GrewAt, GrewBelow, GrewOrSettled, AreExact}
+use Rattle.lw_derivations.specs.Rounds.{unset, GrewBelow, GrewOrSettled, AreExact}
 use Rattle.lw_derivations.proofs.PassingReads.{element_reads}
 use Rattle.lw_derivations.proofs.ReadingPasses.{element_passes}
 

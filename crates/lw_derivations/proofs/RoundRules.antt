@@ -1,5 +1,5 @@
 -- A rule comes to itself before any token where it lies on a circle of the graph of leads.
-use Rattle.std.proofs.Common.{◌≡◌, ℕ, ◌↔◌, List}
+use Rattle.std.proofs.Common.{ℕ, ◌↔◌}
 use Rattle.lw_grammar.specs.declared.grammar.Grammar.{Grammar}
 use Rattle.lw_grammar.specs.declared.rule.Rule.{Rule}
 use Rattle.lw_graph.specs.Walks.{Links, HasEdge, Walks, stay, go, GoesRound}

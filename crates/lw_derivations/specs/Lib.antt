@@ -5,3 +5,4 @@ pub mod Rounds
 pub mod Edges
 pub mod Reading
 pub mod Telling
+pub mod Order

@@ -1,6 +1,6 @@
 -- What passes, in words of the code: the parts of rules that may read no token, or that may read any number of tokens, where flags say it of the
 -- rules that they call.
-use Rattle.std.specs.Prelude.{ℕ, ◌≡◌, List, [], ◌∷◌, Bool, true, false, Option, Some, None, IsTrue, slice_get}
+use Rattle.std.specs.Prelude.{ℕ, ◌≡◌, List, [], ◌∷◌, Bool, true, false, Option, Some, IsTrue, slice_get}
 use Rattle.lw_base.specs.declared.token.Span.{Span}
 use Rattle.lw_grammar.specs.declared.grammar.Grammar.{Grammar}
 use Rattle.lw_grammar.specs.declared.rule.Element.{Element, out-Element}

@@ -1,5 +1,5 @@
 -- How flags of rules grow over rounds, in words of the code.
-use Rattle.std.specs.Prelude.{ℕ, ◌≡◌, ◌<◌, ◌≤◌, ◌↔◌, List, Bool, true, false, Some, count_by, not, slice_get}
+use Rattle.std.specs.Prelude.{ℕ, ◌≡◌, ◌<◌, ◌↔◌, List, Bool, true, false, Some, count_by, not, slice_get}
 use Rattle.lw_grammar.specs.declared.grammar.Grammar.{Grammar}
 use Rattle.lw_grammar.specs.declared.rule.Rule.{Rule}
 use Rattle.lw_graph.specs.Walks.{HasNode}

@@ -1,12 +1,11 @@
 -- What is told of rules, in words of the code.
-use Rattle.std.specs.Prelude.{ℕ, ◌≡◌, ◌⊎◌, ◌≢◌, List, Bool, Option, Some, false}
+use Rattle.std.specs.Prelude.{ℕ, ◌≡◌, ◌⊎◌}
 use Rattle.lw_base.specs.declared.token.Span.{Span}
 use Rattle.lw_grammar.specs.declared.fault.GrammarFault.{GrammarFault}
 use Rattle.lw_grammar.specs.declared.grammar.Grammar.{Grammar}
 use Rattle.lw_grammar.specs.declared.rule.Element.{Element, out-Element}
 use Rattle.lw_grammar.specs.declared.rule.Element.TheOpen.{Many, Some1}
 use Rattle.lw_grammar.specs.declared.rule.Rule.{Rule}
-use Rattle.lw_graph.specs.Walks.{HasNode}
 use Rattle.lw_faults.specs.Derivations.{HasPart}
 use Rattle.lw_faults.specs.Faults.{fault}
 use Rattle.lw_faults.specs.Reads.{MayRead}

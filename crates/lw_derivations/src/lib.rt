@@ -15,10 +15,10 @@
 //! It promises that each flag is set exactly where the definition says so, and that exactly the
 //! faults of the four definitions are put in.
 //!
-//! A round takes time linear in the size of the grammar, and two serve where calls go one way through
-//! the rules as they are listed. Graphs are made in linear time, the walk for what is repeated takes
-//! time linear in the grammar for each depth of marks that stand in one another, and circles cost what
-//! the crate of graphs says.
+//! A round takes time linear in the size of the grammar. Rounds go over the rules so that what is
+//! called stands in front of what calls it, and then two serve but for circles of calls. Graphs and
+//! the order are made in linear time, the walk for what is repeated takes time linear in the grammar
+//! for each depth of marks that stand in one another, and circles cost what the crate of graphs says.
 #![tactic(auto)]
 
 mod calls;
@@ -27,6 +27,7 @@ mod finding;
 mod flags;
 mod leads;
 mod names;
+mod order;
 mod passing;
 mod reaching;
 mod reading;

@@ -2,14 +2,13 @@
 ghost use Rattle.std.specs.Prelude.{ℕ, ◌≡◌, ◌↔◌, IfOk, IsTrue, MatchOption, true};
 ghost use Rattle.lw_grammar.specs.declared.rule.Rule.{Rule};
 ghost use Rattle.lw_grammar.specs.Named.{IsEntry};
-ghost use Rattle.lw_grammar.specs.Reached.{IsReached};
+ghost use Rattle.lw_grammar.specs.Reached.{IsReached, RuleCalls};
 ghost use Rattle.lw_graph.specs.Walks.{HasNode};
-ghost use Rattle.lw_derivations.specs.Known.{AreKnown};
+ghost use Rattle.lw_derivations.specs.Edges.{AreEdges};
 
-use crate::names::Names;
 use lw_base::NoMemory;
 use lw_grammar::{Grammar, Rule};
-use lw_graph::NodeSet;
+use lw_graph::{Graph, NodeSet};
 use std::alloc::Global;
 
 /// The number of the entry rule, if there is one.
@@ -30,16 +29,13 @@ fn is_root_entry(rule: &Rule) -> bool
     rule.is_entry && rule.file == 0
 }
 
-impl Names<'_> {
-    /// The rules that can be reached from the entry rule.
-    pub(crate) fn reached(&self, alloc: Global) -> Result<NodeSet, NoMemory>
-        requires { AreKnown self.now }
-        ensures { IfOk result (λ met. (r : ℕ) → HasNode met r ↔ IsReached self.now.g.now r) }
-    {
-        let calls = self.calls(alloc)?;
-        match entry(self.g) {
-            Some(rule) => calls.reached(alloc, &[rule]),
-            None => calls.reached(alloc, &[]),
-        }
+/// The rules that can be reached from the entry rule, by the graph of calls.
+pub(crate) fn reached(alloc: Global, g: &Grammar, calls: &Graph) -> Result<NodeSet, NoMemory>
+    requires { AreEdges g.now (RuleCalls g.now) calls.now }
+    ensures { IfOk result (λ met. (r : ℕ) → HasNode met r ↔ IsReached g.now r) }
+{
+    match entry(g) {
+        Some(rule) => calls.reached(alloc, &[rule]),
+        None => calls.reached(alloc, &[]),
     }
 }

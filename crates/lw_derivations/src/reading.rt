@@ -11,6 +11,8 @@ ghost use Rattle.lw_derivations.specs.Reading.{IsReadingOf};
 
 use crate::flags::is_set;
 use crate::names::Names;
+use crate::order::callees_first;
+use crate::reaching::reached;
 use lw_base::NoMemory;
 use lw_grammar::Grammar;
 use lw_graph::NodeSet;
@@ -52,10 +54,12 @@ impl Reading {
             numbers,
             name_rules,
         };
+        let calls = names.calls(alloc)?;
+        let order = callees_first(alloc, &calls)?;
         Ok(Reading {
-            reached: names.reached(alloc)?,
-            nothing: names.passing(alloc, false)?,
-            ends: names.passing(alloc, true)?,
+            reached: reached(alloc, g, &calls)?,
+            nothing: names.passing(alloc, false, order.as_slice())?,
+            ends: names.passing(alloc, true, order.as_slice())?,
         })
     }
 

@@ -9,25 +9,20 @@ use std::alloc::Global;
 
 impl Names<'_> {
     /// By rule, whether its body may read no token, or where tokens are allowed any number of them.
-    pub(crate) fn passing(&self, alloc: Global, tokens: bool) -> Result<Vec<bool>, NoMemory>
-        requires { AreKnown self.now }
+    /// Two rounds do where this order has each rule behind those that it calls.
+    pub(crate) fn passing(
+        &self,
+        alloc: Global,
+        tokens: bool,
+        order: &[usize],
+    ) -> Result<Vec<bool>, NoMemory>
+        requires known { AreKnown self.now }
+        requires order { All (λ r. r < length self.now.g.now.rules) order.now }
         ensures { IfOk result (λ flags. AreExact self.now.g.now tokens flags.items) }
     {
-        let order = self.callees_first(alloc)?;
         let mut flags = vec![in alloc; false; self.g.rules.len()]?;
-        'rounds: while self.round(tokens, order.as_slice(), flags.as_mut_slice()) {}
+        'rounds: while self.round(tokens, order, flags.as_mut_slice()) {}
         Ok(flags)
-    }
-
-    /// The numbers of the rules, what is called mostly before what calls it.
-    fn callees_first(&self, alloc: Global) -> Result<Vec<usize>, NoMemory>
-        ensures { IfOk result (λ order. All (λ r. r < length self.now.g.now.rules) order.items) }
-    {
-        let mut order = Vec::with_capacity(alloc, self.g.rules.len())?;
-        for rule in (0..self.g.rules.len()).rev() {
-            order.push(rule)?;
-        }
-        Ok(order)
     }
 
     /// Visits the rules in this order, and then each once more. It is false where that set no flag.

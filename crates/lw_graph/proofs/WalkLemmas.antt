@@ -15,8 +15,3 @@ module _ {graph : Links} where
   pub kept_by_walks : (R : ℕ → Type 0) → ((a b : ℕ) → R a → HasEdge graph a b → R b) → {a b : ℕ} → R a → Walks graph a b → R b
   kept_by_walks R keeps holds stay = holds
   kept_by_walks R keeps holds (go {a} {b} edge rest) = kept_by_walks R keeps (keeps a b holds edge) rest
-
--- a graph with more edges has more walks
-pub Walks-weaker : {one other : Links} → ((a b : ℕ) → HasEdge one a b → HasEdge other a b) → {a b : ℕ} → Walks one a b → Walks other a b
-Walks-weaker more stay = stay
-Walks-weaker more (go {a} {b} edge rest) = go (more a b edge) (Walks-weaker more rest)

@@ -62,7 +62,7 @@ impl Graph {
     }
 
     /// Where edges lead from the node.
-    pub(crate) fn successors(&self, node: usize) -> &[usize]
+    pub fn successors(&self, node: usize) -> &[usize]
         requires { node < self.now.nodes }
         ensures edges { result.now ≡ successors_of self.now node }
         ensures within { All (λ next. next < self.now.nodes) result.now }

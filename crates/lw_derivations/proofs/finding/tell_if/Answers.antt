@@ -1,4 +1,3 @@
-use Rattle.std.proofs.Common.{◌≡◌}
 use Rattle.std.specs.Prelude.{IsTrue}
 use Rattle.lw_derivations.specs.Telling.{SpeaksOf}
 use Rattle.lw_derivations.proofs.FindsLemmas.{Finds-same}

@@ -1,4 +1,4 @@
-use Rattle.std.proofs.Common.{◌≡◌, ◌≢◌, ◌≤◌, ◌<◌, Some, false, slice_get, length, get_or, refl, ap, subst}
+use Rattle.std.proofs.Common.{◌≡◌, ◌≤◌, Some, slice_get, length, refl, subst}
 use Rattle.std.specs.Prelude.{IsTrue}
 use Rattle.std.proofs.lemmas.Option.{slice_get_read}
 use Rattle.lw_grammar.specs.declared.rule.Rule.{Rule}

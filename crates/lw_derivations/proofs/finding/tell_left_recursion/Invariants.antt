@@ -1,6 +1,5 @@
-use Rattle.std.proofs.Common.{◌≢◌, ◌≡◌, Some, false}
 use Rattle.lw_graph.specs.Walks.{HasNode}
-use Rattle.lw_derivations.specs.Telling.{SpeaksOf, TellsRepeats}
+use Rattle.lw_derivations.specs.Telling.{SpeaksOf}
 use Rattle.lw_derivations.proofs.FindsLemmas.{FindsBelow}
 use Rattle.lw_derivations.proofs.finding.tell_left_recursion.Given as goal
 

@@ -1,4 +1,4 @@
-use Rattle.std.proofs.Common.{◌≡◌, ◌+◌, ◌<◌, ℕ, List, Contains, OnOk, false, true≢false, length, refl, sym, ◌∙◌, subst, arith}
+use Rattle.std.proofs.Common.{◌+◌, Contains, OnOk, true≢false, length, refl, sym, ◌∙◌, subst, arith}
 use Rattle.std.proofs.lemmas.Option.{slice_get_read}
 use Rattle.lw_grammar.specs.declared.rule.Element.{Element}
 use Rattle.lw_grammar.specs.declared.rule.Element.TheVariants.{outs-Keyword, outs-Call, outs-Assign, outs-Act, outs-Group, outs-Choice, outs-Maybe, outs-Many, outs-Some1}

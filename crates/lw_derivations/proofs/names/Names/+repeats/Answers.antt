@@ -1,4 +1,4 @@
-use Rattle.std.proofs.Common.{◌≡◌, ◌≤◌, ◌<◌, length, get_or, Contains, OnOk, refl, subst}
+use Rattle.std.proofs.Common.{◌≡◌, length, Contains, OnOk, refl, subst}
 use Rattle.std.proofs.lemmas.Option.{slice_get_read}
 use Rattle.std.proofs.lemmas.Result.{on_ok_weaker}
 use Rattle.lw_grammar.specs.declared.rule.Element.{Element}

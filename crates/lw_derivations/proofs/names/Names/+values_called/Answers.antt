@@ -1,4 +1,4 @@
-use Rattle.std.proofs.Common.{ℕ, List, Contains, OnOk, subst}
+use Rattle.std.proofs.Common.{Contains, OnOk, subst}
 use Rattle.lw_grammar.specs.declared.rule.Value0.{Value0}
 use Rattle.lw_grammar.specs.declared.rule.Value0.TheVariants.{outs-Keyword, outs-Call, outs-Cross, outs-Choice}
 use Rattle.lw_faults.specs.Reads.{ValueLeads}

@@ -1,6 +1,6 @@
 use Rattle.std.proofs.Common.{◌≡◌}
 use Rattle.std.proofs.lemmas.Result.{on_ok_weaker}
-use Rattle.lw_derivations.specs.Edges.{AddsEdges, IsNamedSo}
+use Rattle.lw_derivations.specs.Edges.{IsNamedSo}
 use Rattle.lw_derivations.proofs.EdgeLemmas.{AddsEdges-same}
 use Rattle.lw_derivations.proofs.NamedRules.{IsThisName, named_one}
 use Rattle.lw_derivations.proofs.names.Names.add_call.Goals as goal

@@ -1,5 +1,4 @@
-use Rattle.std.proofs.Common.{◌≡◌, ◌≤◌, ◌<◌, ℕ, List, Contains, length, map, get_or, sym, ap, ◌∙◌, subst}
-use Rattle.lw_grammar.specs.Leaves.{leaves}
+use Rattle.std.proofs.Common.{ℕ, List, Contains, map, ap, ◌∙◌}
 use Rattle.lw_grammar.specs.Reached.{RuleCalls}
 use Rattle.lw_leaves.specs.declared.body.BodyLeaf.{BodyLeaf}
 use Rattle.lw_leaves.specs.Parts.{leaf_of}

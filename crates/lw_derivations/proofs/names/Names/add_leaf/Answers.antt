@@ -1,5 +1,4 @@
-use Rattle.std.proofs.Common.{◌≡◌, ◌↔◌, ap, sym, subst, refl}
-use Rattle.lw_grammar.specs.Leaves as leaf
+use Rattle.std.proofs.Common.{◌↔◌, sym, subst}
 use Rattle.lw_faults.specs.Reads.{ValueLeads}
 use Rattle.lw_leaves.specs.Parts.{leaf_of}
 use Rattle.lw_derivations.specs.Edges.{CallsAtLeaf}

@@ -1,4 +1,4 @@
-use Rattle.std.proofs.Common.{◌≡◌, ◌≤◌, Some, slice_get, get_or, length, refl, sym, ap, ◌∙◌, subst}
+use Rattle.std.proofs.Common.{◌≡◌, ◌≤◌, Some, slice_get, length, refl, ap, ◌∙◌, subst}
 use Rattle.std.proofs.lemmas.Option.{slice_get_read}
 use Rattle.lw_grammar.specs.Reached.{RuleCalls}
 use Rattle.lw_derivations.proofs.RuleEdges.{no_edges_below, edges_more, all_edges}

@@ -1,4 +1,3 @@
-use Rattle.std.proofs.Common.{◌≡◌}
 use Rattle.std.proofs.lemmas.Result.{on_ok_weaker}
 use Rattle.lw_graph.specs.Walks.{HasNode}
 use Rattle.lw_derivations.specs.Telling.{TellsRepeats}

@@ -1,4 +1,4 @@
-use Rattle.std.proofs.Common.{◌≡◌, length, take, drop, ◌++◌, false, sym, ap, ◌∙◌, subst, arith}
+use Rattle.std.proofs.Common.{length, sym, ap, ◌∙◌, subst, arith}
 use Rattle.lw_derivations.specs.Passing.{IsJust}
 use Rattle.lw_derivations.specs.Rounds.{GrewOrSettled, AreExact}
 use Rattle.lw_derivations.proofs.RoundLemmas.{exact, written_back}

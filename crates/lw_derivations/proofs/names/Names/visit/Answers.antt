@@ -1,4 +1,4 @@
-use Rattle.std.proofs.Common.{◌≡◌, get_or, sym, ap, ◌∙◌, subst, refl, length, ◌<◌}
+use Rattle.std.proofs.Common.{◌≡◌, get_or, sym, subst, refl, length}
 use Rattle.std.proofs.lemmas.Option.{slice_get_read}
 use Rattle.lw_grammar.specs.declared.rule.Rule.{Rule}
 use Rattle.lw_derivations.specs.Passing.{Passes}
