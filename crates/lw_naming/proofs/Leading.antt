@@ -1,16 +1,15 @@
 -- Names that lead to names, over what they mean, and the walks between the places of what is meant: a name leads to itself exactly where what it
 -- means lies on a circle.
-use Rattle.std.proofs.Common.{◌≡◌, ◌↔◌, ℕ, ◌<◌, ◌≤◌, List, [], ◌∷◌, ◌++◌, Bool, Some, length, slice_get, Contains, inl, inr, refl, sym, ap, ◌∙◌, subst}
+use Rattle.std.proofs.Common.{◌≡◌, ◌↔◌, ℕ, ◌<◌, List, [], ◌∷◌, ◌++◌, Bool, Some, length, slice_get, Contains, sym, ap, ◌∙◌, subst}
 use Rattle.std.proofs.lemmas.Option.{slice_get_within, same_Some}
 use Rattle.lw_grammar.specs.Named.{Declaration, IsMeant}
 use Rattle.lw_grammar.specs.declared.fault.GrammarFault.{GrammarFault}
-use Rattle.lw_grammar.proofs.FirstLemmas.{first_place, first_item}
+use Rattle.lw_grammar.proofs.FirstLemmas.{first_place}
 use Rattle.lw_graph.specs.Walks.{Links, HasEdge, HasNode, Walks, stay, go, GoesRound}
 use Rattle.lw_graph.proofs.WalkLemmas.{Walks-trans}
 use Rattle.lw_findings.specs.Finding.{Finds, AtSome, OneIf}
-use Rattle.lw_findings.proofs.Joining.{Finds-nothing, Finds-one, Finds-iff}
+use Rattle.lw_findings.proofs.Joining.{Finds-iff}
 use Rattle.lw_naming.specs.Rounds.{Arrow, AreRound}
-use Rattle.lw_naming.proofs.Gathering.{has_found}
 
 module _ {X Y : Type 0} (declared_by : X → Declaration) (other_by : Y → Declaration) where
   pub meant_here : (name : List ℕ) (xs : List X) (others : List Y) (i place : ℕ) (x y : X) → slice_get xs i ≡ Some x → place ≡ i →
@@ -36,20 +35,6 @@ module _ {X Y : Type 0} (declared_by : X → Declaration) (other_by : Y → Decl
     -- from a place to that of what a name there means
     abbrev pub PlaceStep : ℕ → ℕ → Type 0
     PlaceStep a b = (x : X) × (slice_get xs a ≡ Some x) × (name : List ℕ) × names x name × (y : X) × MeansAt name b y
-
-    abbrev pub ToMeant : List ℕ → ℕ → Arrow → Type 0
-    ToMeant name i e = (j : ℕ) × (y : X) × MeansAt name j y × (e ≡ (i, j))
-
-    -- ---- edges
-
-    pub Finds-edge : {edges : List Arrow} (name : List ℕ) (i j : ℕ) (y : X) → MeansAt name j y → Finds (ToMeant name i) edges (edges ++ (i, j) ∷ [])
-    Finds-edge {edges} name i j y meant = Finds-iff (λ e. ((λ is. (j, y, meant, is)), of e)) (Finds-one edges (i, j))
-      where
-        of : (e : Arrow) → ToMeant name i e → e ≡ (i, j)
-        of e (k, z, means, is) = is ∙ ap (λ n. (i, n)) (first_place means.first meant.first)
-
-    pub Finds-no_edge : {edges : List Arrow} (name : List ℕ) (i : ℕ) → ((j : ℕ) (y : X) → ¬ MeansAt name j y) → Finds (ToMeant name i) edges edges
-    Finds-no_edge name i none = Finds-nothing (λ e is. none is.0 is.1 is.2)
 
     pub step_within : (a b : ℕ) → PlaceStep a b → (a < length xs) × (b < length xs)
     step_within a b step = (slice_get_within xs a step.0 step.1, slice_get_within xs b step.4 step.5.first.there)

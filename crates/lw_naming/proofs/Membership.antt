@@ -26,9 +26,6 @@ module _ {X : Type 0} where
 
   -- ---- places
 
-  pub place_of : {x : X} (xs : List X) → Contains xs x → (i : ℕ) × (slice_get xs i ≡ Some x)
-  place_of {x} xs (k, inside, is) = (k, slice_get-get_or xs k x inside ∙ ap Some is)
-
   -- the item of a list that was lent
   pub item_at : (xs ys : List X) (i : ℕ) (x : X) → xs ≡ ys → i < length xs → x ≡ get_or xs i x → slice_get ys i ≡ Some x
   item_at xs ys i x same inside is = let P : List X → Type 0 = λ l. slice_get l i ≡ Some x in subst P same (slice_get_read xs (length xs) i x refl inside is)

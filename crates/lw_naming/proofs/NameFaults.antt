@@ -1,11 +1,8 @@
 -- The faults of names are what is wrong where names are written, second attributes, types on circles, and interfaces that extend what is none.
-use Rattle.std.proofs.Common.{◌≡◌, ◌↔◌, ℕ, ◌<◌, List, Some, length, slice_get, take, Contains, ◌⊎◌, inl, inr, refl, sym, subst}
+use Rattle.std.proofs.Common.{ℕ, List, ◌⊎◌, inl, inr, refl, sym, subst}
 use Rattle.lw_base.specs.declared.token.Span.{Span}
 use Rattle.lw_grammar.specs.declared.grammar.Grammar.{Grammar}
 use Rattle.lw_grammar.specs.declared.fault.GrammarFault.{GrammarFault}
-use Rattle.lw_grammar.specs.declared.declared_types.Attribute.{Attribute}
-use Rattle.lw_grammar.specs.declared.declared_types.Interface.{Interface}
-use Rattle.lw_grammar.specs.Named.{Declaration}
 use Rattle.lw_grammar.specs.NameRules.{IsNameRule}
 use Rattle.lw_faults.specs.Names.{Duplicate, UnknownRule, UnknownType, NoNameRule}
 use Rattle.lw_faults.specs.Names as name
@@ -19,9 +16,9 @@ use Rattle.lw_naming.specs.declared.mentions.Role.{Role}
 use Rattle.lw_naming.specs.declared.mentions.Role.TheVariants.{DeclaresRule, DeclaresType, InfersType, CallsRule, NamesType, WantsNameRule}
 use Rattle.lw_naming.specs.NameUses.{name_use, uses}
 use Rattle.lw_naming.specs.Wrong.{IsWrongAs, fault_number, TellsWrong}
-use Rattle.lw_naming.specs.Attributes.{IsAttributeNamed, RepeatsAttribute}
+use Rattle.lw_naming.specs.Attributes.{RepeatsAttribute}
 use Rattle.lw_naming.specs.Rounds.{CircularInterface, CircularUnion, TellsOther}
-use Rattle.lw_naming.proofs.Membership.{place_of, in_front, of_front}
+use Rattle.lw_naming.proofs.Membership.{in_front, of_front}
 use Rattle.lw_naming.proofs.Said.{CallsHere, by_rule, by_terminal, WantsHere, wants, IsSaid, said, declared_stands, type_stands, inferred_stands, called_stands, named_stands, wanted_stands}
 
 -- a fault of a number is told by what tells it

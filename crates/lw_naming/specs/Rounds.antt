@@ -1,7 +1,6 @@
 -- Types that lead to each other, by the places at which they are declared, in words of the code: an interface to each that it extends, and a
 -- union to each union that is a member of it.
 use Rattle.std.specs.Prelude.{ℕ, ◌≡◌, ◌↔◌, List, Bool, Contains, map}
-use Rattle.lw_base.specs.declared.token.Span.{Span}
 use Rattle.lw_grammar.specs.declared.grammar.Grammar.{Grammar}
 use Rattle.lw_grammar.specs.declared.fault.GrammarFault.{GrammarFault}
 use Rattle.lw_grammar.specs.declared.declared_types.Interface.{Interface}

@@ -1,7 +1,7 @@
-use Rattle.std.proofs.Common.{ℕ, List, map, length, Contains, sym, ap, subst, arith}
+use Rattle.std.proofs.Common.{ℕ, List, length, Contains, sym, ap, subst, arith}
 use Rattle.std.proofs.lemmas.Bool.{false≢true, iff_false}
 use Rattle.lw_base.specs.declared.token.Span.{Span}
-use Rattle.lw_naming.specs.Rounds.{IsNoInterface, ExtendsOther}
+use Rattle.lw_naming.specs.Rounds.{IsNoInterface}
 use Rattle.lw_naming.proofs.Membership.{none_more, none_all, in_map}
 use Rattle.lw_naming.proofs.names.KnownNames.extends_other.Goals as goal
 
