@@ -1,6 +1,6 @@
 -- Names that lead to names, over what they mean, and the walks between the places of what is meant: a name leads to itself exactly where what it
 -- means lies on a circle.
-use Rattle.std.proofs.Common.{◌≡◌, ◌↔◌, ℕ, ◌<◌, List, [], ◌∷◌, ◌++◌, Bool, Some, length, slice_get, Contains, sym, ap, ◌∙◌, subst}
+use Rattle.std.proofs.Common.{◌≡◌, ◌↔◌, ℕ, ◌<◌, List, Bool, Some, length, slice_get, Contains, sym, ap, ◌∙◌, subst}
 use Rattle.std.proofs.lemmas.Option.{slice_get_within, same_Some}
 use Rattle.lw_grammar.specs.Named.{Declaration, IsMeant}
 use Rattle.lw_grammar.specs.declared.fault.GrammarFault.{GrammarFault}
