@@ -1,0 +1,5 @@
+mod CallLemmas
+mod Counting
+mod OrderLemmas
+mod RuleLemmas
+mod TellingLemmas

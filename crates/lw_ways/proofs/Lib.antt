@@ -1,0 +1,16 @@
+pub mod EffectLemmas
+pub mod NumberLemmas
+pub mod CurrentLemmas
+pub mod MeantLemmas
+pub mod RowLemmas
+pub mod PassingLemmas
+pub mod SetLemmas
+pub mod DoingLemmas
+pub mod TableLemmas
+pub mod FixedLemmas
+pub mod VisitLemmas
+pub mod KnownLemmas
+pub mod ArrivalLemmas
+pub mod EntryLemmas
+pub mod WrittenLemmas
+pub mod WholeLemmas

@@ -1,0 +1,12 @@
+pub mod Recorded
+pub mod Effects
+pub mod Passing
+pub mod Marks
+pub mod Sets
+pub mod Rows
+pub mod Fixed
+pub mod Visits
+pub mod Arrivals
+pub mod Entries
+pub mod Whole
+pub mod Callees
