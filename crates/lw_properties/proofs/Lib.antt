@@ -1,0 +1,16 @@
+pub mod Deciding
+pub mod Unseen
+pub mod Lineages
+pub mod Searching
+pub mod Stacks
+pub mod Apart
+pub mod Knowing
+pub mod ValueKinds
+pub mod Looking
+pub mod Asking
+pub mod Standing
+pub mod Found
+pub mod Recording
+pub mod FirstPuts
+pub mod Putting
+pub mod Freeing

@@ -1,0 +1,56 @@
+// What is wrong with the properties of a grammar.
+ghost use Rattle.std.specs.Prelude.{◌⊎◌, ◌≤◌, OnOk};
+ghost use Rattle.lw_grammar.specs.Size.{size};
+ghost use Rattle.lw_faults.specs.Properties.{UnknownProperty, WrongPropertyForm, MixedProperty, NotASubtype};
+ghost use Rattle.lw_findings.specs.Finding.{Finds, IsFaultOf};
+ghost use Rattle.lw_numbers.specs.Tables.{AreNumbersOf};
+ghost use Rattle.lw_subtypes.specs.Kinship.{AreNodeRules, AreSubtypesOf};
+ghost use Rattle.lw_ways.specs.Recorded.{AreWaysOf};
+
+use crate::Attributes;
+use crate::below::find_not_below;
+use crate::forms::find_wrong_forms;
+use crate::known::Known;
+use crate::mixed::find_mixed_properties;
+use crate::places::places;
+use crate::unknown::find_unknown_properties;
+use lw_base::NoMemory;
+use lw_findings::Findings;
+use lw_grammar::Grammar;
+use lw_numbers::Numbers;
+use lw_subtypes::Subtypes;
+use lw_ways::Ways;
+use std::alloc::Global;
+
+/// Finds the faults 14 to 17: unknown properties, wrong forms of properties, mixed properties, and
+/// nodes of types that are not below the type of their rule.
+pub fn find_property_faults<'g>(
+    alloc: Global,
+    g: &'g Grammar,
+    numbers: &'g Numbers,
+    nodes: &'g [bool],
+    subtypes: &'g Subtypes,
+    ways: &'g Ways,
+    found: &mut Findings,
+) -> Result<(), NoMemory>
+    requires numbers { AreNumbersOf g.now numbers.now }
+    requires nodes { AreNodeRules g.now nodes.now }
+    requires subtypes { AreSubtypesOf g.now subtypes.now }
+    requires ways { AreWaysOf g.now ways.now }
+    requires small { size g.now ≤ 65535 }
+    ensures { OnOk result (Finds (λ f. IsFaultOf 14 (UnknownProperty g.now) f ⊎ IsFaultOf 15 (WrongPropertyForm g.now) f
+        ⊎ IsFaultOf 16 (MixedProperty g.now) f ⊎ IsFaultOf 17 (NotASubtype g.now) f) found.old found.new) }
+{
+    let known = Known {
+        g,
+        numbers,
+        nodes,
+        subtypes,
+        attributes: Attributes::of(alloc, g, numbers)?,
+    };
+    let places = places(alloc, g, ways)?;
+    find_unknown_properties(alloc, &known, places.as_slice(), found)?;
+    find_wrong_forms(alloc, &known, places.as_slice(), found)?;
+    find_mixed_properties(alloc, &known, places.as_slice(), found)?;
+    find_not_below(alloc, &known, places.as_slice(), found)
+}
