@@ -13,7 +13,7 @@ use Rattle.lw_grammar.specs.Named.{IsFirst}
 use Rattle.lw_grammar.specs.NameRules.{NamesNodesOf, IsNameRule}
 use Rattle.lw_grammar.specs.Subtypes.{HasType, ResultNames, IsSubtype, same}
 use Rattle.lw_numbers.proofs.StandingSteps.{first_stays, first_new, old_or_new}
-use Rattle.lw_subtypes.proofs.Climbing.{has_at}
+use Rattle.lw_subtypes.proofs.Lists.{has_at}
 use Rattle.lw_subtypes.specs.Kinship.{TypeTable, AreSubtypesOf, StandsBelow, below}
 use Rattle.lw_subtypes.specs.Kinship as kin
 use Rattle.lw_name_rules.specs.NameTable.{AreNameRulesOf, NamesBy, IsPut, PutsNames, PutsRule, IsNumberedIn}

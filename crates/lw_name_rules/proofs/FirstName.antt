@@ -21,7 +21,7 @@ use Rattle.lw_grammar.proofs.FirstLemmas.{first_place, first_item}
 use Rattle.lw_grammar.proofs.KeptLemmas.{there}
 use Rattle.lw_sentences.proofs.Every.{Every}
 use Rattle.lw_subtypes.proofs.Deciding.{cases_text}
-use Rattle.lw_subtypes.proofs.Expanding.{first_or_later}
+use Rattle.lw_subtypes.proofs.Lists.{first_or_later}
 use Rattle.lw_name_rules.specs.Searching.{NamesNone, FindsName, ends, names, passes, enters, skips}
 
 -- ---- the name that one leaf calls

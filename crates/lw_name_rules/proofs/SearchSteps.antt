@@ -13,9 +13,9 @@ use Rattle.lw_grammar.specs.declared.grammar.Grammar.{Grammar}
 use Rattle.lw_grammar.specs.declared.rule.Rule.{Rule}
 use Rattle.lw_grammar.specs.declared.terminal.Terminal.{Terminal}
 use Rattle.lw_grammar.specs.Leaves.{Leaf, Call, leaves, IsFragmentCall}
-use Rattle.lw_grammar.specs.Named.{IsTerminal}
+use Rattle.lw_grammar.specs.Named.{IsTerminal, declared_rule, declared_terminal}
 use Rattle.lw_numbers.specs.Numbering.{IsNumbered, rule_}
-use Rattle.lw_subtypes.proofs.Meanings.{no_rule_too}
+use Rattle.lw_sentences.proofs.Meaning.{one_of_two}
 use Rattle.lw_name_rules.specs.Searching.{CallsNoFragment, FindsName, enters, skips, ahead, unseen_leaves}
 use Rattle.lw_name_rules.specs.declared.first_name.Search.{Search}
 use Rattle.lw_leaves.specs.declared.body.BodyLeaf.{BodyLeaf}
@@ -47,7 +47,8 @@ module _ (g : Grammar) (name : List ℕ) (s : Span) where
 
   -- what a terminal is called by calls no rule
   pub a_terminal : (t : ℕ) (terminal : Terminal) → IsTerminal g name t terminal → CallsNoFragment g (Call name s)
-  a_terminal t terminal means q other is = no_rule_too g name t terminal means q other is.0
+  a_terminal t terminal means q other is =
+      one_of_two declared_rule declared_terminal name g.rules g.terminals q t other terminal is.0 means
 
 -- ---- how many leaves were not looked into
 
