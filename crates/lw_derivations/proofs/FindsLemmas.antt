@@ -9,33 +9,35 @@ pub both_ways : {P Q R : Type 0} → P ↔ Q → Q ↔ R → P ↔ R
 both_ways one two = (λ p. two.0 (one.0 p), λ r. one.1 (two.1 r))
 
 pub Finds-none : (is_so : GrammarFault → Type 0) → ((f : GrammarFault) → is_so f → ⊥) → (found : List GrammarFault) → Finds is_so found found
-Finds-none is_so none found f = (λ has. inl has, λ either. elim either [ inl had ↦ had | inr is ↦ absurd (none f is) ])
+Finds-none is_so none found = record { exact = λ f. (λ has. inl has, λ either. elim either [ inl had ↦ had | inr is ↦ absurd (none f is) ]) }
 
 pub Finds-same : (is_so was_so : GrammarFault → Type 0) → ((f : GrammarFault) → is_so f ↔ was_so f) → (old new : List GrammarFault) → Finds is_so old new → Finds was_so old new
-Finds-same is_so was_so same old new finds f = (
-  λ has. elim ((finds f).0 has) [ inl had ↦ inl had | inr is ↦ inr ((same f).0 is) ],
-  λ either. (finds f).1 (elim either [ inl had ↦ inl had | inr was ↦ inr ((same f).1 was) ]),
-)
+Finds-same is_so was_so same old new finds = record {
+  exact = λ f. (
+    λ has. elim ((finds.exact f).0 has) [ inl had ↦ inl had | inr is ↦ inr ((same f).0 is) ],
+    λ either. (finds.exact f).1 (elim either [ inl had ↦ inl had | inr was ↦ inr ((same f).1 was) ]),
+  );
+}
 
 pub Finds-then : (first second both : GrammarFault → Type 0) → ((f : GrammarFault) → both f ↔ (first f ⊎ second f)) → (old mid new : List GrammarFault) →
     Finds first old mid → Finds second mid new → Finds both old new
-Finds-then first second both same old mid new one two f = (forth, back)
+Finds-then first second both same old mid new one two = record { exact = λ f. (forth f, back f) }
   where
-    forth : Contains new f → Contains old f ⊎ both f
-    forth has = elim ((two f).0 has) [
-      | inl before ↦ elim ((one f).0 before) [
+    forth : (f : GrammarFault) → Contains new f → Contains old f ⊎ both f
+    forth f has = elim ((two.exact f).0 has) [
+      | inl before ↦ elim ((one.exact f).0 before) [
         | inl had ↦ inl had
         | inr sooner ↦ inr ((same f).1 (inl sooner))
       ]
       | inr later ↦ inr ((same f).1 (inr later))
     ]
 
-    back : Contains old f ⊎ both f → Contains new f
-    back either = elim either [
-      | inl had ↦ (two f).1 (inl ((one f).1 (inl had)))
+    back : (f : GrammarFault) → Contains old f ⊎ both f → Contains new f
+    back f either = elim either [
+      | inl had ↦ (two.exact f).1 (inl ((one.exact f).1 (inl had)))
       | inr is ↦ elim ((same f).0 is) [
-        | inl sooner ↦ (two f).1 (inl ((one f).1 (inr sooner)))
-        | inr later ↦ (two f).1 (inr later)
+        | inl sooner ↦ (two.exact f).1 (inl ((one.exact f).1 (inr sooner)))
+        | inr later ↦ (two.exact f).1 (inr later)
       ]
     ]
 
