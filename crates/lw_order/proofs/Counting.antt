@@ -2,13 +2,10 @@
 use Rattle.std.proofs.Common.{ℕ, ◌+◌, ◌<◌, ◌≤◌, List, ◌⊎◌, inl, inr, subst, arith}
 use Rattle.std.proofs.lemmas.Bool.{cases_order}
 use Rattle.lw_findings.specs.Finding.{Finds}
-use Rattle.lw_findings.proofs.Joining.{Finds-nothing, Finds-then, Finds-iff}
+use Rattle.lw_findings.proofs.Joining.{Finds-then, Finds-iff}
 use Rattle.lw_order.specs.Found.{ByOneOf}
 
 module _ {Y : Type 0} (has : ℕ → Y → Type 0) where
-  pub none_yet : (a : List Y) → Finds (ByOneOf has 0) a a
-  none_yet a = Finds-nothing (λ y by. absurd (omega (arith, by.1)))
-
   more : (k : ℕ) (y : Y) → ByOneOf has k y ⊎ has k y → ByOneOf has (k + 1) y
   more k y (inl (i, below, is)) = (i, omega (arith, below), is)
   more k y (inr is) = (k, omega arith, is)

@@ -1,12 +1,10 @@
 -- What holds of one of the types of some numbers, and of one of the parts of a value, number by number and part by part.
-use Rattle.std.proofs.Common.{◌≡◌, ◌⊎◌, ℕ, ◌+◌, ◌<◌, List, [], ◌∷◌, ◌++◌, Option, Some, None, Bool, true, false, not, length, get_or, take, slice_get, Contains, MatchOption, option_map, Result, Ok, Err, IfOk, IsTrue, ◌↔◌, inl, inr, refl, sym, ap, ◌∙◌, subst, arith}
+use Rattle.std.proofs.Common.{◌≡◌, ℕ, ◌+◌, List, [], ◌∷◌, ◌++◌, Option, Some, None, Bool, true, false, not, take, Contains, MatchOption, Result, Ok, Err, IfOk, IsTrue, ◌↔◌, inl, inr, refl, sym, ap, ◌∙◌, subst, arith}
 use Rattle.lw_base.specs.declared.memory.NoMemory.{NoMemory}
 use Rattle.std.specs.Borrow.{Bor}
 use Rattle.std.specs.Option.{is_some}
 use Rattle.std.proofs.lemmas.Bool.{true≢false, both_ways, not-true, not-false, not_from_false, false_from_ne_true}
-use Rattle.std.proofs.lemmas.List.{take_more}
 use Rattle.std.proofs.lemmas.List.Elements.{Contains-push_cases}
-use Rattle.std.proofs.lemmas.Option.{none-some, same_Some}
 use Rattle.lw_grammar.specs.declared.grammar.Grammar.{Grammar}
 use Rattle.lw_grammar.specs.declared.rule.Op.{Op}
 use Rattle.lw_grammar.specs.declared.rule.Op.TheVariants.{One, Add, Flag}
@@ -14,12 +12,10 @@ use Rattle.lw_grammar.specs.declared.rule.Value0.{Value0}
 use Rattle.lw_grammar.specs.declared.terminal.Primitive.TheVariants.{Boolean}
 use Rattle.lw_grammar.specs.declared.declared_types.Attribute.{Attribute}
 use Rattle.lw_grammar.specs.Leaves.{ValueLeaf, value_leaves}
-use Rattle.lw_grammar.specs.Subtypes.{IsDeclared}
 use Rattle.lw_faults.specs.Attributes.{Kind, Plain, IsKindOf, HasAttribute, HasNoAttribute}
 use Rattle.lw_faults.specs.Properties.{IsRefusedKind, MisfitsAttribute}
 use Rattle.lw_faults.specs.Properties as property
 use Rattle.lw_faults.proofs.LineageLemmas.{one_attribute}
-use Rattle.lw_numbers.specs.Numbering.{type_names}
 use Rattle.lw_ways.specs.declared.before.Before.{Before}
 use Rattle.lw_properties.specs.Asked.{RefusesSome, SomeType, MisfitsProperty}
 use Rattle.lw_properties.specs.Told.{PutMisfits, IsPutRefused}
@@ -52,26 +48,8 @@ module _ (g : Grammar) where
     pub some_none : ¬ SomeType g P []
     some_none some = omega (arith, some.1.among.1)
 
-    pub some_more : (numbers : List ℕ) (i n : ℕ) → i < length numbers → n ≡ get_or numbers i n → ((name : List ℕ) → slice_get (type_names g) n ≡ Some name → ¬ P name) →
-        ¬ SomeType g P (take i numbers) → ¬ SomeType g P (take (i + 1) numbers)
-    some_more numbers i n inside is not_here none some = by (Contains-push_cases (take i numbers) n some.1.number (subst (λ xs. Contains xs some.1.number) longer some.1.among))
-      where
-        longer : take (i + 1) numbers ≡ take i numbers ++ n ∷ []
-        longer = take_more numbers i n inside ∙ ap (λ k. take i numbers ++ k ∷ []) (sym is)
-
-        by : Contains (take i numbers) some.1.number ⊎ (n ≡ some.1.number) → ⊥
-        by (inl before) = none (some.0, record { number = some.1.number; named = some.1.named; among = before }, some.2)
-        by (inr same) = not_here some.0 (ap (slice_get (type_names g)) same ∙ some.1.named) some.2
-
-    pub some_found : (numbers : List ℕ) (i n : ℕ) (name : List ℕ) → i < length numbers → n ≡ get_or numbers i n → Some name ≡ slice_get (type_names g) n → P name → SomeType g P numbers
-    some_found numbers i n name inside is named does =
-        (name, record { number = n; named = sym named; among = (i, inside, sym is) }, does)
-
   -- ---- parts of a value
   module _ (attribute : Attribute) where
-    pub refuses_none : ¬ RefusesSome g attribute []
-    refuses_none some = omega (arith, some.2.1)
-
     pub refuses_more : (parts : List ValueLeaf) (x : ValueLeaf) → ((kind : Kind) → IsKindOf g x kind → ¬ IsRefusedKind g attribute kind) → ¬ RefusesSome g attribute parts →
         ¬ RefusesSome g attribute (parts ++ x ∷ [])
     refuses_more parts x taken none (y, kind, has, is, refused) = elim (Contains-push_cases parts x y has) [

@@ -1,5 +1,5 @@
 -- What is known of the attributes of types, one interface after the other, and that it is what they have.
-use Rattle.std.proofs.Common.{◌≡◌, ℕ, zero, suc, ◌+◌, ◌<◌, List, [], ◌∷◌, ◌++◌, length, get_or, take, Bool, true, false, cond, map, Contains, Option, Some, None, MatchOption, option_map, option_and_then, slice_get, bytes_eq, inl, inr, refl, sym, ap, ◌∙◌, subst, arith}
+use Rattle.std.proofs.Common.{◌≡◌, ℕ, zero, suc, ◌+◌, ◌<◌, List, [], ◌∷◌, ◌++◌, length, get_or, take, Bool, true, false, cond, map, Contains, Option, Some, None, MatchOption, option_map, option_and_then, slice_get, bytes_eq, inl, inr, refl, sym, ap, ◌∙◌, subst}
 use Rattle.std.specs.Borrow.{Bor}
 use Rattle.std.specs.List.{flat_map, find}
 use Rattle.std.specs.Map.{lookup}
@@ -7,7 +7,7 @@ use Rattle.std.specs.Option.{option_or, is_some}
 use Rattle.std.proofs.lemmas.List.{append-nil, map-append, take_more}
 use Rattle.std.proofs.lemmas.List.Concat.{flat_map-append}
 use Rattle.std.proofs.lemmas.List.Folds.{find-append}
-use Rattle.std.proofs.lemmas.List.Elements.{Contains-append_left, Contains-push, Contains-push_cases}
+use Rattle.std.proofs.lemmas.List.Elements.{Contains-push, Contains-push_cases}
 use Rattle.std.proofs.lemmas.Option.{none-some, same_Some, slice_get_within, get_or_from_slice_get}
 use Rattle.std.proofs.lemmas.Slice.Eq.{bytes_eq-Decides}
 use Rattle.std.proofs.lemmas.Bool.{true≢false}
@@ -15,18 +15,14 @@ use Rattle.lw_grammar.specs.declared.grammar.Grammar.{Grammar}
 use Rattle.lw_grammar.specs.declared.declared_types.Interface.{Interface}
 use Rattle.lw_grammar.specs.declared.declared_types.Attribute.{Attribute}
 use Rattle.lw_grammar.specs.Named.{IsFirst, IsInterface}
-use Rattle.lw_grammar.proofs.FirstLemmas.{first_item}
 use Rattle.lw_sentences.proofs.Every.{first_here, first_later}
-use Rattle.lw_faults.specs.Attributes.{Lineage, HasAttribute, HasNoAttribute}
+use Rattle.lw_faults.specs.Attributes.{HasAttribute, HasNoAttribute}
 use Rattle.lw_faults.specs.Attributes as above
 use Rattle.lw_faults.proofs.LineageLemmas.{one_lineage}
-use Rattle.lw_properties.specs.Known.{Known, known_attribute, AreAttributesOf}
+use Rattle.lw_properties.specs.Known.{known_attribute, AreAttributesOf}
 use Rattle.lw_properties.specs.Search.{attributes_of, Follows, is_named, AreFirsts}
 
 -- ---- the first of each name
-
-pub firsts_of_none : AreFirsts [] []
-firsts_of_none p = refl
 
 module _ (xs : List Attribute) (entries : List (List ℕ × Bor Attribute)) (a : Attribute) (are : AreFirsts xs entries) where
   -- its name is there
@@ -146,9 +142,6 @@ module _ (g : Grammar) where
     abbrev pub KnowsOf : List Interface → List (List ℕ × V) → Type 0
     KnowsOf xs entries =
         (type_name : List ℕ) → MatchOption (lookup (bytes_eq type_name) entries) ((x : Interface) → Contains xs x → x.name ≡ type_name → ⊥) (λ v. ServesFor type_name (firsts_of v))
-
-    pub knows_none : KnowsOf [] []
-    knows_none type_name = λ x has same. omega (arith, has.1)
 
     pub knows_more : (xs : List Interface) (entries then : List (List ℕ × V)) (x : Interface) (v : V) (key : List ℕ) → KnowsOf xs entries →
         key ≡ x.name → ServesFor x.name (firsts_of v) → ((q : List ℕ) → lookup (bytes_eq q) then ≡ cond (bytes_eq key q) (Some v) (lookup (bytes_eq q) entries)) →

@@ -54,9 +54,9 @@ pub struct Attributes<'g> {
 
 impl<'g> Model for Attributes<'g> {
     ghost use Rattle.std.specs.Prelude.{map};
-    ghost use Rattle.lw_properties.specs.Known.{Known};
+    ghost use Rattle.lw_properties.specs.Known.{KnownAttributes};
 
-    ghost Value = { Known };
+    ghost Value = { KnownAttributes };
 
     ghost view = { λ a. map (λ e. (e.0, e.1.entries)) a.known.entries };
 }
