@@ -4,6 +4,9 @@ use Rattle.std.proofs.lemmas.Option.{slice_get_within, get_or_from_slice_get}
 use Rattle.lw_grammar.specs.declared.grammar.Grammar.{Grammar}
 use Rattle.lw_load.specs.declared.fault.LoadFault.{LoadFault}
 use Rattle.lw_load.specs.declared.fault.LoadFault.TheVariants as loading
+use Rattle.lw_gramcheck.proofs.Faultless.{no_first_faults}
+use Rattle.lw_told.specs.declared.told.ToldFault.{ToldFault}
+use Rattle.lw_lang.specs.Judged.{AreAllTold}
 use Rattle.lw_lang.specs.Obstacles.{MatchesEmpty}
 use Rattle.lw_lang.specs.Refused.{FirstMatchesEmpty}
 use Rattle.lw_lang.specs.Compiled.{HoldsGrammar, IsClear, IsNotLoaded, IsNotBuilt, Causes}
@@ -54,12 +57,18 @@ module _ (files : Files) (path : List ℕ) (refused : Option (List ℕ)) (faults
 
   -- and built
   built : IsNotBuilt g → ⊥
-  built (inl shape) = shape clear.shape
-  built (inr (inl obstacle)) = clear.clear obstacle
-  built (inr (inr matches)) = clear.filled (matches_empty g matches)
+  built (faultless, inl shape) = shape clear.shape
+  built (faultless, inr (inl obstacle)) = clear.clear obstacle
+  built (faultless, inr (inr matches)) = clear.filled (matches_empty g matches)
+
+  -- and faultless, so that no list of faults, which is never empty, is told of it
+  faultless : (texts : List (List ℕ)) (told : List ToldFault) → AreAllTold g texts told → ⊥
+  faultless texts told all = no_first_faults g clear.faultless all.faults all.all
 
   pub only_memory : (found : CompileFault) → Causes files path refused found → CountsAll faults (Err (stop.Grammar found)) → fault_code found ≡ 7
   only_memory (fault.Load found) cause counts = loaded found cause counts
+  only_memory (fault.Faults told) cause counts =
+      absurd (faultless cause.1.loaded.texts told (subst (λ h. AreAllTold h cause.1.loaded.texts told) (same_grammar files path g holds cause.0 cause.1) cause.2))
   only_memory fault.Unbuilt cause counts = absurd (built (subst IsNotBuilt (same_grammar files path g holds cause.0 cause.1) cause.2))
   only_memory (fault.PatternRefused rule name at) cause counts = absurd (none ThePatterns (counts ThePatterns).rose)
   only_memory fault.NoMemory cause counts = refl

@@ -1,8 +1,9 @@
--- The one line of why a run stopped, which is written beside what it prints. A place is told as compilers tell one, `PATH:LINE:COL: WHAT`,
+-- The note of why a run stopped, which is written beside what it prints: one line, or one for each fault of a grammar. A place is told as compilers tell one, `PATH:LINE:COL: WHAT`,
 -- with line and column counted from 1 and columns in UTF-16 units (Language Server Protocol 3.17, "Position").
 use Rattle.std.specs.Prelude.{ℕ, ◌≡◌, ◌⊎◌, List, ◌++◌, codes, Option, Result, Ok, Err, IfSome}
 use Rattle.std.specs.Io.KnownBytes.{Appends, Keeps}
 use Rattle.std.specs.Fmt.{decimal}
+use Rattle.std.specs.List.{flat_map}
 use Rattle.lw_frame.specs.declared.fault.FrameFault.{FrameFault}
 use Rattle.lw_frame.specs.declared.fault.FrameFault.TheVariants as frame
 use Rattle.lw_text.specs.declared.place.Pos.{Pos}
@@ -11,6 +12,8 @@ use Rattle.lw_syntax.specs.declared.reader.ReadFault.{ReadFault}
 use Rattle.lw_syntax.specs.declared.reader.ReadFault.TheVariants as refusal
 use Rattle.lw_load.specs.declared.fault.LoadFault.{LoadFault}
 use Rattle.lw_load.specs.declared.fault.LoadFault.TheVariants as loading
+use Rattle.lw_told.specs.declared.told.ToldFault.{ToldFault}
+use Rattle.lw_told.specs.Texts.{fault_text}
 use Rattle.lw_lang.specs.declared.fault.CompileFault.{CompileFault}
 use Rattle.lw_lang.specs.declared.fault.CompileFault.TheVariants as fault
 use Rattle.langbench.specs.declared.report.Verdict.{Verdict}
@@ -76,9 +79,17 @@ load_line path (loading.Read p found at) = placed_line p at (refusal_text found)
 load_line path (loading.TooLarge p) = whole_line path (codes "grammar too large")
 load_line path loading.NoMemory = memory_line
 
+-- a fault that was found in the grammar, and each of them
+abbrev pub told_line : ToldFault → List ℕ
+told_line told = placed_line told.path told.at (codes "fault " ++ decimal told.number ++ codes ": " ++ fault_text told.number ++ codes ": " ++ told.name)
+
+abbrev pub told_lines : List ToldFault → List ℕ
+told_lines told = flat_map told_line told
+
 -- a fault of the grammar at this path
 abbrev pub fault_line : List ℕ → CompileFault → List ℕ
 fault_line path (fault.Load found) = load_line path found
+fault_line path (fault.Faults told) = told_lines told
 fault_line path fault.Unbuilt = whole_line path (codes "not built")
 fault_line path (fault.PatternRefused rule name at) = placed_line path at (refused_text name)
 fault_line path fault.NoMemory = memory_line

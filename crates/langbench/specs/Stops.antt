@@ -47,12 +47,14 @@ load_blame _ = Nobody
 -- a fault of the grammar
 abbrev pub fault_code : CompileFault → ℕ
 fault_code (fault.Load found) = load_code found
+fault_code (fault.Faults told) = 3
 fault_code fault.Unbuilt = 3
 fault_code (fault.PatternRefused rule name at) = 3
 fault_code fault.NoMemory = 7
 
 abbrev pub fault_blame : CompileFault → Blame
 fault_blame (fault.Load found) = load_blame found
+fault_blame (fault.Faults told) = Nobody
 fault_blame fault.Unbuilt = Nobody
 fault_blame (fault.PatternRefused rule name at) = One ThePatterns
 fault_blame fault.NoMemory = Unsaid

@@ -1,8 +1,8 @@
-// The notes: one line of why a run stopped.
+// The notes: why a run stopped.
 ghost use Rattle.std.specs.Prelude.{◌≡◌, IfOk, IfSome, IsTrue, string_bytes};
 ghost use Rattle.std.specs.Option.{option_copied};
 ghost use Rattle.lw_io.specs.Causes.{Rose};
-ghost use Rattle.langbench.specs.Notes.{file_line, placed_line, whole_line, refusal_text, load_line, refused_text, fault_line, frame_line, IsStopLine, NotesPart, NotesStop};
+ghost use Rattle.langbench.specs.Notes.{file_line, placed_line, whole_line, refusal_text, load_line, refused_text, told_line, told_lines, fault_line, frame_line, IsStopLine, NotesPart, NotesStop};
 
 use crate::place::printed;
 use crate::stop::Stop;
@@ -13,6 +13,7 @@ use lw_lang::CompileFault;
 use lw_load::LoadFault;
 use lw_syntax::ReadFault;
 use lw_text::Pos;
+use lw_told::{ToldFault, fault_text};
 use std::alloc::Global;
 
 /// Writes the line for a stop; `grammar` is the path of the grammar that the words name. False where
@@ -85,6 +86,7 @@ fn fault_line(alloc: Global, path: &Name, fault: &CompileFault) -> Result<String
 {
     match fault {
         CompileFault::Load(found) => load_line(alloc, path, found),
+        CompileFault::Faults(told) => told_lines(alloc, told.as_slice()),
         CompileFault::Unbuilt => whole_line(alloc, path, "not built"),
         CompileFault::PatternRefused(_, name, at) => refused_line(alloc, path, name, *at),
         CompileFault::NoMemory => Ok(String::from_str(alloc, "out of memory\n")?),
@@ -119,6 +121,29 @@ fn refusal_text(alloc: Global, found: ReadFault) -> Result<String, NoMemory>
         ReadFault::NoMemory => "out of memory",
     };
     Ok(String::from_str(alloc, text)?)
+}
+
+// The faults that were found in a grammar, each in its line.
+fn told_lines(alloc: Global, told: &[ToldFault]) -> Result<String, NoMemory>
+    ensures { IfOk result (λ lines. string_bytes lines ≡ told_lines told.now) }
+{
+    let mut lines = String::new(alloc);
+    'telling: for fault in told {
+        let line = told_line(alloc, fault)?;
+        lines.push_str(line.as_str())?;
+    }
+    Ok(lines)
+}
+
+// `PATH:LINE:COL: fault NUMBER: TEXT: NAME`
+fn told_line(alloc: Global, told: &ToldFault) -> Result<String, NoMemory>
+    ensures { IfOk result (λ line. string_bytes line ≡ told_line told.now) }
+{
+    let number = told.number;
+    let text = fault_text(number);
+    let name = &told.name;
+    let what = format!(in alloc; "fault {number}: {text}: {name}")?;
+    placed_line(alloc, &told.path, told.at, what.as_str())
 }
 
 // `PATH:1:1: WHAT`

@@ -51,7 +51,8 @@ fn fault_code(fault: &CompileFault) -> u8
 {
     match fault {
         CompileFault::Load(found) => load_code(found),
-        CompileFault::Unbuilt | CompileFault::PatternRefused(_, _, _) => 3,
+        CompileFault::Faults(_) | CompileFault::Unbuilt | CompileFault::PatternRefused(_, _, _) =>
+            3,
         CompileFault::NoMemory => 7,
     }
 }

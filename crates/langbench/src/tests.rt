@@ -18,7 +18,7 @@ pub(crate) const FLAT: &str =
 
 const FACES: &str = "grammar G entry A: 'x' v=E; hidden terminal WS: /\\s+/; terminal E: /😀+/;";
 
-const CHOICE: &str = "grammar F entry A: 'a' | 'b';";
+const CHOICE: &str = "grammar F entry A: a='a' | b='b';";
 
 const IMPORTS: &str = "grammar I import './j' entry A: 'a' b=B;";
 

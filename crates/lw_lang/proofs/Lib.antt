@@ -1,3 +1,4 @@
+pub mod JudgeLemmas
 pub mod FirstUses
 pub mod RowLemmas
 pub mod RowReading

@@ -8,11 +8,13 @@ use Rattle.lw_load.specs.declared.fault.LoadFault.TheVariants as loading
 use Rattle.lw_load.specs.declared.loader.Loaded.{Loaded}
 use Rattle.lw_load.specs.Loading.{Files, Loads}
 use Rattle.lw_load.specs.LoadFaults.{Stops, IsOfFiles}
+use Rattle.lw_gramcheck.specs.Judging.{IsFaultless}
+use Rattle.lw_lang.specs.Judged.{AreAllTold}
 use Rattle.lw_lang.specs.Shape.{HasShape}
 use Rattle.lw_lang.specs.Obstacles.{HasObstacle, MatchesEmpty}
 use Rattle.lw_lang.specs.Refused.{FirstMatchesEmpty, IsToldBy, IsPatternRefused}
 use Rattle.lw_lang.specs.declared.fault.CompileFault.{CompileFault}
-use Rattle.lw_lang.specs.declared.fault.CompileFault.TheVariants.{Load, Unbuilt, PatternRefused, NoMemory}
+use Rattle.lw_lang.specs.declared.fault.CompileFault.TheVariants.{Load, Faults, Unbuilt, PatternRefused, NoMemory}
 
 -- the root file and all that it imports say this grammar together, and no other
 pub record HoldsGrammar (files : Files) (root : List ℕ) (g : Grammar) : Type 0 where
@@ -21,16 +23,17 @@ pub record HoldsGrammar (files : Files) (root : List ℕ) (g : Grammar) : Type 0
   pub only : (other : Loaded) → Loads files root other → other ≡ loaded
   pub same : loaded.grammar ≡ g
 
--- a grammar of the shape that is built, with none of the listed conditions
+-- a grammar without a fault, of the shape that is built, with none of the listed conditions
 pub record IsClear (g : Grammar) : Type 0 where
+  pub faultless : IsFaultless g
   pub shape : HasShape g
   pub clear : ¬ HasObstacle g
   pub filled : ¬ MatchesEmpty g
 
--- A grammar that is loaded and not built: it has another shape, or one of the listed conditions. Of the patterns the first that is refused
--- or matches the empty text decides.
+-- A grammar without a fault that is not built: it has another shape, or one of the listed conditions. Of the patterns the first that is
+-- refused or matches the empty text decides.
 abbrev pub IsNotBuilt : Grammar → Type 0
-IsNotBuilt g = (¬ HasShape g) ⊎ HasObstacle g ⊎ FirstMatchesEmpty g
+IsNotBuilt g = IsFaultless g × ((¬ HasShape g) ⊎ HasObstacle g ⊎ FirstMatchesEmpty g)
 
 -- the first fault of the files; unless the store failed, they say no grammar
 pub record IsNotLoaded (files : Files) (root : List ℕ) (found : LoadFault) : Type 0 where
@@ -41,6 +44,7 @@ pub record IsNotLoaded (files : Files) (root : List ℕ) (found : LoadFault) : T
 -- why each fault comes, by the files and the text that the patterns refused last
 abbrev pub Causes : Files → List ℕ → Option (List ℕ) → CompileFault → Type 0
 Causes files root refused (Load found) = IsNotLoaded files root found
+Causes files root refused (Faults told) = (g : Grammar) × (holds : HoldsGrammar files root g) × AreAllTold g holds.loaded.texts told
 Causes files root refused Unbuilt = (g : Grammar) × HoldsGrammar files root g × IsNotBuilt g
 Causes files root refused (PatternRefused rule name at) =
     (g : Grammar) × (holds : HoldsGrammar files root g) × IsPatternRefused g holds.loaded.texts refused rule name at
@@ -49,6 +53,7 @@ Causes files root refused NoMemory = Unit {0}
 -- the same by the grammar and the texts of its files
 abbrev pub GrammarCauses : Grammar → List (List ℕ) → Option (List ℕ) → CompileFault → Type 0
 GrammarCauses g texts refused (Load found) = ⊥
+GrammarCauses g texts refused (Faults told) = AreAllTold g texts told
 GrammarCauses g texts refused Unbuilt = IsNotBuilt g
 GrammarCauses g texts refused (PatternRefused rule name at) = IsPatternRefused g texts refused rule name at
 GrammarCauses g texts refused NoMemory = Unit {0}

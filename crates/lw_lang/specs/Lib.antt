@@ -9,3 +9,4 @@ pub mod Language
 pub mod Prepared
 pub mod Ready
 pub mod Compiled
+pub mod Judged

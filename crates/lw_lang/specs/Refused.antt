@@ -10,6 +10,7 @@ use Rattle.lw_text.specs.declared.place.Pos.{Pos}
 use Rattle.lw_tokens.specs.Matching.{match_length}
 use Rattle.lw_tokens.specs.Patterns.{TerminalPattern}
 use Rattle.lw_terminals.specs.Made.{IsUsable}
+use Rattle.lw_gramcheck.specs.Judging.{IsFaultless}
 use Rattle.lw_lang.specs.Shape.{HasShape}
 use Rattle.lw_lang.specs.Obstacles.{HasObstacle}
 
@@ -44,8 +45,9 @@ module _ (g : Grammar) where
       pub file : slice_get texts terminal.file ≡ Some text
       pub begins : IsPosition text terminal.span.start at
 
-    -- none of the other conditions holds, the text refused last is the first pattern that is not made, and its terminal is told
+    -- the grammar has no fault, none of the other conditions holds, the text refused last is the first pattern that is not made, and its terminal is told
     pub record IsPatternRefused (refused : Option (List ℕ)) (rule : RuleId) (name : List ℕ) (at : Pos) : Type 0 where
+      pub faultless : IsFaultless g
       pub shape : HasShape g
       pub clear : ¬ HasObstacle g
       pub terminal : Terminal

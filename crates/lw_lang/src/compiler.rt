@@ -2,6 +2,7 @@
 ghost use Rattle.std.specs.Prelude.{◌≡◌, ◌+◌, ◌≤◌, ◌<◌, length, slice_get, IfOk, IfErr, IfSome, Any, bytes_eq, map, position};
 ghost use Rattle.lw_load.specs.declared.limits.TheConstants.{LARGEST_GRAMMAR};
 ghost use Rattle.lw_load.specs.Standing.{Stands};
+ghost use Rattle.lw_gramcheck.specs.Judging.{IsFaultless};
 ghost use Rattle.lw_lang.specs.Compiled.{HoldsGrammar, IsClear, Causes, GrammarCauses, IsPatternFault, CountsStore, CountsPatterns, KeepsPatterns};
 ghost use Rattle.lw_lang.specs.Obstacles.{HasObstacle};
 ghost use Rattle.lw_lang.specs.Flat.{IsFlat, IsReady};
@@ -11,6 +12,7 @@ ghost use Rattle.lw_lang.specs.Shape.{HasShape};
 
 use crate::fault::CompileFault;
 use crate::flat::{Flat, FlatFault, make_flat};
+use crate::judging::judge_files;
 use crate::language::Language;
 use crate::shape::has_shape;
 use lw_base::{Name, NoMemory, RuleId};
@@ -24,7 +26,7 @@ use std::alloc::Global;
 /// Loads the root file of a grammar with all that it imports, and makes the grammar ready. `k` is how many
 /// kinds the reader may look ahead; grammars that are built so far need none.
 ///
-/// The files are loaded first, then the grammar's shape and its conditions are looked at, and the patterns
+/// The files are loaded first, then faults are looked for, then the grammar's shape and its conditions are looked at, and the patterns
 /// of its terminals are made in the order of kinds: the first that is refused or matches the empty text
 /// decides. Nothing of this changes the store's files.
 pub fn compile<F: Store, P: Patterns>(
@@ -54,13 +56,37 @@ pub fn compile<F: Store, P: Patterns>(
     build(alloc, loaded.grammar, loaded.texts.as_slice(), patterns)
 }
 
-// Makes a grammar ready, the texts of whose files are these.
+// Judges a grammar, the texts of whose files are these, and makes it ready.
 fn build<P: Patterns>(
     alloc: Global,
     grammar: Grammar,
     texts: &[Name],
     patterns: &mut P,
 ) -> Result<Language, CompileFault>
+    requires fits { size grammar ≤ LARGEST_GRAMMAR }
+    requires root { 0 < length grammar.files }
+    requires stand { Stands texts.now grammar }
+    ensures grammar { IfOk result (λ language. language.grammar ≡ grammar) }
+    ensures clear { IfOk result (λ language. IsClear language.grammar) }
+    ensures texts { IfOk result (λ language. AreKindTexts language.grammar language.texts) }
+    ensures fault { IfErr result (GrammarCauses grammar texts.now (P.last_refused patterns.new)) }
+    ensures patterns { CountsPatterns (P.count patterns.old) (P.count patterns.new) result }
+    ensures last { KeepsPatterns (P.last_refused patterns.old) (P.last_refused patterns.new) result }
+{
+    match judge_files(alloc, &grammar, texts) {
+        Ok(()) => build_faultless(alloc, grammar, texts, patterns),
+        Err(fault) => Err(fault),
+    }
+}
+
+// Makes a grammar without faults ready.
+fn build_faultless<P: Patterns>(
+    alloc: Global,
+    grammar: Grammar,
+    texts: &[Name],
+    patterns: &mut P,
+) -> Result<Language, CompileFault>
+    requires faultless { IsFaultless grammar }
     requires fits { size grammar ≤ LARGEST_GRAMMAR }
     requires stand { Stands texts.now grammar }
     ensures grammar { IfOk result (λ language. language.grammar ≡ grammar) }
@@ -88,6 +114,7 @@ fn language_of<P: Patterns>(
     flat: Flat,
     patterns: &mut P,
 ) -> Result<Language, CompileFault>
+    requires faultless { IsFaultless grammar }
     requires shape { HasShape grammar }
     requires fits { size grammar ≤ LARGEST_GRAMMAR }
     requires stand { Stands texts.now grammar }

@@ -3,15 +3,19 @@ ghost use Rattle.std.specs.Prelude.{◌≡◌};
 ghost use Rattle.lw_lang.specs.Compiled.{of_load};
 ghost use Rattle.lw_lang.specs.declared.fault.CompileFault.TheVariants.{NoMemory as no_memory};
 
-use lw_base::{Name, NoMemory, RuleId};
+use lw_base::{Items, Name, NoMemory, RuleId};
 use lw_load::LoadFault;
 use lw_text::Pos;
+use lw_told::ToldFault;
 
 /// Why a grammar is not compiled.
 #[derive(Drop)]
 pub enum CompileFault {
     /// The files are not loaded. The fault of loading is never want of memory.
     Load(LoadFault),
+    /// Something is wrong with what the files say: all faults of the first phase that has any, at least one, in their
+    /// order.
+    Faults(Items<ToldFault>),
     /// What the files say is of no form that is built so far.
     Unbuilt,
     /// The pattern of this terminal was refused: its number among the rules and terminals, of which the

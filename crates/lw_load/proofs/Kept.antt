@@ -18,6 +18,7 @@ use Rattle.lw_load.proofs.Ways.{Takes}
 pub record Keeps (walk : Walk) : Type 0 where
   pub size : walk.size ≡ size walk.whole
   pub fits : walk.size ≤ LARGEST_GRAMMAR
+  pub root : 0 < length walk.whole.files
   pub stands : Stands walk.texts walk.whole
   pub room : length walk.whole.files + length walk.waiting.items ≤ length walk.whole.imports + 1
 
@@ -58,6 +59,7 @@ pub keeps_begins : (told : Option Files) (root : List ℕ) (walk : Walk) → Beg
 keeps_begins told root walk b = record {
   size = size_added told root b.empty walk b.file b.is b.adds (b.size ∙ sym (ap size b.whole));
   fits = b.adds.fits;
+  root = omega (arith, files_added told root b.empty walk b.file b.is b.adds);
   stands = stands_added told root b.empty walk b.file b.is b.adds
       (subst (λ ts. Stands ts b.empty.whole) (sym b.texts) (subst (Stands []) (sym b.whole) (stands_bare b.file.says.name)));
   room = omega (
@@ -83,12 +85,14 @@ module _ (path : List ℕ) (old now : Walk) (keeps : Keeps old) (takes : Takes o
   keeps_goes told new (Goes.known had same) = record {
     size = same.size ∙ takes.size ∙ keeps.size ∙ sym (ap size (same.whole ∙ takes.whole));
     fits = omega (arith, same.size, takes.size, keeps.fits);
+    root = omega (arith, keeps.root, ap (λ g. length g.files) (same.whole ∙ takes.whole));
     stands = subst (λ ts. Stands ts new.whole) (sym (same.texts ∙ takes.texts)) (subst (Stands old.texts) (sym (same.whole ∙ takes.whole)) keeps.stands);
     room = omega (arith, was_waiting, keeps.room, ap length same.waiting, ap (λ g. length g.files) (same.whole ∙ takes.whole), ap (λ g. length g.imports) (same.whole ∙ takes.whole));
   }
   keeps_goes told new (Goes.opened file first is adds seen) = record {
     size = size_added told path now new file is adds (takes.size ∙ keeps.size ∙ sym (ap size takes.whole));
     fits = adds.fits;
+    root = omega (arith, files_added told path now new file is adds);
     stands = stands_added told path now new file is adds
         (subst (λ ts. Stands ts now.whole) (sym takes.texts) (subst (Stands old.texts) (sym takes.whole) keeps.stands));
     room = omega (

@@ -1,5 +1,5 @@
 // The walk over the files of a grammar.
-ghost use Rattle.std.specs.Prelude.{◌≡◌, ◌≤◌, IfOk, IfErr, IfSome};
+ghost use Rattle.std.specs.Prelude.{◌≡◌, ◌<◌, ◌≤◌, IfOk, IfErr, IfSome, length};
 ghost use Rattle.lw_grammar.specs.Size.{size};
 ghost use Rattle.lw_load.specs.declared.limits.TheConstants.{LARGEST_GRAMMAR};
 ghost use Rattle.lw_load.specs.declared.loader.Loaded.{Loaded};
@@ -31,6 +31,7 @@ pub fn load<F: Store>(alloc: Global, root: &Name, store: &mut F) -> Result<Loade
     ensures loads { IfOk result (λ loaded. IfSome (F.files store.old) (λ files. Loads files root.now loaded)) }
     ensures only { IfOk result (λ loaded. IfSome (F.files store.old) (λ files. (other : Loaded) → Loads files root.now other → other ≡ loaded)) }
     ensures fits { IfOk result (λ loaded. size loaded.grammar ≤ LARGEST_GRAMMAR) }
+    ensures root { IfOk result (λ loaded. 0 < length loaded.grammar.files) }
     ensures stand { IfOk result (λ loaded. Stands loaded.texts loaded.grammar) }
     ensures fault { IfErr result (λ fault. IfSome (F.files store.old) (λ files. Stops files root.now fault)) }
     ensures nothing { IfErr result (λ fault. IfSome (F.files store.old) (λ files. IsOfFiles fault → (other : Loaded) → ¬ Loads files root.now other)) }

@@ -26,11 +26,7 @@ pub(crate) fn interface_of<'g>(
 }
 
 /// The union that a name means, and its number, in expected constant time.
-pub(crate) fn union_of<'g>(
-    g: &'g Grammar,
-    numbers: &Numbers,
-    name: &Name,
-) -> Option<(usize, &'g UnionDef)>
+pub fn union_of<'g>(g: &'g Grammar, numbers: &Numbers, name: &Name) -> Option<(usize, &'g UnionDef)>
     requires { AreNumbersOf g.now numbers.now }
     ensures { MatchOption result ((u : ℕ) (union : UnionDef) → ¬ IsUnion g.now name.now u union) (λ found. IsUnion g.now name.now found.0 found.1.now) }
 {
@@ -41,7 +37,7 @@ pub(crate) fn union_of<'g>(
 }
 
 /// Whether an interface or a union declares the type, in expected constant time.
-pub(crate) fn is_declared(g: &Grammar, numbers: &Numbers, name: &Name) -> bool
+pub fn is_declared(g: &Grammar, numbers: &Numbers, name: &Name) -> bool
     requires { AreNumbersOf g.now numbers.now }
     ensures { IsTrue result ↔ IsDeclared g.now name.now }
 {

@@ -1,23 +1,35 @@
 // The types that are inferred.
-ghost use Rattle.std.specs.Prelude.{◌≡◌, OnOk, map};
+ghost use Rattle.std.specs.Prelude.{◌≡◌, ◌↔◌, ℕ, List, IfOk, OnOk, Contains, map};
+ghost use Rattle.lw_faults.specs.Written.{IsInferredType};
 ghost use Rattle.lw_findings.specs.Finding.{Finds, OfSome};
 ghost use Rattle.lw_leaves.specs.Parts.{leaf_of};
-ghost use Rattle.lw_properties.specs.Places.{spot_of};
+ghost use Rattle.lw_properties.specs.Places.{spot_of, ArePlacesOf};
 ghost use Rattle.lw_properties.specs.Mixing.{RuleInfers, LeafInfers, InfersAt};
 
 use crate::places::Place;
 use indexmap::IndexSet;
 use lw_base::{Name, NoMemory};
-use lw_grammar::{Rule, RuleResult};
+use lw_grammar::{Grammar, Rule, RuleResult};
 use lw_leaves::BodyLeaf;
 use std::alloc::Global;
 
-/// Puts in the names of the types that the results of rules infer.
-pub(crate) fn put_results(
+/// The names of the types that a grammar infers, of which these are the places of all leaves.
+pub fn inferred_types(
     alloc: Global,
-    names: &mut IndexSet<Name>,
-    rules: &[Rule],
-) -> Result<(), NoMemory>
+    g: &Grammar,
+    places: &[Place<'_>],
+) -> Result<IndexSet<Name>, NoMemory>
+    requires { ArePlacesOf g.now (map spot_of places.now) }
+    ensures { IfOk result (λ inferred. (name : List ℕ) → Contains inferred.keys name ↔ IsInferredType g.now name) }
+{
+    let mut names = IndexSet::new(alloc);
+    put_results(alloc, &mut names, g.rules.as_slice())?;
+    put_actions(alloc, &mut names, places)?;
+    Ok(names)
+}
+
+/// Puts in the names of the types that the results of rules infer.
+fn put_results(alloc: Global, names: &mut IndexSet<Name>, rules: &[Rule]) -> Result<(), NoMemory>
     ensures { OnOk result (Finds (OfSome RuleInfers rules.now) names.old.keys names.new.keys) }
 {
     for rule in rules {
@@ -41,7 +53,7 @@ fn put_result(alloc: Global, names: &mut IndexSet<Name>, rule: &Rule) -> Result<
 }
 
 /// Puts in the names of the types that actions infer.
-pub(crate) fn put_actions(
+fn put_actions(
     alloc: Global,
     names: &mut IndexSet<Name>,
     places: &[Place<'_>],

@@ -16,7 +16,7 @@ use lw_numbers::{Called, Numbers};
 
 /// What a part of a value is to an attribute.
 #[derive(Clone, Copy, Drop)]
-pub(crate) enum ValueIs<'g> {
+pub enum ValueIs<'g> {
     Plain(Primitive),
     /// A text that a data type rule of this type reads.
     TextsOf(&'g Name),
@@ -25,7 +25,7 @@ pub(crate) enum ValueIs<'g> {
 }
 
 /// The type of a rule, where it has one.
-pub(crate) fn type_of(rule: &Rule) -> Option<&Name>
+pub fn type_of(rule: &Rule) -> Option<&Name>
     ensures { option_copied result ≡ rule_type rule.now.is_fragment rule.now.result rule.now.name }
 {
     if rule.is_fragment {
@@ -40,7 +40,7 @@ pub(crate) fn type_of(rule: &Rule) -> Option<&Name>
 
 /// What a part of a value is. A call of an unknown rule or of a fragment of rules is nothing, and so
 /// is that of a rule that makes nodes and returns a primitive.
-pub(crate) fn kind_of<'g>(
+pub fn kind_of<'g>(
     g: &'g Grammar,
     numbers: &Numbers,
     nodes: &[bool],

@@ -35,4 +35,9 @@ mod telling;
 mod unknown;
 
 pub use attributes::Attributes;
+pub use declarations::{is_declared, union_of};
 pub use find::find_property_faults;
+pub use inferred::inferred_types;
+pub use kinds::{ValueIs, kind_of, type_of};
+pub use lineage::lineage as lineage_of;
+pub use places::{Place, is_come_to, places as leaf_places};

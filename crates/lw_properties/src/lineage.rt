@@ -11,7 +11,7 @@ use lw_numbers::Numbers;
 use std::alloc::Global;
 
 /// The interfaces whose attributes a type has, its own first, each once. It is linear in their number, as expected.
-pub(crate) fn lineage<'g>(
+pub fn lineage<'g>(
     alloc: Global,
     g: &'g Grammar,
     numbers: &Numbers,

@@ -1,20 +1,18 @@
 // Properties of inferred types that are a list here and none there.
-ghost use Rattle.std.specs.Prelude.{◌↔◌, ℕ, List, IfOk, OnOk, Contains, map};
+ghost use Rattle.std.specs.Prelude.{List, OnOk, map};
 ghost use Rattle.lw_faults.specs.Properties.{MixedProperty};
-ghost use Rattle.lw_faults.specs.Written.{IsInferredType};
 ghost use Rattle.lw_findings.specs.Finding.{Finds, OfSome, IsFaultOf};
 ghost use Rattle.lw_properties.specs.Asked.{IsKnownIn};
 ghost use Rattle.lw_properties.specs.Places.{spot_of, ArePlacesOf};
 ghost use Rattle.lw_properties.specs.Mixing.{Putting, putting_of, AreFirstPuts, MixedAt};
 
 use crate::firsts::{Firsts, first_puts, is_mixed};
-use crate::inferred::{put_actions, put_results};
+use crate::inferred::inferred_types;
 use crate::known::Known;
 use crate::places::Place;
 use crate::puts::{Put, put_puts};
 use crate::telling::{Spoken, tell_if};
-use indexmap::IndexSet;
-use lw_base::{Name, NoMemory};
+use lw_base::NoMemory;
 use lw_findings::Findings;
 use std::alloc::Global;
 
@@ -30,25 +28,10 @@ pub(crate) fn find_mixed_properties<'g>(
     requires places { ArePlacesOf known.now.g.now (map spot_of places.now) }
     ensures { OnOk result (Finds (IsFaultOf 16 (MixedProperty known.now.g.now)) found.old found.new) }
 {
-    let inferred = inferred_types(alloc, known, places)?;
+    let inferred = inferred_types(alloc, known.g, places)?;
     let mut puts = Vec::new(alloc);
     put_puts(known, &inferred, places, &mut puts)?;
     find_mixed(alloc, puts.as_slice(), found)
-}
-
-/// The names of the types that are inferred.
-fn inferred_types(
-    alloc: Global,
-    known: &Known<'_>,
-    places: &[Place<'_>],
-) -> Result<IndexSet<Name>, NoMemory>
-    requires { ArePlacesOf known.now.g.now (map spot_of places.now) }
-    ensures { IfOk result (λ inferred. (name : List ℕ) → Contains inferred.keys name ↔ IsInferredType known.now.g.now name) }
-{
-    let mut names = IndexSet::new(alloc);
-    put_results(alloc, &mut names, known.g.rules.as_slice())?;
-    put_actions(alloc, &mut names, places)?;
-    Ok(names)
 }
 
 /// Finds what is put in as a list behind what is put in as none, or the other way round.

@@ -14,18 +14,14 @@ use std::alloc::Global;
 
 /// A leaf of a rule's body, and what may come before it.
 #[derive(Clone, Copy, Drop)]
-pub(crate) struct Place<'g> {
-    pub(crate) rule: &'g Rule,
-    pub(crate) leaf: BodyLeaf<'g>,
-    pub(crate) before: &'g Before,
+pub struct Place<'g> {
+    pub rule: &'g Rule,
+    pub leaf: BodyLeaf<'g>,
+    pub before: &'g Before,
 }
 
 /// All leaves of a grammar.
-pub(crate) fn places<'g>(
-    alloc: Global,
-    g: &'g Grammar,
-    ways: &'g Ways,
-) -> Result<Vec<Place<'g>>, NoMemory>
+pub fn places<'g>(alloc: Global, g: &'g Grammar, ways: &'g Ways) -> Result<Vec<Place<'g>>, NoMemory>
     requires { AreWaysOf g.now ways.now }
     ensures { IfOk result (λ places. ArePlacesOf g.now (map spot_of places.items)) }
 {
@@ -62,7 +58,7 @@ fn put_places<'g>(
 }
 
 /// Whether some way comes to what has this before it.
-pub(crate) fn is_come_to(before: &Before) -> bool
+pub fn is_come_to(before: &Before) -> bool
     ensures { IsTrue result ↔ IsComeTo before.now }
 {
     before.first || before.behind

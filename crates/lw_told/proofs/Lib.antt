@@ -1,3 +1,3 @@
 mod Spans
-mod Places
+pub mod Places
 mod Telling

@@ -1,8 +1,12 @@
-use Rattle.std.proofs.Common.{Err, inl, inr, ap, rules}
+use Rattle.lw_lang.specs.Language.{LanguageView}
+use Rattle.lw_lang.proofs.JudgeLemmas.{judged_causes, judged_counts, judged_keeps}
 use Rattle.lw_lang.proofs.compiler.build.Goals as goal
 
-pub language_of-requires-clause-clear : goal.language_of-requires-clause-clear
-language_of-requires-clause-clear g c = c.in-Ok.ensures.clear (search rules)
+pub returns-in-Err-clause-fault : goal.returns-in-Err-clause-fault
+returns-in-Err-clause-fault g c = judged_causes c.args.grammar c.args.texts.now _ c.in-Err.fault c.in-Err.ensures.faults
 
-pub returns-in-Err-Obstacle-clause-fault : goal.returns-in-Err-Obstacle-clause-fault
-returns-in-Err-Obstacle-clause-fault g c = inr (inl (c.in-Err-Obstacle.ensures.obstacle (ap Err c.in-Err-Obstacle.field-0-is)))
+pub returns-in-Err-clause-patterns : goal.returns-in-Err-clause-patterns
+returns-in-Err-clause-patterns g c = judged_counts c.args.grammar c.args.texts.now LanguageView _ c.in-Err.fault c.in-Err.ensures.faults
+
+pub returns-in-Err-clause-last : goal.returns-in-Err-clause-last
+returns-in-Err-clause-last g c = judged_keeps c.args.grammar c.args.texts.now LanguageView _ c.in-Err.fault c.in-Err.ensures.faults

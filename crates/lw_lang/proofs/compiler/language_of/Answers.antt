@@ -15,6 +15,7 @@ pub returns-in-Ok-clause-clear : goal.returns-in-Ok-clause-clear
 returns-in-Ok-clause-clear g c =
     let same : c.new.result.grammar ≡ c.args.grammar = ap (λ (v : LanguageView). v.grammar) c.new.ensures in
     subst IsClear (sym same) (record {
+      faultless = c.requires.faultless;
       shape = c.requires.shape;
       clear = c.requires.clear;
       filled = none_empty c.args.grammar c.requires.shape c.args.flat c.requires.flat c.in-Ok.ensures.usable;
@@ -24,7 +25,7 @@ pub returns-in-Err-EmptyMatch-clause-fault : goal.returns-in-Err-EmptyMatch-clau
 returns-in-Err-EmptyMatch-clause-fault g c =
     let at = c.in-Err-EmptyMatch.ensures.empty_match c.in-Err-EmptyMatch.field-0-0 (ap Err c.in-Err-EmptyMatch.field-0-is) in
     let of = tried c.args.grammar c.requires.shape c.args.flat c.requires.flat _ c.in-Err-EmptyMatch.field-0-0 at.terminal at.tried in
-    inr (inr (of.terminal, at.terminal.pattern, of.tried, at.matches_empty))
+    (c.requires.faultless, inr (inr (of.terminal, at.terminal.pattern, of.tried, at.matches_empty)))
 
 pub swap_remove-requires : goal.swap_remove-requires
 swap_remove-requires g c =
@@ -53,5 +54,5 @@ returns-in-Err-Refused-clause-fault g c =
     let name =
     name_at c.args.flat.terminals.items c.in_ok-names.names.items c.in-Err-Refused.i at.terminal c.swap_remove.result
     (c.in_ok-names.ensures ∙ ap (map (λ s. s.name)) c.deref.ensures.value) at.tried.there c.swap_remove.ensures.value in
-    pattern_causes c.args.grammar c.args.texts.now _ _ c.refused.result c.refused.ensures c.requires.shape c.requires.clear at.terminal.pattern at.refused of.terminal of.tried
+    pattern_causes c.args.grammar c.args.texts.now _ _ c.refused.result c.refused.ensures c.requires.faultless c.requires.shape c.requires.clear at.terminal.pattern at.refused of.terminal of.tried
     (λ i other there named. one_named c.args.grammar c.requires.shape c.requires.clear i of.place other of.terminal there of.there (named ∙ (name ∙ sym of.named)))

@@ -1,0 +1,22 @@
+use Rattle.std.proofs.Common.{◌≡◌, List, ℕ, [], ◌∷◌, ◌++◌, IfOk, string_bytes, codes, refl, ap, ◌∙◌, subst}
+use Rattle.std.specs.Fmt.{decimal}
+use Rattle.lw_told.specs.Texts.{fault_text}
+use Rattle.langbench.specs.Notes.{placed_line}
+use Rattle.langbench.proofs.notes.told_line.Goals as goal
+
+-- six texts joined from the right or from the left
+joined : (a b c : List ℕ) → a ++ (b ++ c) ≡ (a ++ b) ++ c
+joined [] b c = refl
+joined (x ∷ a) b c = ap (λ xs. x ∷ xs) (joined a b c)
+
+six : (a b c d e f : List ℕ) → a ++ (b ++ (c ++ (d ++ (e ++ f)))) ≡ ((((a ++ b) ++ c) ++ d) ++ e) ++ f
+six a b c d e f =
+    joined a b (c ++ (d ++ (e ++ f))) ∙ joined (a ++ b) c (d ++ (e ++ f)) ∙ joined ((a ++ b) ++ c) d (e ++ f) ∙ joined (((a ++ b) ++ c) ++ d) e f
+
+pub returns : goal.returns
+returns c =
+    let told = c.args.told.now in
+    let P : List ℕ → Type 0 = λ w. IfOk c.placed_line.result (λ line. string_bytes line ≡ placed_line told.path told.at w) in
+    let Q : List ℕ → Type 0 = λ t. P (codes "fault " ++ (decimal told.number ++ (codes ": " ++ (t ++ (codes ": " ++ told.name))))) in
+    let right = subst Q c.fault_text-text.ensures (subst P (c.as_str.ensures.value ∙ c.in_ok-what.ensures.ok) c.placed_line.ensures) in
+    subst P (six (codes "fault ") (decimal told.number) (codes ": ") (fault_text told.number) (codes ": ") told.name) right

@@ -1,0 +1,2 @@
+pub mod CheckPhase
+pub mod Faultless

@@ -1,0 +1,20 @@
+//! What is wrong with a grammar: with how its rules work together, and with all of it.
+//!
+//! [`judge`] answers whether anything is wrong with a grammar, by all faults of the first of the two phases that has any. The
+//! first phase is that of `lw_types`. [`check`] is the second: it looks at a grammar whose names and types are in order, and lists the faults of the second phase: those of entries, of what
+//! rules read, of the order in which they do things, and of how their parts go together. `docs/faults.md` lists them.
+//!
+//! Its model: faults are plain data, and the list is one of the faults that `lw_faults` defines.
+//!
+//! It promises exactly the list of all faults of this phase, each once, in their order; where a fragment or a terminal calls
+//! itself, what rules read and do is not looked at. It takes expected time linear in the grammar, but for what the crates below say of
+//! circles of calls.
+#![tactic(auto)]
+
+mod checking;
+mod fault;
+mod judging;
+
+pub use checking::check;
+pub use fault::JudgeFault;
+pub use judging::judge;

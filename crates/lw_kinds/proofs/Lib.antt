@@ -1,0 +1,13 @@
+pub mod FirstTexts
+pub mod UseTexts
+pub mod MarkLemmas
+pub mod GatherSteps
+pub mod CalledTerminals
+pub mod GatherForms
+pub mod KeptSteps
+pub mod PlaceSteps
+pub mod Few
+pub mod RowLemmas
+pub mod OneRow
+pub mod TerminalNumbers
+pub mod WorkedRow

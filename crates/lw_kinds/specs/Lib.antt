@@ -1,0 +1,5 @@
+pub mod Calls
+pub mod Gathering
+pub mod Rows
+pub mod Uses
+pub mod Worked

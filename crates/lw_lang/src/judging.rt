@@ -1,0 +1,42 @@
+// What is wrong with a grammar, told by the texts of its files.
+ghost use Rattle.std.specs.Prelude.{◌≤◌, ◌<◌, IfErr, OnOk, length};
+ghost use Rattle.lw_grammar.specs.Size.{size};
+ghost use Rattle.lw_gramcheck.specs.Judging.{IsFaultless, AreFirstFaults};
+ghost use Rattle.lw_load.specs.declared.limits.TheConstants.{LARGEST_GRAMMAR};
+ghost use Rattle.lw_load.specs.Standing.{Stands};
+ghost use Rattle.lw_lang.specs.Judged.{IsJudged};
+
+use crate::fault::CompileFault;
+use lw_base::{Name, NoMemory};
+use lw_gramcheck::{JudgeFault, judge};
+use lw_grammar::{Grammar, GrammarFault};
+use lw_told::told_faults;
+use std::alloc::Global;
+
+/// Looks for faults of a grammar, the texts of whose files are these.
+pub(crate) fn judge_files(alloc: Global, g: &Grammar, texts: &[Name]) -> Result<(), CompileFault>
+    requires fits { size g.now ≤ LARGEST_GRAMMAR }
+    requires root { 0 < length g.now.files }
+    requires stand { Stands texts.now g.now }
+    ensures faultless { OnOk result (IsFaultless g.now) }
+    ensures faults { IfErr result (IsJudged g.now texts.now) }
+{
+    match judge(alloc, g) {
+        Ok(()) => Ok(()),
+        Err(JudgeFault::Faults(found)) => Err(told(alloc, g, texts, found.as_slice())),
+        Err(JudgeFault::NoMemory) => Err(CompileFault::NoMemory),
+    }
+}
+
+/// These faults, told by the texts of the files.
+fn told(alloc: Global, g: &Grammar, texts: &[Name], found: &[GrammarFault]) -> CompileFault
+    requires root { 0 < length g.now.files }
+    requires stand { Stands texts.now g.now }
+    requires found { AreFirstFaults g.now found.now }
+    ensures { IsJudged g.now texts.now result }
+{
+    match told_faults(alloc, g, texts, found) {
+        Ok(told) => CompileFault::Faults(told),
+        Err(NoMemory) => CompileFault::NoMemory,
+    }
+}

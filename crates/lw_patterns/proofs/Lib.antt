@@ -1,0 +1,16 @@
+pub mod CallForms
+pub mod Calling
+pub mod DraftLemmas
+pub mod EachPattern
+pub mod EndLemmas
+pub mod MeaningLemmas
+pub mod OneTerminal
+pub mod PatternsReady
+pub mod Ranging
+pub mod ReadyBodies
+pub mod ReadyForms
+pub mod ReadyPatterns
+pub mod RoundLemmas
+pub mod Sizes
+pub mod UnescapingLemmas
+pub mod WrittenForms

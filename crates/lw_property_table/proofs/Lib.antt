@@ -1,0 +1,11 @@
+pub mod Firsts
+pub mod InSets
+pub mod Putting
+pub mod Declaring
+pub mod Adding
+pub mod Giving
+pub mod TypeFlags
+pub mod Meeting
+pub mod Telling
+pub mod Settled
+pub mod ShapesWorked

@@ -1,0 +1,7 @@
+pub mod FirstSeen
+pub mod Values
+pub mod Sightings
+pub mod Having
+pub mod Gathered
+pub mod Seeing
+pub mod Worked

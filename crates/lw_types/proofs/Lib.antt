@@ -1,0 +1,2 @@
+pub mod TypePhase
+pub mod SetLemmas

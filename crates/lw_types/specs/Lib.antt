@@ -1,0 +1,3 @@
+pub mod Inferred
+pub mod Sets
+pub mod Facts

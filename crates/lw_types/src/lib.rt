@@ -1,0 +1,23 @@
+//! What is known of the types of a grammar, and what is wrong with them.
+//!
+//! [`infer`] looks at a grammar that was loaded, and answers its [`Types`], or all faults of the first of the two phases in which faults
+//! are looked for: those of names and types. `docs/faults.md` lists them.
+//!
+//! Its model: a [`Types`] is what crates below found out, of rules ([`RuleFacts`]: the numbers of names, which rules make nodes,
+//! what may come before each leaf) and of types ([`TypeFacts`]: which are below which, by which rules cross-references
+//! are read that name none).
+//!
+//! It promises that there are types exactly where the grammar has no fault of this phase, that the faults are
+//! else all that there are, each once, in their order, and that what is answered of types is what the definitions say. Each part
+//! takes expected time linear in the grammar, but for what the crates below say of circles, of chains of types, and of fragments that
+//! call each other.
+#![tactic(auto)]
+
+mod fault;
+mod inferring;
+mod sets;
+mod types;
+
+pub use fault::TypeFaults;
+pub use inferring::infer;
+pub use types::{RuleFacts, TypeFacts, Types};
