@@ -15,12 +15,17 @@ fn store_of(alloc: Global, text: &str) -> Result<MemStore, NoMemory> {
     Ok(MemStore::new(held, Vec::new(alloc)))
 }
 
+/// A number counted from zero, counted from one.
+fn counted(number: u32) -> u64 {
+    u64::from(number) + 1
+}
+
 /// Of each fault its position, counted from one, its number and its name.
 fn shown(alloc: Global, told: &[ToldFault]) -> Result<String, NoMemory> {
     let mut lines = String::new(alloc);
     for fault in told {
-        let line = u64::from(fault.at.line) + 1;
-        let column = u64::from(fault.at.character) + 1;
+        let line = counted(fault.at.line);
+        let column = counted(fault.at.character);
         let number = fault.number;
         let name = &fault.name;
         lines.push_str(format!(in alloc; "{line}:{column} {number} {name}\n")?.as_str())?;
