@@ -1,0 +1,4 @@
+pub mod Limits
+pub mod Numbered
+pub mod Taken
+pub mod TokenSets

@@ -1,0 +1,61 @@
+-- The set of tokens of a grammar, and why there is none.
+use Rattle.std.specs.Prelude.{ℕ, ◌≡◌, ◌<◌, ◌≤◌, List, [], Option, Some, Result, Ok, Err, length, All, Contains}
+use Rattle.lw_base.specs.declared.numbers.RuleId.{RuleId}
+use Rattle.lw_grammar.specs.declared.grammar.Grammar.{Grammar}
+use Rattle.lw_grammar.specs.declared.terminal.Terminal.{Terminal}
+use Rattle.lw_grammar.specs.Kinds.{Kinds, AreKinds}
+use Rattle.lw_grammar.specs.KindTexts.{texts_of}
+use Rattle.lw_io.specs.Causes.{Faulted}
+use Rattle.lw_kinds.specs.Rows.{KindRow}
+use Rattle.lw_patterns.specs.declared.written.TheConstants.{LONGEST_PATTERN}
+use Rattle.lw_patterns.specs.WrittenPatterns.{measured}
+use Rattle.lw_terminals.specs.TokenKinds.{TokenKinds}
+use Rattle.lw_tokens.specs.Lexicon.{IsLexicon}
+use Rattle.lw_tokens.specs.Matching.{match_length}
+use Rattle.lw_tokens.specs.Patterns.{TerminalPattern}
+use Rattle.lw_token_sets.specs.declared.fault.TermFault.{TermFault}
+use Rattle.lw_token_sets.specs.declared.fault.TermFault.TheVariants.{TooManyKinds, KeywordBlank, PatternLong, PatternRefused, EmptyMatch, NoMemory}
+use Rattle.lw_token_sets.specs.Limits.{AreFew, AreTooMany, AreNotBlank, IsFirstBlank}
+use Rattle.lw_token_sets.specs.Taken.{HasTaken, IsTried}
+
+-- each terminal has a pattern
+abbrev pub HasPatterns : Grammar → Type 0
+HasPatterns g = (t : Terminal) → Contains g.terminals t → (p : List ℕ) × TerminalPattern g t p
+
+-- neither are there too many kinds, nor is a keyword blank
+pub record HasSoundKinds (row : KindRow) : Type 0 where
+  pub few : AreFew row
+  pub not_blank : AreNotBlank row.keywords
+
+module _ (g : Grammar) (listed : List (List ℕ)) where
+  -- this is what texts are cut by: the grammar's keywords and the patterns of its terminals, all of which are taken
+  pub record IsTokenSetOf (row : KindRow) (tokens : TokenKinds) : Type 0 where
+    pub sound : HasSoundKinds row
+    pub taken : All (HasTaken g listed) row.terminals
+    pub of : Kinds
+    pub are : AreKinds g of
+    pub lexicon : IsLexicon g of tokens.lexicon
+    pub texts : tokens.texts ≡ texts_of of
+
+  -- why a grammar has none, where this is the text that was refused last
+  abbrev pub Causes : KindRow → Option (List ℕ) → TermFault → Type 0
+  Causes row refused (TooManyKinds n) = AreTooMany row n
+  Causes row refused (KeywordBlank file span) = AreFew row × IsFirstBlank row (record { file = file; span = span })
+  Causes row refused (PatternLong rule bytes) =
+      HasSoundKinds row × (pattern : List ℕ) × IsTried g listed row rule pattern × (LONGEST_PATTERN < length pattern) × (bytes ≡ measured pattern)
+  Causes row refused (PatternRefused rule) =
+      HasSoundKinds row × (pattern : List ℕ) × IsTried g listed row rule pattern × (length pattern ≤ LONGEST_PATTERN) × (refused ≡ Some pattern)
+  Causes row refused (EmptyMatch rule) =
+      HasSoundKinds row × (pattern : List ℕ) × IsTried g listed row rule pattern × (length pattern ≤ LONGEST_PATTERN) × (match_length pattern [] ≡ Some 0)
+      × ¬ Contains listed pattern
+  Causes row refused NoMemory = Unit {0}
+
+-- the count of refusals rises at `PatternRefused`, and stands still at every other answer
+abbrev pub CountsPatterns : {T : Type 0} → ℕ → ℕ → Result T TermFault → Type 0
+CountsPatterns before now (Err (PatternRefused rule)) = Faulted before now
+CountsPatterns before now _ = now ≡ before
+
+-- the text last refused stays what it was at every answer but `PatternRefused`
+abbrev pub KeepsPatterns : {T : Type 0} → Option (List ℕ) → Option (List ℕ) → Result T TermFault → Type 0
+KeepsPatterns before now (Err (PatternRefused rule)) = Unit {0}
+KeepsPatterns before now _ = now ≡ before

@@ -1,0 +1,23 @@
+//! The set of tokens of a grammar: by what its texts are cut, or why there is no such set.
+//!
+//! [`NumberedKinds::of`] finds which kinds of tokens a grammar has. [`token_set`] writes the pattern of each terminal that is a kind
+//! and has all of them compiled.
+//!
+//! Its model: a [`NumberedKinds`] is the numbers of a grammar's names beside its kinds in their order. A
+//! [`TokenSet`](lw_terminals::TokenSet) is what texts are cut by.
+//!
+//! It promises that a set holds exactly the grammar's keywords and the patterns of its terminals, in the order of kinds, and
+//! that each [`TermFault`] comes exactly where it should. Numbers are looked at first: there are at most [`MOST_KINDS`] kinds,
+//! [`MOST_TERMINALS`] of them terminals. Then keywords are, none of which may be empty or begin with white space. Then
+//! terminals are, and the first whose pattern is long, refused, or matches the empty text decides.
+//!
+//! A pattern that is long is measured and not built, so that time does not grow with its length.
+#![tactic(auto)]
+
+mod fault;
+mod numbered;
+mod token_set;
+
+pub use fault::{MOST_KINDS, MOST_TERMINALS, TermFault};
+pub use numbered::NumberedKinds;
+pub use token_set::token_set;
