@@ -1,7 +1,6 @@
 -- What compiling a root file answers, by what the store holds.
-use Rattle.std.specs.Prelude.{ℕ, ◌≡◌, ◌≢◌, ◌⊎◌, List, Option, Result, Err}
+use Rattle.std.specs.Prelude.{ℕ, ◌≡◌, ◌≢◌, List, [], Option, Result, Err}
 use Rattle.lw_grammar.specs.declared.grammar.Grammar.{Grammar}
-use Rattle.lw_grammar.specs.declared.terminal.Terminal.{Terminal}
 use Rattle.lw_io.specs.Causes.{Faulted}
 use Rattle.lw_load.specs.declared.fault.LoadFault.{LoadFault}
 use Rattle.lw_load.specs.declared.fault.LoadFault.TheVariants as loading
@@ -9,12 +8,18 @@ use Rattle.lw_load.specs.declared.loader.Loaded.{Loaded}
 use Rattle.lw_load.specs.Loading.{Files, Loads}
 use Rattle.lw_load.specs.LoadFaults.{Stops, IsOfFiles}
 use Rattle.lw_gramcheck.specs.Judging.{IsFaultless}
+use Rattle.lw_kinds.specs.Rows.{KindRow, AreKindRowOf}
+use Rattle.lw_token_sets.specs.declared.fault.TermFault.{TermFault}
+use Rattle.lw_token_sets.specs.TokenSets as token
+use Rattle.lw_token_sets.specs.TokenSets.{HasTokens}
 use Rattle.lw_lang.specs.Judged.{AreAllTold}
-use Rattle.lw_lang.specs.Shape.{HasShape}
-use Rattle.lw_lang.specs.Obstacles.{HasObstacle, MatchesEmpty}
-use Rattle.lw_lang.specs.Refused.{FirstMatchesEmpty, IsToldBy, IsPatternRefused}
+use Rattle.lw_lang.specs.ToldTerms.{IsTermToldAs}
+use Rattle.lw_lang.specs.Flat.{IsFlat}
+use Rattle.lw_lang.specs.declared.told_term.PatternProblem.TheVariants.{Refused}
+use Rattle.lw_lang.specs.declared.told_term.ToldTermFault.{ToldTermFault}
+use Rattle.lw_lang.specs.declared.told_term.ToldTermFault.TheVariants.{Pattern}
 use Rattle.lw_lang.specs.declared.fault.CompileFault.{CompileFault}
-use Rattle.lw_lang.specs.declared.fault.CompileFault.TheVariants.{Load, Faults, Unbuilt, PatternRefused, NoMemory}
+use Rattle.lw_lang.specs.declared.fault.CompileFault.TheVariants.{Load, Faults, Term, Unbuilt, NoMemory}
 
 -- the root file and all that it imports say this grammar together, and no other
 pub record HoldsGrammar (files : Files) (root : List ℕ) (g : Grammar) : Type 0 where
@@ -23,17 +28,19 @@ pub record HoldsGrammar (files : Files) (root : List ℕ) (g : Grammar) : Type 0
   pub only : (other : Loaded) → Loads files root other → other ≡ loaded
   pub same : loaded.grammar ≡ g
 
--- a grammar without a fault, of the shape that is built, with none of the listed conditions
-pub record IsClear (g : Grammar) : Type 0 where
+-- a grammar without a fault that has a set of tokens, whichever patterns a maker lists
+pub record HasSoundTokens (g : Grammar) : Type 0 where
   pub faultless : IsFaultless g
-  pub shape : HasShape g
-  pub clear : ¬ HasObstacle g
-  pub filled : ¬ MatchesEmpty g
+  pub tokens : HasTokens g []
 
--- A grammar without a fault that is not built: it has another shape, or one of the listed conditions. Of the patterns the first that is
--- refused or matches the empty text decides.
+-- one of those that are built so far, too
+pub record IsClear (g : Grammar) : Type 0 where
+  pub sound : HasSoundTokens g
+  pub flat : IsFlat g
+
+-- a grammar without a fault and with a set of tokens that is not built
 abbrev pub IsNotBuilt : Grammar → Type 0
-IsNotBuilt g = IsFaultless g × ((¬ HasShape g) ⊎ HasObstacle g ⊎ FirstMatchesEmpty g)
+IsNotBuilt g = HasSoundTokens g × ¬ IsFlat g
 
 -- the first fault of the files; unless the store failed, they say no grammar
 pub record IsNotLoaded (files : Files) (root : List ℕ) (found : LoadFault) : Type 0 where
@@ -41,27 +48,37 @@ pub record IsNotLoaded (files : Files) (root : List ℕ) (found : LoadFault) : T
   pub told : found ≢ loading.NoMemory
   pub nothing : IsOfFiles found → (other : Loaded) → ¬ Loads files root other
 
+-- A grammar without a fault has no set of tokens, and why is told, where the texts of its files are these and this is the text that
+-- the patterns refused last.
+pub record HasNoTokens (g : Grammar) (texts : List (List ℕ)) (refused : Option (List ℕ)) (told : ToldTermFault) : Type 0 where
+  pub faultless : IsFaultless g
+  pub row : KindRow
+  pub are_kinds : AreKindRowOf g row
+  pub fault : TermFault
+  pub cause : token.Causes g [] row refused fault
+  pub as_told : IsTermToldAs g texts fault told
+
 -- why each fault comes, by the files and the text that the patterns refused last
 abbrev pub Causes : Files → List ℕ → Option (List ℕ) → CompileFault → Type 0
 Causes files root refused (Load found) = IsNotLoaded files root found
 Causes files root refused (Faults told) = (g : Grammar) × (holds : HoldsGrammar files root g) × AreAllTold g holds.loaded.texts told
+Causes files root refused (Term told) = (g : Grammar) × (holds : HoldsGrammar files root g) × HasNoTokens g holds.loaded.texts refused told
 Causes files root refused Unbuilt = (g : Grammar) × HoldsGrammar files root g × IsNotBuilt g
-Causes files root refused (PatternRefused rule name at) =
-    (g : Grammar) × (holds : HoldsGrammar files root g) × IsPatternRefused g holds.loaded.texts refused rule name at
 Causes files root refused NoMemory = Unit {0}
 
 -- the same by the grammar and the texts of its files
 abbrev pub GrammarCauses : Grammar → List (List ℕ) → Option (List ℕ) → CompileFault → Type 0
 GrammarCauses g texts refused (Load found) = ⊥
 GrammarCauses g texts refused (Faults told) = AreAllTold g texts told
+GrammarCauses g texts refused (Term told) = HasNoTokens g texts refused told
 GrammarCauses g texts refused Unbuilt = IsNotBuilt g
-GrammarCauses g texts refused (PatternRefused rule name at) = IsPatternRefused g texts refused rule name at
 GrammarCauses g texts refused NoMemory = Unit {0}
 
--- the fault that the pattern of the terminal of this name was refused
-abbrev pub IsPatternFault : Grammar → List (List ℕ) → List ℕ → CompileFault → Type 0
-IsPatternFault g texts name (PatternRefused rule told at) = (terminal : Terminal) × (terminal.name ≡ name) × IsToldBy g texts terminal rule told at
-IsPatternFault g texts name _ = ⊥
+-- a grammar without a fault, with a set of tokens, that is not built, or there was no memory
+abbrev pub IsUnbuiltOrMemory : Grammar → CompileFault → Type 0
+IsUnbuiltOrMemory g Unbuilt = IsNotBuilt g
+IsUnbuiltOrMemory g NoMemory = Unit {0}
+IsUnbuiltOrMemory g _ = ⊥
 
 -- what a fault of loading is handed on as
 abbrev pub of_load : LoadFault → CompileFault
@@ -73,12 +90,12 @@ abbrev pub CountsStore : {T : Type 0} → ℕ → ℕ → Result T CompileFault 
 CountsStore before now (Err (Load (loading.StoreFault path))) = Faulted before now
 CountsStore before now _ = now ≡ before
 
--- the count of the patterns rises at `PatternRefused`, and stands still at every other answer
+-- the count of the patterns rises where one was refused, and stands still at every other answer
 abbrev pub CountsPatterns : {T : Type 0} → ℕ → ℕ → Result T CompileFault → Type 0
-CountsPatterns before now (Err (PatternRefused rule name at)) = Faulted before now
+CountsPatterns before now (Err (Term (Pattern terminal Refused))) = Faulted before now
 CountsPatterns before now _ = now ≡ before
 
--- the text that the patterns refused last stays what it was at every answer but `PatternRefused`
+-- the text that the patterns refused last stays what it was at every answer but that one
 abbrev pub KeepsPatterns : {T : Type 0} → Option (List ℕ) → Option (List ℕ) → Result T CompileFault → Type 0
-KeepsPatterns before now (Err (PatternRefused rule name at)) = Unit {0}
+KeepsPatterns before now (Err (Term (Pattern terminal Refused))) = Unit {0}
 KeepsPatterns before now _ = now ≡ before

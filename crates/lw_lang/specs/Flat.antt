@@ -1,31 +1,28 @@
--- A grammar of the shape that is built, made ready: its kinds, its patterns and its one row.
-use Rattle.std.specs.Prelude.{◌≡◌, ◌≢◌, ◌<◌, map, length, All, AllPairs}
+-- The grammars that are built so far: of the shape that is built, where each part of the row reads one token.
+use Rattle.std.specs.Prelude.{ℕ, ◌≡◌, List}
 use Rattle.std.specs.List.{AllZip}
+use Rattle.lw_base.specs.declared.token.Span.{Span}
 use Rattle.lw_grammar.specs.declared.grammar.Grammar.{Grammar}
-use Rattle.lw_grammar.specs.declared.terminal.Terminal.{Terminal}
-use Rattle.lw_grammar.specs.Kinds.{Kinds, AreKinds}
-use Rattle.lw_tokens.specs.Patterns.{TerminalPattern}
-use Rattle.lw_lang.specs.Rows.{IsOnlyRow}
-use Rattle.lw_lang.specs.FlatParts.{AreWithinLimits}
-use Rattle.lw_lang.specs.declared.flat.Flat.{Flat}
-use Rattle.lw_terminals.specs.declared.source.TerminalSource.{TerminalSource}
+use Rattle.lw_grammar.specs.declared.rule.Element.{Element, out-Element}
+use Rattle.lw_grammar.specs.declared.rule.Element.TheOpen.{Keyword, Assign}
+use Rattle.lw_grammar.specs.declared.rule.Op.TheVariants.{One}
+use Rattle.lw_grammar.specs.declared.rule.Value0.{Value0, out-Value0}
+use Rattle.lw_grammar.specs.declared.rule.Value0.TheOpen as value
+use Rattle.lw_grammar.specs.Kinds.{Kinds, AreKinds, IsKeywordKind, IsTerminalKind}
+use Rattle.lw_lang.specs.Shape.{HasShape, parts_of}
 
--- what a terminal's matcher is made from
-pub record IsSource (g : Grammar) (terminal : Terminal) (source : TerminalSource) : Type 0 where
-  pub name : source.name ≡ terminal.name
-  pub pattern : TerminalPattern g terminal source.pattern
-  pub hidden : source.hidden ≡ terminal.is_hidden
+-- the number of the kind that a part reads: that of its keyword, or of the terminal that it calls
+pub data ReadsKind (g : Grammar) (kinds : Kinds) (part : Element) (k : ℕ) : Type 0 where
+  keyword : (text : List ℕ) (s : Span) → out-Element part ≡ Keyword text s → IsKeywordKind kinds text k → ReadsKind g kinds part k
+  call : (p : List ℕ) (v : Value0) (name : List ℕ) (s t : Span) → out-Element part ≡ Assign p One v s → out-Value0 v ≡ value.Call name t →
+      IsTerminalKind g kinds name k → ReadsKind g kinds part k
 
-pub record IsFlat (g : Grammar) (flat : Flat) : Type 0 where
-  pub of : Kinds
-  pub kinds : AreKinds g of
-  pub keywords : of.keywords ≡ flat.keywords.items
-  pub terminals : AllZip (IsSource g) of.terminals flat.terminals.items
-  pub row : IsOnlyRow g of (map (λ kind. kind.0) flat.row.items)
+-- the parts of the one rule read these kinds, one each
+pub record HasRow (g : Grammar) (row : List ℕ) : Type 0 where
+  pub shape : HasShape g
+  pub kinds : Kinds
+  pub are : AreKinds g kinds
+  pub reads : AllZip (ReadsKind g kinds) (parts_of shape.rule.body) row
 
--- what the tokens of texts are made by: the keywords are no empty text and begin with no white space, no two are the same, and
--- neither the kinds nor the patterns are too many or too long
-pub record IsReady (flat : Flat) : Type 0 where
-  pub limits : AreWithinLimits flat.keywords.items flat.terminals.items
-  pub filled : All (λ text. 0 < length text) flat.keywords.items
-  pub differ : AllPairs (λ a b. a ≢ b) flat.keywords.items
+abbrev pub IsFlat : Grammar → Type 0
+IsFlat g = (row : List ℕ) × HasRow g row

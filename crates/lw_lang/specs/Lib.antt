@@ -1,10 +1,9 @@
 pub mod Shape
 pub mod ShapeParts
-pub mod Obstacles
-pub mod Refused
 pub mod Rows
 pub mod Flat
 pub mod FlatParts
+pub mod ToldTerms
 pub mod Language
 pub mod Prepared
 pub mod Ready

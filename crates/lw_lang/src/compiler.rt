@@ -1,34 +1,36 @@
 // From a grammar file to a language.
-ghost use Rattle.std.specs.Prelude.{◌≡◌, ◌+◌, ◌≤◌, ◌<◌, length, slice_get, IfOk, IfErr, IfSome, Any, bytes_eq, map, position};
+ghost use Rattle.std.specs.Prelude.{◌≡◌, ◌≤◌, ◌<◌, [], length, IfOk, IfErr, IfSome};
 ghost use Rattle.lw_load.specs.declared.limits.TheConstants.{LARGEST_GRAMMAR};
 ghost use Rattle.lw_load.specs.Standing.{Stands};
+ghost use Rattle.lw_patterns.specs.WellFormed.{IsWellFormed};
 ghost use Rattle.lw_gramcheck.specs.Judging.{IsFaultless};
-ghost use Rattle.lw_lang.specs.Compiled.{HoldsGrammar, IsClear, Causes, GrammarCauses, IsPatternFault, CountsStore, CountsPatterns, KeepsPatterns};
-ghost use Rattle.lw_lang.specs.Obstacles.{HasObstacle};
-ghost use Rattle.lw_lang.specs.Flat.{IsFlat, IsReady};
+ghost use Rattle.lw_token_sets.specs.Numbered.{AreNumberedKindsOf};
+ghost use Rattle.lw_token_sets.specs.TokenSets.{IsTokenSetOf, HasTokens};
+ghost use Rattle.lw_lang.specs.Compiled.{HoldsGrammar, IsClear, Causes, GrammarCauses, IsUnbuiltOrMemory, CountsStore, CountsPatterns, KeepsPatterns};
+ghost use Rattle.lw_lang.specs.ToldTerms.{CanBeTold, IsToldOr};
 ghost use Rattle.lw_grammar.specs.KindTexts.{AreKindTexts};
 ghost use Rattle.lw_grammar.specs.Size.{size};
-ghost use Rattle.lw_lang.specs.Shape.{HasShape};
 
 use crate::fault::CompileFault;
-use crate::flat::{Flat, FlatFault, make_flat};
+use crate::flat::flat_row;
 use crate::judging::judge_files;
 use crate::language::Language;
-use crate::shape::has_shape;
-use lw_base::{Name, NoMemory, RuleId};
-use lw_grammar::{Grammar, Terminal};
+use crate::told_term::told_term;
+use lw_base::Name;
+use lw_grammar::Grammar;
 use lw_io::{Patterns, Store};
 use lw_load::load;
-use lw_terminals::{MakeTokensFault, TerminalSource, TokenSet};
-use lw_text::position;
+use lw_terminals::TokenSet;
+use lw_token_sets::{NumberedKinds, TermFault, token_set};
 use std::alloc::Global;
 
 /// Loads the root file of a grammar with all that it imports, and makes the grammar ready. `k` is how many
 /// kinds the reader may look ahead; grammars that are built so far need none.
 ///
-/// The files are loaded first, then faults are looked for, then the grammar's shape and its conditions are looked at, and the patterns
-/// of its terminals are made in the order of kinds: the first that is refused or matches the empty text
-/// decides. Nothing of this changes the store's files.
+/// The files are loaded first, then faults are looked for, then the set of tokens is made: too many kinds are told first, then a
+/// keyword that is blank, then the first terminal, in the order of kinds, whose pattern is long, refused or matches the empty
+/// text. What has passed all of this is a language where it is of the form that is built so far. Nothing of this changes
+/// the store's files.
 pub fn compile<F: Store, P: Patterns>(
     alloc: Global,
     root: &Name,
@@ -42,6 +44,7 @@ pub fn compile<F: Store, P: Patterns>(
     // What is compiled is what the files say, and none of the conditions holds.
     ensures holds { IfOk result (λ language. IfSome (F.files store.old) (λ files. HoldsGrammar files root.now language.grammar)) }
     ensures clear { IfOk result (λ language. IsClear language.grammar) }
+    ensures tokens { IfOk result (λ language. HasTokens language.grammar (P.listed patterns.old)) }
     ensures fits { IfOk result (λ language. size language.grammar ≤ LARGEST_GRAMMAR) }
     ensures texts { IfOk result (λ language. AreKindTexts language.grammar language.texts) }
 
@@ -66,8 +69,10 @@ fn build<P: Patterns>(
     requires fits { size grammar ≤ LARGEST_GRAMMAR }
     requires root { 0 < length grammar.files }
     requires stand { Stands texts.now grammar }
+    requires formed { IsWellFormed grammar }
     ensures grammar { IfOk result (λ language. language.grammar ≡ grammar) }
     ensures clear { IfOk result (λ language. IsClear language.grammar) }
+    ensures tokens { IfOk result (λ language. HasTokens language.grammar (P.listed patterns.old)) }
     ensures texts { IfOk result (λ language. AreKindTexts language.grammar language.texts) }
     ensures fault { IfErr result (GrammarCauses grammar texts.now (P.last_refused patterns.new)) }
     ensures patterns { CountsPatterns (P.count patterns.old) (P.count patterns.new) result }
@@ -89,101 +94,51 @@ fn build_faultless<P: Patterns>(
     requires faultless { IsFaultless grammar }
     requires fits { size grammar ≤ LARGEST_GRAMMAR }
     requires stand { Stands texts.now grammar }
+    requires formed { IsWellFormed grammar }
     ensures grammar { IfOk result (λ language. language.grammar ≡ grammar) }
     ensures clear { IfOk result (λ language. IsClear language.grammar) }
+    ensures tokens { IfOk result (λ language. HasTokens language.grammar (P.listed patterns.old)) }
     ensures texts { IfOk result (λ language. AreKindTexts language.grammar language.texts) }
     ensures fault { IfErr result (GrammarCauses grammar texts.now (P.last_refused patterns.new)) }
     ensures patterns { CountsPatterns (P.count patterns.old) (P.count patterns.new) result }
     ensures last { KeepsPatterns (P.last_refused patterns.old) (P.last_refused patterns.new) result }
 {
-    if !has_shape(&grammar) {
-        return Err(CompileFault::Unbuilt);
-    }
-    match make_flat(alloc, &grammar) {
-        Ok(flat) => language_of(alloc, grammar, texts, flat, patterns),
-        Err(FlatFault::Obstacle) => Err(CompileFault::Unbuilt),
-        Err(FlatFault::NoMemory) => Err(CompileFault::NoMemory),
+    let numbered = NumberedKinds::of(alloc, &grammar)?;
+    match token_set(alloc, &grammar, &numbered.numbers, &numbered.kinds, patterns) {
+        Ok(tokens) => language_of(alloc, grammar, &numbered, tokens),
+        Err(fault) => Err(fault_of(grammar, texts, fault)),
     }
 }
 
-// Makes the patterns of a flat grammar, and the language of them.
-fn language_of<P: Patterns>(
+// Why a grammar has no set of tokens, told by the texts of its files. Takes no memory.
+fn fault_of(grammar: Grammar, texts: &[Name], fault: TermFault) -> CompileFault
+    requires stand { Stands texts.now grammar }
+    requires told { CanBeTold grammar texts.now fault }
+    ensures { IsToldOr grammar texts.now fault result }
+{
+    match told_term(grammar, texts, fault) {
+        Some(told) => CompileFault::Term(told),
+        None => CompileFault::NoMemory,
+    }
+}
+
+// The language of a grammar that has these tokens.
+fn language_of(
     alloc: Global,
     grammar: Grammar,
-    texts: &[Name],
-    flat: Flat,
-    patterns: &mut P,
+    numbered: &NumberedKinds,
+    tokens: TokenSet,
 ) -> Result<Language, CompileFault>
     requires faultless { IsFaultless grammar }
-    requires shape { HasShape grammar }
-    requires fits { size grammar ≤ LARGEST_GRAMMAR }
-    requires stand { Stands texts.now grammar }
-    requires flat { IsFlat grammar flat }
-    requires ready { IsReady flat }
-    requires clear { ¬ HasObstacle grammar }
+    requires numbered { AreNumberedKindsOf grammar numbered.now }
+    requires tokens { IsTokenSetOf grammar [] numbered.now.kinds tokens }
     ensures grammar { IfOk result (λ language. language.grammar ≡ grammar) }
     ensures clear { IfOk result (λ language. IsClear language.grammar) }
     ensures texts { IfOk result (λ language. AreKindTexts language.grammar language.texts) }
-    ensures fault { IfErr result (GrammarCauses grammar texts.now (P.last_refused patterns.new)) }
-    ensures patterns { CountsPatterns (P.count patterns.old) (P.count patterns.new) result }
-    ensures last { KeepsPatterns (P.last_refused patterns.old) (P.last_refused patterns.new) result }
+    ensures fault { IfErr result (IsUnbuiltOrMemory grammar) }
 {
-    let Flat {
-        keywords,
-        terminals,
-        row,
-    } = flat;
-    let mut names = names_of(alloc, &terminals)?;
-    match TokenSet::make(alloc, keywords, terminals, patterns) {
-        Ok(tokens) => Ok(Language::new(grammar, tokens, row)),
-        Err(MakeTokensFault::EmptyMatch(_)) => Err(CompileFault::Unbuilt),
-        Err(MakeTokensFault::Refused(i)) => Err(refused(&grammar, texts, names.swap_remove(i))),
-        Err(MakeTokensFault::NoMemory) => Err(CompileFault::NoMemory),
+    match flat_row(alloc, &grammar, numbered)? {
+        Some(row) => Ok(Language::new(grammar, tokens, row)),
+        None => Err(CompileFault::Unbuilt),
     }
-}
-
-// The names of terminals, kept for the fault of one whose pattern is refused.
-fn names_of(alloc: Global, terminals: &[TerminalSource]) -> Result<Vec<Name>, NoMemory>
-    ensures { IfOk result (λ names. names.items ≡ map (λ terminal. terminal.name) terminals.now) }
-{
-    let mut names = Vec::with_capacity(alloc, terminals.len())?;
-    for terminal in terminals {
-        names.push(terminal.name.copy(alloc)?)?;
-    }
-    Ok(names)
-}
-
-// The fault of the terminal of this name, whose pattern was refused: its number behind the rules, its
-// name, and where its name stands in its file.
-fn refused(grammar: &Grammar, texts: &[Name], name: Name) -> CompileFault
-    requires named { Any (λ terminal. terminal.name ≡ name) grammar.now.terminals }
-    requires few { length grammar.now.rules + length grammar.now.terminals ≤ 65535 }
-    requires stand { Stands texts.now grammar.now }
-    ensures { IsPatternFault grammar.now texts.now name result }
-{
-    let terminals = grammar.terminals.as_slice();
-    let place = place_of(terminals, &name);
-    let number = grammar.rules.len() + place;
-    let terminal = &terminals[place];
-    let text = texts[terminal.file as usize].text();
-    let at = position(text, terminal.span.start as usize);
-    CompileFault::PatternRefused(RuleId(number as u16), name, at)
-}
-
-// The place of the first terminal of this name.
-fn place_of(terminals: &[Terminal], name: &Name) -> usize
-    requires { Any (λ terminal. terminal.name ≡ name.now) terminals.now }
-    ensures within { result < length terminals.now }
-    ensures named { IfSome (slice_get terminals.now result) (λ terminal. terminal.name ≡ name.now) }
-{
-    match find_named(terminals, name) {
-        Some(place) => place,
-        None => unreachable!(),
-    }
-}
-
-fn find_named(terminals: &[Terminal], name: &Name) -> Option<usize>
-    ensures { result ≡ position (λ terminal. bytes_eq terminal.name name.now) terminals.now }
-{
-    terminals.iter().position(|t| t.name == *name)
 }

@@ -3,9 +3,9 @@ ghost use Rattle.std.specs.Prelude.{◌≡◌};
 ghost use Rattle.lw_lang.specs.Compiled.{of_load};
 ghost use Rattle.lw_lang.specs.declared.fault.CompileFault.TheVariants.{NoMemory as no_memory};
 
-use lw_base::{Items, Name, NoMemory, RuleId};
+use crate::told_term::ToldTermFault;
+use lw_base::{Items, NoMemory};
 use lw_load::LoadFault;
-use lw_text::Pos;
 use lw_told::ToldFault;
 
 /// Why a grammar is not compiled.
@@ -16,12 +16,10 @@ pub enum CompileFault {
     /// Something is wrong with what the files say: all faults of the first phase that has any, at least one, in their
     /// order.
     Faults(Items<ToldFault>),
+    /// The grammar has no set of tokens.
+    Term(ToldTermFault),
     /// What the files say is of no form that is built so far.
     Unbuilt,
-    /// The pattern of this terminal was refused: its number among the rules and terminals, of which the
-    /// rules come first, its name, and the position where its name begins in its file, line and UTF-16 unit
-    /// from zero.
-    PatternRefused(RuleId, Name, Pos),
     /// There was no memory.
     NoMemory,
 }

@@ -1,14 +1,11 @@
 // The parts of a row, and what they read.
-ghost use Rattle.std.specs.Prelude.{◌≡◌, [], IfOk};
+ghost use Rattle.std.specs.Prelude.{◌≡◌};
 ghost use Rattle.std.specs.Option.{option_copied};
-ghost use Rattle.lw_grammar.specs.Kinds.{first_uses};
 ghost use Rattle.lw_lang.specs.Shape.{parts_of};
-ghost use Rattle.lw_lang.specs.FlatParts.{part_keyword, part_call, row_keywords, row_calls};
+ghost use Rattle.lw_lang.specs.FlatParts.{part_keyword, part_call};
 
-use indexmap::IndexSet;
-use lw_base::{Name, NoMemory};
+use lw_base::Name;
 use lw_grammar::{Element, Value0};
-use std::alloc::Global;
 use std::slice;
 
 /// The parts of a body: those of its row, or itself.
@@ -39,30 +36,4 @@ pub(crate) fn call(part: &Element) -> Option<&Name>
         Element::Assign(_, _, Value0::Call(name, _), _) => Some(name),
         _ => None,
     }
-}
-
-/// The keywords, each at its first use.
-pub(crate) fn keywords(alloc: Global, parts: &[Element]) -> Result<IndexSet<Name>, NoMemory>
-    ensures { IfOk result (λ texts. texts.keys ≡ first_uses [] (row_keywords parts.now)) }
-{
-    let mut texts = IndexSet::new(alloc);
-    for part in parts {
-        if let Some(text) = keyword(part) {
-            texts.insert(text.copy(alloc)?)?;
-        }
-    }
-    Ok(texts)
-}
-
-/// The called names, each at its first use.
-pub(crate) fn calls(alloc: Global, parts: &[Element]) -> Result<IndexSet<Name>, NoMemory>
-    ensures { IfOk result (λ names. names.keys ≡ first_uses [] (row_calls parts.now)) }
-{
-    let mut names = IndexSet::new(alloc);
-    for part in parts {
-        if let Some(name) = call(part) {
-            names.insert(name.copy(alloc)?)?;
-        }
-    }
-    Ok(names)
 }

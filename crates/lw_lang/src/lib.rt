@@ -6,9 +6,10 @@
 //! which messages name its kinds.
 //!
 //! Any grammar is loaded, and judged (`lw_gramcheck`): where something is wrong with it, all faults of the first phase that has
-//! any are told, each by the path of its file and the position there (`lw_told`). Of those without a fault the ones of the shape of `specs/Shape.antt` with none of the conditions of `specs/Obstacles.antt`
-//! are made ready: their one rule has one row of kinds, so reading is a walk along that row. Any other is
-//! [`CompileFault::Unbuilt`], which has no place of its own and is told at the start of the root file.
+//! any are told, each by the path of its file and the position there (`lw_told`). Of one without a fault the set of tokens is
+//! made (`lw_token_sets`), and why there is none is told in the same way. What then has the form of `specs/Flat.antt` is made
+//! ready: its one rule has one row of kinds, so reading is a walk along that row. Any other is [`CompileFault::Unbuilt`], which
+//! has no place of its own and is told at the start of the root file.
 #![tactic(auto)]
 
 mod compiler;
@@ -17,16 +18,16 @@ mod fault;
 mod fault_tests;
 mod flat;
 mod flat_parts;
-mod flat_row;
-mod flat_terminals;
-#[cfg(test)]
-mod flat_tests;
 mod judging;
 mod language;
 mod recogniser;
+#[cfg(test)]
+mod recogniser_tests;
 mod shape;
+mod told_term;
 
 pub use compiler::compile;
 pub use fault::CompileFault;
 pub use language::Language;
 pub use lw_reading::{Issue, Parsed};
+pub use told_term::{FilePlace, PatternProblem, ToldTerminal, ToldTermFault};

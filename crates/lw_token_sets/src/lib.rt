@@ -15,9 +15,11 @@
 #![tactic(auto)]
 
 mod fault;
+mod laws;
 mod numbered;
 mod token_set;
 
 pub use fault::{MOST_KINDS, MOST_TERMINALS, TermFault};
+pub use laws::{listed_or_not, one_answer};
 pub use numbered::NumberedKinds;
 pub use token_set::token_set;
