@@ -1,75 +1,76 @@
--- A grammar that was made ready, and its patterns.
-use Rattle.std.proofs.Common.{◌≡◌, ℕ, List, [], ◌∷◌, ◌++◌, Some, Contains, map, option_map, refl, sym, ap, subst, ◌∙◌}
-use Rattle.std.specs.List.{AllZip}
-use Rattle.std.proofs.lemmas.List.Elements.{All-contains}
+-- A grammar that has a set of tokens, and what is made of it.
+use Rattle.std.proofs.Common.{◌≡◌, ◌+◌, ◌≤◌, ℕ, List, [], ◌∷◌, length, map, sum_by, subst, arith}
+use Rattle.std.proofs.lemmas.List.Sums.{sum_by-cons}
+use Rattle.lw_base.specs.declared.numbers.KindId.{KindId}
 use Rattle.lw_grammar.specs.declared.grammar.Grammar.{Grammar}
+use Rattle.lw_grammar.specs.declared.rule.Rule.{Rule}
 use Rattle.lw_grammar.specs.declared.terminal.Terminal.{Terminal}
-use Rattle.lw_grammar.specs.declared.terminal.TermElement.{out-TermElement}
-use Rattle.lw_grammar.specs.Kinds.{Kinds, AreKinds, IsKindTerminal}
-use Rattle.lw_grammar.proofs.KeptLemmas.{kept_from}
+use Rattle.lw_grammar.specs.Size.{size, element_size, term_size}
 use Rattle.lw_grammar.proofs.KindLemmas.{one_kinds}
-use Rattle.lw_tokens.specs.Lexicon.{HasForm}
-use Rattle.lw_tokens.specs.Matching.{match_length}
-use Rattle.lw_tokens.specs.Patterns.{TerminalPattern, as_pattern, unescaped}
-use Rattle.lw_terminals.specs.declared.source.TerminalSource.{TerminalSource}
+use Rattle.lw_load.specs.declared.limits.TheConstants.{LARGEST_GRAMMAR}
+use Rattle.lw_gramcheck.specs.Judging.{IsFaultless}
+use Rattle.lw_kinds.specs.Rows.{KindRow, AreKindRowOf}
 use Rattle.lw_terminals.specs.TokenKinds.{TokenKinds}
-use Rattle.lw_terminals.specs.Made.{token_kinds_of, form_of, IsUsable, AreUsable}
-use Rattle.lw_lang.specs.Shape.{HasShape, IsPlainTerminal}
-use Rattle.lw_lang.specs.Obstacles.{MatchesEmpty}
-use Rattle.lw_grammar.specs.KindTexts.{texts_of, quoted}
-use Rattle.lw_lang.specs.Flat.{IsSource, IsFlat}
+use Rattle.lw_token_sets.specs.TokenSets.{IsTokenSetOf, HasTokens}
+use Rattle.lw_token_sets.proofs.ListedLemmas.{tokens_unlisted}
+use Rattle.lw_lang.specs.Compiled.{HasSoundTokens, IsClear}
+use Rattle.lw_lang.specs.Flat.{IsFlat, HasRow}
 use Rattle.lw_lang.specs.Prepared.{IsPrepared}
-use Rattle.lw_lang.specs.declared.flat.Flat.{Flat}
-use Rattle.lw_lang.proofs.Lists.{zip_left}
-use Rattle.lw_lang.proofs.FlatObstacles.{pattern_once}
+use Rattle.lw_lang.specs.Rows.{IsOnlyRow}
+use Rattle.lw_lang.proofs.Differing.{keywords_differ}
+use Rattle.lw_lang.proofs.EntryNodes.{makes_nodes}
+use Rattle.lw_lang.proofs.FlatRow.{is_only_row}
 
--- what a terminal is made from is its form, and has its name
-forms : (g : Grammar) (terminals : List Terminal) (sources : List TerminalSource) → AllZip (IsSource g) terminals sources → AllZip (HasForm g) terminals (map form_of sources)
-forms g [] [] all = tt
-forms g [] (s ∷ sources) all = absurd all
-forms g (t ∷ terminals) [] all = absurd all
-forms g (t ∷ terminals) (s ∷ sources) all = (record { pattern = all.0.pattern; hidden = all.0.hidden }, forms g terminals sources all.1)
+-- ---- a grammar with a set of tokens has tokens
 
-source_names : (g : Grammar) (terminals : List Terminal) (sources : List TerminalSource) → AllZip (IsSource g) terminals sources →
-    map (λ s. s.name) sources ≡ map (λ t. t.name) terminals
-source_names g [] [] all = refl
-source_names g [] (s ∷ sources) all = absurd all
-source_names g (t ∷ terminals) [] all = absurd all
-source_names g (t ∷ terminals) (s ∷ sources) all = let rest = source_names g terminals sources all.1 in let first = all.0.name in cc
+module _ (g : Grammar) (row : KindRow) (are : AreKindRowOf g row) where
+  pub has_tokens : (listed : List (List ℕ)) (tokens : TokenKinds) → IsTokenSetOf g listed row tokens → HasTokens g listed
+  has_tokens listed tokens is = record { row = row; are_kinds = are; sound = is.sound; taken = is.taken }
 
-module _ (g : Grammar) (shape : HasShape g) (flat : Flat) (is : IsFlat g flat) where
-  -- the kinds are settled
-  kinds_once : (other : Kinds) → AreKinds g other → other.terminals ≡ is.of.terminals
-  kinds_once other are = ap (λ (kinds : Kinds). kinds.terminals) (one_kinds g other is.of are is.kinds)
-
-  -- a terminal that is a kind is one of the grammar's
-  pub kind_there : (terminal : Terminal) → Contains is.of.terminals terminal → Contains g.terminals terminal
-  kind_there terminal in' = kept_from (IsKindTerminal g) terminal is.kinds.terminals in'
-
-  -- a terminal that is a kind has one pattern
-  one_pattern : (terminal : Terminal) (p q : List ℕ) → Contains is.of.terminals terminal → TerminalPattern g terminal p → TerminalPattern g terminal q → p ≡ q
-  one_pattern terminal p q in' tp tq =
-      let plain : IsPlainTerminal terminal = All-contains IsPlainTerminal g.terminals terminal shape.terminals (kind_there terminal in') in
-      let written : option_map unescaped (as_pattern (out-TermElement terminal.body)) ≡ Some (unescaped plain.text) = ap (λ f. option_map unescaped (as_pattern f)) plain.pattern in
-      pattern_once g terminal (unescaped plain.text) written p tp ∙ sym (pattern_once g terminal (unescaped plain.text) written q tq)
-
-  pub none_empty : AreUsable flat.terminals.items → MatchesEmpty g → ⊥
-  none_empty usable empty =
-      let has = empty.1 in
-      let in' : Contains is.of.terminals has.2 = subst (λ ts. Contains ts has.2) (kinds_once has.0 has.1) has.3 in
-      let z = zip_left (IsSource g) is.of.terminals flat.terminals.items has.2 is.terminals in' in
-      let same : empty.0 ≡ z.0.pattern = one_pattern has.2 empty.0 z.0.pattern in' has.4 z.2.pattern in
-      (All-contains (λ s. IsUsable s.pattern) flat.terminals.items z.0 usable z.1).not_empty (subst (λ p. match_length p [] ≡ Some 0) same empty.2)
-
-  -- what a language keeps of it
-  pub is_prepared : (tokens : TokenKinds) → tokens ≡ token_kinds_of flat.keywords.items flat.terminals.items → IsPrepared g tokens flat.row.items
-  is_prepared tokens made = subst (λ t. IsPrepared g t flat.row.items) (sym made) (record {
+  -- whichever patterns the maker listed
+  pub set_unlisted : (listed : List (List ℕ)) (tokens : TokenKinds) → IsTokenSetOf g listed row tokens → IsTokenSetOf g [] row tokens
+  set_unlisted listed tokens is = record {
+    sound = is.sound;
+    taken = (tokens_unlisted g listed (has_tokens listed tokens is)).taken;
     of = is.of;
-    kinds = is.kinds;
-    lexicon = record { keywords = sym is.keywords; terminals = forms g is.of.terminals flat.terminals.items is.terminals };
-    texts = texts;
-    row = is.row;
-  })
-    where
-      texts : map quoted flat.keywords.items ++ map (λ s. s.name) flat.terminals.items ≡ texts_of is.of
-      texts = let keywords = ap (map quoted) is.keywords in let names = source_names g is.of.terminals flat.terminals.items is.terminals in cc
+    are = is.are;
+    lexicon = is.lexicon;
+    texts = is.texts;
+  }
+
+  -- ---- what a language keeps of it
+
+  module _ (faultless : IsFaultless g) (tokens : TokenKinds) (is : IsTokenSetOf g [] row tokens) where
+    pub sound_tokens : HasSoundTokens g
+    sound_tokens = record { faultless = faultless; tokens = has_tokens [] tokens is }
+
+    module _ (items : List KindId) (has : HasRow g (map (λ kind. kind.0) items)) where
+      only_row : IsOnlyRow g has.kinds (map (λ kind. kind.0) items)
+      only_row =
+          is_only_row g has.kinds (keywords_differ g row are is.sound.not_blank has.kinds has.are) has.shape (makes_nodes g has.shape faultless)
+          (map (λ kind. kind.0) items) has.reads
+
+      pub is_prepared : IsPrepared g tokens items
+      is_prepared = record {
+        of = is.of;
+        kinds = is.are;
+        lexicon = is.lexicon;
+        texts = is.texts;
+        row = subst (λ kinds. IsOnlyRow g kinds (map (λ kind. kind.0) items)) (one_kinds g has.kinds is.of has.are is.are) only_row;
+      }
+
+      pub is_clear : IsClear g
+      is_clear = record { sound = sound_tokens; flat = (map (λ kind. kind.0) items, has) }
+
+-- ---- the rules and terminals of a grammar that is not too large can be numbered
+
+module _ {X : Type 0} (part : X → ℕ) where
+  each_counts : (xs : List X) → length xs ≤ sum_by (λ x. 1 + part x) xs
+  each_counts [] = omega arith
+  each_counts (x ∷ xs) = omega (arith, each_counts xs, sum_by-cons (λ x. 1 + part x) x xs)
+
+pub few : (g : Grammar) → size g ≤ LARGEST_GRAMMAR → length g.rules + length g.terminals ≤ 65535
+few g fits =
+    let rules = each_counts (λ (rule : Rule). element_size rule.body) g.rules in
+    let terminals = each_counts (λ (terminal : Terminal). term_size terminal.body) g.terminals in
+    omega (arith, rules, terminals, fits)

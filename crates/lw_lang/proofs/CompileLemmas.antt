@@ -1,41 +1,15 @@
 -- Why a grammar is not compiled, from the parts of the work.
 use Rattle.std.proofs.Common.{◌≡◌, ℕ, List, Option, Some, None, Result, Ok, Err, IfSome, IfOk, IfErr, slice_get, refl, sym, ap, subst, ◌∙◌}
 use Rattle.lw_grammar.specs.declared.grammar.Grammar.{Grammar}
-use Rattle.lw_grammar.specs.declared.terminal.Terminal.{Terminal}
 use Rattle.lw_load.specs.declared.fault.LoadFault.{LoadFault}
 use Rattle.lw_load.specs.declared.fault.LoadFault.TheVariants as loading
 use Rattle.lw_load.specs.declared.loader.Loaded.{Loaded}
 use Rattle.lw_load.specs.Loading.{Files, Loads}
 use Rattle.lw_load.specs.LoadFaults.{Stops, IsOfFiles}
-use Rattle.lw_gramcheck.specs.Judging.{IsFaultless}
-use Rattle.lw_lang.specs.Shape.{HasShape}
-use Rattle.lw_lang.specs.Obstacles.{HasObstacle}
-use Rattle.lw_lang.specs.Refused.{IsToldBy, IsTried}
 use Rattle.lw_lang.specs.Language.{LanguageView}
-use Rattle.lw_lang.specs.Compiled.{HoldsGrammar, Causes, GrammarCauses, IsPatternFault, of_load}
+use Rattle.lw_lang.specs.Compiled.{HoldsGrammar, Causes, GrammarCauses, of_load}
 use Rattle.lw_lang.specs.declared.fault.CompileFault.{CompileFault}
 use Rattle.lw_lang.specs.declared.fault.CompileFault.TheVariants as fault
-
--- ---- a pattern that was refused
-
-module _ (g : Grammar) (texts : List (List ℕ)) (refused : Option (List ℕ)) where
-  pub pattern_causes : (name : List ℕ) (f : CompileFault) → IsPatternFault g texts name f → IsFaultless g → HasShape g → (HasObstacle g → ⊥) → (pattern : List ℕ) → refused ≡ Some pattern →
-      (terminal : Terminal) → IsTried g terminal pattern → ((i : ℕ) (other : Terminal) → slice_get g.terminals i ≡ Some other → other.name ≡ name → other ≡ terminal) →
-      GrammarCauses g texts refused f
-  pattern_causes name (fault.PatternRefused rule told at) is faultless shape clear pattern same terminal tried once = record {
-    faultless = faultless;
-    shape = shape;
-    clear = clear;
-    terminal = terminal;
-    pattern = pattern;
-    tried = tried;
-    last = same;
-    told = subst (λ t. IsToldBy g texts t rule told at) (once is.2.place is.0 is.2.there is.1) is.2;
-  }
-  pattern_causes name (fault.Load found) is faultless shape clear pattern same terminal tried once = absurd is
-  pattern_causes name (fault.Faults told) is faultless shape clear pattern same terminal tried once = absurd is
-  pattern_causes name fault.Unbuilt is faultless shape clear pattern same terminal tried once = absurd is
-  pattern_causes name fault.NoMemory is faultless shape clear pattern same terminal tried once = absurd is
 
 -- ---- a fault of loading, handed on
 
@@ -85,7 +59,7 @@ module _ (told : Option Files) (root : List ℕ) (loaded : Loaded) (loads : IfSo
         by (Some files) l o (fault.Load found) cause = absurd cause
         by (Some files) l o (fault.Faults told) cause = (loaded.grammar, record { loaded = loaded; loads = l; only = o; same = refl }, cause)
         by (Some files) l o fault.Unbuilt cause = (loaded.grammar, record { loaded = loaded; loads = l; only = o; same = refl }, cause)
-        by (Some files) l o (fault.PatternRefused rule name at) cause = (loaded.grammar, record { loaded = loaded; loads = l; only = o; same = refl }, cause)
+        by (Some files) l o (fault.Term told) cause = (loaded.grammar, record { loaded = loaded; loads = l; only = o; same = refl }, cause)
         by (Some files) l o fault.NoMemory cause = tt
 
     pub built_faults : {T : Type 0} (r : Result T CompileFault) → IfErr r (GrammarCauses loaded.grammar texts refused) →

@@ -35,7 +35,7 @@ module _ (g : Grammar) (texts : List (List ℕ)) where
   judged_causes refused fault.NoMemory is = tt
   judged_causes refused (fault.Load found) is = absurd is
   judged_causes refused fault.Unbuilt is = absurd is
-  judged_causes refused (fault.PatternRefused rule name at) is = absurd is
+  judged_causes refused (fault.Term found) is = absurd is
 
   -- and leaves the patterns as they are
   pub judged_counts : (T : Type 0) (n : ℕ) (f : CompileFault) → IsJudged g texts f → CountsPatterns {T = T} n n (Err f)
@@ -43,11 +43,11 @@ module _ (g : Grammar) (texts : List (List ℕ)) where
   judged_counts T n fault.NoMemory is = refl
   judged_counts T n (fault.Load found) is = absurd is
   judged_counts T n fault.Unbuilt is = absurd is
-  judged_counts T n (fault.PatternRefused rule name at) is = absurd is
+  judged_counts T n (fault.Term found) is = absurd is
 
   pub judged_keeps : (T : Type 0) (last : Option (List ℕ)) (f : CompileFault) → IsJudged g texts f → KeepsPatterns {T = T} last last (Err f)
   judged_keeps T last (fault.Faults told) is = refl
   judged_keeps T last fault.NoMemory is = refl
   judged_keeps T last (fault.Load found) is = absurd is
   judged_keeps T last fault.Unbuilt is = absurd is
-  judged_keeps T last (fault.PatternRefused rule name at) is = absurd is
+  judged_keeps T last (fault.Term found) is = absurd is

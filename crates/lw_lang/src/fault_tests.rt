@@ -1,5 +1,5 @@
 // That each fault is told, and where, and not in the nearest grammar that has it not.
-use crate::{CompileFault, compile};
+use crate::{CompileFault, FilePlace, PatternProblem, ToldTermFault, ToldTerminal, compile};
 use lw_base::{Name, NoMemory};
 use lw_io::{MemPatterns, MemStore};
 use lw_told::ToldFault;
@@ -33,6 +33,42 @@ fn shown(alloc: Global, told: &[ToldFault]) -> Result<String, NoMemory> {
     Ok(lines)
 }
 
+/// A place, counted from one.
+fn placed(alloc: Global, place: &FilePlace) -> Result<String, NoMemory> {
+    let line = counted(place.at.line);
+    let column = counted(place.at.character);
+    Ok(format!(in alloc; "{line}:{column}")?)
+}
+
+/// A terminal's place and name, and what is wrong with its pattern.
+fn shown_pattern(
+    alloc: Global,
+    terminal: &ToldTerminal,
+    problem: PatternProblem,
+) -> Result<String, NoMemory> {
+    let place = placed(alloc, &terminal.place)?;
+    let name = &terminal.name;
+    match problem {
+        PatternProblem::Long(bytes) => {
+            Ok(format!(in alloc; "{place} {name} too long {bytes}\n")?)
+        }
+        PatternProblem::Refused => Ok(format!(in alloc; "{place} {name} refused\n")?),
+        PatternProblem::MatchesEmpty => Ok(format!(in alloc; "{place} {name} matches nothing\n")?),
+    }
+}
+
+/// Why there are no tokens, in one line.
+fn shown_term(alloc: Global, told: &ToldTermFault) -> Result<String, NoMemory> {
+    match told {
+        ToldTermFault::TooManyKinds(count) => Ok(format!(in alloc; "kinds {count}\n")?),
+        ToldTermFault::KeywordBlank(place) => {
+            let place = placed(alloc, place)?;
+            Ok(format!(in alloc; "{place} blank keyword\n")?)
+        }
+        ToldTermFault::Pattern(terminal, problem) => shown_pattern(alloc, terminal, *problem),
+    }
+}
+
 /// What is told of the grammar of this text.
 fn faults_of(alloc: Global, text: &str) -> Result<String, NoMemory> {
     let root = Name::from_text(alloc, "g.langium")?;
@@ -42,9 +78,8 @@ fn faults_of(alloc: Global, text: &str) -> Result<String, NoMemory> {
         Err(CompileFault::Faults(told)) => shown(alloc, told.as_slice()),
         Err(CompileFault::Load(_)) => Ok(String::from_str(alloc, "not loaded")?),
         Err(CompileFault::NoMemory) => Err(NoMemory),
-        Err(CompileFault::Unbuilt | CompileFault::PatternRefused(_, _, _)) | Ok(_) => Ok(
-            String::new(alloc),
-        ),
+        Err(CompileFault::Term(told)) => shown_term(alloc, &told),
+        Err(CompileFault::Unbuilt) | Ok(_) => Ok(String::new(alloc)),
     }
 }
 
@@ -201,28 +236,134 @@ const ROWS: [(&str, &str); 45] = [
     ),
 ];
 
+const TERM_ROWS: [(&str, &str); 17] = [
+    (
+        "grammar G entry A: '' x=ID; terminal ID: /[a-z]+/;",
+        "1:20 blank keyword\n",
+    ),
+    (
+        "grammar G entry A: x=ID '\u{a0}a'; terminal ID: /[a-z]+/;",
+        "1:25 blank keyword\n",
+    ),
+    (
+        "grammar G entry A: x=ID 'a ' '-'; terminal ID: /[a-z]+/;",
+        "",
+    ),
+    (
+        "grammar G entry A: x=ID; B: '' y=ID; terminal ID: /[a-z]+/;",
+        "",
+    ),
+    (
+        "grammar G entry A: x=B;\nB: y='b' | z='' 'c'; terminal ID: /a*/;",
+        "2:14 blank keyword\n",
+    ),
+    (
+        "grammar G entry A: x=T; terminal T: /a*/;",
+        "1:34 T matches nothing\n",
+    ),
+    ("grammar G entry A: x=T; terminal T: /a+/;", ""),
+    (
+        "grammar G entry A: 'a'; B: x=T; terminal T: /a*/;",
+        "1:17 3 A\n",
+    ),
+    (
+        "grammar G entry A: x='a'; B: x=T; terminal T: /a*/;",
+        "",
+    ),
+    (
+        "grammar G entry A: x=T; terminal S: /s*/; terminal T: ('a' | S)*;",
+        "1:52 T matches nothing\n",
+    ),
+    (
+        "grammar G entry A: x=T; terminal S: /s*/; terminal T: '_' ('a'..'z' | S)* 'x'?;",
+        "",
+    ),
+    (
+        "grammar G entry A: x=T; terminal T: /(?=a)/;",
+        "1:34 T refused\n",
+    ),
+    ("grammar G entry A: x=T; terminal T: /(?:a)/;", ""),
+    (
+        "grammar G entry A: x=T; terminal T: /a{2,1}/; hidden terminal U: /u*/;",
+        "1:34 T refused\n",
+    ),
+    (
+        "grammar G entry A: x=T; hidden terminal U: /u*/; terminal T: /a{2,1}/;",
+        "1:41 U matches nothing\n",
+    ),
+    ("grammar G entry A: x=T; terminal T: /a)|(b/;", ""),
+    ("grammar G entry A: x=T; terminal T: /(?i)a/;", ""),
+];
+
 #[test]
 fn each_fault_is_told_where_it_stands(rt: HostRuntime) -> Result<(), Fail> {
-    for (text, lines) in ROWS {
-        let told = faults_of(rt.alloc(), text)?;
-        assert_eq!(rt; told.as_str(), lines);
+    for rows in [&ROWS[..], &TERM_ROWS[..]] {
+        for (text, lines) in rows {
+            let told = faults_of(rt.alloc(), text)?;
+            assert_eq!(rt; told.as_str(), *lines);
+        }
     }
     Ok(())
 }
 
-/// A grammar of one rule and so many terminals.
-fn grammar_of(alloc: Global, terminals: usize) -> Result<String, NoMemory> {
-    let mut text = String::from_str(alloc, "grammar G entry A: x=T0;")?;
-    for number in 0..terminals {
-        text.push_str(format!(in alloc; " terminal T{number}: 'a';")?.as_str())?;
+/// Of what a grammar has so many.
+#[derive(Clone, Copy)]
+enum Sized {
+    /// Terminals, of which one is a kind.
+    Terminals,
+    /// Terminals, all of which are kinds.
+    TerminalKinds,
+    /// Kinds, of which one is a terminal.
+    Kinds,
+    /// Bytes of the pattern of its one terminal.
+    PatternBytes,
+}
+
+/// What a grammar of one rule begins and ends with.
+fn ends(sized: Sized) -> (&'static str, &'static str) {
+    match sized {
+        Sized::Terminals | Sized::TerminalKinds => ("grammar G entry A: x=T; terminal T: 't';", ""),
+        Sized::Kinds => ("grammar G terminal T: /t/; entry A: x=T", ";"),
+        Sized::PatternBytes => ("grammar G entry A: x=T; terminal T: /t", "/;"),
     }
+}
+
+/// One more of these.
+fn one_more(alloc: Global, sized: Sized, number: usize) -> Result<String, NoMemory> {
+    match sized {
+        Sized::Terminals => Ok(format!(in alloc; " terminal T{number}: 'a';")?),
+        Sized::TerminalKinds => Ok(format!(in alloc; " hidden terminal T{number}: 'a';")?),
+        Sized::Kinds => Ok(format!(in alloc; " 'k{number}'")?),
+        Sized::PatternBytes => Ok(String::from_str(alloc, "a")?),
+    }
+}
+
+/// A grammar that has so many of these.
+fn grammar_of(alloc: Global, sized: Sized, count: usize) -> Result<String, NoMemory> {
+    let (first, last) = ends(sized);
+    let mut text = String::from_str(alloc, first)?;
+    for number in 1..count {
+        text.push_str(one_more(alloc, sized, number)?.as_str())?;
+    }
+    text.push_str(last)?;
     Ok(text)
 }
 
+const SIZES: [(Sized, usize, &str); 8] = [
+    (Sized::Terminals, 1023, ""),
+    (Sized::Terminals, 1024, "1:1 23 G\n"),
+    (Sized::TerminalKinds, 32, ""),
+    (Sized::TerminalKinds, 33, "kinds 33\n"),
+    (Sized::Kinds, 256, ""),
+    (Sized::Kinds, 257, "kinds 257\n"),
+    (Sized::PatternBytes, 1000, ""),
+    (Sized::PatternBytes, 1001, "1:34 T too long 1001\n"),
+];
+
 #[test]
-fn as_many_rules_and_terminals_as_there_may_be(rt: HostRuntime) -> Result<(), Fail> {
-    for (terminals, lines) in [(1023, ""), (1024, "1:1 23 G\n")] {
-        let text = grammar_of(rt.alloc(), terminals)?;
+fn as_many_of_each_as_there_may_be(rt: HostRuntime) -> Result<(), Fail> {
+    for (sized, count, lines) in SIZES {
+        let text = grammar_of(rt.alloc(), sized, count)?;
         let told = faults_of(rt.alloc(), text.as_str())?;
         assert_eq!(rt; told.as_str(), lines);
     }

@@ -81,7 +81,7 @@ fn told_terminal(mut grammar: Grammar, texts: &[Name], rule: RuleId) -> ToldTerm
     ensures { IsTerminalToldAs grammar texts.now rule result }
 {
     let number = usize::from(rule.0) - grammar.rules.len();
-    let Terminal { name, file, span, .. } = grammar.terminals.swap_remove(number);
+    let Terminal { name, file, span, .. } = grammar.terminals.remove(number);
     let place = placed(grammar, texts, file, span);
     ToldTerminal { rule, name, place }
 }
@@ -94,6 +94,6 @@ fn placed(mut grammar: Grammar, texts: &[Name], file: u16, span: Span) -> FilePl
     ensures { IsPlacedAs grammar texts.now file span result }
 {
     let at = position(texts[file as usize].text(), span.start as usize);
-    let path = grammar.files.swap_remove(file as usize);
+    let path = grammar.files.remove(file as usize);
     FilePlace { path, at }
 }

@@ -1,3 +1,3 @@
-mod Spans
+pub mod Spans
 pub mod Places
 mod Telling

@@ -1,0 +1,99 @@
+-- Why a grammar has no set of tokens, as it is told: the cause, and what becomes of the patterns.
+use Rattle.std.proofs.Common.{◌≡◌, ℕ, List, [], Option, Ok, Err, Result, IfErr, refl, subst}
+use Rattle.lw_grammar.specs.declared.grammar.Grammar.{Grammar}
+use Rattle.lw_gramcheck.specs.Judging.{IsFaultless}
+use Rattle.lw_kinds.specs.Rows.{KindRow, AreKindRowOf}
+use Rattle.lw_token_sets.specs.declared.fault.TermFault.{TermFault}
+use Rattle.lw_token_sets.specs.declared.fault.TermFault.TheVariants.{NoMemory}
+use Rattle.lw_token_sets.specs.TokenSets as token
+use Rattle.lw_token_sets.proofs.ListedLemmas.{causes_unlisted}
+use Rattle.lw_lang.specs.Compiled.{GrammarCauses, IsUnbuiltOrMemory, CountsPatterns, KeepsPatterns}
+use Rattle.lw_lang.specs.ToldTerms.{IsToldOr, IsTermToldAs}
+use Rattle.lw_lang.specs.ToldTerms as told
+use Rattle.lw_lang.specs.declared.told_term.ToldTermFault.{ToldTermFault}
+use Rattle.lw_lang.specs.declared.fault.CompileFault.{CompileFault}
+use Rattle.lw_lang.specs.declared.fault.CompileFault.TheVariants as fault
+
+-- ---- a fault of keywords and terminals
+
+module _ (g : Grammar) (texts : List (List ℕ)) (why : TermFault) where
+  -- its cause is one by the grammar
+  pub told_causes : (row : KindRow) → AreKindRowOf g row → IsFaultless g → (listed : List (List ℕ)) (refused : Option (List ℕ)) → token.Causes g listed row refused why →
+      (f : CompileFault) → IsToldOr g texts why f → GrammarCauses g texts refused f
+  told_causes row are faultless listed refused cause (fault.Term as_told) is = record {
+    faultless = faultless;
+    row = row;
+    are_kinds = are;
+    fault = why;
+    cause = causes_unlisted g listed row refused why cause;
+    as_told = is;
+  }
+  told_causes row are faultless listed refused cause fault.NoMemory is = tt
+  told_causes row are faultless listed refused cause (fault.Load found) is = absurd is
+  told_causes row are faultless listed refused cause (fault.Faults found) is = absurd is
+  told_causes row are faultless listed refused cause fault.Unbuilt is = absurd is
+
+-- and it counts as it did
+module _ (g : Grammar) (texts : List (List ℕ)) (T U : Type 0) where
+  term_counts : (before now : ℕ) (why : TermFault) (as_told : ToldTermFault) → IsTermToldAs g texts why as_told → token.CountsPatterns {T = T} before now (Err why) →
+      CountsPatterns {T = U} before now (Err (fault.Term as_told))
+  term_counts before now _ _ told.kinds counts = counts
+  term_counts before now _ _ (told.keyword at) counts = counts
+  term_counts before now _ _ (told.long at) counts = counts
+  term_counts before now _ _ (told.refused at) counts = counts
+  term_counts before now _ _ (told.matches_empty at) counts = counts
+
+  pub told_counts : (before now : ℕ) (why : TermFault) (f : CompileFault) → IsToldOr g texts why f → token.CountsPatterns {T = T} before now (Err why) →
+      CountsPatterns {T = U} before now (Err f)
+  told_counts before now why (fault.Term as_told) is counts = term_counts before now why as_told is counts
+  told_counts before now why fault.NoMemory is counts = subst (λ w. token.CountsPatterns {T = T} before now (Err w)) is counts
+  told_counts before now why (fault.Load found) is counts = absurd is
+  told_counts before now why (fault.Faults found) is counts = absurd is
+  told_counts before now why fault.Unbuilt is counts = absurd is
+
+  term_keeps : (before now : Option (List ℕ)) (why : TermFault) (as_told : ToldTermFault) → IsTermToldAs g texts why as_told →
+      token.KeepsPatterns {T = T} before now (Err why) → KeepsPatterns {T = U} before now (Err (fault.Term as_told))
+  term_keeps before now _ _ told.kinds keeps = keeps
+  term_keeps before now _ _ (told.keyword at) keeps = keeps
+  term_keeps before now _ _ (told.long at) keeps = keeps
+  term_keeps before now _ _ (told.refused at) keeps = keeps
+  term_keeps before now _ _ (told.matches_empty at) keeps = keeps
+
+  pub told_keeps : (before now : Option (List ℕ)) (why : TermFault) (f : CompileFault) → IsToldOr g texts why f → token.KeepsPatterns {T = T} before now (Err why) →
+      KeepsPatterns {T = U} before now (Err f)
+  told_keeps before now why (fault.Term as_told) is keeps = term_keeps before now why as_told is keeps
+  told_keeps before now why fault.NoMemory is keeps = subst (λ w. token.KeepsPatterns {T = T} before now (Err w)) is keeps
+  told_keeps before now why (fault.Load found) is keeps = absurd is
+  told_keeps before now why (fault.Faults found) is keeps = absurd is
+  told_keeps before now why fault.Unbuilt is keeps = absurd is
+
+-- ---- a grammar that is not built, or no memory
+
+unbuilt_causes : (g : Grammar) (texts : List (List ℕ)) (refused : Option (List ℕ)) (f : CompileFault) → IsUnbuiltOrMemory g f → GrammarCauses g texts refused f
+unbuilt_causes g texts refused fault.Unbuilt is = is
+unbuilt_causes g texts refused fault.NoMemory is = tt
+unbuilt_causes g texts refused (fault.Load found) is = absurd is
+unbuilt_causes g texts refused (fault.Faults found) is = absurd is
+unbuilt_causes g texts refused (fault.Term found) is = absurd is
+
+module _ {T : Type 0} (g : Grammar) where
+  pub language_causes : (texts : List (List ℕ)) (refused : Option (List ℕ)) (r : Result T CompileFault) → IfErr r (IsUnbuiltOrMemory g) → IfErr r (GrammarCauses g texts refused)
+  language_causes texts refused (Ok language) is = tt
+  language_causes texts refused (Err f) is = unbuilt_causes g texts refused f is
+
+  -- of the patterns nothing has changed
+  pub language_counts : (before now : ℕ) → now ≡ before → (r : Result T CompileFault) → IfErr r (IsUnbuiltOrMemory g) → CountsPatterns before now r
+  language_counts before now same (Ok language) is = same
+  language_counts before now same (Err fault.Unbuilt) is = same
+  language_counts before now same (Err fault.NoMemory) is = same
+  language_counts before now same (Err (fault.Load found)) is = absurd is
+  language_counts before now same (Err (fault.Faults found)) is = absurd is
+  language_counts before now same (Err (fault.Term found)) is = absurd is
+
+  pub language_keeps : (before now : Option (List ℕ)) → now ≡ before → (r : Result T CompileFault) → IfErr r (IsUnbuiltOrMemory g) → KeepsPatterns before now r
+  language_keeps before now same (Ok language) is = same
+  language_keeps before now same (Err fault.Unbuilt) is = same
+  language_keeps before now same (Err fault.NoMemory) is = same
+  language_keeps before now same (Err (fault.Load found)) is = absurd is
+  language_keeps before now same (Err (fault.Faults found)) is = absurd is
+  language_keeps before now same (Err (fault.Term found)) is = absurd is
