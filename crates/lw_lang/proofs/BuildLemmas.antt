@@ -1,10 +1,14 @@
 -- A grammar that has a set of tokens, and what is made of it.
-use Rattle.std.proofs.Common.{◌≡◌, ◌+◌, ◌≤◌, ℕ, List, [], ◌∷◌, length, map, sum_by, subst, arith}
+use Rattle.std.proofs.Common.{◌≡◌, ◌≢◌, ◌+◌, ◌≤◌, ℕ, List, [], ◌∷◌, AllPairs, Result, Ok, Err, IfOk, length, map, sum_by, sym, subst, arith}
+use Rattle.std.specs.List.{flat_map}
+use Rattle.std.proofs.lemmas.List.Elements.{All-weaker}
 use Rattle.std.proofs.lemmas.List.Sums.{sum_by-cons}
 use Rattle.lw_base.specs.declared.numbers.KindId.{KindId}
 use Rattle.lw_grammar.specs.declared.grammar.Grammar.{Grammar}
 use Rattle.lw_grammar.specs.declared.rule.Rule.{Rule}
 use Rattle.lw_grammar.specs.declared.terminal.Terminal.{Terminal}
+use Rattle.lw_grammar.specs.Kinds.{Kinds, AreKinds}
+use Rattle.lw_grammar.specs.Leaves.{keywords_in}
 use Rattle.lw_grammar.specs.Size.{size, element_size, term_size}
 use Rattle.lw_grammar.proofs.KindLemmas.{one_kinds}
 use Rattle.lw_load.specs.declared.limits.TheConstants.{LARGEST_GRAMMAR}
@@ -12,14 +16,22 @@ use Rattle.lw_gramcheck.specs.Judging.{IsFaultless}
 use Rattle.lw_kinds.specs.Rows.{KindRow, AreKindRowOf}
 use Rattle.lw_terminals.specs.TokenKinds.{TokenKinds}
 use Rattle.lw_token_sets.specs.TokenSets.{IsTokenSetOf, HasTokens}
-use Rattle.lw_token_sets.proofs.ListedLemmas.{tokens_unlisted}
+use Rattle.lw_token_sets.proofs.DistinctTexts.{first_uses-differ}
+use Rattle.lw_token_sets.proofs.Unlisted.{taken_unlisted}
+use Rattle.lw_token_sets.specs.Taken.{HasTaken}
 use Rattle.lw_lang.specs.Compiled.{HasSoundTokens, IsClear}
 use Rattle.lw_lang.specs.Flat.{IsFlat, HasRow}
+use Rattle.lw_lang.specs.Language.{LanguageView}
 use Rattle.lw_lang.specs.Prepared.{IsPrepared}
 use Rattle.lw_lang.specs.Rows.{IsOnlyRow}
-use Rattle.lw_lang.proofs.Differing.{keywords_differ}
 use Rattle.lw_lang.proofs.EntryNodes.{makes_nodes}
 use Rattle.lw_lang.proofs.FlatRow.{is_only_row}
+
+-- ---- the keywords of a grammar differ
+
+keywords_differ : (g : Grammar) (of : Kinds) → AreKinds g of → AllPairs (λ a b. a ≢ b) of.keywords
+keywords_differ g of are =
+    subst (AllPairs (λ a b. a ≢ b)) (sym are.keywords) (first_uses-differ [] (flat_map (λ (rule : Rule). keywords_in rule.body) are.rules))
 
 -- ---- a grammar with a set of tokens has tokens
 
@@ -31,7 +43,7 @@ module _ (g : Grammar) (row : KindRow) (are : AreKindRowOf g row) where
   pub set_unlisted : (listed : List (List ℕ)) (tokens : TokenKinds) → IsTokenSetOf g listed row tokens → IsTokenSetOf g [] row tokens
   set_unlisted listed tokens is = record {
     sound = is.sound;
-    taken = (tokens_unlisted g listed (has_tokens listed tokens is)).taken;
+    taken = All-weaker (HasTaken g listed) (HasTaken g []) (taken_unlisted g listed) row.terminals is.taken;
     of = is.of;
     are = is.are;
     lexicon = is.lexicon;
@@ -47,7 +59,7 @@ module _ (g : Grammar) (row : KindRow) (are : AreKindRowOf g row) where
     module _ (items : List KindId) (has : HasRow g (map (λ kind. kind.0) items)) where
       only_row : IsOnlyRow g has.kinds (map (λ kind. kind.0) items)
       only_row =
-          is_only_row g has.kinds (keywords_differ g row are is.sound.not_blank has.kinds has.are) has.shape (makes_nodes g has.shape faultless)
+          is_only_row g has.kinds (keywords_differ g has.kinds has.are) has.shape (makes_nodes g has.shape faultless)
           (map (λ kind. kind.0) items) has.reads
 
       pub is_prepared : IsPrepared g tokens items
@@ -61,6 +73,12 @@ module _ (g : Grammar) (row : KindRow) (are : AreKindRowOf g row) where
 
       pub is_clear : IsClear g
       is_clear = record { sound = sound_tokens; flat = (map (λ kind. kind.0) items, has) }
+
+-- the language of a grammar with tokens has them
+pub built_tokens : (g : Grammar) (listed : List (List ℕ)) → HasTokens g listed → {E : Type 0} (r : Result LanguageView E) → IfOk r (λ language. language.grammar ≡ g) →
+    IfOk r (λ language. HasTokens language.grammar listed)
+built_tokens g listed has (Ok language) is = subst (λ g. HasTokens g listed) (sym is) has
+built_tokens g listed has (Err e) is = tt
 
 -- ---- the rules and terminals of a grammar that is not too large can be numbered
 

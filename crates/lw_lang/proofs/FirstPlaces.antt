@@ -65,8 +65,8 @@ module _ (g : Grammar) (texts : List (List ℕ)) (stands : Stands texts g) where
   pub can_be_told : (listed : List (List ℕ)) (row : KindRow) → AreKindRowOf g row → (refused : Option (List ℕ)) (fault : TermFault) → Causes g listed row refused fault →
       CanBeTold g texts fault
   can_be_told listed row are refused (TooManyKinds n) cause = tt
-  can_be_told listed row are refused (KeywordBlank file span) (few, number, text, first) =
-      first_placed (text, record { file = file; span = span }) (are.first (text, record { file = file; span = span }) (at_place row.keywords number first.there))
+  can_be_told listed row are refused (KeywordBlank file span) (few, blank) =
+      let word : Use = (blank.1, record { file = file; span = span }) in first_placed word (are.first word (at_place row.keywords blank.0 blank.2.there))
   can_be_told listed row are refused (PatternLong rule bytes) (sound, pattern, tried, rest) = numbered listed row rule pattern tried
   can_be_told listed row are refused (PatternRefused rule) (sound, pattern, tried, rest) = numbered listed row rule pattern tried
   can_be_told listed row are refused (EmptyMatch rule) (sound, pattern, tried, rest) = numbered listed row rule pattern tried

@@ -9,9 +9,10 @@ pub mod FlatLeaves
 pub mod EntryNodes
 pub mod FlatRow
 pub mod PartKinds
-pub mod Differing
+pub mod OneRule
 pub mod BuildLemmas
 pub mod FirstPlaces
+pub mod ToldPlaces
 pub mod ToldLemmas
 pub mod CompileLemmas
 pub mod PlainParts

@@ -6,7 +6,7 @@ use Rattle.lw_kinds.specs.Rows.{KindRow, AreKindRowOf}
 use Rattle.lw_token_sets.specs.declared.fault.TermFault.{TermFault}
 use Rattle.lw_token_sets.specs.declared.fault.TermFault.TheVariants.{NoMemory}
 use Rattle.lw_token_sets.specs.TokenSets as token
-use Rattle.lw_token_sets.proofs.ListedLemmas.{causes_unlisted}
+use Rattle.lw_token_sets.proofs.Unlisted.{causes_unlisted}
 use Rattle.lw_lang.specs.Compiled.{GrammarCauses, IsUnbuiltOrMemory, CountsPatterns, KeepsPatterns}
 use Rattle.lw_lang.specs.ToldTerms.{IsToldOr, IsTermToldAs}
 use Rattle.lw_lang.specs.ToldTerms as told
