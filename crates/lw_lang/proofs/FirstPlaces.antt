@@ -67,7 +67,7 @@ module _ (g : Grammar) (texts : List (List ℕ)) (stands : Stands texts g) where
   can_be_told listed row are refused (TooManyKinds n) cause = tt
   can_be_told listed row are refused (KeywordBlank file span) (few, blank) =
       let word : Use = (blank.1, record { file = file; span = span }) in first_placed word (are.first word (at_place row.keywords blank.0 blank.2.there))
-  can_be_told listed row are refused (PatternLong rule bytes) (sound, pattern, tried, rest) = numbered listed row rule pattern tried
-  can_be_told listed row are refused (PatternRefused rule) (sound, pattern, tried, rest) = numbered listed row rule pattern tried
-  can_be_told listed row are refused (EmptyMatch rule) (sound, pattern, tried, rest) = numbered listed row rule pattern tried
+  can_be_told listed row are refused (PatternLong rule bytes) cause = numbered listed row rule cause.1 cause.2
+  can_be_told listed row are refused (PatternRefused rule) cause = numbered listed row rule cause.1 cause.2
+  can_be_told listed row are refused (EmptyMatch rule) cause = numbered listed row rule cause.1 cause.2
   can_be_told listed row are refused NoMemory cause = tt
