@@ -58,7 +58,7 @@ parts_assign_or_not (part ∷ parts) plain =
           v,
           s,
           Contains-append_left (leaves part) (flat_map leaves parts) (Assign p One v s)
-          (subst (λ ls. Contains ls (Assign p One v s)) (sym is) (here (Assign p One v s) [])),
+              (subst (λ ls. Contains ls (Assign p One v s)) (sym is) (here (Assign p One v s) [])),
         )
     by (text word s is) (inl (p, v, t, has)) = inl (p, v, t, Contains-append_right (leaves part) (flat_map leaves parts) (Assign p One v t) has)
     by (text word s is) (inr rest) = inr (λ l has. one l (Contains-append_cases (leaves part) (flat_map leaves parts) l has))

@@ -104,7 +104,13 @@ fn build_faultless<P: Patterns>(
     ensures last { KeepsPatterns (P.last_refused patterns.old) (P.last_refused patterns.new) result }
 {
     let numbered = NumberedKinds::of(alloc, &grammar)?;
-    match token_set(alloc, &grammar, &numbered.numbers, &numbered.kinds, patterns) {
+    match token_set(
+        alloc,
+        &grammar,
+        &numbered.numbers,
+        &numbered.kinds,
+        patterns,
+    ) {
         Ok(tokens) => language_of(alloc, grammar, &numbered, tokens),
         Err(fault) => Err(fault_of(grammar, texts, fault)),
     }

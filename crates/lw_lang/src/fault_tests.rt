@@ -266,10 +266,7 @@ const TERM_ROWS: [(&str, &str); 17] = [
         "grammar G entry A: 'a'; B: x=T; terminal T: /a*/;",
         "1:17 3 A\n",
     ),
-    (
-        "grammar G entry A: x='a'; B: x=T; terminal T: /a*/;",
-        "",
-    ),
+    ("grammar G entry A: x='a'; B: x=T; terminal T: /a*/;", ""),
     (
         "grammar G entry A: x=T; terminal S: /s*/; terminal T: ('a' | S)*;",
         "1:52 T matches nothing\n",
@@ -308,7 +305,7 @@ fn each_fault_is_told_where_it_stands(rt: HostRuntime) -> Result<(), Fail> {
 
 /// Of what a grammar has so many.
 #[derive(Clone, Copy)]
-enum Sized {
+enum Subject {
     /// Terminals, of which one is a kind.
     Terminals,
     /// Terminals, all of which are kinds.
@@ -320,50 +317,50 @@ enum Sized {
 }
 
 /// What a grammar of one rule begins and ends with.
-fn ends(sized: Sized) -> (&'static str, &'static str) {
-    match sized {
-        Sized::Terminals | Sized::TerminalKinds => ("grammar G entry A: x=T; terminal T: 't';", ""),
-        Sized::Kinds => ("grammar G terminal T: /t/; entry A: x=T", ";"),
-        Sized::PatternBytes => ("grammar G entry A: x=T; terminal T: /t", "/;"),
+fn ends(subject: Subject) -> (&'static str, &'static str) {
+    match subject {
+        Subject::Terminals | Subject::TerminalKinds => ("grammar G entry A: x=T; terminal T: 't';", ""),
+        Subject::Kinds => ("grammar G terminal T: /t/; entry A: x=T", ";"),
+        Subject::PatternBytes => ("grammar G entry A: x=T; terminal T: /t", "/;"),
     }
 }
 
 /// One more of these.
-fn one_more(alloc: Global, sized: Sized, number: usize) -> Result<String, NoMemory> {
-    match sized {
-        Sized::Terminals => Ok(format!(in alloc; " terminal T{number}: 'a';")?),
-        Sized::TerminalKinds => Ok(format!(in alloc; " hidden terminal T{number}: 'a';")?),
-        Sized::Kinds => Ok(format!(in alloc; " 'k{number}'")?),
-        Sized::PatternBytes => Ok(String::from_str(alloc, "a")?),
+fn one_more(alloc: Global, subject: Subject, number: usize) -> Result<String, NoMemory> {
+    match subject {
+        Subject::Terminals => Ok(format!(in alloc; " terminal T{number}: 'a';")?),
+        Subject::TerminalKinds => Ok(format!(in alloc; " hidden terminal T{number}: 'a';")?),
+        Subject::Kinds => Ok(format!(in alloc; " 'k{number}'")?),
+        Subject::PatternBytes => Ok(String::from_str(alloc, "a")?),
     }
 }
 
 /// A grammar that has so many of these.
-fn grammar_of(alloc: Global, sized: Sized, count: usize) -> Result<String, NoMemory> {
-    let (first, last) = ends(sized);
+fn grammar_of(alloc: Global, subject: Subject, count: usize) -> Result<String, NoMemory> {
+    let (first, last) = ends(subject);
     let mut text = String::from_str(alloc, first)?;
     for number in 1..count {
-        text.push_str(one_more(alloc, sized, number)?.as_str())?;
+        text.push_str(one_more(alloc, subject, number)?.as_str())?;
     }
     text.push_str(last)?;
     Ok(text)
 }
 
-const SIZES: [(Sized, usize, &str); 8] = [
-    (Sized::Terminals, 1023, ""),
-    (Sized::Terminals, 1024, "1:1 23 G\n"),
-    (Sized::TerminalKinds, 32, ""),
-    (Sized::TerminalKinds, 33, "kinds 33\n"),
-    (Sized::Kinds, 256, ""),
-    (Sized::Kinds, 257, "kinds 257\n"),
-    (Sized::PatternBytes, 1000, ""),
-    (Sized::PatternBytes, 1001, "1:34 T too long 1001\n"),
+const SIZES: [(Subject, usize, &str); 8] = [
+    (Subject::Terminals, 1023, ""),
+    (Subject::Terminals, 1024, "1:1 23 G\n"),
+    (Subject::TerminalKinds, 32, ""),
+    (Subject::TerminalKinds, 33, "kinds 33\n"),
+    (Subject::Kinds, 256, ""),
+    (Subject::Kinds, 257, "kinds 257\n"),
+    (Subject::PatternBytes, 1000, ""),
+    (Subject::PatternBytes, 1001, "1:34 T too long 1001\n"),
 ];
 
 #[test]
 fn as_many_of_each_as_there_may_be(rt: HostRuntime) -> Result<(), Fail> {
-    for (sized, count, lines) in SIZES {
-        let text = grammar_of(rt.alloc(), sized, count)?;
+    for (subject, count, lines) in SIZES {
+        let text = grammar_of(rt.alloc(), subject, count)?;
         let told = faults_of(rt.alloc(), text.as_str())?;
         assert_eq!(rt; told.as_str(), lines);
     }

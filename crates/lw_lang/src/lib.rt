@@ -30,4 +30,4 @@ pub use compiler::compile;
 pub use fault::CompileFault;
 pub use language::Language;
 pub use lw_reading::{Issue, Parsed};
-pub use told_term::{FilePlace, PatternProblem, ToldTerminal, ToldTermFault};
+pub use told_term::{FilePlace, PatternProblem, ToldTermFault, ToldTerminal};

@@ -62,13 +62,22 @@ pub(crate) fn told_term(grammar: Grammar, texts: &[Name], fault: TermFault) -> O
             Some(ToldTermFault::KeywordBlank(placed(grammar, texts, file, span)))
         }
         TermFault::PatternLong(rule, bytes) => {
-            Some(ToldTermFault::Pattern(told_terminal(grammar, texts, rule), PatternProblem::Long(bytes)))
+            Some(ToldTermFault::Pattern(
+                told_terminal(grammar, texts, rule),
+                PatternProblem::Long(bytes),
+            ))
         }
         TermFault::PatternRefused(rule) => {
-            Some(ToldTermFault::Pattern(told_terminal(grammar, texts, rule), PatternProblem::Refused))
+            Some(ToldTermFault::Pattern(
+                told_terminal(grammar, texts, rule),
+                PatternProblem::Refused,
+            ))
         },
         TermFault::EmptyMatch(rule) => {
-            Some(ToldTermFault::Pattern(told_terminal(grammar, texts, rule), PatternProblem::MatchesEmpty))
+            Some(ToldTermFault::Pattern(
+                told_terminal(grammar, texts, rule),
+                PatternProblem::MatchesEmpty,
+            ))
         },
         TermFault::NoMemory => None,
     }
@@ -81,7 +90,12 @@ fn told_terminal(mut grammar: Grammar, texts: &[Name], rule: RuleId) -> ToldTerm
     ensures { IsTerminalToldAs grammar texts.now rule result }
 {
     let number = usize::from(rule.0) - grammar.rules.len();
-    let Terminal { name, file, span, .. } = grammar.terminals.remove(number);
+    let Terminal {
+        name,
+        file,
+        span,
+        ..
+    } = grammar.terminals.remove(number);
     let place = placed(grammar, texts, file, span);
     ToldTerminal { rule, name, place }
 }
