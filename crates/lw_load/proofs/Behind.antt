@@ -19,8 +19,6 @@ use Rattle.lw_gramread.specs.declared.token.Symbol.{Symbol}
 use Rattle.lw_syntax.specs.declared.lexeme.Reserved.{Reserved}
 use Rattle.lw_syntax.specs.declared.lexeme.Lexeme.{Lexeme}
 use Rattle.lw_syntax.specs.declared.lexeme.Lexeme.TheVariants.{Word}
-use Rattle.lw_syntax.specs.declared.reader.file.Item.{Item}
-use Rattle.lw_syntax.specs.declared.reader.file.Item.TheVariants as item
 use Rattle.lw_syntax.specs.OptionalTokens.{MayTake, MayTakeWord}
 use Rattle.lw_syntax.specs.DeclaredTypes as types
 use Rattle.lw_syntax.specs.DeclaredTypes.{SpellsMoreNames, SpellsAbove, SpellsSingle, SpellsMembers, SpellsMoreMembers, SpellsTypeEnd, SpellsAttribute, SpellsAttributes, SpellsInterface, SpellsUnion}
@@ -29,7 +27,7 @@ use Rattle.lw_syntax.specs.ParserRules.{SpellsCrossRule, SpellsValue, SpellsValu
 use Rattle.lw_syntax.specs.TerminalRules as terms
 use Rattle.lw_syntax.specs.TerminalRules.{SpellsTermMark, SpellsTermPart, SpellsTerm, SpellsMoreTerms, SpellsTermRow, SpellsMoreTermRows, SpellsTermChoice, SpellsTermHead, SpellsTerminal}
 use Rattle.lw_syntax.specs.Syntax as syntax
-use Rattle.lw_syntax.specs.Syntax.{SpellsGrammarName, SpellsImports, SpellsItem}
+use Rattle.lw_syntax.specs.Syntax.{SpellsGrammarName, SpellsImports}
 use Rattle.lw_load.proofs.Rising.{Rises, later}
 
 -- a place begins at or behind the first of these, and the tokens begin behind it
@@ -83,11 +81,11 @@ attributes_behind : {low : ℕ} {ts rest : List Lexeme} {all : List Attribute} �
 attributes_behind types.no_attribute h = h
 attributes_behind (types.attribute_and a m) h = attributes_behind m (attribute_behind a h)
 
-interface_parts : {low : ℕ} {ts rest : List Lexeme} {i : Interface} → SpellsInterface ts rest i → Rises low ts → Parts low i.span rest
+pub interface_parts : {low : ℕ} {ts rest : List Lexeme} {i : Interface} → SpellsInterface ts rest i → Rises low ts → Parts low i.span rest
 interface_parts (types.interface a m e) h =
     let name = named h in (name.0, may_behind e (later (attributes_behind m (later (above_behind a name.1)))))
 
-union_parts : {low : ℕ} {ts rest : List Lexeme} {u : UnionDef} → SpellsUnion ts rest u → Rises low ts → Parts low u.span rest
+pub union_parts : {low : ℕ} {ts rest : List Lexeme} {u : UnionDef} → SpellsUnion ts rest u → Rises low ts → Parts low u.span rest
 union_parts (types.union_of m e) h = let name = named h in (name.0, may_behind e (members_behind m (later name.1)))
 
 -- ---- parser rules
@@ -159,7 +157,7 @@ result_behind rules.returns h = later (later h)
 result_behind (rules.gives e) h = later (later h)
 result_behind rules.infers h = later (later h)
 
-rule_parts : {low : ℕ} {ts rest : List Lexeme} {r : Rule} → SpellsRule ts rest r → Rises low ts → Parts low r.span rest
+pub rule_parts : {low : ℕ} {ts rest : List Lexeme} {r : Rule} → SpellsRule ts rest r → Rises low ts → Parts low r.span rest
 rule_parts (rules.rule e f r c) h =
     let name = named (word_behind f (word_behind e h)) in (name.0, later (choice_behind c (later (result_behind r name.1))))
 
@@ -201,7 +199,7 @@ head_parts terms.fragment h = named (later h)
 head_parts terms.token h = named h
 head_parts (terms.gives e) h = let name = named h in (name.0, later (later name.1))
 
-terminal_parts : {low : ℕ} {hidden : Bool} {ts rest : List Lexeme} {t : Terminal} → SpellsTerminal hidden ts rest t → Rises low ts → Parts low t.span rest
+pub terminal_parts : {low : ℕ} {hidden : Bool} {ts rest : List Lexeme} {t : Terminal} → SpellsTerminal hidden ts rest t → Rises low ts → Parts low t.span rest
 terminal_parts (terms.terminal d c) h = let name = head_parts d h in (name.0, later (term_choice_behind c (later name.1)))
 
 -- ---- files
@@ -213,17 +211,3 @@ grammar_name_behind syntax.named h = later (later h)
 pub imports_behind : {low : ℕ} {ts rest : List Lexeme} {is : List Import} → SpellsImports ts rest is → Rises low ts → Rises low rest
 imports_behind syntax.no_import h = h
 imports_behind (syntax.import_and e m) h = imports_behind m (may_behind e (later (later h)))
-
--- where the name of an item stands
-abbrev pub name_place : Item → Span
-name_place (item.Interface i) = i.span
-name_place (item.Union u) = u.span
-name_place (item.Rule r) = r.span
-name_place (item.Terminal t) = t.span
-
-pub item_parts : {low : ℕ} {ts rest : List Lexeme} {i : Item} → SpellsItem ts rest i → Rises low ts → Parts low (name_place i) rest
-item_parts (syntax.interface i) h = interface_parts i (later h)
-item_parts (syntax.union_type u) h = union_parts u (later h)
-item_parts (syntax.rule r) h = rule_parts r h
-item_parts (syntax.terminal t) h = terminal_parts t (later h)
-item_parts (syntax.hidden_terminal t) h = terminal_parts t (later (later h))

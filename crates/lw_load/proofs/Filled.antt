@@ -8,11 +8,7 @@ use Rattle.lw_grammar.specs.declared.terminal.TermElement.TheFolds.{map-TermElem
 use Rattle.lw_grammar.specs.declared.terminal.TermElement.TheVariants as term
 use Rattle.lw_grammar.specs.declared.terminal.TermElement.TheOpen.{TermElement-F}
 use Rattle.lw_syntax.specs.declared.lexeme.Lexeme.{Lexeme}
-use Rattle.lw_syntax.specs.declared.reader.file.Item.{Item}
-use Rattle.lw_syntax.specs.declared.reader.file.Item.TheVariants as item
 use Rattle.lw_syntax.specs.Spans.{across, term_group_of, term_choice_of}
-use Rattle.lw_syntax.specs.Syntax as syntax
-use Rattle.lw_syntax.specs.Syntax.{SpellsItem}
 use Rattle.lw_syntax.specs.TerminalRules as terms
 use Rattle.lw_syntax.specs.TerminalRules.{SpellsTermMark, SpellsTermPart, SpellsTerm, SpellsMoreTerms, SpellsTermRow, SpellsMoreTermRows, SpellsTermChoice, SpellsTerminal}
 use Rattle.lw_formed.specs.WellFormed.{choices, layer_choices}
@@ -89,18 +85,5 @@ HasParts t = ¬ Contains (choices t.body) 0
 not_empty : (e : TermElement) → IsFilled e → ¬ Contains (choices e) 0
 not_empty e h = λ has. let some : 0 < 0 = All-contains (λ n. 0 < n) (choices e) 0 (All-from_recursion (λ n. 0 < n) (choices e) h) has in omega (arith, some)
 
-terminal_filled : {hidden : Bool} {ts rest : List Lexeme} {t : Terminal} → SpellsTerminal hidden ts rest t → HasParts t
+pub terminal_filled : {hidden : Bool} {ts rest : List Lexeme} {t : Terminal} → SpellsTerminal hidden ts rest t → HasParts t
 terminal_filled (terms.terminal {body} head c) = not_empty body (choice_filled c)
-
-abbrev pub ItemHasParts : Item → Type 0
-ItemHasParts (item.Interface i) = Unit {0}
-ItemHasParts (item.Union u) = Unit {0}
-ItemHasParts (item.Rule r) = Unit {0}
-ItemHasParts (item.Terminal t) = HasParts t
-
-pub item_filled : {ts rest : List Lexeme} {i : Item} → SpellsItem ts rest i → ItemHasParts i
-item_filled (syntax.interface i) = tt
-item_filled (syntax.union_type u) = tt
-item_filled (syntax.rule r) = tt
-item_filled (syntax.terminal t) = terminal_filled t
-item_filled (syntax.hidden_terminal t) = terminal_filled t
