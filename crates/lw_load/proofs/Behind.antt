@@ -1,6 +1,6 @@
 -- What is left behind a thing that was spelled begins further on than the tokens of the thing, and the name of a rule, a terminal or a
 -- type is one of these.
-use Rattle.std.proofs.Common.{ℕ, suc, ◌≤◌, List, ◌∷◌, Bool, Option, arith}
+use Rattle.std.proofs.Common.{ℕ, suc, ◌≤◌, List, ◌∷◌, Bool, Option}
 use Rattle.lw_base.specs.declared.token.Span.{Span}
 use Rattle.lw_grammar.specs.declared.grammar.Import.{Import}
 use Rattle.lw_grammar.specs.declared.declared_types.Interface.{Interface}
@@ -30,12 +30,12 @@ use Rattle.lw_syntax.specs.Syntax as syntax
 use Rattle.lw_syntax.specs.Syntax.{SpellsGrammarName, SpellsImports}
 use Rattle.lw_load.proofs.Rising.{Rises, later}
 
--- a place begins at or behind the first of these, and the tokens begin behind it
-abbrev pub Parts : ℕ → Span → List Lexeme → Type 0
-Parts low s ts = (low ≤ s.start) × Rises (suc s.start) ts
+-- a name stands at this place, not before `low`, and the tokens begin behind its start
+abbrev pub IsNamed : ℕ → Span → List Lexeme → Type 0
+IsNamed low s ts = (low ≤ s.start) × Rises (suc s.start) ts
 
-named : {low : ℕ} {n : List ℕ} {r : Option Reserved} {s : Span} {ts : List Lexeme} → Rises low (Word n r s ∷ ts) → Parts low s ts
-named (Rises.more from after) = (from, after)
+name_first : {low : ℕ} {n : List ℕ} {r : Option Reserved} {s : Span} {ts : List Lexeme} → Rises low (Word n r s ∷ ts) → IsNamed low s ts
+name_first (Rises.more from after) = (from, after)
 
 may_behind : {low : ℕ} {x : Symbol} {ts rest : List Lexeme} {b : Bool} → MayTake x ts rest b → Rises low ts → Rises low rest
 may_behind MayTake.left_out h = h
@@ -81,12 +81,12 @@ attributes_behind : {low : ℕ} {ts rest : List Lexeme} {all : List Attribute} �
 attributes_behind types.no_attribute h = h
 attributes_behind (types.attribute_and a m) h = attributes_behind m (attribute_behind a h)
 
-pub interface_parts : {low : ℕ} {ts rest : List Lexeme} {i : Interface} → SpellsInterface ts rest i → Rises low ts → Parts low i.span rest
-interface_parts (types.interface a m e) h =
-    let name = named h in (name.0, may_behind e (later (attributes_behind m (later (above_behind a name.1)))))
+pub interface_named : {low : ℕ} {ts rest : List Lexeme} {i : Interface} → SpellsInterface ts rest i → Rises low ts → IsNamed low i.span rest
+interface_named (types.interface a m e) h =
+    let name = name_first h in (name.0, may_behind e (later (attributes_behind m (later (above_behind a name.1)))))
 
-pub union_parts : {low : ℕ} {ts rest : List Lexeme} {u : UnionDef} → SpellsUnion ts rest u → Rises low ts → Parts low u.span rest
-union_parts (types.union_of m e) h = let name = named h in (name.0, may_behind e (members_behind m (later name.1)))
+pub union_named : {low : ℕ} {ts rest : List Lexeme} {u : UnionDef} → SpellsUnion ts rest u → Rises low ts → IsNamed low u.span rest
+union_named (types.union_of m e) h = let name = name_first h in (name.0, may_behind e (members_behind m (later name.1)))
 
 -- ---- parser rules
 
@@ -157,9 +157,9 @@ result_behind rules.returns h = later (later h)
 result_behind (rules.gives e) h = later (later h)
 result_behind rules.infers h = later (later h)
 
-pub rule_parts : {low : ℕ} {ts rest : List Lexeme} {r : Rule} → SpellsRule ts rest r → Rises low ts → Parts low r.span rest
-rule_parts (rules.rule e f r c) h =
-    let name = named (word_behind f (word_behind e h)) in (name.0, later (choice_behind c (later (result_behind r name.1))))
+pub rule_named : {low : ℕ} {ts rest : List Lexeme} {r : Rule} → SpellsRule ts rest r → Rises low ts → IsNamed low r.span rest
+rule_named (rules.rule e f r c) h =
+    let name = name_first (word_behind f (word_behind e h)) in (name.0, later (choice_behind c (later (result_behind r name.1))))
 
 -- ---- terminals
 
@@ -194,13 +194,13 @@ mutual
   term_choice_behind : {low : ℕ} {ts rest : List Lexeme} {e : TermElement} → SpellsTermChoice ts rest e → Rises low ts → Rises low rest
   term_choice_behind (terms.choice r m) h = more_term_rows_behind m (term_row_behind r h)
 
-head_parts : {low : ℕ} {ts rest : List Lexeme} {n : List ℕ} {s : Span} {b : Bool} {p : Primitive} → SpellsTermHead ts rest n s b p → Rises low ts → Parts low s rest
-head_parts terms.fragment h = named (later h)
-head_parts terms.token h = named h
-head_parts (terms.gives e) h = let name = named h in (name.0, later (later name.1))
+head_named : {low : ℕ} {ts rest : List Lexeme} {n : List ℕ} {s : Span} {b : Bool} {p : Primitive} → SpellsTermHead ts rest n s b p → Rises low ts → IsNamed low s rest
+head_named terms.fragment h = name_first (later h)
+head_named terms.token h = name_first h
+head_named (terms.gives e) h = let name = name_first h in (name.0, later (later name.1))
 
-pub terminal_parts : {low : ℕ} {hidden : Bool} {ts rest : List Lexeme} {t : Terminal} → SpellsTerminal hidden ts rest t → Rises low ts → Parts low t.span rest
-terminal_parts (terms.terminal d c) h = let name = head_parts d h in (name.0, later (term_choice_behind c (later name.1)))
+pub terminal_named : {low : ℕ} {hidden : Bool} {ts rest : List Lexeme} {t : Terminal} → SpellsTerminal hidden ts rest t → Rises low ts → IsNamed low t.span rest
+terminal_named (terms.terminal d c) h = let name = head_named d h in (name.0, later (term_choice_behind c (later name.1)))
 
 -- ---- files
 

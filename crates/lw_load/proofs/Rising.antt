@@ -1,12 +1,12 @@
 -- Tokens that begin one behind the other, as those of a file do.
-use Rattle.std.proofs.Common.{ℕ, zero, suc, ◌≡◌, ◌+◌, ◌<◌, ◌≤◌, List, [], ◌∷◌, length, true, drop, subst, sym, arith}
+use Rattle.std.proofs.Common.{ℕ, zero, suc, ◌≡◌, ◌+◌, ◌<◌, ◌≤◌, List, [], ◌∷◌, length, true, drop, arith}
 use Rattle.std.proofs.lemmas.Str.{length-encode, len_utf8_bounds}
 use Rattle.lw_base.specs.declared.token.Span.{Span}
 use Rattle.lw_gramread.specs.declared.token.FileKind.{FileKind}
 use Rattle.lw_gramread.specs.declared.token.FileKind.TheVariants as kind
 use Rattle.lw_gramread.specs.declared.token.FileToken.{FileToken}
 use Rattle.lw_gramread.specs.FileCut.{IsFileCut}
-use Rattle.lw_gramread.specs.FileTokens.{IsPlainWord, IsWord, IsString, IsRegex, IsFileToken}
+use Rattle.lw_gramread.specs.FileTokens.{IsWord, IsFileToken}
 use Rattle.lw_gramread.specs.Symbols.{spelling}
 use Rattle.lw_gramread.specs.Values.{part_of}
 use Rattle.lw_gramread.proofs.CutLemmas.{IsCutFrom, whole, token_from}
