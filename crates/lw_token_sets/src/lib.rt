@@ -15,9 +15,11 @@
 #![tactic(auto)]
 
 mod fault;
+mod limits;
+mod making;
 mod numbered;
-mod token_set;
+mod sources;
 
 pub use fault::{MOST_KINDS, MOST_TERMINALS, TermFault};
+pub use making::token_set;
 pub use numbered::NumberedKinds;
-pub use token_set::token_set;

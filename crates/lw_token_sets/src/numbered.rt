@@ -1,6 +1,8 @@
 // The kinds of tokens of a grammar, beside the numbers of its names.
 ghost use Rattle.std.specs.Prelude.{◌≤◌, IfOk};
 ghost use Rattle.lw_grammar.specs.Size.{size};
+ghost use Rattle.lw_kinds.specs.Rows.{AreKindRowOf};
+ghost use Rattle.lw_numbers.specs.Tables.{AreNumbersOf};
 ghost use Rattle.lw_token_sets.specs.Numbered.{AreNumberedKindsOf};
 
 use lw_base::NoMemory;
@@ -29,4 +31,16 @@ impl NumberedKinds {
         let kinds = kinds(alloc, g, &numbers)?;
         Ok(NumberedKinds { numbers, kinds })
     }
+}
+
+/// The kinds of a grammar, where the numbers of its names are known.
+fn kinds(alloc: Global, g: &Grammar, numbers: &Numbers) -> Result<KindTable, NoMemory>
+    requires numbered { AreNumbersOf g.now numbers.now }
+    requires small { size g.now ≤ 65535 }
+    ensures { IfOk result (AreKindRowOf g.now) }
+{
+    let subtypes = Subtypes::of(alloc, g, numbers)?;
+    let name_rules = NameRules::of(alloc, g, numbers, &subtypes)?;
+    let reading = Reading::of(alloc, g, numbers, &name_rules)?;
+    KindTable::of(alloc, g, numbers, &name_rules, &reading)
 }

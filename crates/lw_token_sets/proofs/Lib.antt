@@ -1,0 +1,9 @@
+pub mod Blank
+pub mod DistinctTexts
+pub mod Items
+pub mod KeywordLists
+pub mod KeywordSteps
+pub mod MadeSets
+pub mod SourceSteps
+pub mod Tried
+pub mod Zips
