@@ -4,6 +4,8 @@ pub mod Items
 pub mod KeywordLists
 pub mod KeywordSteps
 pub mod MadeSets
+pub mod OneAnswer
 pub mod SourceSteps
 pub mod Tried
+pub mod Unlisted
 pub mod Zips

@@ -6,7 +6,7 @@ use Rattle.lw_grammar.specs.declared.terminal.Terminal.{Terminal}
 use Rattle.lw_grammar.specs.Kinds.{Kinds, AreKinds}
 use Rattle.lw_grammar.specs.KindTexts.{texts_of}
 use Rattle.lw_io.specs.Causes.{Faulted}
-use Rattle.lw_kinds.specs.Rows.{KindRow}
+use Rattle.lw_kinds.specs.Rows.{KindRow, AreKindRowOf}
 use Rattle.lw_patterns.specs.declared.written.TheConstants.{LONGEST_PATTERN}
 use Rattle.lw_patterns.specs.WrittenPatterns.{measured}
 use Rattle.lw_terminals.specs.TokenKinds.{TokenKinds}
@@ -49,6 +49,19 @@ module _ (g : Grammar) (listed : List (List ℕ)) where
       HasSoundKinds row × (pattern : List ℕ) × IsTried g listed row rule pattern × (length pattern ≤ LONGEST_PATTERN) × (match_length pattern [] ≡ Some 0)
       × ¬ Contains listed pattern
   Causes row refused NoMemory = Unit {0}
+
+-- the grammar's kinds are sound, and its patterns are all taken
+pub record HasTokens (g : Grammar) (listed : List (List ℕ)) : Type 0 where
+  pub row : KindRow
+  pub are_kinds : AreKindRowOf g row
+  pub sound : HasSoundKinds row
+  pub taken : All (HasTaken g listed) row.terminals
+
+-- a fault that the kinds and patterns of a grammar decide, and no maker of patterns
+abbrev pub IsOfKindsAndPatterns : TermFault → Type 0
+IsOfKindsAndPatterns (PatternRefused rule) = ⊥
+IsOfKindsAndPatterns NoMemory = ⊥
+IsOfKindsAndPatterns _ = Unit {0}
 
 -- the count of refusals rises at `PatternRefused`, and stands still at every other answer
 abbrev pub CountsPatterns : {T : Type 0} → ℕ → ℕ → Result T TermFault → Type 0

@@ -15,11 +15,13 @@
 #![tactic(auto)]
 
 mod fault;
+mod laws;
 mod limits;
 mod making;
 mod numbered;
 mod sources;
 
 pub use fault::{MOST_KINDS, MOST_TERMINALS, TermFault};
+pub use laws::{listed_or_not, one_answer};
 pub use making::token_set;
 pub use numbered::NumberedKinds;
