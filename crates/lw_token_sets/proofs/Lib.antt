@@ -1,4 +1,5 @@
 pub mod Blank
+pub mod Counts
 pub mod DistinctTexts
 pub mod Items
 pub mod KeywordLists

@@ -26,8 +26,8 @@ module _ (g : Grammar) (listed : List (List ℕ)) (row : KindRow) (sound : HasSo
   tried_taken : (rule : RuleId) (pattern : List ℕ) → IsTried g listed row rule pattern → IsTaken [] pattern
   tried_taken rule pattern is =
       let has =
-          subst (HasTaken g []) (get_or_from_slice_get row.terminals is.number is.place is.place is.kind)
-          (taken is.number is.place (slice_get_within row.terminals is.number is.place is.kind)) in
+      subst (HasTaken g []) (get_or_from_slice_get row.terminals is.number is.place is.place is.kind)
+      (taken is.number is.place (slice_get_within row.terminals is.number is.place is.kind)) in
       let same = same_Some has.terminal is.terminal (sym has.there ∙ is.there) in
       let its = subst (λ terminal. TerminalPattern g terminal has.pattern) same has.written in
       subst (IsTaken []) (one_terminal g is.terminal has.pattern pattern its is.written) has.taken

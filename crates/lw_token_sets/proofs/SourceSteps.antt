@@ -28,7 +28,7 @@ module _ (g : Grammar) (written : List Written) (said : ArePatternsOf g written)
       source ≡ record { name = terminal.name; pattern = pattern; hidden = terminal.is_hidden } → IsSourceOf g place source
   has_source pattern short terminals are terminal at source made =
       let there : slice_get g.terminals place ≡ Some terminal =
-          slice_get-get_or g.terminals place terminal inside ∙ ap Some (ap (λ ts. get_or ts place terminal) (sym are) ∙ sym at) in
+      slice_get-get_or g.terminals place terminal inside ∙ ap Some (ap (λ ts. get_or ts place terminal) (sym are) ∙ sym at) in
       let tied = subst (IsPatternOf g terminal) short (is_pattern terminal there) in
       subst (IsSourceOf g place) (sym made) (record { terminal = terminal; there = there; name = refl; written = tied.0; short = tied.1; hidden = refl })
 

@@ -9,6 +9,7 @@ use lw_base::Name;
 use lw_kinds::{FirstUse, KindTable};
 
 /// Whether a language may have these kinds. Their numbers are looked at first, then the keywords, in order.
+#[tactic(auto, using(crate::proofs::Counts::too_many_kinds, crate::proofs::Counts::too_many_terminals))]
 pub(crate) fn check_kinds(kinds: &KindTable) -> Result<(), TermFault>
     ensures sound { OnOk result (HasSoundKinds kinds.now) }
     ensures fault { IfErr result (IsKindFault kinds.now) }

@@ -43,7 +43,7 @@ pub fn token_set<P: Patterns>(
     }
 }
 
-// The same, where a language may have these kinds.
+/// The same, where a language may have these kinds.
 fn set_of_sound<P: Patterns>(
     alloc: Global,
     g: &Grammar,
@@ -66,7 +66,7 @@ fn set_of_sound<P: Patterns>(
     set_of_sources(alloc, g, kinds, keywords, sources, patterns)
 }
 
-// The same, where this is what the set is made from. Behind the making nothing allocates, so a refusal is always told.
+/// The same, where the set is made from these. Once patterns are made nothing allocates, so that a refusal is always told.
 fn set_of_sources<P: Patterns>(
     alloc: Global,
     g: &Grammar,

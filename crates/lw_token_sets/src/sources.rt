@@ -14,9 +14,10 @@ use lw_patterns::{Written, patterns};
 use lw_terminals::TerminalSource;
 use std::alloc::Global;
 
-/// What the terminals that are kinds are made from, in their order, up to the first whose pattern is long.
+/// What the terminals that are kinds are made from, up to the first whose pattern is long.
 #[derive(Drop)]
 pub(crate) struct Sources {
+    /// In the order of kinds.
     pub terminals: Vec<TerminalSource>,
     /// How long that pattern is, in bytes, if there is one.
     pub long: Option<u32>,

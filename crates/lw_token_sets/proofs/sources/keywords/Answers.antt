@@ -4,7 +4,7 @@ use Rattle.lw_token_sets.proofs.KeywordSteps.{texts_of, texts_more}
 use Rattle.lw_token_sets.proofs.sources.keywords.Goals as goal
 
 pub loop-k-preserved : goal.loop-k-preserved
-loop-k-preserved c = 
+loop-k-preserved c =
     texts_more c.args.kinds.now.keywords c.loop-k.k (omega (arith, c.loop-k-test.true, c.keyword_count-k-end.ensures.count)) c.keyword_at.result.now
     c.keyword_at.ensures.text c.loop-k.texts.items _ c.loop-k.invariant
     (c.in_ok-push.ensures.items ∙ ap (λ text. c.loop-k.texts.items ++ text ∷ []) c.in_ok-copy.ensures)
