@@ -1,15 +1,18 @@
 -- That a run is told by its status, from what its work came to.
-use Rattle.std.proofs.Common.{◌≡◌, inl, inr, ℕ, List, Option, Some, None, Result, Ok, Err, IfSome, refl, sym, subst, ◌∙◌, take, Contains}
-use Rattle.std.proofs.lemmas.Option.{slice_get_within, get_or_from_slice_get}
+use Rattle.std.proofs.Common.{◌≡◌, inl, inr, ℕ, List, [], Option, Some, None, Result, Ok, Err, IfSome, refl, sym, subst, ◌∙◌, take}
 use Rattle.lw_grammar.specs.declared.grammar.Grammar.{Grammar}
 use Rattle.lw_load.specs.declared.fault.LoadFault.{LoadFault}
 use Rattle.lw_load.specs.declared.fault.LoadFault.TheVariants as loading
 use Rattle.lw_gramcheck.proofs.Faultless.{no_first_faults}
 use Rattle.lw_told.specs.declared.told.ToldFault.{ToldFault}
 use Rattle.lw_lang.specs.Judged.{AreAllTold}
-use Rattle.lw_lang.specs.Obstacles.{MatchesEmpty}
-use Rattle.lw_lang.specs.Refused.{FirstMatchesEmpty}
-use Rattle.lw_lang.specs.Compiled.{HoldsGrammar, IsClear, IsNotLoaded, IsNotBuilt, Causes}
+use Rattle.lw_token_sets.specs.declared.fault.TermFault.{TermFault}
+use Rattle.lw_token_sets.specs.TokenSets as token
+use Rattle.lw_token_sets.proofs.OneAnswer.{one_answer}
+use Rattle.lw_lang.specs.ToldTerms.{IsTermToldAs}
+use Rattle.lw_lang.specs.ToldTerms as as_told
+use Rattle.lw_lang.specs.declared.told_term.ToldTermFault.{ToldTermFault}
+use Rattle.lw_lang.specs.Compiled.{HoldsGrammar, IsClear, IsNotLoaded, IsNotBuilt, HasNoTokens, Causes}
 use Rattle.lw_lang.specs.declared.fault.CompileFault.{CompileFault}
 use Rattle.lw_lang.specs.declared.fault.CompileFault.TheVariants as fault
 use Rattle.langbench.specs.declared.report.Verdict.{Verdict}
@@ -36,13 +39,6 @@ count_all faults outcome source sink store patterns TheSink = sink
 count_all faults outcome source sink store patterns TheStore = store
 count_all faults outcome source sink store patterns ThePatterns = patterns
 
--- the first pattern that matches the empty text is one
-matches_empty : (g : Grammar) → FirstMatchesEmpty g → MatchesEmpty g
-matches_empty g (terminal, pattern, tried, matches) =
-    let in' : Contains tried.kinds.terminals terminal =
-    (tried.number, slice_get_within tried.kinds.terminals tried.number terminal tried.there, get_or_from_slice_get tried.kinds.terminals tried.number terminal terminal tried.there) in
-    (pattern, (tried.kinds, tried.are, terminal, in', tried.written), matches)
-
 -- where the path holds a grammar that is built and nothing fails, memory alone can be wanting
 module _ (files : Files) (path : List ℕ) (refused : Option (List ℕ)) (faults : Faults) (g : Grammar) (holds : HoldsGrammar files path g) (clear : IsClear g) (none : NoneRose faults) where
   -- it is loaded, unless the store failed
@@ -55,22 +51,35 @@ module _ (files : Files) (path : List ℕ) (refused : Option (List ℕ)) (faults
   loaded (loading.TooLarge p) cause counts = absurd (cause.nothing tt holds.loaded holds.loads)
   loaded loading.NoMemory cause counts = refl
 
-  -- and built
+  -- it has a set of tokens, unless a pattern was refused
+  with_tokens : (texts : List (List ℕ)) (told : ToldTermFault) → HasNoTokens g texts refused told → CountsAll faults (Err (stop.Grammar (fault.Term told))) → ⊥
+  with_tokens texts told has counts = by has.fault told has.as_told has.cause counts
+    where
+      by : (found : TermFault) (told : ToldTermFault) → IsTermToldAs g texts found told → token.Causes g [] has.row refused found →
+          CountsAll faults (Err (stop.Grammar (fault.Term told))) → ⊥
+      by found told as_told.kinds cause counts = one_answer g [] has.row refused found clear.sound.tokens has.are_kinds tt cause
+      by found told (as_told.keyword is) cause counts = one_answer g [] has.row refused found clear.sound.tokens has.are_kinds tt cause
+      by found told (as_told.long is) cause counts = one_answer g [] has.row refused found clear.sound.tokens has.are_kinds tt cause
+      by found told (as_told.refused is) cause counts = none ThePatterns (counts ThePatterns).rose
+      by found told (as_told.matches_empty is) cause counts = one_answer g [] has.row refused found clear.sound.tokens has.are_kinds tt cause
+
+  -- and is built
   built : IsNotBuilt g → ⊥
-  built (faultless, inl shape) = shape clear.shape
-  built (faultless, inr (inl obstacle)) = clear.clear obstacle
-  built (faultless, inr (inr matches)) = clear.filled (matches_empty g matches)
+  built (sound, unbuilt) = unbuilt clear.flat
 
   -- and faultless, so that no list of faults, which is never empty, is told of it
   faultless : (texts : List (List ℕ)) (told : List ToldFault) → AreAllTold g texts told → ⊥
-  faultless texts told all = no_first_faults g clear.faultless all.faults all.all
+  faultless texts told all = no_first_faults g clear.sound.faultless all.faults all.all
 
   pub only_memory : (found : CompileFault) → Causes files path refused found → CountsAll faults (Err (stop.Grammar found)) → fault_code found ≡ 7
   only_memory (fault.Load found) cause counts = loaded found cause counts
   only_memory (fault.Faults told) cause counts =
       absurd (faultless cause.1.loaded.texts told (subst (λ h. AreAllTold h cause.1.loaded.texts told) (same_grammar files path g holds cause.0 cause.1) cause.2))
+  only_memory (fault.Term told) cause counts =
+      absurd
+      (with_tokens cause.1.loaded.texts told
+      (subst (λ h. HasNoTokens h cause.1.loaded.texts refused told) (same_grammar files path g holds cause.0 cause.1) cause.2) counts)
   only_memory fault.Unbuilt cause counts = absurd (built (subst IsNotBuilt (same_grammar files path g holds cause.0 cause.1) cause.2))
-  only_memory (fault.PatternRefused rule name at) cause counts = absurd (none ThePatterns (counts ThePatterns).rose)
   only_memory fault.NoMemory cause counts = refl
 
   -- a document is read to its end

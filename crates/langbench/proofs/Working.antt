@@ -34,8 +34,8 @@ module _ (files : Files) (path held : List ℕ) (refused after old new : Option 
   unbuilt : (found : CompileFault) → Causes files path refused found → Keeps (Some held) after → Keeps old new → CheckComesTo files path held refused after old new (Err (stop_of_fault found))
   unbuilt (fault.Load found) cause unread keeps = (cause, unread, keeps)
   unbuilt (fault.Faults told) cause unread keeps = (cause, unread, keeps)
+  unbuilt (fault.Term told) cause unread keeps = (cause, unread, keeps)
   unbuilt fault.Unbuilt cause unread keeps = (cause, unread, keeps)
-  unbuilt (fault.PatternRefused rule name at) cause unread keeps = (cause, unread, keeps)
   unbuilt fault.NoMemory cause unread keeps = inl (reads_nothing (Some held) after unread, keeps)
 
   -- where the document is not read nothing is printed

@@ -14,6 +14,10 @@ use Rattle.lw_load.specs.declared.fault.LoadFault.{LoadFault}
 use Rattle.lw_load.specs.declared.fault.LoadFault.TheVariants as loading
 use Rattle.lw_told.specs.declared.told.ToldFault.{ToldFault}
 use Rattle.lw_told.specs.Texts.{fault_text}
+use Rattle.lw_lang.specs.declared.told_term.PatternProblem.{PatternProblem}
+use Rattle.lw_lang.specs.declared.told_term.PatternProblem.TheVariants as problem
+use Rattle.lw_lang.specs.declared.told_term.ToldTermFault.{ToldTermFault}
+use Rattle.lw_lang.specs.declared.told_term.ToldTermFault.TheVariants as term
 use Rattle.lw_lang.specs.declared.fault.CompileFault.{CompileFault}
 use Rattle.lw_lang.specs.declared.fault.CompileFault.TheVariants as fault
 use Rattle.langbench.specs.declared.report.Verdict.{Verdict}
@@ -54,10 +58,6 @@ file_line path what = line (path ++ codes ": " ++ what)
 abbrev pub placed_line : List ℕ → Pos → List ℕ → List ℕ
 placed_line path at what = file_line (path ++ codes ":" ++ printed at) what
 
--- a terminal whose pattern was refused
-abbrev pub refused_text : List ℕ → List ℕ
-refused_text name = codes "terminal " ++ name ++ codes ": pattern refused"
-
 -- what is wrong with a grammar as a whole is told at the start of the file that the words name
 abbrev pub whole_line : List ℕ → List ℕ → List ℕ
 whole_line path what = placed_line path (record { line = 0; character = 0 }) what
@@ -86,12 +86,25 @@ told_line told = placed_line told.path told.at (codes "fault " ++ decimal told.n
 abbrev pub told_lines : List ToldFault → List ℕ
 told_lines told = flat_map told_line told
 
+-- what is wrong with the pattern of a terminal
+abbrev pub problem_text : PatternProblem → List ℕ
+problem_text (problem.Long bytes) = codes "pattern too long"
+problem_text problem.Refused = codes "pattern refused"
+problem_text problem.MatchesEmpty = codes "matches nothing"
+
+-- why the grammar at this path has no set of tokens
+abbrev pub term_line : List ℕ → ToldTermFault → List ℕ
+term_line path (term.TooManyKinds count) = whole_line path (codes "too many kinds: " ++ decimal count)
+term_line path (term.KeywordBlank place) = placed_line place.path place.at (codes "blank keyword")
+term_line path (term.Pattern terminal found) =
+    placed_line terminal.place.path terminal.place.at (codes "terminal " ++ terminal.name ++ codes ": " ++ problem_text found)
+
 -- a fault of the grammar at this path
 abbrev pub fault_line : List ℕ → CompileFault → List ℕ
 fault_line path (fault.Load found) = load_line path found
 fault_line path (fault.Faults told) = told_lines told
+fault_line path (fault.Term told) = term_line path told
 fault_line path fault.Unbuilt = whole_line path (codes "not built")
-fault_line path (fault.PatternRefused rule name at) = placed_line path at (refused_text name)
 fault_line path fault.NoMemory = memory_line
 
 -- why a run stopped, where this is the path of the grammar that its words name

@@ -7,6 +7,9 @@ use Rattle.lw_io.specs.declared.whole.WriteFault.{WriteFault}
 use Rattle.lw_io.specs.declared.whole.WriteFault.TheVariants as writing
 use Rattle.lw_load.specs.declared.fault.LoadFault.{LoadFault}
 use Rattle.lw_load.specs.declared.fault.LoadFault.TheVariants as loading
+use Rattle.lw_lang.specs.declared.told_term.PatternProblem.TheVariants.{Refused}
+use Rattle.lw_lang.specs.declared.told_term.ToldTermFault.{ToldTermFault}
+use Rattle.lw_lang.specs.declared.told_term.ToldTermFault.TheVariants as term
 use Rattle.lw_lang.specs.declared.fault.CompileFault.{CompileFault}
 use Rattle.lw_lang.specs.declared.fault.CompileFault.TheVariants as fault
 use Rattle.langbench.specs.declared.report.Verdict.{Verdict}
@@ -44,19 +47,24 @@ load_blame (loading.StoreFault path) = One TheStore
 load_blame loading.NoMemory = Unsaid
 load_blame _ = Nobody
 
+-- no set of tokens
+abbrev pub term_blame : ToldTermFault → Blame
+term_blame (term.Pattern terminal Refused) = One ThePatterns
+term_blame _ = Nobody
+
 -- a fault of the grammar
 abbrev pub fault_code : CompileFault → ℕ
 fault_code (fault.Load found) = load_code found
 fault_code (fault.Faults told) = 3
+fault_code (fault.Term told) = 3
 fault_code fault.Unbuilt = 3
-fault_code (fault.PatternRefused rule name at) = 3
 fault_code fault.NoMemory = 7
 
 abbrev pub fault_blame : CompileFault → Blame
 fault_blame (fault.Load found) = load_blame found
 fault_blame (fault.Faults told) = Nobody
+fault_blame (fault.Term told) = term_blame told
 fault_blame fault.Unbuilt = Nobody
-fault_blame (fault.PatternRefused rule name at) = One ThePatterns
 fault_blame fault.NoMemory = Unsaid
 
 -- any stop

@@ -1,15 +1,16 @@
 // The notes: why a run stopped.
-ghost use Rattle.std.specs.Prelude.{◌≡◌, IfOk, IfSome, IsTrue, string_bytes};
+ghost use Rattle.std.specs.Prelude.{◌≡◌, ◌++◌, IfOk, IfSome, IsTrue, codes, string_bytes};
+ghost use Rattle.std.specs.Fmt.{decimal};
 ghost use Rattle.std.specs.Option.{option_copied};
 ghost use Rattle.lw_io.specs.Causes.{Rose};
-ghost use Rattle.langbench.specs.Notes.{file_line, placed_line, whole_line, refusal_text, load_line, refused_text, told_line, told_lines, fault_line, frame_line, IsStopLine, NotesPart, NotesStop};
+ghost use Rattle.langbench.specs.Notes.{file_line, placed_line, whole_line, refusal_text, load_line, problem_text, term_line, told_line, told_lines, fault_line, frame_line, IsStopLine, NotesPart, NotesStop};
 
 use crate::place::printed;
 use crate::stop::Stop;
 use lw_base::{Name, NoMemory};
 use lw_frame::FrameFault;
 use lw_io::{Sink, WriteFault, write_all};
-use lw_lang::CompileFault;
+use lw_lang::{CompileFault, PatternProblem, ToldTermFault, ToldTerminal};
 use lw_load::LoadFault;
 use lw_syntax::ReadFault;
 use lw_text::Pos;
@@ -87,8 +88,8 @@ fn fault_line(alloc: Global, path: &Name, fault: &CompileFault) -> Result<String
     match fault {
         CompileFault::Load(found) => load_line(alloc, path, found),
         CompileFault::Faults(told) => told_lines(alloc, told.as_slice()),
+        CompileFault::Term(told) => term_line(alloc, path, told),
         CompileFault::Unbuilt => whole_line(alloc, path, "not built"),
-        CompileFault::PatternRefused(_, name, at) => refused_line(alloc, path, name, *at),
         CompileFault::NoMemory => Ok(String::from_str(alloc, "out of memory\n")?),
     }
 }
@@ -176,10 +177,48 @@ fn placed_line(alloc: Global, path: &Name, at: Pos, what: &str) -> Result<String
     Ok(format!(in alloc; "{path}:{place}: {what}\n")?)
 }
 
-// `PATH:LINE:COL: terminal NAME: pattern refused`
-fn refused_line(alloc: Global, path: &Name, name: &Name, at: Pos) -> Result<String, NoMemory>
-    ensures { IfOk result (λ line. string_bytes line ≡ placed_line path.now at (refused_text name.now)) }
+// Why a grammar has no set of tokens.
+fn term_line(alloc: Global, path: &Name, told: &ToldTermFault) -> Result<String, NoMemory>
+    ensures { IfOk result (λ line. string_bytes line ≡ term_line path.now told.now) }
 {
-    let what = format!(in alloc; "terminal {name}: pattern refused")?;
-    placed_line(alloc, path, at, what.as_str())
+    match told {
+        ToldTermFault::TooManyKinds(count) => kinds_line(alloc, path, *count),
+        ToldTermFault::KeywordBlank(place) => {
+            placed_line(alloc, &place.path, place.at, "blank keyword")
+        }
+        ToldTermFault::Pattern(terminal, found) => pattern_line(alloc, terminal, *found),
+    }
+}
+
+// `PATH:1:1: too many kinds: COUNT`
+fn kinds_line(alloc: Global, path: &Name, count: u32) -> Result<String, NoMemory>
+    ensures { IfOk result (λ line. string_bytes line ≡ whole_line path.now (codes "too many kinds: " ++ decimal count)) }
+{
+    let what = format!(in alloc; "too many kinds: {count}")?;
+    whole_line(alloc, path, what.as_str())
+}
+
+// `PATH:LINE:COL: terminal NAME: WHAT`
+fn pattern_line(
+    alloc: Global,
+    terminal: &ToldTerminal,
+    found: PatternProblem,
+) -> Result<String, NoMemory>
+    ensures { IfOk result (λ line. string_bytes line ≡ placed_line terminal.now.place.path terminal.now.place.at (codes "terminal " ++ terminal.now.name ++ codes ": " ++ problem_text found)) }
+{
+    let name = &terminal.name;
+    let problem = problem_text(found);
+    let what = format!(in alloc; "terminal {name}: {problem}")?;
+    placed_line(alloc, &terminal.place.path, terminal.place.at, what.as_str())
+}
+
+// What is wrong with the pattern of a terminal.
+fn problem_text(found: PatternProblem) -> &'static str
+    ensures { result.now ≡ problem_text found }
+{
+    match found {
+        PatternProblem::Long(_) => "pattern too long",
+        PatternProblem::Refused => "pattern refused",
+        PatternProblem::MatchesEmpty => "matches nothing",
+    }
 }

@@ -393,6 +393,14 @@ fn grammars_that_are_refused_are_told(rt: HostRuntime) -> Result<(), Fail> {
             "grammar G entry A: (((((((((((((((((((((((((((((((((((((((((((((((((((((((((((((((((",
             "g.langium:1:84: too deep\n",
         ),
+        (
+            "grammar G entry A: x=ID ' '; terminal ID: /[a-z]+/;",
+            "g.langium:1:25: blank keyword\n",
+        ),
+        (
+            "grammar G entry A: x=ID; terminal ID: /[a-z]*/;",
+            "g.langium:1:35: terminal ID: matches nothing\n",
+        ),
     ] {
         is_refused(&rt, rt.alloc(), grammar, note)?;
     }
@@ -416,6 +424,12 @@ fn imports_that_are_not_loaded_are_told(rt: HostRuntime) -> Result<(), Fail> {
             0,
             3,
             "j.langium:1:34: unexpected token\n",
+        ),
+        (
+            b"grammar J import './i.langium' B: 'b' name=ID; terminal ID: /[a-z]*/;",
+            0,
+            3,
+            "j.langium:1:57: terminal ID: matches nothing\n",
         ),
         (IMPORTED, 0, 3, "i.langium:1:1: not built\n"),
         (IMPORTED, 2, 6, "j.langium: failed\n"),

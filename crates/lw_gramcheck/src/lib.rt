@@ -1,8 +1,9 @@
 //! What is wrong with a grammar: with how its rules work together, and with all of it.
 //!
 //! [`judge`] answers whether anything is wrong with a grammar, by all faults of the first of the two phases that has any. The
-//! first phase is that of `lw_types`. [`check`] is the second: it looks at a grammar whose names and types are in order, and lists the faults of the second phase: those of entries, of what
-//! rules read, of the order in which they do things, and of how their parts go together. `docs/faults.md` lists them.
+//! first phase is that of names and types (`lw_types`). [`check`] is the second, for a grammar in which the first finds nothing: it
+//! lists the faults of entries, of what rules read, of the order in which they do things, and of how their parts go together.
+//! `docs/faults.md` lists them.
 //!
 //! Its model: faults are plain data, and the list is one of the faults that `lw_faults` defines.
 //!

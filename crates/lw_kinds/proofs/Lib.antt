@@ -9,5 +9,6 @@ pub mod PlaceSteps
 pub mod Few
 pub mod RowLemmas
 pub mod OneRow
+pub mod NamedByRules
 pub mod TerminalNumbers
 pub mod WorkedRow

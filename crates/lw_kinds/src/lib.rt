@@ -13,6 +13,8 @@
 //! of its keyword, and that a look-up finds the number exactly where there is one. There are never more
 //! than 65,535 kinds.
 //!
+//! [`name_rule`] says which rule or terminal, by its number, reads a cross-reference to a type where none is written.
+//!
 //! A table is made in one walk over the rules, in expected linear time. A keyword is found in constant
 //! time, as expected, and a terminal in time that is logarithmic in the number of terminals.
 #![tactic(auto)]
@@ -21,7 +23,9 @@ mod gathering;
 mod kind_table;
 mod laws;
 mod names;
+mod naming;
 mod terminals;
 
 pub use kind_table::{FirstUse, KindTable};
 pub use laws::{one_row, reached_alone};
+pub use naming::name_rule;

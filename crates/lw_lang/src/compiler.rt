@@ -2,7 +2,7 @@
 ghost use Rattle.std.specs.Prelude.{◌≡◌, ◌≤◌, ◌<◌, [], length, IfOk, IfErr, IfSome};
 ghost use Rattle.lw_load.specs.declared.limits.TheConstants.{LARGEST_GRAMMAR};
 ghost use Rattle.lw_load.specs.Standing.{Stands};
-ghost use Rattle.lw_patterns.specs.WellFormed.{IsWellFormed};
+ghost use Rattle.lw_formed.specs.WellFormed.{IsWellFormed};
 ghost use Rattle.lw_gramcheck.specs.Judging.{IsFaultless};
 ghost use Rattle.lw_token_sets.specs.Numbered.{AreNumberedKindsOf};
 ghost use Rattle.lw_token_sets.specs.TokenSets.{IsTokenSetOf, HasTokens};

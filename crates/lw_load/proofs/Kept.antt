@@ -13,6 +13,8 @@ use Rattle.lw_load.specs.Opening.{IsFound}
 use Rattle.lw_load.specs.Walking.{Adds, BeginsWalk, Goes}
 use Rattle.lw_load.proofs.Grown.{size_grown, stands_grown, stands_bare}
 use Rattle.lw_load.proofs.Ways.{Takes}
+use Rattle.lw_load.proofs.FileFormed.{text_formed}
+use Rattle.lw_load.proofs.JoinFormed.{IsNumbered, numbered_grown, numbered_bare}
 
 -- A path that waits is an import that is counted, and so is each that came but the root.
 pub record Keeps (walk : Walk) : Type 0 where
@@ -20,6 +22,7 @@ pub record Keeps (walk : Walk) : Type 0 where
   pub fits : walk.size ≤ LARGEST_GRAMMAR
   pub root : 0 < length walk.whole.files
   pub stands : Stands walk.texts walk.whole
+  pub formed : IsNumbered walk.whole
   pub room : length walk.whole.files + length walk.waiting.items ≤ length walk.whole.imports + 1
 
 -- how many paths can come yet
@@ -52,6 +55,10 @@ module _ (told : Option Files) (path : List ℕ) (old new : Walk) (file : Opened
       subst (λ ts. Stands ts new.whole) (sym adds.texts)
       (subst (Stands (old.texts ++ file.text ∷ [])) (sym adds.whole) (stands_grown old.texts file.text old.whole file.path file.says is.short s is.stands))
 
+  formed_added : IsNumbered old.whole → IsNumbered new.whole
+  formed_added f =
+      subst IsNumbered (sym adds.whole) (numbered_grown old.whole file.path file.says f (text_formed file.text file.says is.says.says))
+
 imports_counted : (g : Grammar) → length g.imports ≤ size g
 imports_counted g = omega arith
 
@@ -62,6 +69,7 @@ keeps_begins told root walk b = record {
   root = omega (arith, files_added told root b.empty walk b.file b.is b.adds);
   stands = stands_added told root b.empty walk b.file b.is b.adds
       (subst (λ ts. Stands ts b.empty.whole) (sym b.texts) (subst (Stands []) (sym b.whole) (stands_bare b.file.says.name)));
+  formed = formed_added told root b.empty walk b.file b.is b.adds (subst IsNumbered (sym b.whole) (numbered_bare b.file.says.name));
   room = omega (
     arith,
     files_added told root b.empty walk b.file b.is b.adds,
@@ -87,6 +95,7 @@ module _ (path : List ℕ) (old now : Walk) (keeps : Keeps old) (takes : Takes o
     fits = omega (arith, same.size, takes.size, keeps.fits);
     root = omega (arith, keeps.root, ap (λ g. length g.files) (same.whole ∙ takes.whole));
     stands = subst (λ ts. Stands ts new.whole) (sym (same.texts ∙ takes.texts)) (subst (Stands old.texts) (sym (same.whole ∙ takes.whole)) keeps.stands);
+    formed = subst IsNumbered (sym (same.whole ∙ takes.whole)) keeps.formed;
     room = omega (arith, was_waiting, keeps.room, ap length same.waiting, ap (λ g. length g.files) (same.whole ∙ takes.whole), ap (λ g. length g.imports) (same.whole ∙ takes.whole));
   }
   keeps_goes told new (Goes.opened file first is adds seen) = record {
@@ -95,6 +104,7 @@ module _ (path : List ℕ) (old now : Walk) (keeps : Keeps old) (takes : Takes o
     root = omega (arith, files_added told path now new file is adds);
     stands = stands_added told path now new file is adds
         (subst (λ ts. Stands ts now.whole) (sym takes.texts) (subst (Stands old.texts) (sym takes.whole) keeps.stands));
+    formed = formed_added told path now new file is adds (subst IsNumbered (sym takes.whole) keeps.formed);
     room = omega (
       arith,
       files_added told path now new file is adds,

@@ -18,7 +18,7 @@ use Rattle.lw_faults.specs.Faults.{IsTypeFault, IsCheckFault, fault}
 use Rattle.lw_faults.specs.Names as names
 use Rattle.lw_faults.specs.Names.{rule_space}
 use Rattle.lw_faults.specs.Written.{term_calls}
-use Rattle.lw_patterns.specs.WellFormed.{IsWellFormed}
+use Rattle.lw_formed.specs.WellFormed.{IsWellFormed}
 
 -- ---- the first item of a name, if there is one
 module _ {X : Type 0} (name_of : X → List ℕ) (name : List ℕ) where

@@ -17,7 +17,7 @@ use Rattle.lw_faults.specs.Faults.{IsTypeFault, IsCheckFault, fault}
 use Rattle.lw_faults.specs.Written.{term_calls}
 use Rattle.lw_graph.specs.Walks.{HasNode}
 use Rattle.lw_tokens.specs.Patterns.{TerminalPattern}
-use Rattle.lw_patterns.specs.WellFormed.{IsWellFormed}
+use Rattle.lw_formed.specs.WellFormed.{IsWellFormed}
 use Rattle.lw_patterns.proofs.Calling.{calls_terminal}
 use Rattle.lw_patterns.proofs.Ranging.{ranges_have_ends}
 use Rattle.lw_patterns.proofs.ReadyBodies.{ready_body}

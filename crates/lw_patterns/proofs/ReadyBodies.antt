@@ -11,7 +11,7 @@ use Rattle.lw_grammar.specs.declared.terminal.TermElement.TheOpen.{TermElement-F
 use Rattle.lw_faults.specs.Written.{Range, term_calls, term_layer_calls, term_ranges, term_layer_ranges}
 use Rattle.lw_patterns.specs.Readiness.{HasEnds, CallsKnown, ElementIsReady, LayerIsReady, AreReady}
 use Rattle.lw_patterns.specs.Readiness as ready
-use Rattle.lw_patterns.specs.WellFormed.{choices, layer_choices}
+use Rattle.lw_formed.specs.WellFormed.{choices, layer_choices}
 
 module _ (g : Grammar) (IsKnown : ℕ → Type 0) where
   abbrev KnownCalls : List (List ℕ × Span) → Type 0

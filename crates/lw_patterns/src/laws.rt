@@ -5,7 +5,7 @@ ghost use Rattle.lw_grammar.specs.declared.grammar.Grammar.{Grammar};
 ghost use Rattle.lw_grammar.specs.declared.terminal.Terminal.{Terminal};
 ghost use Rattle.lw_faults.specs.Faults.{IsTypeFault, IsCheckFault};
 ghost use Rattle.lw_tokens.specs.Patterns.{TerminalPattern};
-ghost use Rattle.lw_patterns.specs.WellFormed.{IsWellFormed};
+ghost use Rattle.lw_formed.specs.WellFormed.{IsWellFormed};
 
 /// A terminal has at most one pattern.
 pub fn one_pattern()

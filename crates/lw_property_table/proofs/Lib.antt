@@ -9,3 +9,11 @@ pub mod Meeting
 pub mod Telling
 pub mod Settled
 pub mod ShapesWorked
+pub mod Comings
+pub mod Currents
+pub mod Alike
+pub mod TwoWaysSeen
+pub mod StatesSeen
+pub mod PairsTypes
+pub mod PairsWays
+pub mod PairsSeen

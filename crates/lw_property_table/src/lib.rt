@@ -33,7 +33,11 @@ mod texts;
 mod value;
 
 pub use info::PropertyInfo;
-pub use laws::{one_list_of_properties, properties_of_shapes};
+pub use laws::{
+    one_list_of_properties, properties_around_an_action, properties_of_shapes,
+    properties_of_states, properties_of_two_ways, properties_of_united_types, types_below_a_rule,
+    types_below_a_union,
+};
 pub use table::PropertyTable;
 
 #[cfg(test)]

@@ -1,2 +1,12 @@
-pub mod Unlisted
+pub mod Blank
+pub mod Counts
 pub mod DistinctTexts
+pub mod Items
+pub mod KeywordLists
+pub mod KeywordSteps
+pub mod MadeSets
+pub mod OneAnswer
+pub mod SourceSteps
+pub mod Tried
+pub mod Unlisted
+pub mod Zips

@@ -16,10 +16,12 @@
 
 mod fault;
 mod laws;
+mod limits;
+mod making;
 mod numbered;
-mod token_set;
+mod sources;
 
 pub use fault::{MOST_KINDS, MOST_TERMINALS, TermFault};
 pub use laws::{listed_or_not, one_answer};
+pub use making::token_set;
 pub use numbered::NumberedKinds;
-pub use token_set::token_set;

@@ -83,3 +83,6 @@ pub returns-clause-only : goal.returns-clause-only
 returns-clause-only g c =
     let over = nil_from_length c.walking.walk.waiting.items (omega (arith, c.in_default.ensures.cases.0, c.walking.walk.waiting.ok.0)) in
     IfSome_then (g.F.Store.files c.args.store.now) c.walking.invariant.way (λ files way. way_only files c.args.root.now c.walking.walk way over)
+
+pub returns-clause-formed : goal.returns-clause-formed
+returns-clause-formed g c = c.walking.invariant.keeps.formed.formed
