@@ -55,7 +55,7 @@ module _ (files : Files) (path : List ℕ) (refused : Option (List ℕ)) (faults
   with_tokens : (texts : List (List ℕ)) (told : ToldTermFault) → HasNoTokens g texts refused told → CountsAll faults (Err (stop.Grammar (fault.Term told))) → ⊥
   with_tokens texts told has counts = by has.fault told has.as_told has.cause counts
     where
-      by : (found : TermFault) (told : ToldTermFault) → IsTermToldAs g texts found told → token.Causes g [] has.row refused found →
+      by : (found : TermFault) (told : ToldTermFault) → IsTermToldAs g texts found told → token.CausesNoTokens g [] has.row refused found →
           CountsAll faults (Err (stop.Grammar (fault.Term told))) → ⊥
       by found told as_told.kinds cause counts = one_answer g [] has.row refused found clear.sound.tokens has.are_kinds tt cause
       by found told (as_told.keyword is) cause counts = one_answer g [] has.row refused found clear.sound.tokens has.are_kinds tt cause

@@ -209,7 +209,12 @@ fn pattern_line(
     let name = &terminal.name;
     let problem = problem_text(found);
     let what = format!(in alloc; "terminal {name}: {problem}")?;
-    placed_line(alloc, &terminal.place.path, terminal.place.at, what.as_str())
+    placed_line(
+        alloc,
+        &terminal.place.path,
+        terminal.place.at,
+        what.as_str(),
+    )
 }
 
 // What is wrong with the pattern of a terminal.

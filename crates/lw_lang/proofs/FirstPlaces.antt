@@ -16,8 +16,8 @@ use Rattle.lw_told.proofs.Spans.{at_front, behind_front, leaf_stands, value_stan
 use Rattle.lw_token_sets.specs.declared.fault.TermFault.{TermFault}
 use Rattle.lw_token_sets.specs.declared.fault.TermFault.TheVariants.{TooManyKinds, KeywordBlank, PatternLong, PatternRefused, EmptyMatch, NoMemory}
 use Rattle.lw_token_sets.specs.Taken.{IsTried}
-use Rattle.lw_token_sets.specs.TokenSets.{Causes}
-use Rattle.lw_lang.specs.ToldTerms.{IsNumbered, CanBeTold}
+use Rattle.lw_token_sets.specs.TokenSets.{CausesNoTokens}
+use Rattle.lw_lang.specs.ToldTerms.{IsTerminalNumber, CanBeTold}
 use Rattle.lw_lang.proofs.Lists.{in_nothing, in_one, in_flat_map, at_place}
 
 module _ (g : Grammar) (texts : List (List ℕ)) (stands : Stands texts g) where
@@ -59,10 +59,10 @@ module _ (g : Grammar) (texts : List (List ℕ)) (stands : Stands texts g) where
       let in_leaves = in_flat_map (leaf_keyword_uses in_rules.0.file) (leaves in_rules.0.body) word in_rules.2 in
       leaf_placed in_rules.0 in_leaves.0 word (kept_from (IsReached g) in_rules.0 is.reached in_rules.1) in_leaves.1 in_leaves.2
 
-  numbered : (listed : List (List ℕ)) (row : KindRow) (rule : RuleId) (pattern : List ℕ) → IsTried g listed row rule pattern → IsNumbered g texts rule
+  numbered : (listed : List (List ℕ)) (row : KindRow) (rule : RuleId) (pattern : List ℕ) → IsTried g listed row rule pattern → IsTerminalNumber g texts rule
   numbered listed row rule pattern tried = (tried.place, tried.terminal, tried.told, tried.there)
 
-  pub can_be_told : (listed : List (List ℕ)) (row : KindRow) → AreKindRowOf g row → (refused : Option (List ℕ)) (fault : TermFault) → Causes g listed row refused fault →
+  pub can_be_told : (listed : List (List ℕ)) (row : KindRow) → AreKindRowOf g row → (refused : Option (List ℕ)) (fault : TermFault) → CausesNoTokens g listed row refused fault →
       CanBeTold g texts fault
   can_be_told listed row are refused (TooManyKinds n) cause = tt
   can_be_told listed row are refused (KeywordBlank file span) (few, blank) =

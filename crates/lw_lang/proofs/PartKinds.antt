@@ -77,11 +77,6 @@ module _ (g : Grammar) (kinds : Kinds) (part : Element) where
       by None none = λ k reads. none k (subst (λ n. IsTerminalKind g kinds n k) same (call_reads p v own s t is calls k reads))
       by (Some id) at = flat.call p v own s t is calls (subst (λ n. IsTerminalKind g kinds n id.0) (sym same) at)
 
-  -- a plain part has a text or a call
-  pub never_neither : IsPlainPart part → part_keyword part ≡ None → part_call part ≡ None → ⊥
-  never_neither (shape.keyword word s is) none no_call = let its = text_of word s is in cc
-  never_neither (shape.assignment p v own s t is calls) none no_call = let its = name_of p v own s t is calls in cc
-
 -- where one of the parts reads no kind, the parts read no row
 pub no_row : (g : Grammar) (kinds : Kinds) (parts : List Element) (i : ℕ) (part : Element) → i < length parts → part ≡ get_or parts i part → ReadsNone g kinds part → (row : List ℕ) →
     ¬ AllZip (ReadsKind g kinds) parts row

@@ -18,7 +18,7 @@ use Rattle.lw_lang.specs.declared.fault.CompileFault.TheVariants as fault
 
 module _ (g : Grammar) (texts : List (List ℕ)) (why : TermFault) where
   -- its cause is one by the grammar
-  pub told_causes : (row : KindRow) → AreKindRowOf g row → IsFaultless g → (listed : List (List ℕ)) (refused : Option (List ℕ)) → token.Causes g listed row refused why →
+  pub told_causes : (row : KindRow) → AreKindRowOf g row → IsFaultless g → (listed : List (List ℕ)) (refused : Option (List ℕ)) → token.CausesNoTokens g listed row refused why →
       (f : CompileFault) → IsToldOr g texts why f → GrammarCauses g texts refused f
   told_causes row are faultless listed refused cause (fault.Term as_told) is = record {
     faultless = faultless;
@@ -35,7 +35,7 @@ module _ (g : Grammar) (texts : List (List ℕ)) (why : TermFault) where
 
 -- and it counts as it did
 module _ (g : Grammar) (texts : List (List ℕ)) (T U : Type 0) where
-  term_counts : (before now : ℕ) (why : TermFault) (as_told : ToldTermFault) → IsTermToldAs g texts why as_told → token.CountsPatterns {T = T} before now (Err why) →
+  term_counts : (before now : ℕ) (why : TermFault) (as_told : ToldTermFault) → IsTermToldAs g texts why as_told → token.CountsRefused {T = T} before now (Err why) →
       CountsPatterns {T = U} before now (Err (fault.Term as_told))
   term_counts before now _ _ told.kinds counts = counts
   term_counts before now _ _ (told.keyword at) counts = counts
@@ -43,26 +43,26 @@ module _ (g : Grammar) (texts : List (List ℕ)) (T U : Type 0) where
   term_counts before now _ _ (told.refused at) counts = counts
   term_counts before now _ _ (told.matches_empty at) counts = counts
 
-  pub told_counts : (before now : ℕ) (why : TermFault) (f : CompileFault) → IsToldOr g texts why f → token.CountsPatterns {T = T} before now (Err why) →
+  pub told_counts : (before now : ℕ) (why : TermFault) (f : CompileFault) → IsToldOr g texts why f → token.CountsRefused {T = T} before now (Err why) →
       CountsPatterns {T = U} before now (Err f)
   told_counts before now why (fault.Term as_told) is counts = term_counts before now why as_told is counts
-  told_counts before now why fault.NoMemory is counts = subst (λ w. token.CountsPatterns {T = T} before now (Err w)) is counts
+  told_counts before now why fault.NoMemory is counts = subst (λ w. token.CountsRefused {T = T} before now (Err w)) is counts
   told_counts before now why (fault.Load found) is counts = absurd is
   told_counts before now why (fault.Faults found) is counts = absurd is
   told_counts before now why fault.Unbuilt is counts = absurd is
 
   term_keeps : (before now : Option (List ℕ)) (why : TermFault) (as_told : ToldTermFault) → IsTermToldAs g texts why as_told →
-      token.KeepsPatterns {T = T} before now (Err why) → KeepsPatterns {T = U} before now (Err (fault.Term as_told))
+      token.KeepsLastRefused {T = T} before now (Err why) → KeepsPatterns {T = U} before now (Err (fault.Term as_told))
   term_keeps before now _ _ told.kinds keeps = keeps
   term_keeps before now _ _ (told.keyword at) keeps = keeps
   term_keeps before now _ _ (told.long at) keeps = keeps
   term_keeps before now _ _ (told.refused at) keeps = keeps
   term_keeps before now _ _ (told.matches_empty at) keeps = keeps
 
-  pub told_keeps : (before now : Option (List ℕ)) (why : TermFault) (f : CompileFault) → IsToldOr g texts why f → token.KeepsPatterns {T = T} before now (Err why) →
+  pub told_keeps : (before now : Option (List ℕ)) (why : TermFault) (f : CompileFault) → IsToldOr g texts why f → token.KeepsLastRefused {T = T} before now (Err why) →
       KeepsPatterns {T = U} before now (Err f)
   told_keeps before now why (fault.Term as_told) is keeps = term_keeps before now why as_told is keeps
-  told_keeps before now why fault.NoMemory is keeps = subst (λ w. token.KeepsPatterns {T = T} before now (Err w)) is keeps
+  told_keeps before now why fault.NoMemory is keeps = subst (λ w. token.KeepsLastRefused {T = T} before now (Err w)) is keeps
   told_keeps before now why (fault.Load found) is keeps = absurd is
   told_keeps before now why (fault.Faults found) is keeps = absurd is
   told_keeps before now why fault.Unbuilt is keeps = absurd is
@@ -89,11 +89,3 @@ module _ {T : Type 0} (g : Grammar) where
   language_counts before now same (Err (fault.Load found)) is = absurd is
   language_counts before now same (Err (fault.Faults found)) is = absurd is
   language_counts before now same (Err (fault.Term found)) is = absurd is
-
-  pub language_keeps : (before now : Option (List ℕ)) → now ≡ before → (r : Result T CompileFault) → IfErr r (IsUnbuiltOrMemory g) → KeepsPatterns before now r
-  language_keeps before now same (Ok language) is = same
-  language_keeps before now same (Err fault.Unbuilt) is = same
-  language_keeps before now same (Err fault.NoMemory) is = same
-  language_keeps before now same (Err (fault.Load found)) is = absurd is
-  language_keeps before now same (Err (fault.Faults found)) is = absurd is
-  language_keeps before now same (Err (fault.Term found)) is = absurd is

@@ -6,7 +6,7 @@ use Rattle.lw_grammar.specs.declared.grammar.Grammar.{Grammar}
 use Rattle.lw_grammar.specs.declared.terminal.Terminal.{Terminal}
 use Rattle.lw_syntax.specs.PlacesWithin.{IsWithin, terminal_spans, term_spans}
 use Rattle.lw_load.specs.Standing.{Stands, AreIn}
-use Rattle.lw_lang.specs.ToldTerms.{IsNumbered, IsPlacedAs, IsTerminalToldAs}
+use Rattle.lw_lang.specs.ToldTerms.{IsTerminalNumber, IsPlacedAs, IsTerminalToldAs}
 use Rattle.lw_lang.specs.declared.told_term.FilePlace.{FilePlace}
 use Rattle.lw_lang.proofs.Lists.{at_place}
 
@@ -18,7 +18,7 @@ module _ (g : Grammar) (texts : List (List ℕ)) (number : ℕ) (terminal : Term
       let first = All-head (IsWithin are.text) terminal.span (term_spans terminal.body) are.within in
       record { text = are.text; there = are.there; within = All-cons (IsWithin are.text) terminal.span [] first (All-nil (IsWithin are.text)) }
 
-  pub terminal_told : (rule : RuleId) → IsNumbered g texts rule → number ≡ rule.0 - length g.rules → (place : FilePlace) → IsPlacedAs g texts terminal.file terminal.span place →
+  pub terminal_told : (rule : RuleId) → IsTerminalNumber g texts rule → number ≡ rule.0 - length g.rules → (place : FilePlace) → IsPlacedAs g texts terminal.file terminal.span place →
       IsTerminalToldAs g texts rule (record { rule = rule; name = terminal.name; place = place })
   terminal_told rule numbered same place placed = record {
     same = refl;

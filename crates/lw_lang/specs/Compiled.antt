@@ -55,7 +55,7 @@ pub record HasNoTokens (g : Grammar) (texts : List (List ℕ)) (refused : Option
   pub row : KindRow
   pub are_kinds : AreKindRowOf g row
   pub fault : TermFault
-  pub cause : token.Causes g [] row refused fault
+  pub cause : token.CausesNoTokens g [] row refused fault
   pub as_told : IsTermToldAs g texts fault told
 
 -- why each fault comes, by the files and the text that the patterns refused last

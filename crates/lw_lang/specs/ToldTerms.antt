@@ -46,16 +46,16 @@ module _ (g : Grammar) (texts : List (List ℕ)) where
         IsTermToldAs (EmptyMatch rule) (told.Pattern terminal problem.MatchesEmpty)
 
   -- the terminal of this number among rules and terminals
-  abbrev pub IsNumbered : RuleId → Type 0
-  IsNumbered rule = (number : ℕ) × (terminal : Terminal) × (rule.0 ≡ length g.rules + number) × (slice_get g.terminals number ≡ Some terminal)
+  abbrev pub IsTerminalNumber : RuleId → Type 0
+  IsTerminalNumber rule = (number : ℕ) × (terminal : Terminal) × (rule.0 ≡ length g.rules + number) × (slice_get g.terminals number ≡ Some terminal)
 
   -- the fault speaks of a place in the text of its file, or of a terminal of the grammar
   abbrev pub CanBeTold : TermFault → Type 0
   CanBeTold (TooManyKinds n) = Unit {0}
   CanBeTold (KeywordBlank file span) = AreIn texts file (span ∷ [])
-  CanBeTold (PatternLong rule bytes) = IsNumbered rule
-  CanBeTold (PatternRefused rule) = IsNumbered rule
-  CanBeTold (EmptyMatch rule) = IsNumbered rule
+  CanBeTold (PatternLong rule bytes) = IsTerminalNumber rule
+  CanBeTold (PatternRefused rule) = IsTerminalNumber rule
+  CanBeTold (EmptyMatch rule) = IsTerminalNumber rule
   CanBeTold NoMemory = Unit {0}
 
   -- the fault as it is told, or there was no memory before

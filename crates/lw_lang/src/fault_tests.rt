@@ -319,7 +319,10 @@ enum Subject {
 /// What a grammar of one rule begins and ends with.
 fn ends(subject: Subject) -> (&'static str, &'static str) {
     match subject {
-        Subject::Terminals | Subject::TerminalKinds => ("grammar G entry A: x=T; terminal T: 't';", ""),
+        Subject::Terminals | Subject::TerminalKinds => (
+            "grammar G entry A: x=T; terminal T: 't';",
+            "",
+        ),
         Subject::Kinds => ("grammar G terminal T: /t/; entry A: x=T", ";"),
         Subject::PatternBytes => ("grammar G entry A: x=T; terminal T: /t", "/;"),
     }

@@ -3,7 +3,7 @@ ghost use Rattle.std.specs.Prelude.{◌≡◌, ◌≤◌, [], ◌∷◌, None, A
 ghost use Rattle.lw_base.specs.declared.limits.TheConstants.{LONGEST_TEXT};
 ghost use Rattle.lw_load.specs.Standing.{AreIn, Stands};
 ghost use Rattle.lw_token_sets.specs.declared.fault.TermFault.{TermFault};
-ghost use Rattle.lw_lang.specs.ToldTerms.{CanBeTold, IsNumbered, IsPlacedAs, IsTermToldAs, IsTerminalToldAs};
+ghost use Rattle.lw_lang.specs.ToldTerms.{CanBeTold, IsTerminalNumber, IsPlacedAs, IsTermToldAs, IsTerminalToldAs};
 
 use lw_base::{Name, RuleId, Span};
 use lw_grammar::{Grammar, Terminal};
@@ -86,7 +86,7 @@ pub(crate) fn told_term(grammar: Grammar, texts: &[Name], fault: TermFault) -> O
 /// The terminal of this number among rules and terminals.
 fn told_terminal(mut grammar: Grammar, texts: &[Name], rule: RuleId) -> ToldTerminal
     requires stand { Stands texts.now grammar }
-    requires there { IsNumbered grammar texts.now rule }
+    requires there { IsTerminalNumber grammar texts.now rule }
     ensures { IsTerminalToldAs grammar texts.now rule result }
 {
     let number = usize::from(rule.0) - grammar.rules.len();

@@ -2,13 +2,13 @@
 use Rattle.std.proofs.Common.{◌≡◌, ℕ, ◌+◌, ◌<◌, ◌≤◌, length, sym, subst, arith}
 use Rattle.lw_kinds.specs.Rows.{KindRow}
 use Rattle.lw_token_sets.specs.declared.fault.TheConstants.{MOST_KINDS, MOST_TERMINALS}
-use Rattle.lw_token_sets.specs.Limits.{kind_count, AreTooMany}
+use Rattle.lw_token_sets.specs.Limits.{count_of_kinds, AreTooMany}
 use Rattle.lw_token_sets.specs.Limits as limit
 
 pub too_many_kinds : (row : KindRow) (keywords terminals : ℕ) → keywords ≡ length row.keywords → terminals ≡ length row.terminals → MOST_KINDS < keywords + terminals →
     AreTooMany row (keywords + terminals)
 too_many_kinds row keywords terminals words places over =
-    let all : kind_count row ≡ keywords + terminals = omega (arith, words, places) in
+    let all : count_of_kinds row ≡ keywords + terminals = omega (arith, words, places) in
     subst (AreTooMany row) all (limit.kinds (omega (arith, all, over)))
 
 pub too_many_terminals : (row : KindRow) (keywords terminals : ℕ) → keywords ≡ length row.keywords → terminals ≡ length row.terminals →

@@ -15,7 +15,7 @@ use Rattle.lw_token_sets.specs.declared.fault.TermFault.TheVariants.{TooManyKind
 use Rattle.lw_token_sets.specs.Limits.{AreFew, AreTooMany, IsBlank}
 use Rattle.lw_token_sets.specs.Limits as limit
 use Rattle.lw_token_sets.specs.Taken.{HasTaken, IsTried, IsTaken}
-use Rattle.lw_token_sets.specs.TokenSets.{HasSoundKinds, HasTokens, IsOfKindsAndPatterns, Causes}
+use Rattle.lw_token_sets.specs.TokenSets.{HasSoundKinds, HasTokens, IsOfKindsAndPatterns, CausesNoTokens}
 
 not_too_many : (row : KindRow) (n : ℕ) → AreFew row → ¬ AreTooMany row n
 not_too_many row n few (limit.kinds over) = omega (arith, few.kinds, over)
@@ -32,7 +32,7 @@ module _ (g : Grammar) (listed : List (List ℕ)) (row : KindRow) (sound : HasSo
       let its = subst (λ terminal. TerminalPattern g terminal has.pattern) same has.written in
       subst (IsTaken []) (one_terminal g is.terminal has.pattern pattern its is.written) has.taken
 
-  no_fault : (refused : Option (List ℕ)) (fault : TermFault) → IsOfKindsAndPatterns fault → ¬ Causes g listed row refused fault
+  no_fault : (refused : Option (List ℕ)) (fault : TermFault) → IsOfKindsAndPatterns fault → ¬ CausesNoTokens g listed row refused fault
   no_fault refused (TooManyKinds n) of cause = not_too_many row n sound.few cause
   no_fault refused (KeywordBlank file span) of (few, (number, text, first)) =
       let word : Use = (text, record { file = file; span = span }) in
@@ -44,7 +44,7 @@ module _ (g : Grammar) (listed : List (List ℕ)) (row : KindRow) (sound : HasSo
   no_fault refused NoMemory of cause = of
 
 pub one_answer : (g : Grammar) (listed : List (List ℕ)) (row : KindRow) (refused : Option (List ℕ)) (fault : TermFault) → HasTokens g [] → AreKindRowOf g row →
-    IsOfKindsAndPatterns fault → ¬ Causes g listed row refused fault
+    IsOfKindsAndPatterns fault → ¬ CausesNoTokens g listed row refused fault
 one_answer g listed row refused fault has are =
     let same = one_row g has.row row has.are_kinds are in
     no_fault g listed row (subst HasSoundKinds same has.sound) (subst (λ (of : KindRow). All (HasTaken g []) of.terminals) same has.taken) refused fault

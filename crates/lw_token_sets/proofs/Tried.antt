@@ -12,7 +12,7 @@ use Rattle.lw_patterns.specs.declared.written.TheConstants.{LONGEST_PATTERN}
 use Rattle.lw_terminals.specs.declared.source.TerminalSource.{TerminalSource}
 use Rattle.lw_terminals.specs.Made.{IsUsable, AreUsable, AreUnlisted, IsTriedAt}
 use Rattle.lw_token_sets.specs.declared.sources.Sources.{Sources}
-use Rattle.lw_token_sets.specs.Sources.{IsSourceOf, HasLongPattern, AreSourcesOf, IsTold}
+use Rattle.lw_token_sets.specs.Sources.{IsSourceOf, HasLongPattern, AreSourcesOf, IsNumberedAs}
 use Rattle.lw_token_sets.specs.Taken.{HasTaken, IsTried}
 use Rattle.lw_token_sets.proofs.Zips.{zip_at, zip_take, front_item}
 
@@ -51,7 +51,7 @@ module _ (g : Grammar) (listed : List (List ℕ)) where
         (all_taken (take i front) (take i sources.terminals.items) (zip_take (IsSourceOf g) i front sources.terminals.items are.each) usable unlisted)
 
     -- the terminal whose source is reached is tried, and has a short pattern
-    module _ (i : ℕ) (source : TerminalSource) (reached : IsTriedAt listed sources.terminals.items i source) (rule : RuleId) (told : IsTold g row.terminals i rule) where
+    module _ (i : ℕ) (source : TerminalSource) (reached : IsTriedAt listed sources.terminals.items i source) (rule : RuleId) (told : IsNumberedAs g row.terminals i rule) where
       its_place : (place : ℕ) × (slice_get (take (length sources.terminals.items) row.terminals) i ≡ Some place) × IsSourceOf g place source
       its_place = zip_at (IsSourceOf g) (take (length sources.terminals.items) row.terminals) sources.terminals.items i source are.each reached.there
 
@@ -76,7 +76,7 @@ module _ (g : Grammar) (listed : List (List ℕ)) where
     -- where a set was made of all sources, and the next terminal has a long pattern, that one is tried
     module _ (bytes place : ℕ) (next : slice_get row.terminals (length sources.terminals.items) ≡ Some place) (long : HasLongPattern g place bytes)
         (usable : AreUsable sources.terminals.items) (unlisted : AreUnlisted listed sources.terminals.items) (rule : RuleId)
-        (told : IsTold g row.terminals (length sources.terminals.items) rule) where
+        (told : IsNumberedAs g row.terminals (length sources.terminals.items) rule) where
       pub tried_long : IsTried g listed row rule long.pattern
       tried_long = record {
         number = length sources.terminals.items;

@@ -7,7 +7,7 @@ use Rattle.lw_kinds.specs.Rows.{KindRow}
 use Rattle.lw_token_sets.specs.declared.fault.TermFault.{TermFault}
 use Rattle.lw_token_sets.specs.declared.fault.TermFault.TheVariants.{TooManyKinds, KeywordBlank, PatternLong, PatternRefused, EmptyMatch, NoMemory}
 use Rattle.lw_token_sets.specs.Taken.{HasTaken, IsTried}
-use Rattle.lw_token_sets.specs.TokenSets.{HasTokens, Causes}
+use Rattle.lw_token_sets.specs.TokenSets.{HasTokens, CausesNoTokens}
 
 none_listed : (pattern : List ℕ) → ¬ Contains [] pattern
 none_listed pattern (k, inside, is) = omega (arith, inside)
@@ -42,7 +42,7 @@ module _ (g : Grammar) (listed : List (List ℕ)) where
     taken = All-weaker (HasTaken g listed) (HasTaken g []) taken_unlisted has.row.terminals has.taken;
   }
 
-  pub causes_unlisted : (row : KindRow) (refused : Option (List ℕ)) (fault : TermFault) → Causes g listed row refused fault → Causes g [] row refused fault
+  pub causes_unlisted : (row : KindRow) (refused : Option (List ℕ)) (fault : TermFault) → CausesNoTokens g listed row refused fault → CausesNoTokens g [] row refused fault
   causes_unlisted row refused (TooManyKinds n) cause = cause
   causes_unlisted row refused (KeywordBlank file span) cause = cause
   causes_unlisted row refused (PatternLong rule bytes) (sound, pattern, tried, long, are) = (sound, pattern, tried_unlisted row rule pattern tried, long, are)

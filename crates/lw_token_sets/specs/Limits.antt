@@ -8,18 +8,18 @@ use Rattle.lw_kinds.specs.Uses.{Use}
 use Rattle.lw_token_sets.specs.declared.fault.TheConstants.{MOST_KINDS, MOST_TERMINALS}
 
 -- how many kinds there are
-abbrev pub kind_count : KindRow → ℕ
-kind_count row = length row.keywords + length row.terminals
+abbrev pub count_of_kinds : KindRow → ℕ
+count_of_kinds row = length row.keywords + length row.terminals
 
 -- not too many
 pub record AreFew (row : KindRow) : Type 0 where
-  pub kinds : kind_count row ≤ MOST_KINDS
+  pub kinds : count_of_kinds row ≤ MOST_KINDS
   pub terminals : length row.terminals ≤ MOST_TERMINALS
 
 -- there are too many, and this is how many: kinds, or where these are not too many, terminals
 pub data AreTooMany (row : KindRow) : ℕ → Type 0 where
-  kinds : MOST_KINDS < kind_count row → AreTooMany row (kind_count row)
-  terminals : kind_count row ≤ MOST_KINDS → MOST_TERMINALS < length row.terminals → AreTooMany row (length row.terminals)
+  kinds : MOST_KINDS < count_of_kinds row → AreTooMany row (count_of_kinds row)
+  terminals : count_of_kinds row ≤ MOST_KINDS → MOST_TERMINALS < length row.terminals → AreTooMany row (length row.terminals)
 
 -- a text that is empty or begins with white space
 abbrev pub IsBlank : List ℕ → Type 0

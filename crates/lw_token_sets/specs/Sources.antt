@@ -40,5 +40,5 @@ module _ (g : Grammar) where
     pub end : EndsAt places (length sources.terminals.items) sources.long
 
 -- this is by what the terminal of the kind of this number is told: its number among rules and terminals
-abbrev pub IsTold : Grammar → List ℕ → ℕ → RuleId → Type 0
-IsTold g places number rule = (place : ℕ) × (slice_get places number ≡ Some place) × (rule.0 ≡ length g.rules + place)
+abbrev pub IsNumberedAs : Grammar → List ℕ → ℕ → RuleId → Type 0
+IsNumberedAs g places number rule = (place : ℕ) × (slice_get places number ≡ Some place) × (rule.0 ≡ length g.rules + place)

@@ -38,17 +38,17 @@ module _ (g : Grammar) (listed : List (List ℕ)) where
     pub texts : tokens.texts ≡ texts_of of
 
   -- why a grammar has none, where this is the text that was refused last
-  abbrev pub Causes : KindRow → Option (List ℕ) → TermFault → Type 0
-  Causes row refused (TooManyKinds n) = AreTooMany row n
-  Causes row refused (KeywordBlank file span) = AreFew row × IsFirstBlank row (record { file = file; span = span })
-  Causes row refused (PatternLong rule bytes) =
+  abbrev pub CausesNoTokens : KindRow → Option (List ℕ) → TermFault → Type 0
+  CausesNoTokens row refused (TooManyKinds n) = AreTooMany row n
+  CausesNoTokens row refused (KeywordBlank file span) = AreFew row × IsFirstBlank row (record { file = file; span = span })
+  CausesNoTokens row refused (PatternLong rule bytes) =
       HasSoundKinds row × (pattern : List ℕ) × IsTried g listed row rule pattern × (LONGEST_PATTERN < length pattern) × (bytes ≡ measured pattern)
-  Causes row refused (PatternRefused rule) =
+  CausesNoTokens row refused (PatternRefused rule) =
       HasSoundKinds row × (pattern : List ℕ) × IsTried g listed row rule pattern × (length pattern ≤ LONGEST_PATTERN) × (refused ≡ Some pattern)
-  Causes row refused (EmptyMatch rule) =
+  CausesNoTokens row refused (EmptyMatch rule) =
       HasSoundKinds row × (pattern : List ℕ) × IsTried g listed row rule pattern × (length pattern ≤ LONGEST_PATTERN) × (match_length pattern [] ≡ Some 0)
       × ¬ Contains listed pattern
-  Causes row refused NoMemory = Unit {0}
+  CausesNoTokens row refused NoMemory = Unit {0}
 
 -- the grammar's kinds are sound, and its patterns are all taken
 pub record HasTokens (g : Grammar) (listed : List (List ℕ)) : Type 0 where
@@ -64,11 +64,11 @@ IsOfKindsAndPatterns NoMemory = ⊥
 IsOfKindsAndPatterns _ = Unit {0}
 
 -- the count of refusals rises at `PatternRefused`, and stands still at every other answer
-abbrev pub CountsPatterns : {T : Type 0} → ℕ → ℕ → Result T TermFault → Type 0
-CountsPatterns before now (Err (PatternRefused rule)) = Faulted before now
-CountsPatterns before now _ = now ≡ before
+abbrev pub CountsRefused : {T : Type 0} → ℕ → ℕ → Result T TermFault → Type 0
+CountsRefused before now (Err (PatternRefused rule)) = Faulted before now
+CountsRefused before now _ = now ≡ before
 
 -- the text last refused stays what it was at every answer but `PatternRefused`
-abbrev pub KeepsPatterns : {T : Type 0} → Option (List ℕ) → Option (List ℕ) → Result T TermFault → Type 0
-KeepsPatterns before now (Err (PatternRefused rule)) = Unit {0}
-KeepsPatterns before now _ = now ≡ before
+abbrev pub KeepsLastRefused : {T : Type 0} → Option (List ℕ) → Option (List ℕ) → Result T TermFault → Type 0
+KeepsLastRefused before now (Err (PatternRefused rule)) = Unit {0}
+KeepsLastRefused before now _ = now ≡ before

@@ -3,7 +3,7 @@ ghost use Rattle.std.specs.Prelude.{◌≡◌, ◌+◌, ◌≤◌, IfErr, IfOk, 
 ghost use Rattle.lw_kinds.specs.Rows.{AreKindRowOf};
 ghost use Rattle.lw_numbers.specs.Tables.{AreNumbersOf};
 ghost use Rattle.lw_token_sets.specs.Sources.{AreSourcesOf};
-ghost use Rattle.lw_token_sets.specs.TokenSets.{HasPatterns, HasSoundKinds, IsTokenSetOf, Causes, CountsPatterns, KeepsPatterns};
+ghost use Rattle.lw_token_sets.specs.TokenSets.{HasPatterns, HasSoundKinds, IsTokenSetOf, CausesNoTokens, CountsRefused, KeepsLastRefused};
 
 use crate::TermFault;
 use crate::limits::check_kinds;
@@ -33,9 +33,9 @@ pub fn token_set<P: Patterns>(
     requires written { HasPatterns g.now }
     requires few { length g.now.rules + length g.now.terminals ≤ 65535 }
     ensures made { IfOk result (IsTokenSetOf g.now (P.listed patterns.old) kinds.now) }
-    ensures fault { IfErr result (Causes g.now (P.listed patterns.old) kinds.now (P.last_refused patterns.new)) }
-    ensures count { CountsPatterns (P.count patterns.old) (P.count patterns.new) result }
-    ensures last { KeepsPatterns (P.last_refused patterns.old) (P.last_refused patterns.new) result }
+    ensures fault { IfErr result (CausesNoTokens g.now (P.listed patterns.old) kinds.now (P.last_refused patterns.new)) }
+    ensures count { CountsRefused (P.count patterns.old) (P.count patterns.new) result }
+    ensures last { KeepsLastRefused (P.last_refused patterns.old) (P.last_refused patterns.new) result }
 {
     match check_kinds(kinds) {
         Ok(()) => set_of_sound(alloc, g, numbers, kinds, patterns),
@@ -57,9 +57,9 @@ fn set_of_sound<P: Patterns>(
     requires written { HasPatterns g.now }
     requires few { length g.now.rules + length g.now.terminals ≤ 65535 }
     ensures made { IfOk result (IsTokenSetOf g.now (P.listed patterns.old) kinds.now) }
-    ensures fault { IfErr result (Causes g.now (P.listed patterns.old) kinds.now (P.last_refused patterns.new)) }
-    ensures count { CountsPatterns (P.count patterns.old) (P.count patterns.new) result }
-    ensures last { KeepsPatterns (P.last_refused patterns.old) (P.last_refused patterns.new) result }
+    ensures fault { IfErr result (CausesNoTokens g.now (P.listed patterns.old) kinds.now (P.last_refused patterns.new)) }
+    ensures count { CountsRefused (P.count patterns.old) (P.count patterns.new) result }
+    ensures last { KeepsLastRefused (P.last_refused patterns.old) (P.last_refused patterns.new) result }
 {
     let keywords = keywords(alloc, kinds)?;
     let sources = sources_of(alloc, g, numbers, kinds)?;
@@ -81,9 +81,9 @@ fn set_of_sources<P: Patterns>(
     requires keywords { keywords.items ≡ map (λ word. word.0) kinds.now.keywords }
     requires sources { AreSourcesOf g.now kinds.now.terminals sources }
     ensures made { IfOk result (IsTokenSetOf g.now (P.listed patterns.old) kinds.now) }
-    ensures fault { IfErr result (Causes g.now (P.listed patterns.old) kinds.now (P.last_refused patterns.new)) }
-    ensures count { CountsPatterns (P.count patterns.old) (P.count patterns.new) result }
-    ensures last { KeepsPatterns (P.last_refused patterns.old) (P.last_refused patterns.new) result }
+    ensures fault { IfErr result (CausesNoTokens g.now (P.listed patterns.old) kinds.now (P.last_refused patterns.new)) }
+    ensures count { CountsRefused (P.count patterns.old) (P.count patterns.new) result }
+    ensures last { KeepsLastRefused (P.last_refused patterns.old) (P.last_refused patterns.new) result }
 {
     let Sources { terminals, long } = sources;
     let count = terminals.len();

@@ -3,7 +3,7 @@ ghost use Rattle.std.specs.Prelude.{◌≡◌, ◌+◌, ◌≤◌, ◌<◌, IfOk
 ghost use Rattle.lw_kinds.specs.Rows.{AreKindRowOf};
 ghost use Rattle.lw_numbers.specs.Tables.{AreNumbersOf};
 ghost use Rattle.lw_patterns.specs.WrittenPatterns.{ArePatternsOf};
-ghost use Rattle.lw_token_sets.specs.Sources.{AreSourcesOf, IsTold};
+ghost use Rattle.lw_token_sets.specs.Sources.{AreSourcesOf, IsNumberedAs};
 ghost use Rattle.lw_token_sets.specs.TokenSets.{HasPatterns};
 
 use lw_base::{Name, NoMemory, RuleId};
@@ -100,7 +100,7 @@ pub(crate) fn rule_of(g: &Grammar, kinds: &KindTable, number: usize) -> RuleId
     requires kinds { AreKindRowOf g.now kinds.now }
     requires few { length g.now.rules + length g.now.terminals ≤ 65535 }
     requires within { number < length kinds.now.terminals }
-    ensures { IsTold g.now kinds.now.terminals number result }
+    ensures { IsNumberedAs g.now kinds.now.terminals number result }
 {
     RuleId((g.rules.len() + kinds.terminal_at(number)) as u16)
 }

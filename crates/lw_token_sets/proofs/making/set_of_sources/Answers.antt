@@ -1,7 +1,7 @@
 use Rattle.std.proofs.Common.{◌≡◌, ◌≤◌, Err, length, map, ap, ap₂, sym, subst, ◌∙◌, arith}
 use Rattle.std.proofs.lemmas.List.{length-map}
 use Rattle.std.proofs.lemmas.Option.{slice_get_within}
-use Rattle.lw_token_sets.specs.Sources.{EndsAt, IsTold}
+use Rattle.lw_token_sets.specs.Sources.{EndsAt, IsNumberedAs}
 use Rattle.lw_kinds.specs.Uses.{Use}
 use Rattle.lw_token_sets.proofs.KeywordLists.{are_keywords}
 use Rattle.lw_token_sets.proofs.MadeSets.{made}
@@ -41,7 +41,7 @@ returns-in-Some-clause-fault g c =
     let count = length c.args.sources.terminals.items in
     let ends = subst (EndsAt c.args.g.now row.terminals count) c.in-Some.is c.requires.sources.end in
     let same : c.len-count.result ≡ count = omega (arith, c.len-count.ensures, c.args.sources.terminals.ok.0) in
-    let told = subst (λ n. IsTold c.args.g.now row.terminals n c.rule_of.result) same c.rule_of.ensures in
+    let told = subst (λ n. IsNumberedAs c.args.g.now row.terminals n c.rule_of.result) same c.rule_of.ensures in
     let tried =
     tried_long c.args.g.now (g.P.Patterns.listed c.args.patterns.now) row c.args.sources c.requires.sources c.in-Some.bytes ends.0 ends.1 ends.2
     c.in-Ok.ensures.usable c.in-Ok.ensures.unlisted c.rule_of.result told in
@@ -58,7 +58,7 @@ pub returns-in-Err-Refused-clause-fault : goal.returns-in-Err-Refused-clause-fau
 returns-in-Err-Refused-clause-fault g c =
     let listed = g.P.Patterns.listed c.args.patterns.now in
     let at = c.in-Err-Refused.ensures.refused c.in-Err-Refused.i (ap Err c.in-Err-Refused.field-0-is) in
-    let told = subst (λ n. IsTold c.args.g.now c.args.kinds.now.terminals n c.rule_of-in-Err-Refused.result) c.in-Err-Refused.i-is c.rule_of-in-Err-Refused.ensures in (
+    let told = subst (λ n. IsNumberedAs c.args.g.now c.args.kinds.now.terminals n c.rule_of-in-Err-Refused.result) c.in-Err-Refused.i-is c.rule_of-in-Err-Refused.ensures in (
       c.requires.sound,
       at.terminal.pattern,
       tried c.args.g.now listed c.args.kinds.now c.args.sources c.requires.sources c.in-Err-Refused.i at.terminal at.tried c.rule_of-in-Err-Refused.result told,
@@ -70,7 +70,7 @@ pub returns-in-Err-EmptyMatch-clause-fault : goal.returns-in-Err-EmptyMatch-clau
 returns-in-Err-EmptyMatch-clause-fault g c =
     let listed = g.P.Patterns.listed c.args.patterns.now in
     let at = c.in-Err-EmptyMatch.ensures.empty_match c.in-Err-EmptyMatch.i (ap Err c.in-Err-EmptyMatch.field-0-is) in
-    let told = subst (λ n. IsTold c.args.g.now c.args.kinds.now.terminals n c.rule_of-in-Err-EmptyMatch.result) c.in-Err-EmptyMatch.i-is c.rule_of-in-Err-EmptyMatch.ensures in (
+    let told = subst (λ n. IsNumberedAs c.args.g.now c.args.kinds.now.terminals n c.rule_of-in-Err-EmptyMatch.result) c.in-Err-EmptyMatch.i-is c.rule_of-in-Err-EmptyMatch.ensures in (
       c.requires.sound,
       at.terminal.pattern,
       tried c.args.g.now listed c.args.kinds.now c.args.sources c.requires.sources c.in-Err-EmptyMatch.i at.terminal at.tried c.rule_of-in-Err-EmptyMatch.result told,
