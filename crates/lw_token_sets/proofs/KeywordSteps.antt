@@ -1,16 +1,14 @@
 -- The keywords one after the other: their texts, and the first that is blank.
-use Rattle.std.proofs.Common.{◌≡◌, ℕ, ◌+◌, ◌<◌, ◌≤◌, List, [], ◌∷◌, ◌++◌, Option, Some, IfSome, map, length, get_or, take, slice_get, All, inl, inr, refl, sym, ap, ap₂, ◌∙◌, subst, arith}
+use Rattle.std.proofs.Common.{◌≡◌, ℕ, ◌+◌, ◌<◌, ◌≤◌, List, [], ◌∷◌, ◌++◌, Some, IfSome, length, get_or, take, slice_get, inl, inr, sym, ap, ap₂, ◌∙◌, subst, arith}
 use Rattle.std.proofs.lemmas.Bool.{cases_lt}
 use Rattle.std.proofs.lemmas.List.{take_more, map-append}
-use Rattle.std.proofs.lemmas.Option.{slice_get-get_or, get_or_from_slice_get, same_Some}
+use Rattle.std.proofs.lemmas.Option.{slice_get-get_or, get_or_from_slice_get}
 use Rattle.lw_kinds.specs.declared.kind_table.FirstUse.{FirstUse}
 use Rattle.lw_kinds.specs.Rows.{KindRow}
 use Rattle.lw_kinds.specs.Uses.{Use}
+use Rattle.lw_kinds.proofs.FirstTexts.{texts_of}
 use Rattle.lw_token_sets.specs.Limits.{IsBlank, AreNotBlank, IsFirstBlank}
 use Rattle.lw_token_sets.proofs.Items.{item_there}
-
-abbrev pub texts_of : List Use → List (List ℕ)
-texts_of words = map (λ word. word.0) words
 
 -- none of the first so many is blank
 abbrev pub NoneBlankBelow : List Use → ℕ → Type 0

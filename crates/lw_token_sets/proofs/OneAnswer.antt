@@ -1,14 +1,12 @@
 -- A grammar that has tokens has none of the faults that its kinds and patterns decide.
-use Rattle.std.proofs.Common.{◌≡◌, ℕ, ◌<◌, List, [], Option, Some, slice_get, All, sym, ap, ◌∙◌, subst, arith}
+use Rattle.std.proofs.Common.{ℕ, List, [], Option, All, sym, ◌∙◌, subst, arith}
 use Rattle.std.proofs.lemmas.Option.{same_Some, slice_get_within, get_or_from_slice_get}
 use Rattle.lw_base.specs.declared.numbers.RuleId.{RuleId}
 use Rattle.lw_grammar.specs.declared.grammar.Grammar.{Grammar}
-use Rattle.lw_grammar.specs.declared.terminal.Terminal.{Terminal}
 use Rattle.lw_kinds.specs.Rows.{KindRow, AreKindRowOf}
 use Rattle.lw_kinds.specs.Uses.{Use}
 use Rattle.lw_kinds.proofs.OneRow.{one_row}
 use Rattle.lw_patterns.proofs.OneTerminal.{one_terminal}
-use Rattle.lw_tokens.specs.Matching.{match_length}
 use Rattle.lw_tokens.specs.Patterns.{TerminalPattern}
 use Rattle.lw_token_sets.specs.declared.fault.TermFault.{TermFault}
 use Rattle.lw_token_sets.specs.declared.fault.TermFault.TheVariants.{TooManyKinds, KeywordBlank, PatternLong, PatternRefused, EmptyMatch, NoMemory}

@@ -1,5 +1,5 @@
 -- What a maker takes that lists some patterns, one takes that lists none.
-use Rattle.std.proofs.Common.{◌≡◌, ℕ, List, [], Option, take, All, Contains, arith}
+use Rattle.std.proofs.Common.{ℕ, List, [], Option, take, Contains, arith}
 use Rattle.std.proofs.lemmas.List.Elements.{All-weaker}
 use Rattle.lw_base.specs.declared.numbers.RuleId.{RuleId}
 use Rattle.lw_grammar.specs.declared.grammar.Grammar.{Grammar}

@@ -1,6 +1,5 @@
 -- The set of tokens of a grammar, and why there is none.
-use Rattle.std.specs.Prelude.{ℕ, ◌≡◌, ◌<◌, ◌≤◌, List, [], Option, Some, Result, Ok, Err, length, All, Contains}
-use Rattle.lw_base.specs.declared.numbers.RuleId.{RuleId}
+use Rattle.std.specs.Prelude.{ℕ, ◌≡◌, ◌<◌, ◌≤◌, List, [], Option, Some, Result, Err, length, All, Contains}
 use Rattle.lw_grammar.specs.declared.grammar.Grammar.{Grammar}
 use Rattle.lw_grammar.specs.declared.terminal.Terminal.{Terminal}
 use Rattle.lw_grammar.specs.Kinds.{Kinds, AreKinds}

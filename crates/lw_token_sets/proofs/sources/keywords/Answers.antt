@@ -1,6 +1,7 @@
 use Rattle.std.proofs.Common.{[], ◌∷◌, ◌++◌, ap, ◌∙◌, arith}
 use Rattle.std.proofs.lemmas.List.{take_all}
-use Rattle.lw_token_sets.proofs.KeywordSteps.{texts_of, texts_more}
+use Rattle.lw_kinds.proofs.FirstTexts.{texts_of}
+use Rattle.lw_token_sets.proofs.KeywordSteps.{texts_more}
 use Rattle.lw_token_sets.proofs.sources.keywords.Goals as goal
 
 pub loop-k-preserved : goal.loop-k-preserved

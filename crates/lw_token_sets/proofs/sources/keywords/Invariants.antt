@@ -1,5 +1,5 @@
 use Rattle.std.proofs.Common.{◌≡◌, take}
-use Rattle.lw_token_sets.proofs.KeywordSteps.{texts_of}
+use Rattle.lw_kinds.proofs.FirstTexts.{texts_of}
 use Rattle.lw_token_sets.proofs.sources.keywords.Given as goal
 
 abbrev pub invariant-loop-k : goal.invariant-loop-k

@@ -1,4 +1,4 @@
-use Rattle.std.proofs.Common.{◌≡◌, ◌≤◌, refl, arith}
+use Rattle.std.proofs.Common.{refl, arith}
 use Rattle.lw_token_sets.specs.Sources.{IsSourceOf}
 use Rattle.lw_token_sets.proofs.Zips.{zip_more}
 use Rattle.lw_token_sets.proofs.SourceSteps.{has_source, has_long, has_some, up_to_long, up_to_end}
