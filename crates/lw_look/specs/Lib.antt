@@ -1,0 +1,7 @@
+pub mod Sites
+pub mod Looks
+pub mod Things
+pub mod Covers
+pub mod Examples
+pub mod Heads
+pub mod Parses
