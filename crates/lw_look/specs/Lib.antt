@@ -2,6 +2,6 @@ pub mod Sites
 pub mod Looks
 pub mod Things
 pub mod Covers
-pub mod Examples
+pub mod Worked
 pub mod Heads
 pub mod Parses

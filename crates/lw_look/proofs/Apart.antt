@@ -1,0 +1,45 @@
+-- In the kinds of a grammar a text has one kind, since each keyword stands there once; and no name is that of a terminal and of a rule.
+use Rattle.std.proofs.Common.{◌≡◌, ◌≢◌, ℕ, zero, suc, List, [], ◌∷◌, Bool, true, false, ◌||◌, if◌then◌else◌, Contains, All, AllPairs, bytes_eq, refl, sym, ap, ◌∙◌, subst, true≢false, arith}
+use Rattle.std.specs.List.{flat_map}
+use Rattle.std.proofs.lemmas.List.Kept.{AllPairs-nil, AllPairs-cons}
+use Rattle.std.proofs.lemmas.Slice.Eq.{bytes_eq-Decides}
+use Rattle.lw_grammar.specs.declared.grammar.Grammar.{Grammar}
+use Rattle.lw_grammar.specs.declared.rule.Rule.{Rule}
+use Rattle.lw_grammar.specs.Leaves.{keywords_in}
+use Rattle.lw_grammar.specs.Named.{declared_rule, declared_terminal}
+use Rattle.lw_grammar.specs.Kinds.{Kinds, AreKinds, first_uses}
+use Rattle.lw_grammar.proofs.FirstUses.{stands_in}
+use Rattle.lw_sentences.proofs.KeywordRows.{keyword_once}
+use Rattle.lw_sentences.proofs.Meaning.{one_of_two}
+use Rattle.lw_look.specs.Parses.{AreApart}
+
+neither : (a b : Bool) → (a || b) ≡ false → b ≡ false
+neither true b is = absurd (true≢false is)
+neither false b is = is
+
+-- what was seen before is left out
+fresh : (seen xs : List (List ℕ)) (x : List ℕ) → Contains (first_uses seen xs) x → stands_in x seen ≡ false
+fresh seen [] x (i, inside, is) = absurd (omega arith)
+fresh seen (text ∷ xs) x has = by (stands_in text seen) refl has
+  where
+    by : (b : Bool) → stands_in text seen ≡ b → Contains (if b then first_uses seen xs else text ∷ first_uses (text ∷ seen) xs) x → stands_in x seen ≡ false
+    by true is has = fresh seen xs x has
+    by false is (zero, inside, same) = subst (λ x. stands_in x seen ≡ false) same is
+    by false is (suc i, inside, same) = neither (bytes_eq x text) (stands_in x seen) (fresh (text ∷ seen) xs x (i, omega arith, same))
+
+uses_differ : (seen xs : List (List ℕ)) → AllPairs (λ a b. a ≢ b) (first_uses seen xs)
+uses_differ seen [] = AllPairs-nil (λ a b. a ≢ b)
+uses_differ seen (text ∷ xs) = by (stands_in text seen)
+  where
+    others : All (λ y. text ≢ y) (first_uses (text ∷ seen) xs)
+    others y has same = true≢false (sym (ap (λ b. b || stands_in y seen) ((bytes_eq-Decides y text).1 (sym same))) ∙ fresh (text ∷ seen) xs y has)
+
+    by : (b : Bool) → AllPairs (λ a b. a ≢ b) (if b then first_uses seen xs else text ∷ first_uses (text ∷ seen) xs)
+    by true = uses_differ seen xs
+    by false = AllPairs-cons (λ a b. a ≢ b) text (first_uses (text ∷ seen) xs) others (uses_differ (text ∷ seen) xs)
+
+pub are_apart : (g : Grammar) (kinds : Kinds) → AreKinds g kinds → AreApart g kinds
+are_apart g kinds are = record {
+  keywords = keyword_once g kinds (subst (AllPairs (λ a b. a ≢ b)) (sym are.keywords) (uses_differ [] (flat_map (λ (rule : Rule). keywords_in rule.body) are.rules)));
+  names = λ name k r rule is was. one_of_two declared_terminal declared_rule name g.terminals g.rules is.place r is.terminal rule is.meant was;
+}
