@@ -1,7 +1,8 @@
 -- In the kinds of a grammar a text has one kind, since each keyword stands there once; and no name is that of a terminal and of a rule.
 use Rattle.std.proofs.Common.{◌≡◌, ◌≢◌, ℕ, zero, suc, List, [], ◌∷◌, Bool, true, false, ◌||◌, if◌then◌else◌, Contains, All, AllPairs, bytes_eq, refl, sym, ap, ◌∙◌, subst, true≢false, arith}
 use Rattle.std.specs.List.{flat_map}
-use Rattle.std.proofs.lemmas.List.Kept.{AllPairs-nil, AllPairs-cons}
+use Rattle.std.proofs.lemmas.List.Elements.{All-nil, All-cons}
+use Rattle.std.proofs.lemmas.List.Kept.{AllPairs-cons}
 use Rattle.std.proofs.lemmas.Slice.Eq.{bytes_eq-Decides}
 use Rattle.lw_grammar.specs.declared.grammar.Grammar.{Grammar}
 use Rattle.lw_grammar.specs.declared.rule.Rule.{Rule}
@@ -9,9 +10,14 @@ use Rattle.lw_grammar.specs.Leaves.{keywords_in}
 use Rattle.lw_grammar.specs.Named.{declared_rule, declared_terminal}
 use Rattle.lw_grammar.specs.Kinds.{Kinds, AreKinds, first_uses}
 use Rattle.lw_grammar.proofs.FirstUses.{stands_in}
+use Rattle.lw_grammar.proofs.KeptLemmas.{there}
 use Rattle.lw_sentences.proofs.KeywordRows.{keyword_once}
 use Rattle.lw_sentences.proofs.Meaning.{one_of_two}
 use Rattle.lw_look.specs.Parses.{AreApart}
+
+each : {X : Type 0} (P : X → Type 0) (xs : List X) → ((x : X) → Contains xs x → P x) → All P xs
+each P [] all = All-nil P
+each P (x ∷ xs) all = All-cons P x xs (all x (0, omega arith, refl)) (each P xs (λ y has. all y (there x xs y has)))
 
 neither : (a b : Bool) → (a || b) ≡ false → b ≡ false
 neither true b is = absurd (true≢false is)
@@ -20,23 +26,25 @@ neither false b is = is
 -- what was seen before is left out
 fresh : (seen xs : List (List ℕ)) (x : List ℕ) → Contains (first_uses seen xs) x → stands_in x seen ≡ false
 fresh seen [] x (i, inside, is) = absurd (omega arith)
-fresh seen (text ∷ xs) x has = by (stands_in text seen) refl has
+fresh seen (text ∷ xs) x has = by (λ more. fresh seen xs x more) (λ more. fresh (text ∷ seen) xs x more) (stands_in text seen) refl has
   where
-    by : (b : Bool) → stands_in text seen ≡ b → Contains (if b then first_uses seen xs else text ∷ first_uses (text ∷ seen) xs) x → stands_in x seen ≡ false
-    by true is has = fresh seen xs x has
-    by false is (zero, inside, same) = subst (λ x. stands_in x seen ≡ false) same is
-    by false is (suc i, inside, same) = neither (bytes_eq x text) (stands_in x seen) (fresh (text ∷ seen) xs x (i, omega arith, same))
+    by : (Contains (first_uses seen xs) x → stands_in x seen ≡ false) → (Contains (first_uses (text ∷ seen) xs) x → stands_in x (text ∷ seen) ≡ false) →
+        (b : Bool) → stands_in text seen ≡ b → Contains (if b then first_uses seen xs else text ∷ first_uses (text ∷ seen) xs) x → stands_in x seen ≡ false
+    by old new true is has = old has
+    by old new false is (zero, inside, same) = subst (λ x. stands_in x seen ≡ false) same is
+    by old new false is (suc i, inside, same) = neither (bytes_eq x text) (stands_in x seen) (new (i, omega arith, same))
 
 uses_differ : (seen xs : List (List ℕ)) → AllPairs (λ a b. a ≢ b) (first_uses seen xs)
-uses_differ seen [] = AllPairs-nil (λ a b. a ≢ b)
-uses_differ seen (text ∷ xs) = by (stands_in text seen)
+uses_differ seen [] = λ i j x below inside. absurd (omega arith)
+uses_differ seen (text ∷ xs) = by (uses_differ seen xs) (uses_differ (text ∷ seen) xs) (stands_in text seen)
   where
     others : All (λ y. text ≢ y) (first_uses (text ∷ seen) xs)
-    others y has same = true≢false (sym (ap (λ b. b || stands_in y seen) ((bytes_eq-Decides y text).1 (sym same))) ∙ fresh (text ∷ seen) xs y has)
+    others = each (λ y. text ≢ y) (first_uses (text ∷ seen) xs)
+        (λ y has same. true≢false (sym (ap (λ b. b || stands_in y seen) ((bytes_eq-Decides y text).1 (sym same))) ∙ fresh (text ∷ seen) xs y has))
 
-    by : (b : Bool) → AllPairs (λ a b. a ≢ b) (if b then first_uses seen xs else text ∷ first_uses (text ∷ seen) xs)
-    by true = uses_differ seen xs
-    by false = AllPairs-cons (λ a b. a ≢ b) text (first_uses (text ∷ seen) xs) others (uses_differ (text ∷ seen) xs)
+    by : AllPairs (λ a b. a ≢ b) (first_uses seen xs) → AllPairs (λ a b. a ≢ b) (first_uses (text ∷ seen) xs) → (b : Bool) → AllPairs (λ a b. a ≢ b) (if b then first_uses seen xs else text ∷ first_uses (text ∷ seen) xs)
+    by old new true = old
+    by old new false = AllPairs-cons (λ a b. a ≢ b) text (first_uses (text ∷ seen) xs) others new
 
 pub are_apart : (g : Grammar) (kinds : Kinds) → AreKinds g kinds → AreApart g kinds
 are_apart g kinds are = record {
