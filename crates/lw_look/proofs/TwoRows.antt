@@ -23,7 +23,7 @@ use Rattle.lw_sentences.specs.Yields.{Yields, Gives, YieldsAll, ValueYields, Val
 use Rattle.lw_sentences.specs.Yields as y
 use Rattle.lw_sentences.proofs.Every.{Every, every_at}
 use Rattle.lw_sentences.proofs.Joined.{kinds_join}
-use Rattle.lw_look.specs.Sites.{Site, body, ◌/◌, Part, Body, Value, parts, layer_parts, value_parts, Stands, ElementAt, ValueAt, AlternativeAt, OptionalAt, RepeatedAt}
+use Rattle.lw_look.specs.Sites.{PartSite, body, ◌/◌, Part, Body, Value, inner_parts, element_parts, value_parts, IsPartAt, ElementAt, ValueAt, AlternativeAt, OptionalAt, RepeatedAt}
 use Rattle.lw_look.specs.Sites as site
 use Rattle.lw_look.specs.Looks.{After, Look, IsLL, window, PartYields}
 use Rattle.lw_look.specs.Looks as look
@@ -66,14 +66,14 @@ none_asks (a_row es plain) asks = subst Asks (outs-Group es nowhere) asks
 none_asks (a_plain e plain) asks = no_plain_asks plain asks
 none_asks (a_value text) asks = subst AsksValue (value.outs-Keyword text nowhere) asks
 
-below_plain : {e : Element} {z : Part} → IsPlain e → (i : ℕ) → slice_get (layer_parts (out-Element e)) i ≡ Some z → Below z
-below_plain {z} (a_keyword text) i is = absurd (none-some z (subst (λ f. slice_get (layer_parts f) i ≡ Some z) (outs-Keyword text nowhere) is))
+below_plain : {e : Element} {z : Part} → IsPlain e → (i : ℕ) → slice_get (element_parts (out-Element e)) i ≡ Some z → Below z
+below_plain {z} (a_keyword text) i is = absurd (none-some z (subst (λ f. slice_get (element_parts f) i ≡ Some z) (outs-Keyword text nowhere) is))
 below_plain {z} (a_word p text) i is =
-    subst Below (one_item i (subst (λ f. slice_get (layer_parts f) i ≡ Some z) (outs-Assign p One (value.Keyword text nowhere) nowhere) is)) (a_value text)
+    subst Below (one_item i (subst (λ f. slice_get (element_parts f) i ≡ Some z) (outs-Assign p One (value.Keyword text nowhere) nowhere) is)) (a_value text)
 
-below_below : {x z : Part} → Below x → (i : ℕ) → slice_get (parts x) i ≡ Some z → Below z
+below_below : {x z : Part} → Below x → (i : ℕ) → slice_get (inner_parts x) i ≡ Some z → Below z
 below_below {z} (a_row es plain) i is =
-    let (e, there, same) = unmapped Body es i z (subst (λ f. slice_get (layer_parts f) i ≡ Some z) (outs-Group es nowhere) is) in
+    let (e, there, same) = unmapped Body es i z (subst (λ f. slice_get (element_parts f) i ≡ Some z) (outs-Group es nowhere) is) in
     subst Below same (a_plain e (every_at IsPlain es i e plain there))
 below_below (a_plain e plain) i is = below_plain plain i is
 below_below {z} (a_value text) i is = absurd (none-some z (subst (λ f. slice_get (value_parts f) i ≡ Some z) (value.outs-Keyword text nowhere) is))
@@ -104,7 +104,7 @@ module _ (name : List ℕ) (es fs : List Element) where
 
   module _ (plain : Every IsPlain es) (others : Every IsPlain fs) where
     -- what stands anywhere is the body, at its start, or below it
-    abbrev IsKnown : Site → Part → Type 0
+    abbrev IsKnown : PartSite → Part → Type 0
     IsKnown s x = ((s ≡ body 0) × (x ≡ Body (rows_rule es fs).body)) ⊎ Below x
 
     of_rows : {z : Part} (i : ℕ) → slice_get (map Body (two_rows es fs)) i ≡ Some z → Below z
@@ -112,7 +112,7 @@ module _ (name : List ℕ) (es fs : List Element) where
     of_rows {z} (suc zero) is = subst Below (same_Some (Body (row fs)) z is) (a_row fs others)
     of_rows {z} (suc (suc i)) is = absurd (none-some z is)
 
-    known : {s : Site} {x : Part} → Stands G s x → IsKnown s x
+    known : {s : PartSite} {x : Part} → IsPartAt G s x → IsKnown s x
     known (site.whole {r} {rule = found} is) = only r is
       where
         only : (r : ℕ) → slice_get (rows_rule es fs ∷ []) r ≡ Some found → IsKnown (body r) (Body found.body)
@@ -122,18 +122,18 @@ module _ (name : List ℕ) (es fs : List Element) where
       where
         by : IsKnown s x → IsKnown (s / i) y
         by (inl p) =
-            inr (of_rows i (subst (λ f. slice_get (layer_parts f) i ≡ Some y) (outs-Choice (two_rows es fs) nowhere) (subst (λ x. slice_get (parts x) i ≡ Some y) p.1 is)))
+            inr (of_rows i (subst (λ f. slice_get (element_parts f) i ≡ Some y) (outs-Choice (two_rows es fs) nowhere) (subst (λ x. slice_get (inner_parts x) i ≡ Some y) p.1 is)))
         by (inr below) = inr (below_below below i is)
 
     -- where an element that asks stands, it is the body
-    asked : {s : Site} {f : Element-F Element} → ElementAt G s f → Asks f → (s ≡ body 0) × (f ≡ layer.Choice (two_rows es fs) nowhere)
+    asked : {s : PartSite} {f : Element-F Element} → ElementAt G s f → Asks f → (s ≡ body 0) × (f ≡ layer.Choice (two_rows es fs) nowhere)
     asked {s} (site.element_at {e} stands) asks = by (known stands)
       where
         by : IsKnown s (Body e) → (s ≡ body 0) × (out-Element e ≡ layer.Choice (two_rows es fs) nowhere)
         by (inl p) = (p.0, ap out-Element (same_body p.1) ∙ outs-Choice (two_rows es fs) nowhere)
         by (inr below) = absurd (none_asks below asks)
 
-    no_value_asks : {s : Site} {v : Value0} {f : Value0-F Value0} → ValueAt G s v f → AsksValue f → ⊥
+    no_value_asks : {s : PartSite} {v : Value0} {f : Value0-F Value0} → ValueAt G s v f → AsksValue f → ⊥
     no_value_asks {s} (site.value_at {v} stands) asks = by (known stands)
       where
         differ : {e : Element} → Value v ≡ Body e → ⊥
@@ -168,7 +168,7 @@ module _ (name : List ℕ) (es fs : List Element) where
       same_ways : {gs hs : List Element} {s t : Span} → layer.Choice gs s ≡ layer.Choice hs t → gs ≡ hs
       same_ways same = cc
 
-      never_repeated : {s : Site} {e : Element} → RepeatedAt G s e → ⊥
+      never_repeated : {s : PartSite} {e : Element} → RepeatedAt G s e → ⊥
       never_repeated (site.any at) = no_choice ((asked at tt).1)
         where
           no_choice : {e : Element} {s t : Span} {gs : List Element} → layer.Many e s ≡ layer.Choice gs t → ⊥
@@ -178,13 +178,13 @@ module _ (name : List ℕ) (es fs : List Element) where
           no_choice : {e : Element} {s t : Span} {gs : List Element} → layer.Some1 e s ≡ layer.Choice gs t → ⊥
           no_choice same = cc
 
-      never_optional : {s : Site} {e : Element} → OptionalAt G s e → ⊥
+      never_optional : {s : PartSite} {e : Element} → OptionalAt G s e → ⊥
       never_optional (site.optional at) = no_choice ((asked at tt).1)
         where
           no_choice : {e : Element} {s t : Span} {gs : List Element} → layer.Maybe e s ≡ layer.Choice gs t → ⊥
           no_choice same = cc
 
-      pub looks : {s : Site} {i : ℕ} {w : List (Option ℕ)} → Look G kinds k s i w → OfWay i w
+      pub looks : {s : PartSite} {i : ℕ} {w : List (Option ℕ)} → Look G kinds k s i w → OfWay i w
       looks (look.alternative {i} {ks} (site.element {es = ways} {e} at is) (look.element p) after) =
           by_place i e ks (subst (λ ways. slice_get ways i ≡ Some e) (same_ways (asked at tt).1) is) p
       looks (look.alternative (site.assigned at is) (look.assigned r) after) = absurd (no_value_asks at tt)
