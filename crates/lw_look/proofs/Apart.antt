@@ -7,13 +7,17 @@ use Rattle.std.proofs.lemmas.Slice.Eq.{bytes_eq-Decides}
 use Rattle.lw_grammar.specs.declared.grammar.Grammar.{Grammar}
 use Rattle.lw_grammar.specs.declared.rule.Rule.{Rule}
 use Rattle.lw_grammar.specs.Leaves.{keywords_in}
-use Rattle.lw_grammar.specs.Named.{declared_rule, declared_terminal}
-use Rattle.lw_grammar.specs.Kinds.{Kinds, AreKinds, first_uses}
+use Rattle.lw_grammar.specs.Named.{IsRule, declared_rule, declared_terminal}
+use Rattle.lw_grammar.specs.Kinds.{Kinds, AreKinds, IsKeywordKind, IsTerminalKind, first_uses}
 use Rattle.lw_grammar.proofs.FirstUses.{stands_in}
 use Rattle.lw_grammar.proofs.KeptLemmas.{there}
 use Rattle.lw_sentences.proofs.KeywordRows.{keyword_once}
 use Rattle.lw_sentences.proofs.Meaning.{one_of_two}
-use Rattle.lw_look.specs.Parses.{AreApart}
+
+-- a text has one kind, and no name is that of a terminal and of a rule
+pub record AreApart (g : Grammar) (kinds : Kinds) : Type 0 where
+  pub keywords : (text : List ℕ) (k l : ℕ) → IsKeywordKind kinds text k → IsKeywordKind kinds text l → k ≡ l
+  pub names : (name : List ℕ) (k r : ℕ) (rule : Rule) → IsTerminalKind g kinds name k → IsRule g name r rule → ⊥
 
 each : {X : Type 0} (P : X → Type 0) (xs : List X) → ((x : X) → Contains xs x → P x) → All P xs
 each P [] all = All-nil P
@@ -46,8 +50,11 @@ uses_differ seen (text ∷ xs) = by (uses_differ seen xs) (uses_differ (text ∷
     by old new true = old
     by old new false = AllPairs-cons (λ a b. a ≢ b) text (first_uses (text ∷ seen) xs) others new
 
+pub no_terminal_is_rule : (g : Grammar) (kinds : Kinds) (name : List ℕ) (k r : ℕ) (rule : Rule) → IsTerminalKind g kinds name k → IsRule g name r rule → ⊥
+no_terminal_is_rule g kinds name k r rule is was = one_of_two declared_terminal declared_rule name g.terminals g.rules is.place r is.terminal rule is.meant was
+
 pub are_apart : (g : Grammar) (kinds : Kinds) → AreKinds g kinds → AreApart g kinds
 are_apart g kinds are = record {
   keywords = keyword_once g kinds (subst (AllPairs (λ a b. a ≢ b)) (sym are.keywords) (uses_differ [] (flat_map (λ (rule : Rule). keywords_in rule.body) are.rules)));
-  names = λ name k r rule is was. one_of_two declared_terminal declared_rule name g.terminals g.rules is.place r is.terminal rule is.meant was;
+  names = no_terminal_is_rule g kinds;
 }
