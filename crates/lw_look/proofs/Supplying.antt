@@ -1,4 +1,4 @@
--- In a usable grammar with its kinds every keyword of a reached rule has a kind and every call gives something: the kinds hold the keywords and
+-- In a grammar that lacks nothing, with its kinds, every keyword of a reached rule has a kind and every call gives something: the kinds hold the keywords and
 -- terminals of reached rules, and a body that may read some tokens yields marks.
 use Rattle.std.proofs.Common.{◌≡◌, ◌≢◌, ◌⊎◌, ◌<◌, ◌+◌, inl, inr, ℕ, zero, suc, Bool, List, [], ◌∷◌, ◌++◌, Some, None, true, false, Contains, slice_get, refl, sym, ap, ◌∙◌, subst, arith}
 use Rattle.std.specs.List.{flat_map}
@@ -26,6 +26,7 @@ use Rattle.lw_grammar.specs.Nodes.{MakesNodes}
 use Rattle.lw_grammar.specs.Reached.{IsReached, RuleCalls}
 use Rattle.lw_grammar.specs.Reached as reached
 use Rattle.lw_grammar.proofs.FirstUses.{Contains-first_uses}
+use Rattle.lw_grammar.proofs.LeafLemmas.{leaves_by, values_by}
 use Rattle.lw_grammar.proofs.KeptLemmas.{there}
 use Rattle.lw_sentences.specs.Marks.{Mark}
 use Rattle.lw_sentences.specs.Marks as mark
@@ -39,8 +40,8 @@ use Rattle.lw_look.specs.ReadBy.{PartKeyword, PartReadsBy}
 use Rattle.lw_look.specs.ReadBy as by
 use Rattle.lw_look.specs.Sites.{PartSite, body, ◌/◌, rule_of, Part, Body, Value, element_parts, value_parts, inner_parts, IsPartAt, ElementAt, ValueAt}
 use Rattle.lw_look.specs.Sites as site
-use Rattle.lw_look.specs.Supplied.{IsUsable, IsKnownCall, IsSupplied}
-use Rattle.lw_look.proofs.Reaching.{in_rule, call_leaf, value_call_leaf, element_leaves, leaves_of_value}
+use Rattle.lw_look.specs.Supplied.{LacksNothing, IsKnownCall, IsSupplied}
+use Rattle.lw_look.proofs.Reaching.{in_rule, call_leaf, value_call_leaf}
 use Rattle.lw_look.proofs.Standing.{place_of, row_part_stands, way_stands}
 
 -- ---- the kinds hold the keywords and the terminals of reached rules
@@ -95,13 +96,13 @@ module _ (g : Grammar) (kinds : Kinds) (are : AreKinds g kinds) where
   keyword_kind s x text from at (by.element {e} {s = span} is) =
       let (rule, stands, within) = in_rule g at in
       leaf_there (rule_of s) rule (leaf.Keyword text span) text (from, stands)
-      (within (leaf.Keyword text span) (subst (λ ls. Contains ls (leaf.Keyword text span)) (sym (element_leaves e (layer.Keyword text span) is)) (0, omega arith, refl)))
+      (within (leaf.Keyword text span) (subst (λ ls. Contains ls (leaf.Keyword text span)) (sym (leaves_by e (layer.Keyword text span) is)) (0, omega arith, refl)))
       (0, omega arith, refl)
   keyword_kind s x text from at (by.value_ {v} {s = span} is) =
       let (rule, stands, (p, op, w, t, has, within)) = in_rule g at in
       leaf_there (rule_of s) rule (leaf.Assign p op w t) text (from, stands) has
       (in_flat literals_of (value_leaves w) (leaf.Literal text span) text
-      (within (leaf.Literal text span) (subst (λ ls. Contains ls (leaf.Literal text span)) (sym (leaves_of_value v (value.Keyword text span) is)) (0, omega arith, refl)))
+      (within (leaf.Literal text span) (subst (λ ls. Contains ls (leaf.Literal text span)) (sym (values_by v (value.Keyword text span) is)) (0, omega arith, refl)))
       (0, omega arith, refl))
 
   pub terminal_kind : (r : ℕ) (rule : Rule) (name : List ℕ) (t : ℕ) (terminal : Terminal) → IsReachedRule g r rule → RuleCalls g rule name →
@@ -122,7 +123,7 @@ module _ (g : Grammar) where
   part_calls {s} at (by.crosses {v} is) = value_call_leaf g (site.crosses (subst (ValueAt g s v) is (site.value_at at)))
   part_calls {s} at (by.crosses_by_name {v} {name} is named) = value_call_leaf g (site.crosses_by_name name (subst (ValueAt g s v) is (site.value_at at)) named)
 
-module _ (g : Grammar) (kinds : Kinds) (are : AreKinds g kinds) (decided : (rule : Rule) → MakesNodes g rule ⊎ ¬ MakesNodes g rule) (usable : IsUsable g) where
+module _ (g : Grammar) (kinds : Kinds) (are : AreKinds g kinds) (decided : (rule : Rule) → MakesNodes g rule ⊎ ¬ MakesNodes g rule) (complete : LacksNothing g) where
   rule_gives : (r : ℕ) (rule : Rule) {m : List Mark} → Yields g kinds rule.body m → (n : List Mark) × RuleGives g kinds r rule n
   rule_gives r rule {m} p = by rule.is_fragment refl
     where
@@ -152,7 +153,7 @@ module _ (g : Grammar) (kinds : Kinds) (are : AreKinds g kinds) (decided : (rule
       ((k : ℕ) × IsTerminalKind g kinds name k) ⊎ ((r : ℕ) × (rule : Rule) × IsRule g name r rule)
   token_call {s} {name} (from, at) reads =
       let (rule, there, does) = part_calls g at reads in
-      by rule (from, there) does (usable.calls (rule_of s) rule name (from, there) does)
+      by rule (from, there) does (complete.calls (rule_of s) rule name (from, there) does)
     where
       by : (rule : Rule) → IsReachedRule g (rule_of s) rule → RuleCalls g rule name → IsKnownCall g name →
           ((k : ℕ) × IsTerminalKind g kinds name k) ⊎ ((r : ℕ) × (rule : Rule) × IsRule g name r rule)
@@ -168,9 +169,9 @@ module _ (g : Grammar) (kinds : Kinds) (are : AreKinds g kinds) (decided : (rule
       (name : List ℕ) × IsNameRule g wanted name
   cross_named s v wanted span from at is =
       let (rule, stands, (p, op, w, t, has, within)) = in_rule g at in
-      usable.crosses (rule_of s) rule p op w t wanted span (from, stands) has
+      complete.crosses (rule_of s) rule p op w t wanted span (from, stands) has
       (within (leaf.Cross wanted None span)
-      (subst (λ ls. Contains ls (leaf.Cross wanted None span)) (sym (leaves_of_value v (value.Cross wanted None span) is)) (0, omega arith, refl)))
+      (subst (λ ls. Contains ls (leaf.Cross wanted None span)) (sym (values_by v (value.Cross wanted None span) is)) (0, omega arith, refl)))
 
   mutual
     may_yield : {e : Element} {n : ℕ} → MayRead g e n → (s : PartSite) → StandsIn s (Body e) → (m : List Mark) × Yields g kinds e m
@@ -181,7 +182,7 @@ module _ (g : Grammar) (kinds : Kinds) (are : AreKinds g kinds) (decided : (rule
     layer_yields (may.keyword {text}) e is s (from, at) = let (k, has) = keyword_kind g kinds are s (Body e) text from at (by.element is) in layered is (y.keyword has)
     layer_yields (may.called p) e is s stands = let (m, calls) = call_yields p s (Body e) stands (by.element is) in layered is (y.called calls)
     layer_yields (may.assigned {v} p) e is s (from, at) =
-        let (c, m, reads) = value_may_yield p (s / 0) (from, site.part at (ap (λ f. slice_get (element_parts f) 0) is)) in layered is (y.assigned reads)
+        let (c, m, read) = value_may_yield p (s / 0) (from, site.part at (ap (λ f. slice_get (element_parts f) 0) is)) in layered is (y.assigned read)
     layer_yields may.acted e is s stands = layered is y.acted
     layer_yields (may.grouped {es} p) e is s (from, at) =
         let (m, all) = row_yields p (λ i f got. (s / i, (from, row_part_stands g (subst (ElementAt g s) is (site.element_at at)) got))) in layered is (y.grouped all)
@@ -236,7 +237,7 @@ module _ (g : Grammar) (kinds : Kinds) (are : AreKinds g kinds) (decided : (rule
       by (inl (k, is)) = (_, y.terminal is)
       by (inr (r, rule, is)) =
           let from' : IsReached g r = reaches (from, at) reads is in
-          let (n, can) = usable.ends r rule (from', is.first.there) in
+          let (n, can) = complete.ends r rule (from', is.first.there) in
           let (m, gives) = may_yield can (body r) (from', site.whole is.first.there) in
           let (o, given) = rule_gives r rule gives in
           (o, y.rule_ r rule is given)
@@ -246,6 +247,6 @@ module _ (g : Grammar) (kinds : Kinds) (are : AreKinds g kinds) (decided : (rule
     keyword = keyword_kind g kinds are;
     call = call_gives;
     cross = cross_named;
-    choice = usable.choice;
-    value_choice = usable.value_choice;
+    choice = complete.choice;
+    value_choice = complete.value_choice;
   }

@@ -28,7 +28,7 @@ module _ (g : Grammar) where
 
   -- What is so where no fault of names, calls or endless rules is found: in the rules that can be reached each call is known, each
   -- cross-reference is read by some rule, each body may read some number of tokens. Of the syntax: a choice has a part.
-  pub record IsUsable : Type 0 where
+  pub record LacksNothing : Type 0 where
     pub calls : (r : ℕ) (rule : Rule) (name : List ℕ) → IsReachedRule g r rule → RuleCalls g rule name → IsKnownCall name
     pub crosses : (r : ℕ) (rule : Rule) (p : List ℕ) (op : Op) (v : Value0) (t : Span) (wanted : List ℕ) (s : Span) → IsReachedRule g r rule →
         Contains (leaves rule.body) (Assign p op v t) → Contains (value_leaves v) (Cross wanted None s) → (name : List ℕ) × IsNameRule g wanted name
