@@ -1,4 +1,5 @@
--- What a grammar without faults has: every keyword of a reached rule has a kind, every call gives something, and no choice is without a part.
+-- What a grammar without faults has: every keyword of a reached rule has a kind, every call gives something, and no choice is without a
+-- part.
 use Rattle.std.specs.Prelude.{ℕ, ◌≡◌, ◌⊎◌, List, Some, None, false, Contains, slice_get}
 use Rattle.lw_base.specs.declared.token.Span.{Span}
 use Rattle.lw_grammar.specs.declared.grammar.Grammar.{Grammar}
@@ -30,22 +31,31 @@ module _ (g : Grammar) where
   -- cross-reference is read by some rule, each body may read some number of tokens. Of the syntax: a choice has a part.
   pub record LacksNothing : Type 0 where
     pub calls : (r : ℕ) (rule : Rule) (name : List ℕ) → IsReachedRule g r rule → RuleCalls g rule name → IsKnownCall name
-    pub crosses : (r : ℕ) (rule : Rule) (p : List ℕ) (op : Op) (v : Value0) (t : Span) (wanted : List ℕ) (s : Span) → IsReachedRule g r rule →
-        Contains (leaves rule.body) (Assign p op v t) → Contains (value_leaves v) (Cross wanted None s) → (name : List ℕ) × IsNameRule g wanted name
+    pub crosses : (r : ℕ) (rule : Rule) (p : List ℕ) (op : Op) (v : Value0) (t : Span) (wanted : List ℕ) (s : Span) →
+        IsReachedRule g r rule →
+        Contains (leaves rule.body) (Assign p op v t) → Contains (value_leaves v) (Cross wanted None s) →
+        (name : List ℕ) × IsNameRule g wanted name
     pub ends : (r : ℕ) (rule : Rule) → IsReachedRule g r rule → (n : ℕ) × MayRead g rule.body n
-    pub choice : (s : PartSite) (e : Element) (es : List Element) (span : Span) → IsPartAt g s (Body e) → out-Element e ≡ layer.Choice es span →
+    pub choice : (s : PartSite) (e : Element) (es : List Element) (span : Span) → IsPartAt g s (Body e) →
+        out-Element e ≡ layer.Choice es span →
         (f : Element) × (slice_get es 0 ≡ Some f)
-    pub value_choice : (s : PartSite) (v : Value0) (vs : List Value0) (span : Span) → IsPartAt g s (Value v) → out-Value0 v ≡ value.Choice vs span →
+    pub value_choice : (s : PartSite) (v : Value0) (vs : List Value0) (span : Span) → IsPartAt g s (Value v) →
+        out-Value0 v ≡ value.Choice vs span →
         (w : Value0) × (slice_get vs 0 ≡ Some w)
 
 module _ (g : Grammar) (kinds : Kinds) where
-  -- At the parts of rules that can be reached: every keyword has a kind, every call gives something, every cross-reference has a rule. No choice
-  -- is without a part.
+  -- At the parts of rules that can be reached: every keyword has a kind, every call gives something, every cross-reference has a rule. No
+  -- choice is without a part.
   pub record IsSupplied : Type 0 where
-    pub keyword : (s : PartSite) (x : Part) (text : List ℕ) → IsReached g (rule_of s) → IsPartAt g s x → PartKeyword x text → (k : ℕ) × IsKeywordKind kinds text k
-    pub call : (s : PartSite) (x : Part) (name : List ℕ) → IsReached g (rule_of s) → IsPartAt g s x → PartReadsBy g x name → (m : List Mark) × Calls g kinds name m
+    pub keyword : (s : PartSite) (x : Part) (text : List ℕ) → IsReached g (rule_of s) → IsPartAt g s x → PartKeyword x text →
+        (k : ℕ) × IsKeywordKind kinds text k
+    pub call : (s : PartSite) (x : Part) (name : List ℕ) → IsReached g (rule_of s) → IsPartAt g s x → PartReadsBy g x name →
+        (m : List Mark) × Calls g kinds name m
     -- a cross-reference that writes no rule has one
-    pub cross : (s : PartSite) (v : Value0) (wanted : List ℕ) (span : Span) → IsReached g (rule_of s) → IsPartAt g s (Value v) → out-Value0 v ≡ value.Cross wanted None span →
+    pub cross : (s : PartSite) (v : Value0) (wanted : List ℕ) (span : Span) → IsReached g (rule_of s) → IsPartAt g s (Value v) →
+        out-Value0 v ≡ value.Cross wanted None span →
         (name : List ℕ) × IsNameRule g wanted name
-    pub choice : (s : PartSite) (e : Element) (es : List Element) (span : Span) → IsPartAt g s (Body e) → out-Element e ≡ layer.Choice es span → (f : Element) × (slice_get es 0 ≡ Some f)
-    pub value_choice : (s : PartSite) (v : Value0) (vs : List Value0) (span : Span) → IsPartAt g s (Value v) → out-Value0 v ≡ value.Choice vs span → (w : Value0) × (slice_get vs 0 ≡ Some w)
+    pub choice : (s : PartSite) (e : Element) (es : List Element) (span : Span) → IsPartAt g s (Body e) →
+        out-Element e ≡ layer.Choice es span → (f : Element) × (slice_get es 0 ≡ Some f)
+    pub value_choice : (s : PartSite) (v : Value0) (vs : List Value0) (span : Span) → IsPartAt g s (Value v) →
+        out-Value0 v ≡ value.Choice vs span → (w : Value0) × (slice_get vs 0 ≡ Some w)

@@ -1,5 +1,5 @@
--- Two grammars that are written out: one whose ways no look-ahead tells apart, and one whose ways the second kind does. Of both, and of `two_ways` of
--- lw_sentences, the laws say for which k they are LL(k).
+-- Two grammars that are written out: one whose ways no look-ahead tells apart, and one whose ways the second kind does. Of both, and of
+-- `two_ways` of lw_sentences, the laws say for which k they are LL(k).
 use Rattle.std.specs.Prelude.{ℕ, List, [], ◌∷◌, true, false, codes}
 use Rattle.lw_grammar.specs.declared.grammar.Grammar.{Grammar}
 use Rattle.lw_grammar.specs.declared.rule.Rule.{Rule}
