@@ -40,7 +40,7 @@ use Rattle.lw_look.specs.ReadBy.{PartKeyword, PartReadsBy}
 use Rattle.lw_look.specs.ReadBy as by
 use Rattle.lw_look.specs.Sites.{PartSite, body, ◌/◌, rule_of, Part, Body, Value, element_parts, value_parts, inner_parts, IsPartAt, ElementAt, ValueAt}
 use Rattle.lw_look.specs.Sites as site
-use Rattle.lw_look.specs.Supplied.{LacksNothing, IsKnownCall, IsSupplied}
+use Rattle.lw_look.specs.Supplied.{LacksNothing, NodesAreTold, IsKnownCall, IsSupplied}
 use Rattle.lw_look.proofs.Reaching.{in_rule, call_leaf, value_call_leaf}
 use Rattle.lw_look.proofs.Standing.{place_of, row_part_stands, way_stands}
 
@@ -123,9 +123,9 @@ module _ (g : Grammar) where
   part_calls {s} at (by.crosses {v} is) = value_call_leaf g (site.crosses (subst (ValueAt g s v) is (site.value_at at)))
   part_calls {s} at (by.crosses_by_name {v} {name} is named) = value_call_leaf g (site.crosses_by_name name (subst (ValueAt g s v) is (site.value_at at)) named)
 
-module _ (g : Grammar) (kinds : Kinds) (are : AreKinds g kinds) (decided : (rule : Rule) → MakesNodes g rule ⊎ ¬ MakesNodes g rule) (complete : LacksNothing g) where
-  rule_gives : (r : ℕ) (rule : Rule) {m : List Mark} → Yields g kinds rule.body m → (n : List Mark) × RuleGives g kinds r rule n
-  rule_gives r rule {m} p = by rule.is_fragment refl
+module _ (g : Grammar) (kinds : Kinds) (are : AreKinds g kinds) (decided : NodesAreTold g) (complete : LacksNothing g) where
+  rule_gives : (r : ℕ) (rule : Rule) {m : List Mark} → slice_get g.rules r ≡ Some rule → Yields g kinds rule.body m → (n : List Mark) × RuleGives g kinds r rule n
+  rule_gives r rule {m} there p = by rule.is_fragment refl
     where
       plain : (MakesNodes g rule ⊎ ¬ MakesNodes g rule) → rule.is_fragment ≡ false → (n : List Mark) × RuleGives g kinds r rule n
       plain (inl makes) is = (_, y.node is makes p)
@@ -133,7 +133,7 @@ module _ (g : Grammar) (kinds : Kinds) (are : AreKinds g kinds) (decided : (rule
 
       by : (b : Bool) → rule.is_fragment ≡ b → (n : List Mark) × RuleGives g kinds r rule n
       by true is = (_, y.fragment is p)
-      by false is = plain (decided rule) is
+      by false is = plain (decided r rule there) is
 
   layered : {e : Element} {f : Element-F Element} {m : List Mark} → out-Element e ≡ f → Gives g kinds f m → (m : List Mark) × Yields g kinds e m
   layered {m} is p = (m, y.yields (subst (λ f. Gives g kinds f m) (sym is) p))
@@ -209,7 +209,7 @@ module _ (g : Grammar) (kinds : Kinds) (are : AreKinds g kinds) (decided : (rule
     call_yields {name} (may.token none) s x stands reads = by_token none (token_call stands reads)
     call_yields (may.rule_ r rule is p) s x stands reads =
         let (m, gives) = may_yield p (body r) (reaches stands reads is, site.whole is.first.there) in
-        let (n, given) = rule_gives r rule gives in
+        let (n, given) = rule_gives r rule is.first.there gives in
         (n, y.rule_ r rule is given)
 
     value_may_yield : {v : Value0} {n : ℕ} → ValueReads g v n → (s : PartSite) → StandsIn s (Value v) → (c : Value0) × (m : List Mark) × ValueYields g kinds v c m
@@ -239,7 +239,7 @@ module _ (g : Grammar) (kinds : Kinds) (are : AreKinds g kinds) (decided : (rule
           let from' : IsReached g r = reaches (from, at) reads is in
           let (n, can) = complete.ends r rule (from', is.first.there) in
           let (m, gives) = may_yield can (body r) (from', site.whole is.first.there) in
-          let (o, given) = rule_gives r rule gives in
+          let (o, given) = rule_gives r rule is.first.there gives in
           (o, y.rule_ r rule is given)
 
   pub supplied : IsSupplied g kinds

@@ -13,6 +13,7 @@ use Rattle.lw_grammar.specs.declared.terminal.Terminal.{Terminal}
 use Rattle.lw_grammar.specs.Leaves.{Assign, leaves, Cross, value_leaves}
 use Rattle.lw_grammar.specs.Named.{IsRule, IsTerminal}
 use Rattle.lw_grammar.specs.NameRules.{IsNameRule}
+use Rattle.lw_grammar.specs.Nodes.{MakesNodes}
 use Rattle.lw_grammar.specs.Reached.{IsReached, RuleCalls}
 use Rattle.lw_grammar.specs.Kinds.{Kinds, IsKeywordKind}
 use Rattle.lw_sentences.specs.Marks.{Mark}
@@ -42,6 +43,10 @@ module _ (g : Grammar) where
     pub value_choice : (s : PartSite) (v : Value0) (vs : List Value0) (span : Span) → IsPartAt g s (Value v) →
         out-Value0 v ≡ value.Choice vs span →
         (w : Value0) × (slice_get vs 0 ≡ Some w)
+
+  -- it is known of each rule whether it makes nodes
+  abbrev pub NodesAreTold : Type 0
+  NodesAreTold = (r : ℕ) (rule : Rule) → slice_get g.rules r ≡ Some rule → MakesNodes g rule ⊎ ¬ MakesNodes g rule
 
 module _ (g : Grammar) (kinds : Kinds) where
   -- At the parts of rules that can be reached: every keyword has a kind, every call gives something, every cross-reference has a rule. No
