@@ -19,7 +19,7 @@ pub record AreApart (g : Grammar) (kinds : Kinds) : Type 0 where
   pub keywords : (text : List ℕ) (k l : ℕ) → IsKeywordKind kinds text k → IsKeywordKind kinds text l → k ≡ l
   pub names : (name : List ℕ) (k r : ℕ) (rule : Rule) → IsTerminalKind g kinds name k → IsRule g name r rule → ⊥
 
-each : {X : Type 0} (P : X → Type 0) (xs : List X) → ((x : X) → Contains xs x → P x) → All P xs
+pub each : {X : Type 0} (P : X → Type 0) (xs : List X) → ((x : X) → Contains xs x → P x) → All P xs
 each P [] all = All-nil P
 each P (x ∷ xs) all = All-cons P x xs (all x (0, omega arith, refl)) (each P xs (λ y has. all y (there x xs y has)))
 
