@@ -3,6 +3,7 @@ use Rattle.std.proofs.Common.{◌≡◌, ◌≢◌, ◌⊎◌, ◌<◌, ◌≤�
 use Rattle.std.proofs.lemmas.Bool.{cases_lt}
 use Rattle.std.proofs.lemmas.List.Elements.{Contains-append_left, Contains-append_right, Contains-append_cases}
 use Rattle.lw_base.specs.declared.token.Span.{Span}
+use Rattle.lw_grammar.specs.declared.fault.GrammarFault.{GrammarFault}
 use Rattle.lw_grammar.specs.declared.grammar.Grammar.{Grammar}
 use Rattle.lw_grammar.specs.declared.rule.Op.{Op}
 use Rattle.lw_grammar.specs.declared.rule.Rule.{Rule}
@@ -23,13 +24,16 @@ use Rattle.lw_grammar.proofs.LeafLemmas.{values_by}
 use Rattle.lw_sentences.proofs.Every.{differ, first_here, first_later}
 use Rattle.lw_faults.specs.BadCalls.{BadCall}
 use Rattle.lw_faults.specs.BadCalls as bad
-use Rattle.lw_faults.specs.Derivations.{IsReachedRule}
+use Rattle.lw_faults.specs.Derivations.{IsReachedRule, never_ends}
+use Rattle.lw_faults.specs.Faults.{IsTypeFault, IsCheckFault, HasNoCircle}
+use Rattle.lw_faults.specs.Faults as list
+use Rattle.lw_faults.specs.Reads.{MayRead}
 use Rattle.lw_faults.specs.Names.{Duplicate, UnknownRule}
 use Rattle.lw_faults.specs.Names as fault
 use Rattle.lw_faults.specs.Written.{WritesCall, IsNoRule}
 use Rattle.lw_faults.specs.Written as written
 use Rattle.lw_formed.specs.WellFormed.{IsWellFormed}
-use Rattle.lw_look.specs.Supplied.{IsKnownCall}
+use Rattle.lw_look.specs.Supplied.{IsKnownCall, ChoicesHaveParts, LacksNothing, ReadingIsTold}
 use Rattle.lw_look.proofs.Apart.{each}
 use Rattle.lw_look.proofs.Standing.{among}
 
@@ -175,9 +179,11 @@ module _ (g : Grammar) where
       }
 
   value_calls : (v : Value0) (f : Value0-F Value0) (called : List ℕ) → out-Value0 v ≡ f → IsCallOf f called → (s : Span) × Contains (value_leaves v) (Calls called s)
-  value_calls v (value.Call written s) called is same =
-      (s, subst (λ name. Contains (value_leaves v) (Calls name s)) (sym same)
-      (subst (λ ls. Contains ls (Calls written s)) (sym (values_by v (value.Call written s) is)) (0, omega arith, refl)))
+  value_calls v (value.Call written s) called is same = (
+    s,
+    subst (λ name. Contains (value_leaves v) (Calls name s)) (sym same)
+        (subst (λ ls. Contains ls (Calls written s)) (sym (values_by v (value.Call written s) is)) (0, omega arith, refl)),
+  )
   value_calls v (value.Keyword t s) called is same = absurd same
   value_calls v (value.Cross t r s) called is same = absurd same
   value_calls v (value.Choice vs s) called is same = absurd same
@@ -213,3 +219,34 @@ module _ (g : Grammar) where
           plain : (b : Bool) → terminal.is_fragment ≡ b → terminal.is_fragment ≡ false
           plain false same = same
           plain true same = absurd (no_bad w.writer.file w.place called (bad.hidden w.writer t terminal w.among_rules w.writes is (inr same)))
+
+-- ---- a grammar without faults lacks nothing
+
+module _ (g : Grammar) (no_type_fault : (f : GrammarFault) → ¬ IsTypeFault g f) (no_check_fault : (f : GrammarFault) → ¬ IsCheckFault g f) (formed : IsWellFormed g) where
+  pub calls_known : (r : ℕ) (rule : Rule) (called : List ℕ) → IsReachedRule g r rule → RuleCalls g rule called → IsKnownCall g called
+  calls_known =
+      known_call g (λ file s called is. no_type_fault (list.fault 4 file s called) (list.duplicate is)) (λ file s called is. no_type_fault (list.fault 5 file s called) (list.unknown_rule is))
+      (λ file s called is. no_check_fault (list.fault 21 file s called) (list.bad_call is)) formed
+
+  module _ (told : ReadingIsTold g) where
+    body_ends : (r : ℕ) (rule : Rule) → IsReachedRule g r rule → (n : ℕ) × MayRead g rule.body n
+    body_ends r rule (from, at) = by (told.bodies r rule at)
+      where
+        no_circle : HasNoCircle g
+        no_circle file s called is = no_check_fault (list.fault 20 file s called) (list.circular_call is)
+
+        by : ((n : ℕ) × MayRead g rule.body n) ⊎ ((n : ℕ) → ¬ MayRead g rule.body n) → (n : ℕ) × MayRead g rule.body n
+        by (inl can) = can
+        by (inr none) = absurd (no_check_fault (list.fault 10 rule.file rule.span rule.name) (list.never_ends no_circle (never_ends r rule (from, at) none)))
+
+    cross_named : (r : ℕ) (rule : Rule) (p : List ℕ) (op : Op) (v : Value0) (t : Span) (wanted : List ℕ) (s : Span) → IsReachedRule g r rule →
+        Contains (leaves rule.body) (Assign p op v t) → Contains (value_leaves v) (expand.Cross wanted None s) → (called : List ℕ) × IsNameRule g wanted called
+    cross_named r rule p op v t wanted s (from, at) has within = by (told.names wanted)
+      where
+        by : ((called : List ℕ) × IsNameRule g wanted called) ⊎ ((called : List ℕ) → ¬ IsNameRule g wanted called) → (called : List ℕ) × IsNameRule g wanted called
+        by (inl named) = named
+        by (inr none) =
+            absurd (no_type_fault (list.fault 18 rule.file s wanted) (list.no_name_rule (fault.nameless rule p op v t (among g.rules r rule at) has within none)))
+
+    pub lacks_nothing : ChoicesHaveParts g → LacksNothing g
+    lacks_nothing choices = record { calls = calls_known; crosses = cross_named; ends = body_ends; choices = choices }

@@ -247,6 +247,5 @@ module _ (g : Grammar) (kinds : Kinds) (are : AreKinds g kinds) (decided : Nodes
     keyword = keyword_kind g kinds are;
     call = call_gives;
     cross = cross_named;
-    choice = complete.choice;
-    value_choice = complete.value_choice;
+    choices = complete.choices;
   }

@@ -28,8 +28,17 @@ module _ (g : Grammar) where
   abbrev pub IsKnownCall : List ℕ → Type 0
   IsKnownCall name = ((t : ℕ) × (terminal : Terminal) × IsTerminal g name t terminal × (terminal.is_fragment ≡ false)) ⊎ ((r : ℕ) × (rule : Rule) × IsRule g name r rule)
 
+  -- each choice has a part, as the syntax of grammars has it
+  pub record ChoicesHaveParts : Type 0 where
+    pub choice : (s : PartSite) (e : Element) (es : List Element) (span : Span) → IsPartAt g s (Body e) →
+        out-Element e ≡ layer.Choice es span →
+        (f : Element) × (slice_get es 0 ≡ Some f)
+    pub value_choice : (s : PartSite) (v : Value0) (vs : List Value0) (span : Span) → IsPartAt g s (Value v) →
+        out-Value0 v ≡ value.Choice vs span →
+        (w : Value0) × (slice_get vs 0 ≡ Some w)
+
   -- What is so where no fault of names, calls or endless rules is found: in the rules that can be reached each call is known, each
-  -- cross-reference is read by some rule, each body may read some number of tokens. Of the syntax: a choice has a part.
+  -- cross-reference is read by some rule, each body may read some number of tokens.
   pub record LacksNothing : Type 0 where
     pub calls : (r : ℕ) (rule : Rule) (name : List ℕ) → IsReachedRule g r rule → RuleCalls g rule name → IsKnownCall name
     pub crosses : (r : ℕ) (rule : Rule) (p : List ℕ) (op : Op) (v : Value0) (t : Span) (wanted : List ℕ) (s : Span) →
@@ -37,12 +46,12 @@ module _ (g : Grammar) where
         Contains (leaves rule.body) (Assign p op v t) → Contains (value_leaves v) (Cross wanted None s) →
         (name : List ℕ) × IsNameRule g wanted name
     pub ends : (r : ℕ) (rule : Rule) → IsReachedRule g r rule → (n : ℕ) × MayRead g rule.body n
-    pub choice : (s : PartSite) (e : Element) (es : List Element) (span : Span) → IsPartAt g s (Body e) →
-        out-Element e ≡ layer.Choice es span →
-        (f : Element) × (slice_get es 0 ≡ Some f)
-    pub value_choice : (s : PartSite) (v : Value0) (vs : List Value0) (span : Span) → IsPartAt g s (Value v) →
-        out-Value0 v ≡ value.Choice vs span →
-        (w : Value0) × (slice_get vs 0 ≡ Some w)
+    pub choices : ChoicesHaveParts
+
+  -- It is known of each body whether it may read some number of tokens, and of each type whether a rule reads the names of its nodes.
+  pub record ReadingIsTold : Type 0 where
+    pub bodies : (r : ℕ) (rule : Rule) → slice_get g.rules r ≡ Some rule → ((n : ℕ) × MayRead g rule.body n) ⊎ ((n : ℕ) → ¬ MayRead g rule.body n)
+    pub names : (wanted : List ℕ) → ((name : List ℕ) × IsNameRule g wanted name) ⊎ ((name : List ℕ) → ¬ IsNameRule g wanted name)
 
   -- it is known of each rule whether it makes nodes
   abbrev pub NodesAreTold : Type 0
@@ -60,7 +69,4 @@ module _ (g : Grammar) (kinds : Kinds) where
     pub cross : (s : PartSite) (v : Value0) (wanted : List ℕ) (span : Span) → IsReached g (rule_of s) → IsPartAt g s (Value v) →
         out-Value0 v ≡ value.Cross wanted None span →
         (name : List ℕ) × IsNameRule g wanted name
-    pub choice : (s : PartSite) (e : Element) (es : List Element) (span : Span) → IsPartAt g s (Body e) →
-        out-Element e ≡ layer.Choice es span → (f : Element) × (slice_get es 0 ≡ Some f)
-    pub value_choice : (s : PartSite) (v : Value0) (vs : List Value0) (span : Span) → IsPartAt g s (Value v) →
-        out-Value0 v ≡ value.Choice vs span → (w : Value0) × (slice_get vs 0 ≡ Some w)
+    pub choices : ChoicesHaveParts g
