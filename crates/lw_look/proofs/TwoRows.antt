@@ -42,14 +42,14 @@ data Below : Part → Type 0 where
   a_plain : (e : Element) → IsPlain e → Below (Body e)
   a_value : (text : List ℕ) → Below (Value (value.Keyword text nowhere))
 
-abbrev Asks : Element-F Element → Type 0
+abbrev pub Asks : Element-F Element → Type 0
 Asks (layer.Choice es s) = Unit {0}
 Asks (layer.Maybe e s) = Unit {0}
 Asks (layer.Many e s) = Unit {0}
 Asks (layer.Some1 e s) = Unit {0}
 Asks _ = ⊥
 
-abbrev AsksValue : Value0-F Value0 → Type 0
+abbrev pub AsksValue : Value0-F Value0 → Type 0
 AsksValue (value_layer.Choice vs s) = Unit {0}
 AsksValue _ = ⊥
 
@@ -126,14 +126,14 @@ module _ (name : List ℕ) (es fs : List Element) where
         by (inr below) = inr (below_below below i is)
 
     -- where an element that asks stands, it is the body
-    asked : {s : PartSite} {f : Element-F Element} → ElementAt G s f → Asks f → (s ≡ body 0) × (f ≡ layer.Choice (two_rows es fs) nowhere)
+    pub asked : {s : PartSite} {f : Element-F Element} → ElementAt G s f → Asks f → (s ≡ body 0) × (f ≡ layer.Choice (two_rows es fs) nowhere)
     asked {s} (site.element_at {e} stands) asks = by (known stands)
       where
         by : IsKnown s (Body e) → (s ≡ body 0) × (out-Element e ≡ layer.Choice (two_rows es fs) nowhere)
         by (inl p) = (p.0, ap out-Element (same_body p.1) ∙ outs-Choice (two_rows es fs) nowhere)
         by (inr below) = absurd (none_asks below asks)
 
-    no_value_asks : {s : PartSite} {v : Value0} {f : Value0-F Value0} → ValueAt G s v f → AsksValue f → ⊥
+    pub no_value_asks : {s : PartSite} {v : Value0} {f : Value0-F Value0} → ValueAt G s v f → AsksValue f → ⊥
     no_value_asks {s} (site.value_at {v} stands) asks = by (known stands)
       where
         differ : {e : Element} → Value v ≡ Body e → ⊥
