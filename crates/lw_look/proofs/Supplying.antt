@@ -29,7 +29,6 @@ use Rattle.lw_grammar.proofs.FirstUses.{Contains-first_uses}
 use Rattle.lw_grammar.proofs.LeafLemmas.{leaves_by, values_by}
 use Rattle.lw_grammar.proofs.KeptLemmas.{there}
 use Rattle.lw_sentences.specs.Marks.{Mark}
-use Rattle.lw_sentences.specs.Marks as mark
 use Rattle.lw_sentences.specs.Yields.{Yields, Gives, YieldsAll, Calls, RuleGives, ValueYields, ValueGives}
 use Rattle.lw_sentences.specs.Yields as y
 use Rattle.lw_sentences.proofs.Every.{first_here, first_later}

@@ -1,11 +1,11 @@
 -- Grammars of one rule, `entry A: .. | ..;`, whose two ways are rows of keywords and of assignments of keywords: its body is its only choice, so
 -- that what comes next at a way is what that row yields.
-use Rattle.std.proofs.Common.{◌≡◌, ◌⊎◌, ◌+◌, inl, inr, ℕ, zero, suc, List, [], ◌∷◌, ◌++◌, Option, Some, true, false, map, codes, slice_get, refl, sym, ap, ◌∙◌, subst, append-nil, arith}
+use Rattle.std.proofs.Common.{◌≡◌, ◌⊎◌, ◌+◌, inl, inr, ℕ, zero, suc, List, [], ◌∷◌, ◌++◌, Option, Some, true, false, map, codes, slice_get, refl, sym, ap, ◌∙◌, subst, arith}
 use Rattle.std.proofs.lemmas.Option.{none-some, same_Some}
 use Rattle.lw_base.specs.declared.token.Span.{Span}
 use Rattle.lw_grammar.specs.declared.grammar.Grammar.{Grammar}
 use Rattle.lw_grammar.specs.declared.rule.Element.{Element, out-Element}
-use Rattle.lw_grammar.specs.declared.rule.Element.TheVariants.{Keyword, Assign, Group, Choice, outs-Keyword, outs-Assign, outs-Group, outs-Choice}
+use Rattle.lw_grammar.specs.declared.rule.Element.TheVariants.{Group, Choice, outs-Keyword, outs-Assign, outs-Group, outs-Choice}
 use Rattle.lw_grammar.specs.declared.rule.Element.TheOpen as layer
 use Rattle.lw_grammar.specs.declared.rule.Element.TheOpen.{Element-F}
 use Rattle.lw_grammar.specs.declared.rule.Value0.{Value0, out-Value0}
@@ -15,14 +15,12 @@ use Rattle.lw_grammar.specs.declared.rule.Value0.TheOpen.{Value0-F}
 use Rattle.lw_grammar.specs.declared.rule.Op.TheVariants.{One}
 use Rattle.lw_grammar.specs.declared.rule.Rule.{Rule}
 use Rattle.lw_grammar.specs.Named.{IsEntry}
-use Rattle.lw_grammar.specs.Kinds.{Kinds, IsKeywordKind}
+use Rattle.lw_grammar.specs.Kinds.{Kinds}
 use Rattle.lw_sentences.specs.Marks.{Mark, kinds_of}
-use Rattle.lw_sentences.specs.Marks as mark
 use Rattle.lw_sentences.specs.Worked.{nowhere, word, named_rule, rules_alone}
 use Rattle.lw_sentences.specs.Yields.{Yields, Gives, YieldsAll, ValueYields, ValueGives}
 use Rattle.lw_sentences.specs.Yields as y
 use Rattle.lw_sentences.proofs.Every.{Every, every_at}
-use Rattle.lw_sentences.proofs.Joined.{kinds_join}
 use Rattle.lw_look.specs.Sites.{PartSite, body, ◌/◌, Part, Body, Value, inner_parts, element_parts, value_parts, IsPartAt, ElementAt, ValueAt, AlternativeAt, OptionalAt, RepeatedAt}
 use Rattle.lw_look.specs.Sites as site
 use Rattle.lw_look.specs.Looks.{After, Look, IsLL, window, PartYields}
