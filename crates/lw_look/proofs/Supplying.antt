@@ -37,7 +37,7 @@ use Rattle.lw_faults.specs.Reads.{MayRead, ReadsLayer, ReadsAll, CallReads, Valu
 use Rattle.lw_faults.specs.Reads as may
 use Rattle.lw_look.specs.ReadBy.{PartKeyword, PartReadsBy}
 use Rattle.lw_look.specs.ReadBy as by
-use Rattle.lw_look.specs.Sites.{PartSite, body, ◌/◌, rule_of, Part, Body, Value, element_parts, value_parts, inner_parts, IsPartAt, ElementAt, ValueAt}
+use Rattle.lw_look.specs.Sites.{PartSite, body, ◌▸◌, rule_of, Part, Body, Value, element_parts, value_parts, inner_parts, IsPartAt, ElementAt, ValueAt}
 use Rattle.lw_look.specs.Sites as site
 use Rattle.lw_look.specs.Supplied.{LacksNothing, NodesAreTold, IsKnownCall, IsSupplied}
 use Rattle.lw_look.proofs.Reaching.{in_rule, call_leaf, value_call_leaf}
@@ -181,19 +181,19 @@ module _ (g : Grammar) (kinds : Kinds) (are : AreKinds g kinds) (decided : Nodes
     layer_yields (may.keyword {text}) e is s (from, at) = let (k, has) = keyword_kind g kinds are s (Body e) text from at (by.element is) in layered is (y.keyword has)
     layer_yields (may.called p) e is s stands = let (m, calls) = call_yields p s (Body e) stands (by.element is) in layered is (y.called calls)
     layer_yields (may.assigned {v} p) e is s (from, at) =
-        let (c, m, read) = value_may_yield p (s / 0) (from, site.part at (ap (λ f. slice_get (element_parts f) 0) is)) in layered is (y.assigned read)
+        let (c, m, read) = value_may_yield p (s ▸ 0) (from, site.part at (ap (λ f. slice_get (element_parts f) 0) is)) in layered is (y.assigned read)
     layer_yields may.acted e is s stands = layered is y.acted
     layer_yields (may.grouped {es} p) e is s (from, at) =
-        let (m, all) = row_yields p (λ i f got. (s / i, (from, row_part_stands g (subst (ElementAt g s) is (site.element_at at)) got))) in layered is (y.grouped all)
+        let (m, all) = row_yields p (λ i f got. (s ▸ i, (from, row_part_stands g (subst (ElementAt g s) is (site.element_at at)) got))) in layered is (y.grouped all)
     layer_yields (may.chosen {es} {e = f} has p) e is s (from, at) =
         let (i, got) = place_of es f has in
-        let (m, gives) = may_yield p (s / i) (from, way_stands g (site.element (subst (ElementAt g s) is (site.element_at at)) got)) in
+        let (m, gives) = may_yield p (s ▸ i) (from, way_stands g (site.element (subst (ElementAt g s) is (site.element_at at)) got)) in
         layered is (y.chosen has gives)
     layer_yields may.skipped e is s stands = layered is y.skipped
     layer_yields (may.taken p) e is s stands = layered is y.skipped
     layer_yields (may.repeated p) e is s stands = layered is (y.repeated y.stop)
     layer_yields (may.repeated_once p q) e is s (from, at) =
-        let (m, gives) = may_yield p (s / 0) (from, site.part at (ap (λ f. slice_get (element_parts f) 0) is)) in layered is (y.repeated_once gives y.stop)
+        let (m, gives) = may_yield p (s ▸ 0) (from, site.part at (ap (λ f. slice_get (element_parts f) 0) is)) in layered is (y.repeated_once gives y.stop)
 
     row_yields : {es : List Element} {n : ℕ} → ReadsAll g es n → ((i : ℕ) (f : Element) → slice_get es i ≡ Some f → (s : PartSite) × StandsIn s (Body f)) →
         (m : List Mark) × YieldsAll g kinds es m
@@ -226,7 +226,7 @@ module _ (g : Grammar) (kinds : Kinds) (are : AreKinds g kinds) (decided : Nodes
         let (name, named) = cross_named s v wanted span from at is in absurd (none name named)
     value_layer_yields (may.chosen_value {vs} {v = w} has p) v is s (from, at) =
         let (i, got) = place_of vs w has in
-        let (c, m, gives) = value_may_yield p (s / i) (from, way_stands g (site.assigned (subst (ValueAt g s v) is (site.value_at at)) got)) in
+        let (c, m, gives) = value_may_yield p (s ▸ i) (from, way_stands g (site.assigned (subst (ValueAt g s v) is (site.value_at at)) got)) in
         value_layered is (y.chosen_value has gives)
 
   call_gives : (s : PartSite) (x : Part) (name : List ℕ) → IsReached g (rule_of s) → IsPartAt g s x → PartReadsBy g x name → (m : List Mark) × Calls g kinds name m

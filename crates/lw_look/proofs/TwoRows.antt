@@ -21,7 +21,7 @@ use Rattle.lw_sentences.specs.Worked.{nowhere, word, named_rule, rules_alone}
 use Rattle.lw_sentences.specs.Yields.{Yields, Gives, YieldsAll, ValueYields, ValueGives}
 use Rattle.lw_sentences.specs.Yields as y
 use Rattle.lw_sentences.proofs.Every.{Every, every_at}
-use Rattle.lw_look.specs.Sites.{PartSite, body, ◌/◌, Part, Body, Value, inner_parts, element_parts, value_parts, IsPartAt, ElementAt, ValueAt, AlternativeAt, OptionalAt, RepeatedAt}
+use Rattle.lw_look.specs.Sites.{PartSite, body, ◌▸◌, Part, Body, Value, inner_parts, element_parts, value_parts, IsPartAt, ElementAt, ValueAt, AlternativeAt, OptionalAt, RepeatedAt}
 use Rattle.lw_look.specs.Sites as site
 use Rattle.lw_look.specs.Looks.{After, Look, IsLL, window, PartYields}
 use Rattle.lw_look.specs.Looks as look
@@ -118,7 +118,7 @@ module _ (name : List ℕ) (es fs : List Element) where
         only (suc r) is = absurd (none-some found is)
     known (site.part {s} {x} {y} {i} at is) = by (known at)
       where
-        by : IsKnown s x → IsKnown (s / i) y
+        by : IsKnown s x → IsKnown (s ▸ i) y
         by (inl p) =
             inr (of_rows i (subst (λ f. slice_get (element_parts f) i ≡ Some y) (outs-Choice (two_rows es fs) nowhere) (subst (λ x. slice_get (inner_parts x) i ≡ Some y) p.1 is)))
         by (inr below) = inr (below_below below i is)
