@@ -6,3 +6,5 @@ pub mod Worked
 pub mod Heads
 pub mod Parses
 pub mod Supplied
+pub mod Choices
+pub mod Strings
