@@ -1,0 +1,12 @@
+-- How a window is printed: the texts of its kinds, joined by one space, where the end is `<end>`.
+use Rattle.std.specs.Prelude.{ℕ, List, [], ◌∷◌, ◌++◌, Option, Some, None, codes, slice_index_or}
+
+module _ (texts : List (List ℕ)) where
+  abbrev pub shown : Option ℕ → List ℕ
+  shown None = codes "<end>"
+  shown (Some kind) = slice_index_or texts kind []
+
+  abbrev pub printed : List (Option ℕ) → List ℕ
+  printed [] = []
+  printed (x ∷ []) = shown x
+  printed (x ∷ y ∷ xs) = shown x ++ (codes " " ++ printed (y ∷ xs))

@@ -1,0 +1,31 @@
+// The choices of a grammar, in their order.
+ghost use Rattle.std.specs.Prelude.{◌≤◌, IfErr, IfOk};
+ghost use Rattle.lw_grammar.specs.Kinds.{Kinds, AreKinds};
+ghost use Rattle.lw_grammar.specs.Size.{size};
+ghost use Rattle.lw_look.specs.Choices.{choice_sites};
+ghost use Rattle.lw_first.specs.Before.{IsReady};
+ghost use Rattle.lw_points.specs.declared.point.TheConstants.{MOST_STRINGS};
+ghost use Rattle.lw_points.specs.Points.{ArePoints, CausesNoPoints, strings_in};
+
+use crate::{Point, PointsFault};
+use lw_first::First;
+use lw_heads::HeadSet;
+use std::alloc::Global;
+
+/// The choices of a grammar in their order, each with the heads of its ways, where these heads may follow the rules. As soon as there are
+/// more heads than [`MOST_STRINGS`](crate::MOST_STRINGS) no more are looked for.
+pub fn points(
+    alloc: Global,
+    first: &First<'_>,
+    followers: &[HeadSet],
+) -> Result<Vec<Point>, PointsFault>
+    requires ready { IsReady first.now }
+    requires small { size first.now.lexicon.g.now ≤ 65535 }
+    ensures points { (kinds : Kinds) → AreKinds first.now.lexicon.g.now kinds →
+        IfOk result (λ points. ArePoints first.now.lexicon.g.now kinds first.now.k first.now.heads.now followers.now (choice_sites first.now.lexicon.g.now) points.items) }
+    ensures few { IfOk result (λ points. strings_in points.items ≤ MOST_STRINGS) }
+    ensures fault { (kinds : Kinds) → AreKinds first.now.lexicon.g.now kinds →
+        IfErr result (CausesNoPoints first.now.lexicon.g.now kinds first.now.k first.now.heads.now followers.now) }
+{
+    Err(PointsFault::NoMemory)
+}
