@@ -1,11 +1,16 @@
 -- Which lists of kinds a set of heads has, and how sets grow.
 use Rattle.std.specs.Prelude.{ℕ, ◌≡◌, ◌<◌, ◌+◌, ◌*◌, ◌⊎◌, ◌↔◌, List, Some, Contains, slice_get}
+use Rattle.std.specs.List.{AllByRecursion}
 use Rattle.lw_heads.specs.declared.head.Head.{Head}
 use Rattle.lw_heads.specs.Heads.{kinds_in}
 
 -- no head stands twice
 abbrev pub AreDistinctHeads : List Head → Type 0
 AreDistinctHeads heads = (i j : ℕ) (head : Head) → slice_get heads i ≡ Some head → slice_get heads j ≡ Some head → i ≡ j
+
+-- the numbers of its kinds have sixteen bits
+abbrev pub HasSmallKinds : Head → Type 0
+HasSmallKinds head = AllByRecursion (λ kind. kind < 65536) (kinds_in head)
 
 -- there are no more heads than these: kinds have numbers below 65,536
 abbrev pub most_heads : ℕ

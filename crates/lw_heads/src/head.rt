@@ -1,7 +1,9 @@
 // A head.
-ghost use Rattle.std.specs.Prelude.{◌≡◌, ◌≢◌, ◌≤◌, [], ◌∷◌, ◌++◌, ℕ, List, MatchOption, length, map, take};
-ghost use Rattle.lw_heads.specs.Heads.{kinds_in, seen_in};
+ghost use Rattle.std.specs.Prelude.{◌≡◌, ◌≢◌, ◌<◌, ◌≤◌, [], ◌∷◌, ◌++◌, ℕ, List, MatchOption, length, slice_get, take};
+ghost use Rattle.std.specs.Option.{option_map};
+ghost use Rattle.lw_heads.specs.Heads.{kinds_in, put_before, seen_in};
 ghost use Rattle.lw_look.specs.Looks.{window};
+ghost use Rattle.lw_heads.specs.Sets.{HasSmallKinds};
 
 use arrayvec::ArrayVec;
 use lw_base::KindId;
@@ -43,7 +45,8 @@ impl Head {
             Head::Nothing if k == 0 => Head::Nothing,
             Head::Nothing => Head::One(kind),
             Head::One(a) => Head::of_two(kind, a, k),
-            Head::Two(a, b) | Head::Three(a, b, _) => Head::of_three(kind, a, b, k),
+            Head::Two(a, b) => Head::of_three(kind, a, b, k),
+            Head::Three(a, b, _) => Head::of_three(kind, a, b, k),
         }
     }
 
@@ -93,4 +96,82 @@ impl Head {
             Head::Three(a, b, c) => other.behind(c, k).behind(b, k).behind(a, k),
         }
     }
+
+    /// The head as a parser sees it that looks at `k` tokens: its kinds, and then end marks.
+    pub fn window(self, k: usize) -> Window
+        requires few { length (kinds_in self) ≤ k }
+        requires most { k ≤ 3 }
+        ensures { seen_in result.items ≡ window k (kinds_in self) }
+    {
+        let mut seen = Window::new();
+        for place in 0..k {
+            seen.push(self.get(place));
+        }
+        seen
+    }
+
+    /// The kind at this place, or the end.
+    fn get(self, place: usize) -> Option<KindId>
+        ensures { option_map (λ kind. kind.0) result ≡ slice_get (kinds_in self) place }
+    {
+        match self {
+            Head::Nothing => None,
+            Head::One(a) => [a].get(place).copied(),
+            Head::Two(a, b) => [a, b].get(place).copied(),
+            Head::Three(a, b, c) => [a, b, c].get(place).copied(),
+        }
+    }
+
+    /// The head that is seen as this by a parser that looks at `k` tokens: of `k` places, where nothing but end marks stands behind an end
+    /// mark. Of any other slice there is none.
+    pub fn of_window(seen: &[Option<KindId>], k: usize) -> Option<Head>
+        requires { k ≤ 3 }
+        ensures { MatchOption result
+            ((h : List ℕ) → length h ≤ 3 → seen_in seen.now ≢ window k h)
+            (λ head. (seen_in seen.now ≡ window k (kinds_in head)) × (length (kinds_in head) ≤ k)) }
+    {
+        if seen.len() != k {
+            return None;
+        }
+        match seen {
+            [] => Some(Head::Nothing),
+            [next, behind @ ..] => Head::of_window(behind, k - 1)?.seen_behind(*next),
+        }
+    }
+
+    /// The head of a window in which this one stands behind the kind or the end mark.
+    fn seen_behind(self, next: Option<KindId>) -> Option<Head>
+        requires { length (kinds_in self) < 3 }
+        ensures { option_map kinds_in result ≡ put_before (option_map (λ kind. kind.0) next) (kinds_in self) }
+    {
+        match (next, self) {
+            (Some(kind), _) => Some(self.behind(kind, LONGEST_HEAD)),
+            (None, Head::Nothing) => Some(self),
+            (None, _) => None,
+        }
+    }
+
+    /// Makes known to a proof that the numbers of its kinds have sixteen bits.
+    pub(crate) fn has_small_kinds(self)
+        ensures { HasSmallKinds self }
+    {
+        match self {
+            Head::Nothing => {}
+            Head::One(a) => is_small(a.0),
+            Head::Two(a, b) => {
+                is_small(a.0);
+                is_small(b.0);
+            }
+            Head::Three(a, b, c) => {
+                is_small(a.0);
+                is_small(b.0);
+                is_small(c.0);
+            }
+        }
+    }
 }
+
+/// Makes known to a proof that a number of sixteen bits is below this.
+fn is_small(number: u16)
+    ensures { number < 65536 }
+{}

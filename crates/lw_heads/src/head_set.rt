@@ -18,13 +18,14 @@ pub struct HeadSet {
 impl Model for HeadSet {
     ghost use Rattle.std.specs.Prelude.{List};
     ghost use Rattle.lw_heads.specs.declared.head.Head.{Head};
-    ghost use Rattle.lw_heads.specs.Sets.{AreDistinctHeads};
+    ghost use Rattle.lw_heads.specs.Sets.{AreDistinctHeads, HasSmallKinds};
+    ghost use Rattle.std.specs.List.{AllByRecursion};
 
     ghost Value = { List Head };
 
     ghost view = { λ a. a.heads.keys };
 
-    ghost invariant = { λ a. AreDistinctHeads a.heads.keys };
+    ghost invariant = { λ a. AreDistinctHeads a.heads.keys × AllByRecursion HasSmallKinds a.heads.keys };
 }
 
 impl HeadSet {
@@ -59,6 +60,7 @@ impl HeadSet {
         ensures count { IfOk result (λ is_new. length self.new ≡ length self.old + (if is_new then 1 else 0)) }
         ensures same { IfOk result (λ is_new. is_new ≡ false → self.new ≡ self.old) }
     {
+        head.has_small_kinds();
         Ok(self.heads.insert(head)?)
     }
 

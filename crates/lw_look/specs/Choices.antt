@@ -1,7 +1,7 @@
 -- The choices of a grammar in their order: rule after rule in load order, in a rule an outer choice before those inside it, and what stands
 -- earlier first. Each `|`, `?`, `*` and `+` is one, also inside the value of an assignment, and is named by its site.
 -- Held against the Langium documentation, "Grammar language": alternatives and cardinalities.
-use Rattle.std.specs.Prelude.{ℕ, ◌≡◌, ◌+◌, ◌⊎◌, List, [], ◌∷◌, ◌++◌}
+use Rattle.std.specs.Prelude.{ℕ, ◌+◌, List, [], ◌∷◌, ◌++◌}
 use Rattle.lw_grammar.specs.declared.grammar.Grammar.{Grammar}
 use Rattle.lw_grammar.specs.declared.rule.Element.{Element, fold-Element}
 use Rattle.lw_grammar.specs.declared.rule.Element.TheOpen as layer

@@ -1,5 +1,5 @@
 -- How many look-ahead strings a grammar has: the windows of each way of each choice, where one that comes next at two ways counts twice.
-use Rattle.std.specs.Prelude.{ℕ, ◌≡◌, ◌<◌, List, Option, Contains, [], ◌∷◌, length}
+use Rattle.std.specs.Prelude.{ℕ, ◌<◌, List, Option, Contains, [], ◌∷◌, length}
 use Rattle.lw_grammar.specs.declared.grammar.Grammar.{Grammar}
 use Rattle.lw_grammar.specs.Kinds.{Kinds}
 use Rattle.lw_look.specs.Sites.{PartSite}
