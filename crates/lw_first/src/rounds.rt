@@ -17,9 +17,9 @@ pub fn rule_heads(alloc: Global, lexicon: Lexicon<'_>, k: usize) -> Result<Vec<H
     requires known { IsLexicon lexicon }
     requires most { k ≤ 3 }
     requires told { NodesAreTold lexicon.g.now }
-    ensures all { IfOk result (λ sets. length sets.items ≡ length lexicon.g.now.rules) }
-    ensures closed { (kinds : Kinds) → AreKinds lexicon.g.now kinds → IfOk result (λ sets. AreClosedHeads lexicon.g.now kinds k (IsInSet sets.items)) }
-    ensures no_others { (kinds : Kinds) → AreKinds lexicon.g.now kinds → IfOk result (λ sets. AreTrueHeads lexicon.g.now kinds k (IsInSet sets.items)) }
+    ensures all { IfOk result (λ sets. length sets.items ≡ length lexicon.entry.g.now.rules) }
+    ensures closed { (kinds : Kinds) → AreKinds lexicon.entry.g.now kinds → IfOk result (λ sets. AreClosedHeads lexicon.entry.g.now kinds k (IsInSet sets.items)) }
+    ensures no_others { (kinds : Kinds) → AreKinds lexicon.entry.g.now kinds → IfOk result (λ sets. AreTrueHeads lexicon.entry.g.now kinds k (IsInSet sets.items)) }
 {
     Err(NoMemory)
 }

@@ -19,7 +19,7 @@ use Rattle.lw_token_sets.specs.TokenSets.{IsTokenSetOf, HasTokens}
 use Rattle.lw_token_sets.proofs.DistinctTexts.{first_uses-differ}
 use Rattle.lw_token_sets.proofs.Unlisted.{taken_unlisted}
 use Rattle.lw_token_sets.specs.Taken.{HasTaken}
-use Rattle.lw_lang.specs.Compiled.{HasSoundTokens, IsClear}
+use Rattle.lw_lang.specs.Compiled.{HasSoundTokens, HasTables, IsClear}
 use Rattle.lw_lang.specs.Flat.{IsFlat, HasRow}
 use Rattle.lw_lang.specs.Language.{LanguageView}
 use Rattle.lw_lang.specs.Prepared.{IsPrepared}
@@ -71,8 +71,8 @@ module _ (g : Grammar) (row : KindRow) (are : AreKindRowOf g row) where
         row = subst (λ kinds. IsOnlyRow g kinds (map (λ kind. kind.0) items)) (one_kinds g has.kinds is.of has.are is.are) only_row;
       }
 
-      pub is_clear : IsClear g
-      is_clear = record { sound = sound_tokens; flat = (map (λ kind. kind.0) items, has) }
+      pub is_clear : (k : ℕ) → HasTables g k → IsClear g k
+      is_clear k tables = record { sound = sound_tokens; tables = tables; flat = (map (λ kind. kind.0) items, has) }
 
 -- the language of a grammar with tokens has them
 pub built_tokens : (g : Grammar) (listed : List (List ℕ)) → HasTokens g listed → {E : Type 0} (r : Result LanguageView E) → IfOk r (λ language. language.grammar ≡ g) →

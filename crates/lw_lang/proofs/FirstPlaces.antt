@@ -25,7 +25,7 @@ module _ (g : Grammar) (texts : List (List ℕ)) (stands : Stands texts g) where
   abbrev IsPlaced : Use → Type 0
   IsPlaced word = AreIn texts word.1.file (word.1.span ∷ [])
 
-  in_body : (rule : Rule) (text : List ℕ) (s : Span) → Contains g.rules rule → Contains (element_spans rule.body) s → IsPlaced (text, record { file = rule.file; span = s })
+  pub in_body : (rule : Rule) (text : List ℕ) (s : Span) → Contains g.rules rule → Contains (element_spans rule.body) s → IsPlaced (text, record { file = rule.file; span = s })
   in_body rule text s has there =
       let are : AreIn texts rule.file (rule_spans rule) = All-contains (λ r. AreIn texts r.file (rule_spans r)) g.rules rule stands.rules has in
       let among : Contains (rule_spans rule) s =

@@ -30,12 +30,13 @@ module _ (texts : List (List ℕ)) (g : Grammar) (stands : Stands texts g) (root
 
 module _ (g : Grammar) (texts : List (List ℕ)) where
   -- is one by the grammar
-  pub judged_causes : (refused : Option (List ℕ)) (f : CompileFault) → IsJudged g texts f → GrammarCauses g texts refused f
-  judged_causes refused (fault.Faults told) is = is
-  judged_causes refused fault.NoMemory is = tt
-  judged_causes refused (fault.Load found) is = absurd is
-  judged_causes refused fault.Unbuilt is = absurd is
-  judged_causes refused (fault.Term found) is = absurd is
+  pub judged_causes : (k : ℕ) (refused : Option (List ℕ)) (f : CompileFault) → IsJudged g texts f → GrammarCauses g texts k refused f
+  judged_causes k refused (fault.Faults told) is = is
+  judged_causes k refused fault.NoMemory is = tt
+  judged_causes k refused (fault.Load found) is = absurd is
+  judged_causes k refused fault.Unbuilt is = absurd is
+  judged_causes k refused (fault.Term found) is = absurd is
+  judged_causes k refused (fault.Look found) is = absurd is
 
   -- and leaves the patterns as they are
   pub judged_counts : (T : Type 0) (n : ℕ) (f : CompileFault) → IsJudged g texts f → CountsPatterns {T = T} n n (Err f)
@@ -44,6 +45,7 @@ module _ (g : Grammar) (texts : List (List ℕ)) where
   judged_counts T n (fault.Load found) is = absurd is
   judged_counts T n fault.Unbuilt is = absurd is
   judged_counts T n (fault.Term found) is = absurd is
+  judged_counts T n (fault.Look found) is = absurd is
 
   pub judged_keeps : (T : Type 0) (last : Option (List ℕ)) (f : CompileFault) → IsJudged g texts f → KeepsPatterns {T = T} last last (Err f)
   judged_keeps T last (fault.Faults told) is = refl
@@ -51,3 +53,4 @@ module _ (g : Grammar) (texts : List (List ℕ)) where
   judged_keeps T last (fault.Load found) is = absurd is
   judged_keeps T last fault.Unbuilt is = absurd is
   judged_keeps T last (fault.Term found) is = absurd is
+  judged_keeps T last (fault.Look found) is = absurd is

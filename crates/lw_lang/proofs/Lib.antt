@@ -16,3 +16,5 @@ pub mod ToldPlaces
 pub mod ToldLemmas
 pub mod CompileLemmas
 pub mod PlainParts
+pub mod ChoicePlaces
+pub mod LookLemmas

@@ -1,13 +1,17 @@
 -- Why a grammar has no set of tokens, as it is told: the cause, and what becomes of the patterns.
 use Rattle.std.proofs.Common.{◌≡◌, ℕ, List, [], Option, Ok, Err, Result, IfErr, refl, subst}
 use Rattle.lw_grammar.specs.declared.grammar.Grammar.{Grammar}
+use Rattle.lw_grammar.specs.Kinds.{Kinds, AreKinds}
 use Rattle.lw_gramcheck.specs.Judging.{IsFaultless}
 use Rattle.lw_kinds.specs.Rows.{KindRow, AreKindRowOf}
 use Rattle.lw_token_sets.specs.declared.fault.TermFault.{TermFault}
 use Rattle.lw_token_sets.specs.declared.fault.TermFault.TheVariants.{NoMemory}
 use Rattle.lw_token_sets.specs.TokenSets as token
 use Rattle.lw_token_sets.proofs.Unlisted.{causes_unlisted}
-use Rattle.lw_lang.specs.Compiled.{GrammarCauses, IsUnbuiltOrMemory, CountsPatterns, KeepsPatterns}
+use Rattle.lw_lookahead.specs.Conflicts.{CausesNoTables}
+use Rattle.lw_lookahead.specs.declared.fault.LookFault.{LookFault}
+use Rattle.lw_lang.specs.Compiled.{GrammarCauses, HasSoundTokens, IsBehindTokens, IsUnbuiltOrMemory, CountsPatterns, KeepsPatterns}
+use Rattle.lw_lang.specs.ToldLooks.{IsLookToldOr}
 use Rattle.lw_lang.specs.ToldTerms.{IsToldOr, IsTermToldAs}
 use Rattle.lw_lang.specs.ToldTerms as told
 use Rattle.lw_lang.specs.declared.told_term.ToldTermFault.{ToldTermFault}
@@ -18,9 +22,9 @@ use Rattle.lw_lang.specs.declared.fault.CompileFault.TheVariants as fault
 
 module _ (g : Grammar) (texts : List (List ℕ)) (why : TermFault) where
   -- its cause is one by the grammar
-  pub told_causes : (row : KindRow) → AreKindRowOf g row → IsFaultless g → (listed : List (List ℕ)) (refused : Option (List ℕ)) → token.CausesNoTokens g listed row refused why →
-      (f : CompileFault) → IsToldOr g texts why f → GrammarCauses g texts refused f
-  told_causes row are faultless listed refused cause (fault.Term as_told) is = record {
+  pub told_causes : (k : ℕ) (row : KindRow) → AreKindRowOf g row → IsFaultless g → (listed : List (List ℕ)) (refused : Option (List ℕ)) → token.CausesNoTokens g listed row refused why →
+      (f : CompileFault) → IsToldOr g texts why f → GrammarCauses g texts k refused f
+  told_causes k row are faultless listed refused cause (fault.Term as_told) is = record {
     faultless = faultless;
     row = row;
     are_kinds = are;
@@ -28,10 +32,11 @@ module _ (g : Grammar) (texts : List (List ℕ)) (why : TermFault) where
     cause = causes_unlisted g listed row refused why cause;
     as_told = is;
   }
-  told_causes row are faultless listed refused cause fault.NoMemory is = tt
-  told_causes row are faultless listed refused cause (fault.Load found) is = absurd is
-  told_causes row are faultless listed refused cause (fault.Faults found) is = absurd is
-  told_causes row are faultless listed refused cause fault.Unbuilt is = absurd is
+  told_causes k row are faultless listed refused cause fault.NoMemory is = tt
+  told_causes k row are faultless listed refused cause (fault.Load found) is = absurd is
+  told_causes k row are faultless listed refused cause (fault.Faults found) is = absurd is
+  told_causes k row are faultless listed refused cause fault.Unbuilt is = absurd is
+  told_causes k row are faultless listed refused cause (fault.Look found) is = absurd is
 
 -- and it counts as it did
 module _ (g : Grammar) (texts : List (List ℕ)) (T U : Type 0) where
@@ -50,6 +55,7 @@ module _ (g : Grammar) (texts : List (List ℕ)) (T U : Type 0) where
   told_counts before now why (fault.Load found) is counts = absurd is
   told_counts before now why (fault.Faults found) is counts = absurd is
   told_counts before now why fault.Unbuilt is counts = absurd is
+  told_counts before now why (fault.Look found) is counts = absurd is
 
   term_keeps : (before now : Option (List ℕ)) (why : TermFault) (as_told : ToldTermFault) → IsTermToldAs g texts why as_told →
       token.KeepsLastRefused {T = T} before now (Err why) → KeepsPatterns {T = U} before now (Err (fault.Term as_told))
@@ -66,26 +72,52 @@ module _ (g : Grammar) (texts : List (List ℕ)) (T U : Type 0) where
   told_keeps before now why (fault.Load found) is keeps = absurd is
   told_keeps before now why (fault.Faults found) is keeps = absurd is
   told_keeps before now why fault.Unbuilt is keeps = absurd is
+  told_keeps before now why (fault.Look found) is keeps = absurd is
 
--- ---- a grammar that is not built, or no memory
+-- ---- a grammar without tables, or one that is not built, or no memory
 
-unbuilt_causes : (g : Grammar) (texts : List (List ℕ)) (refused : Option (List ℕ)) (f : CompileFault) → IsUnbuiltOrMemory g f → GrammarCauses g texts refused f
-unbuilt_causes g texts refused fault.Unbuilt is = is
-unbuilt_causes g texts refused fault.NoMemory is = tt
-unbuilt_causes g texts refused (fault.Load found) is = absurd is
-unbuilt_causes g texts refused (fault.Faults found) is = absurd is
-unbuilt_causes g texts refused (fault.Term found) is = absurd is
+module _ (g : Grammar) (texts : List (List ℕ)) (k : ℕ) where
+  behind_causes : (refused : Option (List ℕ)) (f : CompileFault) → IsBehindTokens g texts k f → GrammarCauses g texts k refused f
+  behind_causes refused (fault.Look found) is = is
+  behind_causes refused fault.Unbuilt is = is
+  behind_causes refused fault.NoMemory is = tt
+  behind_causes refused (fault.Load found) is = absurd is
+  behind_causes refused (fault.Faults found) is = absurd is
+  behind_causes refused (fault.Term found) is = absurd is
 
-module _ {T : Type 0} (g : Grammar) where
-  pub language_causes : (texts : List (List ℕ)) (refused : Option (List ℕ)) (r : Result T CompileFault) → IfErr r (IsUnbuiltOrMemory g) → IfErr r (GrammarCauses g texts refused)
-  language_causes texts refused (Ok language) is = tt
-  language_causes texts refused (Err f) is = unbuilt_causes g texts refused f is
+  unbuilt_behind : (f : CompileFault) → IsUnbuiltOrMemory g k f → IsBehindTokens g texts k f
+  unbuilt_behind fault.Unbuilt is = is
+  unbuilt_behind fault.NoMemory is = tt
+  unbuilt_behind (fault.Look found) is = absurd is
+  unbuilt_behind (fault.Load found) is = absurd is
+  unbuilt_behind (fault.Faults found) is = absurd is
+  unbuilt_behind (fault.Term found) is = absurd is
 
-  -- of the patterns nothing has changed
-  pub language_counts : (before now : ℕ) → now ≡ before → (r : Result T CompileFault) → IfErr r (IsUnbuiltOrMemory g) → CountsPatterns before now r
-  language_counts before now same (Ok language) is = same
-  language_counts before now same (Err fault.Unbuilt) is = same
-  language_counts before now same (Err fault.NoMemory) is = same
-  language_counts before now same (Err (fault.Load found)) is = absurd is
-  language_counts before now same (Err (fault.Faults found)) is = absurd is
-  language_counts before now same (Err (fault.Term found)) is = absurd is
+  -- its cause is one by the grammar, as it is told
+  pub look_causes : HasSoundTokens g → (kinds : Kinds) → AreKinds g kinds → (why : LookFault) → CausesNoTables g kinds k why → (f : CompileFault) →
+      IsLookToldOr g texts k why f → IsBehindTokens g texts k f
+  look_causes sound kinds are why cause (fault.Look told) is = record { sound = sound; kinds = kinds; are = are; fault = why; cause = cause; as_told = is }
+  look_causes sound kinds are why cause fault.NoMemory is = tt
+  look_causes sound kinds are why cause fault.Unbuilt is = absurd is
+  look_causes sound kinds are why cause (fault.Load found) is = absurd is
+  look_causes sound kinds are why cause (fault.Faults found) is = absurd is
+  look_causes sound kinds are why cause (fault.Term found) is = absurd is
+
+  module _ {T : Type 0} where
+    pub sound_causes : (refused : Option (List ℕ)) (r : Result T CompileFault) → IfErr r (IsBehindTokens g texts k) → IfErr r (GrammarCauses g texts k refused)
+    sound_causes refused (Ok language) is = tt
+    sound_causes refused (Err f) is = behind_causes refused f is
+
+    pub language_causes : (r : Result T CompileFault) → IfErr r (IsUnbuiltOrMemory g k) → IfErr r (IsBehindTokens g texts k)
+    language_causes (Ok language) is = tt
+    language_causes (Err f) is = unbuilt_behind f is
+
+    -- of the patterns nothing has changed
+    pub sound_counts : (before now : ℕ) → now ≡ before → (r : Result T CompileFault) → IfErr r (IsBehindTokens g texts k) → CountsPatterns before now r
+    sound_counts before now same (Ok language) is = same
+    sound_counts before now same (Err (fault.Look found)) is = same
+    sound_counts before now same (Err fault.Unbuilt) is = same
+    sound_counts before now same (Err fault.NoMemory) is = same
+    sound_counts before now same (Err (fault.Load found)) is = absurd is
+    sound_counts before now same (Err (fault.Faults found)) is = absurd is
+    sound_counts before now same (Err (fault.Term found)) is = absurd is

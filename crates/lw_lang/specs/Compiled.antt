@@ -1,6 +1,7 @@
 -- What compiling a root file answers, by what the store holds.
 use Rattle.std.specs.Prelude.{ℕ, ◌≡◌, ◌≢◌, List, [], Option, Result, Err}
 use Rattle.lw_grammar.specs.declared.grammar.Grammar.{Grammar}
+use Rattle.lw_grammar.specs.Kinds.{Kinds, AreKinds}
 use Rattle.lw_io.specs.Causes.{Faulted}
 use Rattle.lw_load.specs.declared.fault.LoadFault.{LoadFault}
 use Rattle.lw_load.specs.declared.fault.LoadFault.TheVariants as loading
@@ -12,14 +13,21 @@ use Rattle.lw_kinds.specs.Rows.{KindRow, AreKindRowOf}
 use Rattle.lw_token_sets.specs.declared.fault.TermFault.{TermFault}
 use Rattle.lw_token_sets.specs.TokenSets as token
 use Rattle.lw_token_sets.specs.TokenSets.{HasTokens}
+use Rattle.lw_look.specs.Looks.{IsLL}
+use Rattle.lw_look.specs.Strings.{HasMoreStrings}
+use Rattle.lw_points.specs.declared.point.TheConstants.{MOST_STRINGS}
+use Rattle.lw_lookahead.specs.Conflicts.{CausesNoTables}
+use Rattle.lw_lookahead.specs.declared.fault.LookFault.{LookFault}
 use Rattle.lw_lang.specs.Judged.{AreAllTold}
+use Rattle.lw_lang.specs.ToldLooks.{IsLookToldAs}
+use Rattle.lw_lang.specs.declared.told_look.ToldLookFault.{ToldLookFault}
 use Rattle.lw_lang.specs.ToldTerms.{IsTermToldAs}
 use Rattle.lw_lang.specs.Flat.{IsFlat}
 use Rattle.lw_lang.specs.declared.told_term.PatternProblem.TheVariants.{Refused}
 use Rattle.lw_lang.specs.declared.told_term.ToldTermFault.{ToldTermFault}
 use Rattle.lw_lang.specs.declared.told_term.ToldTermFault.TheVariants.{Pattern}
 use Rattle.lw_lang.specs.declared.fault.CompileFault.{CompileFault}
-use Rattle.lw_lang.specs.declared.fault.CompileFault.TheVariants.{Load, Faults, Term, Unbuilt, NoMemory}
+use Rattle.lw_lang.specs.declared.fault.CompileFault.TheVariants.{Load, Faults, Term, Look, Unbuilt, NoMemory}
 
 -- the root file and all that it imports say this grammar together, and no other
 pub record HoldsGrammar (files : Files) (root : List ℕ) (g : Grammar) : Type 0 where
@@ -33,14 +41,22 @@ pub record HasSoundTokens (g : Grammar) : Type 0 where
   pub faultless : IsFaultless g
   pub tokens : HasTokens g []
 
--- one of those that are built so far, too
-pub record IsClear (g : Grammar) : Type 0 where
+-- the next k kinds tell the ways of each choice apart, and the look-ahead strings are not too many
+pub record HasTables (g : Grammar) (k : ℕ) : Type 0 where
+  pub kinds : Kinds
+  pub are : AreKinds g kinds
+  pub few : ¬ HasMoreStrings g kinds k MOST_STRINGS
+  pub tells : IsLL g kinds k
+
+-- a grammar that has all this, and is one of those that are built so far
+pub record IsClear (g : Grammar) (k : ℕ) : Type 0 where
   pub sound : HasSoundTokens g
+  pub tables : HasTables g k
   pub flat : IsFlat g
 
--- a grammar without a fault and with a set of tokens that is not built
-abbrev pub IsNotBuilt : Grammar → Type 0
-IsNotBuilt g = HasSoundTokens g × ¬ IsFlat g
+-- a grammar that has all this and is not built
+abbrev pub IsNotBuilt : Grammar → ℕ → Type 0
+IsNotBuilt g k = HasSoundTokens g × HasTables g k × ¬ IsFlat g
 
 -- the first fault of the files; unless the store failed, they say no grammar
 pub record IsNotLoaded (files : Files) (root : List ℕ) (found : LoadFault) : Type 0 where
@@ -58,27 +74,45 @@ pub record HasNoTokens (g : Grammar) (texts : List (List ℕ)) (refused : Option
   pub cause : token.CausesNoTokens g [] row refused fault
   pub as_told : IsTermToldAs g texts fault told
 
--- why each fault comes, by the files and the text that the patterns refused last
-abbrev pub Causes : Files → List ℕ → Option (List ℕ) → CompileFault → Type 0
-Causes files root refused (Load found) = IsNotLoaded files root found
-Causes files root refused (Faults told) = (g : Grammar) × (holds : HoldsGrammar files root g) × AreAllTold g holds.loaded.texts told
-Causes files root refused (Term told) = (g : Grammar) × (holds : HoldsGrammar files root g) × HasNoTokens g holds.loaded.texts refused told
-Causes files root refused Unbuilt = (g : Grammar) × HoldsGrammar files root g × IsNotBuilt g
-Causes files root refused NoMemory = Unit {0}
+-- a grammar without a fault and with a set of tokens has no tables, and why is told, where the texts of its files are these
+pub record HasNoTables (g : Grammar) (texts : List (List ℕ)) (k : ℕ) (told : ToldLookFault) : Type 0 where
+  pub sound : HasSoundTokens g
+  pub kinds : Kinds
+  pub are : AreKinds g kinds
+  pub fault : LookFault
+  pub cause : CausesNoTables g kinds k fault
+  pub as_told : IsLookToldAs g texts k fault told
+
+-- why each fault comes, by the files, how many kinds may be looked ahead, and the text that the patterns refused last
+abbrev pub Causes : Files → List ℕ → ℕ → Option (List ℕ) → CompileFault → Type 0
+Causes files root k refused (Load found) = IsNotLoaded files root found
+Causes files root k refused (Faults told) = (g : Grammar) × (holds : HoldsGrammar files root g) × AreAllTold g holds.loaded.texts told
+Causes files root k refused (Term told) = (g : Grammar) × (holds : HoldsGrammar files root g) × HasNoTokens g holds.loaded.texts refused told
+Causes files root k refused (Look told) = (g : Grammar) × (holds : HoldsGrammar files root g) × HasNoTables g holds.loaded.texts k told
+Causes files root k refused Unbuilt = (g : Grammar) × HoldsGrammar files root g × IsNotBuilt g k
+Causes files root k refused NoMemory = Unit {0}
 
 -- the same by the grammar and the texts of its files
-abbrev pub GrammarCauses : Grammar → List (List ℕ) → Option (List ℕ) → CompileFault → Type 0
-GrammarCauses g texts refused (Load found) = ⊥
-GrammarCauses g texts refused (Faults told) = AreAllTold g texts told
-GrammarCauses g texts refused (Term told) = HasNoTokens g texts refused told
-GrammarCauses g texts refused Unbuilt = IsNotBuilt g
-GrammarCauses g texts refused NoMemory = Unit {0}
+abbrev pub GrammarCauses : Grammar → List (List ℕ) → ℕ → Option (List ℕ) → CompileFault → Type 0
+GrammarCauses g texts k refused (Load found) = ⊥
+GrammarCauses g texts k refused (Faults told) = AreAllTold g texts told
+GrammarCauses g texts k refused (Term told) = HasNoTokens g texts refused told
+GrammarCauses g texts k refused (Look told) = HasNoTables g texts k told
+GrammarCauses g texts k refused Unbuilt = IsNotBuilt g k
+GrammarCauses g texts k refused NoMemory = Unit {0}
 
--- a grammar without a fault, with a set of tokens, that is not built, or there was no memory
-abbrev pub IsUnbuiltOrMemory : Grammar → CompileFault → Type 0
-IsUnbuiltOrMemory g Unbuilt = IsNotBuilt g
-IsUnbuiltOrMemory g NoMemory = Unit {0}
-IsUnbuiltOrMemory g _ = ⊥
+-- a grammar without a fault, with a set of tokens and with tables, that is not built, or there was no memory
+abbrev pub IsUnbuiltOrMemory : Grammar → ℕ → CompileFault → Type 0
+IsUnbuiltOrMemory g k Unbuilt = IsNotBuilt g k
+IsUnbuiltOrMemory g k NoMemory = Unit {0}
+IsUnbuiltOrMemory g k _ = ⊥
+
+-- what may be wrong with a grammar without a fault that has a set of tokens
+abbrev pub IsBehindTokens : Grammar → List (List ℕ) → ℕ → CompileFault → Type 0
+IsBehindTokens g texts k (Look told) = HasNoTables g texts k told
+IsBehindTokens g texts k Unbuilt = IsNotBuilt g k
+IsBehindTokens g texts k NoMemory = Unit {0}
+IsBehindTokens g texts k _ = ⊥
 
 -- what a fault of loading is handed on as
 abbrev pub of_load : LoadFault → CompileFault

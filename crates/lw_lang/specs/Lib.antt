@@ -4,6 +4,7 @@ pub mod Rows
 pub mod Flat
 pub mod FlatParts
 pub mod ToldTerms
+pub mod ToldLooks
 pub mod Language
 pub mod Prepared
 pub mod Ready

@@ -6,8 +6,10 @@ ghost use Rattle.lw_formed.specs.WellFormed.{IsWellFormed};
 ghost use Rattle.lw_gramcheck.specs.Judging.{IsFaultless};
 ghost use Rattle.lw_token_sets.specs.Numbered.{AreNumberedKindsOf};
 ghost use Rattle.lw_token_sets.specs.TokenSets.{IsTokenSetOf, HasTokens};
-ghost use Rattle.lw_lang.specs.Compiled.{HoldsGrammar, IsClear, Causes, GrammarCauses, IsUnbuiltOrMemory, CountsStore, CountsPatterns, KeepsPatterns};
+ghost use Rattle.lw_lang.specs.Compiled.{HoldsGrammar, IsClear, HasTables, Causes, GrammarCauses, IsBehindTokens, IsUnbuiltOrMemory, CountsStore, CountsPatterns, KeepsPatterns};
+ghost use Rattle.lw_lexicon.specs.Known.{IsLexicon};
 ghost use Rattle.lw_lang.specs.ToldTerms.{CanBeTold, IsToldOr};
+ghost use Rattle.lw_lang.specs.ToldLooks.{CanLookBeTold, IsLookToldOr};
 ghost use Rattle.lw_grammar.specs.KindTexts.{AreKindTexts};
 ghost use Rattle.lw_grammar.specs.Size.{size};
 
@@ -15,48 +17,58 @@ use crate::fault::CompileFault;
 use crate::flat::flat_row;
 use crate::judging::judge_files;
 use crate::language::Language;
+use crate::told_look::told_look;
 use crate::told_term::told_term;
 use lw_base::Name;
 use lw_grammar::Grammar;
 use lw_io::{Patterns, Store};
+use lw_lexicon::Lexicon;
 use lw_load::load;
+use lw_lookahead::{LookFault, tables};
 use lw_terminals::TokenSet;
 use lw_token_sets::{NumberedKinds, TermFault, token_set};
 use std::alloc::Global;
 
 /// Loads the root file of a grammar with all that it imports, and makes the grammar ready. `k` is how many
-/// kinds the reader may look ahead; grammars that are built so far need none.
+/// kinds a reader may look ahead.
 ///
 /// The files are loaded first, then faults are looked for, then the set of tokens is made: too many kinds are told first, then a
 /// keyword that is blank, then the first terminal, in the order of kinds, whose pattern is long, refused or matches the empty
-/// text. What has passed all of this is a language where it is of the form that is built so far. Nothing of this changes
-/// the store's files.
+/// text. Then it is found out whether `k` kinds tell the ways of each choice apart: too many strings are told first, then the first choice
+/// that is in conflict. What has passed all of this is a language where it is of the form that is built so far. Nothing of this
+/// changes the store's files.
 pub fn compile<F: Store, P: Patterns>(
     alloc: Global,
     root: &Name,
-    _k: u8,
+    k: u8,
     store: &mut F,
     patterns: &mut P,
 ) -> Result<Language, CompileFault>
-    requires least { 1 ≤ _k }
-    requires most { _k ≤ 3 }
+    requires least { 1 ≤ k }
+    requires most { k ≤ 3 }
 
     // What is compiled is what the files say, and none of the conditions holds.
     ensures holds { IfOk result (λ language. IfSome (F.files store.old) (λ files. HoldsGrammar files root.now language.grammar)) }
-    ensures clear { IfOk result (λ language. IsClear language.grammar) }
+    ensures clear { IfOk result (λ language. IsClear language.grammar k) }
     ensures tokens { IfOk result (λ language. HasTokens language.grammar (P.listed patterns.old)) }
     ensures fits { IfOk result (λ language. size language.grammar ≤ LARGEST_GRAMMAR) }
     ensures texts { IfOk result (λ language. AreKindTexts language.grammar language.texts) }
 
     // Each fault comes by its cause.
-    ensures fault { IfErr result (λ fault. IfSome (F.files store.old) (λ files. Causes files root.now (P.last_refused patterns.new) fault)) }
+    ensures fault { IfErr result (λ fault. IfSome (F.files store.old) (λ files. Causes files root.now k (P.last_refused patterns.new) fault)) }
     ensures store { CountsStore (F.count store.old) (F.count store.new) result }
     ensures patterns { CountsPatterns (P.count patterns.old) (P.count patterns.new) result }
     ensures last { KeepsPatterns (P.last_refused patterns.old) (P.last_refused patterns.new) result }
     ensures files { F.files store.new ≡ F.files store.old }
 {
     let loaded = load(alloc, root, store)?;
-    build(alloc, loaded.grammar, loaded.texts.as_slice(), patterns)
+    build(
+        alloc,
+        loaded.grammar,
+        loaded.texts.as_slice(),
+        k,
+        patterns,
+    )
 }
 
 // Judges a grammar, the texts of whose files are these, and makes it ready.
@@ -64,22 +76,24 @@ fn build<P: Patterns>(
     alloc: Global,
     grammar: Grammar,
     texts: &[Name],
+    k: u8,
     patterns: &mut P,
 ) -> Result<Language, CompileFault>
     requires fits { size grammar ≤ LARGEST_GRAMMAR }
     requires root { 0 < length grammar.files }
     requires stand { Stands texts.now grammar }
     requires formed { IsWellFormed grammar }
+    requires most { k ≤ 3 }
     ensures grammar { IfOk result (λ language. language.grammar ≡ grammar) }
-    ensures clear { IfOk result (λ language. IsClear language.grammar) }
+    ensures clear { IfOk result (λ language. IsClear language.grammar k) }
     ensures tokens { IfOk result (λ language. HasTokens language.grammar (P.listed patterns.old)) }
     ensures texts { IfOk result (λ language. AreKindTexts language.grammar language.texts) }
-    ensures fault { IfErr result (GrammarCauses grammar texts.now (P.last_refused patterns.new)) }
+    ensures fault { IfErr result (GrammarCauses grammar texts.now k (P.last_refused patterns.new)) }
     ensures patterns { CountsPatterns (P.count patterns.old) (P.count patterns.new) result }
     ensures last { KeepsPatterns (P.last_refused patterns.old) (P.last_refused patterns.new) result }
 {
     match judge_files(alloc, &grammar, texts) {
-        Ok(()) => build_faultless(alloc, grammar, texts, patterns),
+        Ok(()) => build_faultless(alloc, grammar, texts, k, patterns),
         Err(fault) => Err(fault),
     }
 }
@@ -89,17 +103,19 @@ fn build_faultless<P: Patterns>(
     alloc: Global,
     grammar: Grammar,
     texts: &[Name],
+    k: u8,
     patterns: &mut P,
 ) -> Result<Language, CompileFault>
     requires faultless { IsFaultless grammar }
     requires fits { size grammar ≤ LARGEST_GRAMMAR }
     requires stand { Stands texts.now grammar }
     requires formed { IsWellFormed grammar }
+    requires most { k ≤ 3 }
     ensures grammar { IfOk result (λ language. language.grammar ≡ grammar) }
-    ensures clear { IfOk result (λ language. IsClear language.grammar) }
+    ensures clear { IfOk result (λ language. IsClear language.grammar k) }
     ensures tokens { IfOk result (λ language. HasTokens language.grammar (P.listed patterns.old)) }
     ensures texts { IfOk result (λ language. AreKindTexts language.grammar language.texts) }
-    ensures fault { IfErr result (GrammarCauses grammar texts.now (P.last_refused patterns.new)) }
+    ensures fault { IfErr result (GrammarCauses grammar texts.now k (P.last_refused patterns.new)) }
     ensures patterns { CountsPatterns (P.count patterns.old) (P.count patterns.new) result }
     ensures last { KeepsPatterns (P.last_refused patterns.old) (P.last_refused patterns.new) result }
 {
@@ -111,7 +127,7 @@ fn build_faultless<P: Patterns>(
         &numbered.kinds,
         patterns,
     ) {
-        Ok(tokens) => language_of(alloc, grammar, &numbered, tokens),
+        Ok(tokens) => build_sound(alloc, grammar, texts, k, &numbered, tokens),
         Err(fault) => Err(fault_of(grammar, texts, fault)),
     }
 }
@@ -128,20 +144,74 @@ fn fault_of(grammar: Grammar, texts: &[Name], fault: TermFault) -> CompileFault
     }
 }
 
-// The language of a grammar that has these tokens.
+// Makes a grammar without faults that has these tokens ready.
+fn build_sound(
+    alloc: Global,
+    grammar: Grammar,
+    texts: &[Name],
+    k: u8,
+    numbered: &NumberedKinds,
+    tokens: TokenSet,
+) -> Result<Language, CompileFault>
+    requires faultless { IsFaultless grammar }
+    requires fits { size grammar ≤ LARGEST_GRAMMAR }
+    requires stand { Stands texts.now grammar }
+    requires most { k ≤ 3 }
+    requires numbered { AreNumberedKindsOf grammar numbered.now }
+    requires tokens { IsTokenSetOf grammar [] numbered.now.kinds tokens }
+    ensures grammar { IfOk result (λ language. language.grammar ≡ grammar) }
+    ensures clear { IfOk result (λ language. IsClear language.grammar k) }
+    ensures texts { IfOk result (λ language. AreKindTexts language.grammar language.texts) }
+    ensures fault { IfErr result (IsBehindTokens grammar texts.now k) }
+{
+    match tables(alloc, lexicon(&grammar, numbered), k as usize) {
+        Ok(_tables) => language_of(alloc, grammar, k, numbered, tokens),
+        Err(fault) => Err(look_fault_of(grammar, texts, k, fault)),
+    }
+}
+
+// What the names of a grammar mean.
+fn lexicon<'a>(g: &'a Grammar, numbered: &'a NumberedKinds) -> Lexicon<'a>
+    requires { AreNumberedKindsOf g.now numbered.now }
+    ensures lexicon { IsLexicon result }
+    ensures grammar { result.g.now ≡ g.now }
+{
+    Lexicon {
+        g,
+        numbers: &numbered.numbers,
+        name_rules: &numbered.name_rules,
+        kinds: &numbered.kinds,
+    }
+}
+
+// Why a grammar has no tables, told by the texts of its files. Takes no memory.
+fn look_fault_of(grammar: Grammar, texts: &[Name], k: u8, fault: LookFault) -> CompileFault
+    requires stand { Stands texts.now grammar }
+    requires told { CanLookBeTold grammar texts.now fault }
+    ensures { IsLookToldOr grammar texts.now k fault result }
+{
+    match told_look(grammar, texts, k, fault) {
+        Some(told) => CompileFault::Look(told),
+        None => CompileFault::NoMemory,
+    }
+}
+
+// The language of a grammar that has these tokens and has tables.
 fn language_of(
     alloc: Global,
     grammar: Grammar,
+    k: u8,
     numbered: &NumberedKinds,
     tokens: TokenSet,
 ) -> Result<Language, CompileFault>
     requires faultless { IsFaultless grammar }
     requires numbered { AreNumberedKindsOf grammar numbered.now }
     requires tokens { IsTokenSetOf grammar [] numbered.now.kinds tokens }
+    requires tables { HasTables grammar k }
     ensures grammar { IfOk result (λ language. language.grammar ≡ grammar) }
-    ensures clear { IfOk result (λ language. IsClear language.grammar) }
+    ensures clear { IfOk result (λ language. IsClear language.grammar k) }
     ensures texts { IfOk result (λ language. AreKindTexts language.grammar language.texts) }
-    ensures fault { IfErr result (IsUnbuiltOrMemory grammar) }
+    ensures fault { IfErr result (IsUnbuiltOrMemory grammar k) }
 {
     match flat_row(alloc, &grammar, numbered)? {
         Some(row) => Ok(Language::new(grammar, tokens, row)),

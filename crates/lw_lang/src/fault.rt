@@ -3,6 +3,7 @@ ghost use Rattle.std.specs.Prelude.{◌≡◌};
 ghost use Rattle.lw_lang.specs.Compiled.{of_load};
 ghost use Rattle.lw_lang.specs.declared.fault.CompileFault.TheVariants.{NoMemory as no_memory};
 
+use crate::told_look::ToldLookFault;
 use crate::told_term::ToldTermFault;
 use lw_base::{Items, NoMemory};
 use lw_load::LoadFault;
@@ -18,6 +19,8 @@ pub enum CompileFault {
     Faults(Items<ToldFault>),
     /// The grammar has no set of tokens.
     Term(ToldTermFault),
+    /// The next kinds do not tell the ways of its choices apart, or there are too many look-ahead strings.
+    Look(ToldLookFault),
     /// What the files say is of no form that is built so far.
     Unbuilt,
     /// There was no memory.

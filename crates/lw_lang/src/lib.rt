@@ -7,9 +7,10 @@
 //!
 //! Any grammar is loaded, and judged (`lw_gramcheck`): where something is wrong with it, all faults of the first phase that has
 //! any are told, each by the path of its file and the position there (`lw_told`). Of one without a fault the set of tokens is
-//! made (`lw_token_sets`), and why there is none is told in the same way. What then has the form of `specs/Flat.antt` is made
-//! ready: its one rule has one row of kinds, so reading is a walk along that row. Any other is [`CompileFault::Unbuilt`], which
-//! has no place of its own and is told at the start of the root file.
+//! made (`lw_token_sets`), and then it is found out whether the next kinds of tokens tell the ways of its choices apart
+//! (`lw_lookahead`); why not is told in the same way. What then has the form of `specs/Flat.antt` is made ready: its one rule has one
+//! row of kinds, so reading is a walk along that row. Any other is [`CompileFault::Unbuilt`], which has no place of its own and is told at
+//! the start of the root file.
 #![tactic(auto)]
 
 mod compiler;
@@ -24,10 +25,12 @@ mod recogniser;
 #[cfg(test)]
 mod recogniser_tests;
 mod shape;
+mod told_look;
 mod told_term;
 
 pub use compiler::compile;
 pub use fault::CompileFault;
 pub use language::Language;
 pub use lw_reading::{Issue, Parsed};
+pub use told_look::{ToldConflict, ToldLookFault};
 pub use told_term::{FilePlace, PatternProblem, ToldTermFault, ToldTerminal};

@@ -101,7 +101,7 @@ fn told_terminal(mut grammar: Grammar, texts: &[Name], rule: RuleId) -> ToldTerm
 }
 
 /// Where this begins in the file of this number.
-fn placed(mut grammar: Grammar, texts: &[Name], file: u16, span: Span) -> FilePlace
+pub(crate) fn placed(mut grammar: Grammar, texts: &[Name], file: u16, span: Span) -> FilePlace
     requires files { length texts.now ≡ length grammar.files }
     requires short { All (λ text. length text ≤ LONGEST_TEXT) texts.now }
     requires there { AreIn texts.now file (span ∷ []) }

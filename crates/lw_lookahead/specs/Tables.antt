@@ -8,7 +8,7 @@ use Rattle.lw_look.specs.Looks.{Look, window}
 use Rattle.lw_look.specs.Sites.{PartSite}
 use Rattle.lw_heads.specs.declared.head.Head.{Head}
 use Rattle.lw_heads.specs.Heads.{kinds_in}
-use Rattle.lw_lookahead.specs.declared.tables.Tables.{Tables}
+use Rattle.lw_lookahead.specs.declared.kept.Tables.{Tables}
 
 -- these entries have exactly the windows of the choice at the site, by their heads, each with its way
 abbrev pub AreEntriesAt : Grammar → Kinds → ℕ → PartSite → List (Head × ℕ) → Type 0

@@ -10,7 +10,10 @@
 #![tactic(auto)]
 
 mod fault;
-mod tables;
+mod kept;
+mod making;
+
 
 pub use fault::{Conflict, LookFault};
-pub use tables::{Tables, tables};
+pub use making::tables;
+pub use kept::Tables;

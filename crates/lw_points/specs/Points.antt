@@ -33,4 +33,4 @@ module _ (g : Grammar) (kinds : Kinds) (k : ℕ) (heads followers : List (List H
   -- why the choices are not gathered
   abbrev pub CausesNoPoints : PointsFault → Type 0
   CausesNoPoints TooMany = (n : ℕ) × (points : List Point) × ArePoints (take n (choice_sites g)) points × (MOST_STRINGS < strings_in points)
-  CausesNoPoints NoMemory = ⊤
+  CausesNoPoints NoMemory = Unit {0}

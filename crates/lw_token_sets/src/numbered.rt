@@ -2,6 +2,7 @@
 ghost use Rattle.std.specs.Prelude.{◌≤◌, IfOk};
 ghost use Rattle.lw_grammar.specs.Size.{size};
 ghost use Rattle.lw_kinds.specs.Rows.{AreKindRowOf};
+ghost use Rattle.lw_name_rules.specs.NameTable.{AreNameRulesOf};
 ghost use Rattle.lw_numbers.specs.Tables.{AreNumbersOf};
 ghost use Rattle.lw_token_sets.specs.Numbered.{AreNumberedKindsOf};
 
@@ -11,13 +12,17 @@ use lw_grammar::Grammar;
 use lw_kinds::KindTable;
 use lw_name_rules::NameRules;
 use lw_numbers::Numbers;
-use lw_subtypes::Subtypes;
+use lw_subtypes::{Subtypes, node_rules};
 use std::alloc::Global;
 
-/// What the names of a grammar mean, by number, and its kinds of tokens.
+/// What the names of a grammar mean, by number, which rules read cross-references that name none and which make nodes, and its kinds
+/// of tokens.
 #[derive(Drop)]
 pub struct NumberedKinds {
     pub numbers: Numbers,
+    pub name_rules: NameRules,
+    /// By the number of a rule: whether it makes nodes.
+    pub nodes: Vec<bool>,
     pub kinds: KindTable,
 }
 
@@ -28,19 +33,40 @@ impl NumberedKinds {
         ensures { IfOk result (AreNumberedKindsOf g.now) }
     {
         let numbers = Numbers::of(alloc, g)?;
-        let kinds = kinds(alloc, g, &numbers)?;
-        Ok(NumberedKinds { numbers, kinds })
+        let name_rules = name_rules(alloc, g, &numbers)?;
+        let kinds = kinds(alloc, g, &numbers, &name_rules)?;
+        let nodes = node_rules(alloc, g, &numbers)?;
+        Ok(NumberedKinds {
+            numbers,
+            name_rules,
+            nodes,
+            kinds,
+        })
     }
 }
 
-/// The kinds of a grammar, where the numbers of its names are known.
-fn kinds(alloc: Global, g: &Grammar, numbers: &Numbers) -> Result<KindTable, NoMemory>
+/// By which rules cross-references are read, where the numbers of the grammar's names are known.
+fn name_rules(alloc: Global, g: &Grammar, numbers: &Numbers) -> Result<NameRules, NoMemory>
     requires numbered { AreNumbersOf g.now numbers.now }
+    requires small { size g.now ≤ 65535 }
+    ensures { IfOk result (AreNameRulesOf g.now) }
+{
+    let subtypes = Subtypes::of(alloc, g, numbers)?;
+    NameRules::of(alloc, g, numbers, &subtypes)
+}
+
+/// The kinds of a grammar, where these things are known.
+fn kinds(
+    alloc: Global,
+    g: &Grammar,
+    numbers: &Numbers,
+    name_rules: &NameRules,
+) -> Result<KindTable, NoMemory>
+    requires numbered { AreNumbersOf g.now numbers.now }
+    requires related { AreNameRulesOf g.now name_rules.now }
     requires small { size g.now ≤ 65535 }
     ensures { IfOk result (AreKindRowOf g.now) }
 {
-    let subtypes = Subtypes::of(alloc, g, numbers)?;
-    let name_rules = NameRules::of(alloc, g, numbers, &subtypes)?;
-    let reading = Reading::of(alloc, g, numbers, &name_rules)?;
-    KindTable::of(alloc, g, numbers, &name_rules, &reading)
+    let reading = Reading::of(alloc, g, numbers, name_rules)?;
+    KindTable::of(alloc, g, numbers, name_rules, &reading)
 }

@@ -3,7 +3,7 @@ use Rattle.lw_terminals.specs.TokenKinds.{TokenKinds}
 use Rattle.lw_lang.specs.Language.{LanguageView}
 use Rattle.lw_lang.proofs.BuildLemmas.{has_tokens, built_tokens, set_unlisted, few}
 use Rattle.lw_lang.proofs.FirstPlaces.{can_be_told}
-use Rattle.lw_lang.proofs.ToldLemmas.{told_causes, told_counts, told_keeps, language_causes, language_counts}
+use Rattle.lw_lang.proofs.ToldLemmas.{told_causes, told_counts, told_keeps, sound_causes, sound_counts}
 use Rattle.lw_lang.proofs.compiler.build_faultless.Goals as goal
 
 pub token_set-requires-clause-written : goal.token_set-requires-clause-written
@@ -12,20 +12,20 @@ token_set-requires-clause-written g c = each_pattern c.args.grammar c.requires.f
 pub token_set-requires-clause-few : goal.token_set-requires-clause-few
 token_set-requires-clause-few g c = few c.args.grammar c.requires.fits
 
-pub language_of-requires-clause-tokens : goal.language_of-requires-clause-tokens
-language_of-requires-clause-tokens g c =
+pub build_sound-requires-clause-tokens : goal.build_sound-requires-clause-tokens
+build_sound-requires-clause-tokens g c =
     set_unlisted c.args.grammar c.in_ok-numbered.numbered.kinds c.in_ok-numbered.ensures.kinds _ c.in-Ok.tokens c.in-Ok.ensures.made
 
 pub returns-in-Ok-clause-tokens : goal.returns-in-Ok-clause-tokens
 returns-in-Ok-clause-tokens g c =
     let has = has_tokens c.args.grammar c.in_ok-numbered.numbered.kinds c.in_ok-numbered.ensures.kinds _ c.in-Ok.tokens c.in-Ok.ensures.made in
-    built_tokens c.args.grammar _ has c.language_of.result c.language_of.ensures.grammar
+    built_tokens c.args.grammar _ has c.build_sound.result c.build_sound.ensures.grammar
 
 pub returns-in-Ok-clause-fault : goal.returns-in-Ok-clause-fault
-returns-in-Ok-clause-fault g c = language_causes c.args.grammar c.args.texts.now _ c.language_of.result c.language_of.ensures.fault
+returns-in-Ok-clause-fault g c = sound_causes c.args.grammar c.args.texts.now c.args.k _ c.build_sound.result c.build_sound.ensures.fault
 
 pub returns-in-Ok-clause-patterns : goal.returns-in-Ok-clause-patterns
-returns-in-Ok-clause-patterns g c = language_counts c.args.grammar _ _ c.in-Ok.ensures.count c.language_of.result c.language_of.ensures.fault
+returns-in-Ok-clause-patterns g c = sound_counts c.args.grammar c.args.texts.now c.args.k _ _ c.in-Ok.ensures.count c.build_sound.result c.build_sound.ensures.fault
 
 pub fault_of-requires-clause-told : goal.fault_of-requires-clause-told
 fault_of-requires-clause-told g c =
@@ -33,7 +33,7 @@ fault_of-requires-clause-told g c =
 
 pub returns-clause-fault : goal.returns-clause-fault
 returns-clause-fault g c =
-    told_causes c.args.grammar c.args.texts.now c.in-Err.fault c.in_ok-numbered.numbered.kinds c.in_ok-numbered.ensures.kinds c.requires.faultless _ _ c.in-Err.ensures.fault
+    told_causes c.args.grammar c.args.texts.now c.in-Err.fault c.args.k c.in_ok-numbered.numbered.kinds c.in_ok-numbered.ensures.kinds c.requires.faultless _ _ c.in-Err.ensures.fault
     c.fault_of.result c.fault_of.ensures
 
 pub returns-clause-patterns : goal.returns-clause-patterns

@@ -15,5 +15,5 @@ pub returns-in-Some-clause-clear : goal.returns-in-Some-clause-clear
 returns-in-Some-clause-clear c =
     let has = subst (λ found. IfSome found (λ row. HasRow c.args.grammar (map (λ (kind : KindId). kind.0) row.items))) c.in-Some.is c.in_ok-row.ensures.row in
     let same = ap (λ (v : LanguageView). v.grammar) c.new.ensures in
-    subst IsClear (sym same)
-    (is_clear c.args.grammar c.args.numbered.now.kinds c.requires.numbered.kinds c.requires.faultless c.args.tokens c.requires.tokens c.in-Some.row.items has)
+    subst (λ g. IsClear g c.args.k) (sym same)
+    (is_clear c.args.grammar c.args.numbered.now.kinds c.requires.numbered.kinds c.requires.faultless c.args.tokens c.requires.tokens c.in-Some.row.items has c.args.k c.requires.tables)
