@@ -196,11 +196,11 @@ store_of_write {T} (Err e) before now is (inr memory) = subst (λ (r : Result T 
 -- ---- a session by the grammar of a file
 
 -- what a session of this grammar came to is what the work answered
-module _ (files : Files) (path : List ℕ) (refused before after old new : Option (List ℕ)) (g : Grammar) (holds : HoldsGrammar files path g) (clear : IsClear g) where
-  of_this : {Fact : Grammar → Type 0} → Fact g → OfGrammar files path Fact
+module _ (files : Files) (path : List ℕ) (k : ℕ) (refused before after old new : Option (List ℕ)) (g : Grammar) (holds : HoldsGrammar files path g) (clear : IsClear g k) where
+  of_this : {Fact : Grammar → Type 0} → Fact g → OfGrammar files path k Fact
   of_this fact = record { grammar = g; holds = holds; clear = clear; only = one_session g clear; fact = fact }
 
-  pub works_by : (r : Result Verdict Stop) → Conversed g before after old new r → ServeComesTo files path refused before after old new r
+  pub works_by : (r : Result Verdict Stop) → Conversed g before after old new r → ServeComesTo files path k refused before after old new r
   works_by (Ok Whole) fact = of_this fact
   works_by (Ok Broken) fact = of_this fact
   works_by (Err stop.Words) fact = absurd fact
@@ -212,21 +212,21 @@ module _ (files : Files) (path : List ℕ) (refused before after old new : Optio
   works_by (Err stop.Limit) fact = of_this fact
 
 -- the same, where the store tells
-pub works_told : (told : Option Files) (path : List ℕ) (refused before after old new : Option (List ℕ)) (g h : Grammar) → IfSome told (λ files. HoldsGrammar files path g) → IsClear g → (r : Result Verdict Stop) →
-    h ≡ g → Conversed h before after old new r → IfSome told (λ files. ServeComesTo files path refused before after old new r)
-works_told None path refused before after old new g h holds clear r same fact = tt
-works_told (Some files) path refused before after old new g h holds clear r same fact =
-    works_by files path refused before after old new g holds clear r (subst (λ k. Conversed k before after old new r) same fact)
+pub works_told : (told : Option Files) (path : List ℕ) (k : ℕ) (refused before after old new : Option (List ℕ)) (g h : Grammar) → IfSome told (λ files. HoldsGrammar files path g) → IsClear g k → (r : Result Verdict Stop) →
+    h ≡ g → Conversed h before after old new r → IfSome told (λ files. ServeComesTo files path k refused before after old new r)
+works_told None path k refused before after old new g h holds clear r same fact = tt
+works_told (Some files) path k refused before after old new g h holds clear r same fact =
+    works_by files path k refused before after old new g holds clear r (subst (λ h. Conversed h before after old new r) same fact)
 
 -- a session has no fault of the grammar
-pub no_cause_of : (g : Grammar) (before after old new : Option (List ℕ)) (told : Option Files) (path : List ℕ) (refused : Option (List ℕ)) (r : Result Verdict Stop) → Conversed g before after old new r →
-    IsCaused told path refused r
-no_cause_of g before after old new told path refused (Ok Whole) fact = tt
-no_cause_of g before after old new told path refused (Ok Broken) fact = tt
-no_cause_of g before after old new told path refused (Err stop.Words) fact = absurd fact
-no_cause_of g before after old new told path refused (Err (stop.Grammar found)) fact = absurd fact
-no_cause_of g before after old new told path refused (Err stop.Read) fact = tt
-no_cause_of g before after old new told path refused (Err stop.Write) fact = tt
-no_cause_of g before after old new told path refused (Err stop.Memory) fact = tt
-no_cause_of g before after old new told path refused (Err (stop.Frames found)) fact = tt
-no_cause_of g before after old new told path refused (Err stop.Limit) fact = tt
+pub no_cause_of : (g : Grammar) (before after old new : Option (List ℕ)) (told : Option Files) (path : List ℕ) (k : ℕ) (refused : Option (List ℕ)) (r : Result Verdict Stop) → Conversed g before after old new r →
+    IsCaused told path k refused r
+no_cause_of g before after old new told path k refused (Ok Whole) fact = tt
+no_cause_of g before after old new told path k refused (Ok Broken) fact = tt
+no_cause_of g before after old new told path k refused (Err stop.Words) fact = absurd fact
+no_cause_of g before after old new told path k refused (Err (stop.Grammar found)) fact = absurd fact
+no_cause_of g before after old new told path k refused (Err stop.Read) fact = tt
+no_cause_of g before after old new told path k refused (Err stop.Write) fact = tt
+no_cause_of g before after old new told path k refused (Err stop.Memory) fact = tt
+no_cause_of g before after old new told path k refused (Err (stop.Frames found)) fact = tt
+no_cause_of g before after old new told path k refused (Err stop.Limit) fact = tt

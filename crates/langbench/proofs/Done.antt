@@ -47,14 +47,14 @@ Serves-more g s t bodies others found replies ended over session.waits = absurd 
 Serves-more g s t bodies others found replies ended over (session.ends handles is) = session.ends handles is
 Serves-more g s t bodies others found replies ended over (session.goes_on handles later) = session.goes_on handles (Serves-more g _ t _ others _ _ ended over later)
 
-module _ (g : Grammar) (clear : IsClear g) (held : List ℕ) (replies : List Reply) (is : IsSession g held replies) where
+module _ (g : Grammar) (k : ℕ) (clear : IsClear g k) (held : List ℕ) (replies : List Reply) (is : IsSession g held replies) where
   -- what bodies of more bytes than the session come to
   longer : (taken : List ℕ) (more : List ℕ) → taken ≡ is.taken ++ more → (t : Standing) (reads : List (List Found)) (others : List Reply) (ended : Ended) → Serves g (beginning []) (bodies_of taken) reads t others ended →
       (replies ≡ others) × (Clean ≡ ended)
   longer taken more same t reads others ended serves =
       let stay = bodies_stay is.taken more in
       let all : bodies_of taken ≡ bodies_of is.taken ++ stay.0 = ap bodies_of same ∙ stay.1 in
-      let one = one_session g (filled g clear) (beginning []) is.standing t (bodies_of taken) is.found reads replies others Clean ended
+      let one = one_session g (filled g k clear) (beginning []) is.standing t (bodies_of taken) is.found reads replies others Clean ended
       (subst (λ bodies. Serves g (beginning []) bodies is.found is.standing replies Clean) (sym all) (Serves-more g (beginning []) is.standing (bodies_of is.taken) stay.0 is.found replies Clean (λ e. cc) is.serves)) serves in
       (one.1, one.2)
 
@@ -64,7 +64,7 @@ module _ (g : Grammar) (clear : IsClear g) (held : List ℕ) (replies : List Rep
   shorter taken more same t reads others ended over serves =
       let stay = bodies_stay taken more in
       let all : bodies_of is.taken ≡ bodies_of taken ++ stay.0 = ap bodies_of same ∙ stay.1 in
-      let one = one_session g (filled g clear) (beginning []) is.standing t (bodies_of is.taken) is.found reads replies others Clean ended is.serves
+      let one = one_session g (filled g k clear) (beginning []) is.standing t (bodies_of is.taken) is.found reads replies others Clean ended is.serves
       (subst (λ bodies. Serves g (beginning []) bodies reads t others ended) (sym all) (Serves-more g (beginning []) t (bodies_of taken) stay.0 reads others ended over serves)) in
       (one.1, one.2)
 
@@ -108,7 +108,7 @@ module _ (g : Grammar) (clear : IsClear g) (held : List ℕ) (replies : List Rep
         by more =
             let stays = fault_stays taken more.0 found fault in
             let all : bodies_of taken ≡ bodies_of is.taken = sym (ap bodies_of more.1 ∙ stays.0) in
-            let end = (one_session g (filled g clear) (beginning []) is.standing t (bodies_of is.taken) is.found reads replies others Clean No is.serves
+            let end = (one_session g (filled g k clear) (beginning []) is.standing t (bodies_of is.taken) is.found reads replies others Clean No is.serves
             (subst (λ bodies. Serves g (beginning []) bodies reads t others No) all serves)).2 in
             cc
 
@@ -126,9 +126,9 @@ left_of held (Some left) taken consumed = (left, consumed, refl)
 at_end_of : (after : Option (List ℕ)) (left : List ℕ) → after ≡ Some left → IsAtEnd after → left ≡ []
 at_end_of after left is ended = subst IsAtEnd is ended
 
-module _ (files : Files) (path : List ℕ) (refused after old new : Option (List ℕ)) (held : List ℕ) (faults : Faults) (g : Grammar) (holds : HoldsGrammar files path g) (clear : IsClear g)
+module _ (files : Files) (path : List ℕ) (k : ℕ) (refused after old new : Option (List ℕ)) (held : List ℕ) (faults : Faults) (g : Grammar) (holds : HoldsGrammar files path g) (clear : IsClear g k)
     (none : NoneRose faults) (replies : List Reply) (is : IsSession g held replies) where
-  fact_of : (P : Grammar → Type 0) → OfGrammar files path P → P g
+  fact_of : (P : Grammar → Type 0) → OfGrammar files path k P → P g
   fact_of P o = subst P (same_grammar files path g holds o.grammar o.holds) o.fact
 
   module _ (taken : List ℕ) (ended : Ended) (talked : Talked g (Some held) after old new taken ended) where
@@ -136,20 +136,20 @@ module _ (files : Files) (path : List ℕ) (refused after old new : Option (List
     left = left_of held after taken talked.consumed
 
     end_is : ended ≢ No → (replies ≡ talked.replies) × (Clean ≡ ended)
-    end_is over = same_end g clear held replies is taken left.0 left.1 talked.standing talked.found talked.replies ended over talked.serves
+    end_is over = same_end g k clear held replies is taken left.0 left.1 talked.standing talked.found talked.replies ended over talked.serves
 
     module _ (still : ended ≡ No) where
       serves_on : Serves g (beginning []) (bodies_of taken) talked.found talked.standing talked.replies No
       serves_on = subst (λ e. Serves g (beginning []) (bodies_of taken) talked.found talked.standing talked.replies e) still talked.serves
 
       not_at_end : IsAtEnd after → ⊥
-      not_at_end over = not_over g clear held replies is taken left.0 left.1 talked.standing talked.found talked.replies serves_on (at_end_of after left.0 left.2 over)
+      not_at_end over = not_over g k clear held replies is taken left.0 left.1 talked.standing talked.found talked.replies serves_on (at_end_of after left.0 left.2 over)
 
       no_fault : (found : FrameFault) → fault_of taken false ≡ Some found → ⊥
-      no_fault = not_faulty g clear held replies is taken left.0 left.1 talked.standing talked.found talked.replies serves_on
+      no_fault = not_faulty g k clear held replies is taken left.0 left.1 talked.standing talked.found talked.replies serves_on
 
       not_long : length taken ≡ LONGEST_SESSION → ⊥
-      not_long = not_too_long g clear held replies is taken left.0 left.1 talked.standing talked.found talked.replies serves_on
+      not_long = not_too_long g k clear held replies is taken left.0 left.1 talked.standing talked.found talked.replies serves_on
 
   clean : serving.Exited g (Some held) after old new Clean → ServeDone replies old new 0
   clean fact = serving.clean (subst (λ rs. Appends old new (framed rs)) (sym (end_is fact.0 Clean fact.1 (λ e. cc)).0) fact.1.written)
@@ -166,7 +166,7 @@ module _ (files : Files) (path : List ℕ) (refused after old new : Option (List
     at_code : {n : ℕ} → code ≡ n → ServeDone replies old new n → ServeDone replies old new code
     at_code is done = subst (ServeDone replies old new) (sym is) done
 
-    pub session_done : (outcome : Result Verdict Stop) → EndsWith outcome code → ServeComesTo files path refused (Some held) after old new outcome → CountsAll faults outcome →
+    pub session_done : (outcome : Result Verdict Stop) → EndsWith outcome code → ServeComesTo files path k refused (Some held) after old new outcome → CountsAll faults outcome →
         ServeDone replies old new code
     session_done (Ok Whole) is came counts = at_code is (clean (fact_of (λ g. serving.Exited g (Some held) after old new Clean) came))
     session_done (Ok Broken) is came counts =
@@ -174,7 +174,7 @@ module _ (files : Files) (path : List ℕ) (refused after old new : Option (List
     session_done (Err e) (inr seven) came counts = at_code seven serving.no_memory
     session_done (Err stop.Words) (inl is) came counts = absurd came.fact
     session_done (Err (stop.Grammar found)) (inl is) came counts =
-        at_code (is ∙ only_memory files path refused faults g holds clear none found came.0 counts) serving.no_memory
+        at_code (is ∙ only_memory files path k refused faults g holds clear none found came.0 counts) serving.no_memory
     session_done (Err stop.Read) (inl is) came counts = absurd (none TheSource (counts TheSource).rose)
     session_done (Err stop.Write) (inl is) came counts = absurd (none TheSink (counts TheSink).rose)
     session_done (Err stop.Memory) (inl is) came counts = at_code is serving.no_memory
@@ -185,11 +185,11 @@ module _ (files : Files) (path : List ℕ) (refused after old new : Option (List
 
 pub serves_all : (words : List (List ℕ)) (w : Work) (notes : Option (List ℕ) × Option (List ℕ)) (failures : ℕ × ℕ) (code : ℕ) → Ends words w notes failures code →
     ServesAll words w code
-serves_all words w notes failures code ends path is = if_told w.files (λ files. by files w.left.0) (ends.comes_to.serve path is)
+serves_all words w notes failures code ends path k is = if_told w.files (λ files. by files w.left.0) (ends.comes_to.serve path k is)
   where
-    by : (files : Files) (before : Option (List ℕ)) → ServeComesTo files path w.refused before w.left.1 w.written.0 w.written.1 ends.outcome →
-        IfSome before (λ held. (g : Grammar) (replies : List Reply) → HoldsGrammar files path g → IsClear g → IsSession g held replies → NoneRose w.faults →
+    by : (files : Files) (before : Option (List ℕ)) → ServeComesTo files path k w.refused before w.left.1 w.written.0 w.written.1 ends.outcome →
+        IfSome before (λ held. (g : Grammar) (replies : List Reply) → HoldsGrammar files path g → IsClear g k → IsSession g held replies → NoneRose w.faults →
         ServeDone replies w.written.0 w.written.1 code)
     by files None came = tt
     by files (Some held) came = λ g replies holds clear is none.
-        session_done files path w.refused w.left.1 w.written.0 w.written.1 held w.faults g holds clear none replies is code ends.outcome ends.status came ends.comes_to.counts
+        session_done files path k w.refused w.left.1 w.written.0 w.written.1 held w.faults g holds clear none replies is code ends.outcome ends.status came ends.comes_to.counts

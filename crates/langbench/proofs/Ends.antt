@@ -1,5 +1,5 @@
 -- That a run is told by its status, from what its work came to.
-use Rattle.std.proofs.Common.{◌≡◌, inl, inr, ℕ, List, [], Option, Some, None, Result, Ok, Err, IfSome, refl, sym, subst, ◌∙◌, take}
+use Rattle.std.proofs.Common.{◌≡◌, inl, inr, ℕ, List, [], Option, Some, None, Result, Ok, Err, IfSome, refl, sym, subst, ◌∙◌, take, arith}
 use Rattle.lw_grammar.specs.declared.grammar.Grammar.{Grammar}
 use Rattle.lw_load.specs.declared.fault.LoadFault.{LoadFault}
 use Rattle.lw_load.specs.declared.fault.LoadFault.TheVariants as loading
@@ -12,7 +12,16 @@ use Rattle.lw_token_sets.proofs.OneAnswer.{one_answer}
 use Rattle.lw_lang.specs.ToldTerms.{IsTermToldAs}
 use Rattle.lw_lang.specs.ToldTerms as as_told
 use Rattle.lw_lang.specs.declared.told_term.ToldTermFault.{ToldTermFault}
-use Rattle.lw_lang.specs.Compiled.{HoldsGrammar, IsClear, IsNotLoaded, IsNotBuilt, HasNoTokens, Causes}
+use Rattle.lw_grammar.proofs.KindLemmas.{one_kinds}
+use Rattle.lw_look.specs.Looks.{IsLL}
+use Rattle.lw_look.specs.Strings.{HasMoreStrings}
+use Rattle.lw_points.specs.declared.point.TheConstants.{MOST_STRINGS}
+use Rattle.lw_lookahead.specs.Conflicts.{CausesNoTables}
+use Rattle.lw_lookahead.specs.declared.fault.LookFault.{LookFault}
+use Rattle.lw_lang.specs.ToldLooks.{IsLookToldAs}
+use Rattle.lw_lang.specs.ToldLooks as told_as
+use Rattle.lw_lang.specs.declared.told_look.ToldLookFault.{ToldLookFault}
+use Rattle.lw_lang.specs.Compiled.{HoldsGrammar, IsClear, IsNotLoaded, IsNotBuilt, HasNoTokens, HasNoTables, Causes}
 use Rattle.lw_lang.specs.declared.fault.CompileFault.{CompileFault}
 use Rattle.lw_lang.specs.declared.fault.CompileFault.TheVariants as fault
 use Rattle.langbench.specs.declared.report.Verdict.{Verdict}
@@ -40,7 +49,7 @@ count_all faults outcome source sink store patterns TheStore = store
 count_all faults outcome source sink store patterns ThePatterns = patterns
 
 -- where the path holds a grammar that is built and nothing fails, memory alone can be wanting
-module _ (files : Files) (path : List ℕ) (refused : Option (List ℕ)) (faults : Faults) (g : Grammar) (holds : HoldsGrammar files path g) (clear : IsClear g) (none : NoneRose faults) where
+module _ (files : Files) (path : List ℕ) (k : ℕ) (refused : Option (List ℕ)) (faults : Faults) (g : Grammar) (holds : HoldsGrammar files path g) (clear : IsClear g k) (none : NoneRose faults) where
   -- it is loaded, unless the store failed
   loaded : (found : LoadFault) → IsNotLoaded files path found → CountsAll faults (Err (stop.Grammar (fault.Load found))) → load_code found ≡ 7
   loaded (loading.Absent p) cause counts = absurd (cause.nothing tt holds.loaded holds.loads)
@@ -64,14 +73,28 @@ module _ (files : Files) (path : List ℕ) (refused : Option (List ℕ)) (faults
       by found told (as_told.matches_empty is) cause counts = one_answer g [] has.row refused found clear.sound.tokens has.are_kinds tt cause
 
   -- and is built
-  built : IsNotBuilt g → ⊥
-  built (sound, unbuilt) = unbuilt clear.flat
+  built : IsNotBuilt g k → ⊥
+  built (sound, tables, unbuilt) = unbuilt clear.flat
+
+  -- its strings are not too many, and the next kinds tell the ways of each choice apart
+  with_tables : (texts : List (List ℕ)) (told : ToldLookFault) → HasNoTables g texts k told → ⊥
+  with_tables texts told has = by has.fault told has.as_told has.cause
+    where
+      same : clear.tables.kinds ≡ has.kinds
+      same = one_kinds g clear.tables.kinds has.kinds clear.tables.are has.are
+
+      by : (found : LookFault) (told : ToldLookFault) → IsLookToldAs g texts k found told → CausesNoTables g has.kinds k found → ⊥
+      by found told told_as.many cause = subst (λ kinds. ¬ HasMoreStrings g kinds k MOST_STRINGS) same clear.tables.few cause
+      by found told (told_as.conflict is) (few, cause) =
+          let tells = subst (λ kinds. IsLL g kinds k) same clear.tables.tells in
+          let equal = tells cause.site _ _ _ cause.shared.0 cause.shared.1 in
+          absurd (omega (arith, equal, cause.ascending))
 
   -- and faultless, so that no list of faults, which is never empty, is told of it
   faultless : (texts : List (List ℕ)) (told : List ToldFault) → AreAllTold g texts told → ⊥
   faultless texts told all = no_first_faults g clear.sound.faultless all.faults all.all
 
-  pub only_memory : (found : CompileFault) → Causes files path refused found → CountsAll faults (Err (stop.Grammar found)) → fault_code found ≡ 7
+  pub only_memory : (found : CompileFault) → Causes files path k refused found → CountsAll faults (Err (stop.Grammar found)) → fault_code found ≡ 7
   only_memory (fault.Load found) cause counts = loaded found cause counts
   only_memory (fault.Faults told) cause counts =
       absurd (faultless cause.1.loaded.texts told (subst (λ h. AreAllTold h cause.1.loaded.texts told) (same_grammar files path g holds cause.0 cause.1) cause.2))
@@ -79,7 +102,11 @@ module _ (files : Files) (path : List ℕ) (refused : Option (List ℕ)) (faults
       absurd
       (with_tokens cause.1.loaded.texts told
       (subst (λ h. HasNoTokens h cause.1.loaded.texts refused told) (same_grammar files path g holds cause.0 cause.1) cause.2) counts)
-  only_memory fault.Unbuilt cause counts = absurd (built (subst IsNotBuilt (same_grammar files path g holds cause.0 cause.1) cause.2))
+  only_memory (fault.Look told) cause counts =
+      absurd
+      (with_tables cause.1.loaded.texts told
+      (subst (λ h. HasNoTables h cause.1.loaded.texts k told) (same_grammar files path g holds cause.0 cause.1) cause.2))
+  only_memory fault.Unbuilt cause counts = absurd (built (subst (λ g. IsNotBuilt g k) (same_grammar files path g holds cause.0 cause.1) cause.2))
   only_memory fault.NoMemory cause counts = refl
 
   -- a document is read to its end
@@ -90,10 +117,10 @@ module _ (files : Files) (path : List ℕ) (refused : Option (List ℕ)) (faults
     at_code : {n : ℕ} → code ≡ n → CheckDone g held old new n → IsDone
     at_code is done = subst (CheckDone g held old new) (sym is) done
 
-    prints : (output : List ℕ) → checking.Prints files path held output → Checked g (take most_read held) output
+    prints : (output : List ℕ) → checking.Prints files path k held output → Checked g (take most_read held) output
     prints output p = subst (λ h. Checked h (take most_read held) output) (same_grammar files path g holds p.grammar p.holds) p.printed
 
-    pub document_done : (outcome : Result Verdict Stop) → EndsWith outcome code → CheckComesTo files path held refused after old new outcome → CountsAll faults outcome → IsDone
+    pub document_done : (outcome : Result Verdict Stop) → EndsWith outcome code → CheckComesTo files path k held refused after old new outcome → CountsAll faults outcome → IsDone
     document_done (Ok Whole) is came counts = at_code is (checking.whole (prints ok_line came.0) came.2)
     document_done (Ok Broken) is came counts = at_code is (checking.broken came.0 (prints came.0 came.1) came.2 came.4)
     document_done (Err e) (inr seven) came counts = at_code seven checking.no_memory
@@ -112,9 +139,9 @@ if_told (Some a) follows p = follows a p
 
 pub checks_all : (words : List (List ℕ)) (w : Work) (notes : Option (List ℕ) × Option (List ℕ)) (failures : ℕ × ℕ) (code : ℕ) → Ends words w notes failures code →
     ChecksAll words w code
-checks_all words w notes failures code ends path is =
+checks_all words w notes failures code ends path k is =
     if_told w.files
     (λ files. if_told w.left.0
     (λ held came g holds clear none.
-    document_done files path w.refused w.faults g holds clear none held w.left.1 w.written.0 w.written.1 code ends.outcome ends.status came ends.comes_to.counts))
-    (ends.comes_to.check path is)
+    document_done files path k w.refused w.faults g holds clear none held w.left.1 w.written.0 w.written.1 code ends.outcome ends.status came ends.comes_to.counts))
+    (ends.comes_to.check path k is)

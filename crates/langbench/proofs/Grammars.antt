@@ -28,13 +28,13 @@ not_empty words k filled at = by (slice_get words k) refl (sym (slice_get-map (�
         All-contains (λ (other : Use). ¬ IsBlank other.0) words word filled (k, slice_get_within words k word there, get_or_from_slice_get words k word word there)
         (inl (same_Some word.0 [] is))
 
-pub filled : (g : Grammar) → IsClear g → HasNoEmptyKeyword g
-filled g clear of k are at =
+pub filled : (g : Grammar) (k : ℕ) → IsClear g k → HasNoEmptyKeyword g
+filled g k clear of k are at =
     let row = clear.sound.tokens.row in
     let its = clear.sound.tokens.are_kinds in
     not_empty row.keywords k clear.sound.tokens.sound.not_blank
     (ap (λ texts. slice_get texts k) its.texts ∙ ap (λ (kinds : Kinds). slice_get kinds.keywords k) (one_kinds g its.kinds of its.are are) ∙ at)
 
 -- by such a grammar a session has one outcome
-pub one_session : (g : Grammar) → IsClear g → HasOneOutcome g
-one_session g clear bodies found t u p q e f serves also = one_outcome g (filled g clear) (beginning []) t u bodies found p q e f serves also
+pub one_session : (g : Grammar) (k : ℕ) → IsClear g k → HasOneOutcome g
+one_session g k clear bodies found t u p q e f serves also = one_outcome g (filled g k clear) (beginning []) t u bodies found p q e f serves also

@@ -8,3 +8,4 @@ pub mod Talks
 pub mod Turns
 pub mod Done
 pub mod Conversing
+pub mod JoinedTexts

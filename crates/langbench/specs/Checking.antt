@@ -31,16 +31,16 @@ StopsReading before after Memory = ReadsPart before after
 StopsReading before after _ = ⊥
 
 -- the cause of a fault of the grammar at this path, where the store tells
-abbrev pub IsCaused : Option Files → List ℕ → Option (List ℕ) → Result Verdict Stop → Type 0
-IsCaused told path refused (Err (Grammar found)) = IfSome told (λ files. Causes files path refused found)
-IsCaused told path refused _ = Unit {0}
+abbrev pub IsCaused : Option Files → List ℕ → ℕ → Option (List ℕ) → Result Verdict Stop → Type 0
+IsCaused told path k refused (Err (Grammar found)) = IfSome told (λ files. Causes files path k refused found)
+IsCaused told path k refused _ = Unit {0}
 
-module _ (files : Files) (path held : List ℕ) where
+module _ (files : Files) (path : List ℕ) (k : ℕ) (held : List ℕ) where
   -- the path holds a grammar that is built, and this and nothing else is what `check` prints for what the source held
   pub record Prints (output : List ℕ) : Type 0 where
     pub grammar : plain.Grammar
     pub holds : HoldsGrammar files path grammar
-    pub clear : IsClear grammar
+    pub clear : IsClear grammar k
     pub printed : Checked grammar (take most_read held) output
     pub only : (other : List ℕ) → Checked grammar (take most_read held) other → other ≡ output
 
@@ -60,7 +60,7 @@ module _ (files : Files) (path held : List ℕ) where
     CheckComesTo (Ok Whole) = Prints ok_line × ReadsDocument held after × Appends old new ok_line
     CheckComesTo (Ok Broken) = (output : List ℕ) × Prints output × (output ≢ ok_line) × ReadsDocument held after × Appends old new output
     CheckComesTo (Err Words) = ⊥
-    CheckComesTo (Err (Grammar found)) = Causes files path refused found × Keeps (Some held) after × Keeps old new
+    CheckComesTo (Err (Grammar found)) = Causes files path k refused found × Keeps (Some held) after × Keeps old new
     CheckComesTo (Err Read) = TakesFewer (Some held) after most_read × Keeps old new
     CheckComesTo (Err Write) = ReadsDocument held after × WritesSome old new
     CheckComesTo (Err Memory) = StopsShort

@@ -18,6 +18,9 @@ use Rattle.lw_lang.specs.declared.told_term.PatternProblem.{PatternProblem}
 use Rattle.lw_lang.specs.declared.told_term.PatternProblem.TheVariants as problem
 use Rattle.lw_lang.specs.declared.told_term.ToldTermFault.{ToldTermFault}
 use Rattle.lw_lang.specs.declared.told_term.ToldTermFault.TheVariants as term
+use Rattle.lw_lang.specs.declared.told_look.ToldConflict.{ToldConflict}
+use Rattle.lw_lang.specs.declared.told_look.ToldLookFault.{ToldLookFault}
+use Rattle.lw_lang.specs.declared.told_look.ToldLookFault.TheVariants as look
 use Rattle.lw_lang.specs.declared.fault.CompileFault.{CompileFault}
 use Rattle.lw_lang.specs.declared.fault.CompileFault.TheVariants as fault
 use Rattle.langbench.specs.declared.report.Verdict.{Verdict}
@@ -99,11 +102,22 @@ term_line path (term.KeywordBlank place) = placed_line place.path place.at (code
 term_line path (term.Pattern terminal found) =
     placed_line terminal.place.path terminal.place.at (codes "terminal " ++ terminal.name ++ codes ": " ++ problem_text found)
 
+-- which ways of a choice share what
+abbrev pub conflict_text : ToldConflict → List ℕ
+conflict_text told =
+    codes "lookahead " ++ decimal told.k ++ codes ": ways " ++ decimal told.first ++ codes " and " ++ decimal told.second ++ codes " share " ++ told.shared
+
+-- why the grammar at this path has no tables
+abbrev pub look_line : List ℕ → ToldLookFault → List ℕ
+look_line path look.TooMany = whole_line path (codes "too many lookahead strings")
+look_line path (look.Conflict told) = placed_line told.place.path told.place.at (conflict_text told)
+
 -- a fault of the grammar at this path
 abbrev pub fault_line : List ℕ → CompileFault → List ℕ
 fault_line path (fault.Load found) = load_line path found
 fault_line path (fault.Faults told) = told_lines told
 fault_line path (fault.Term told) = term_line path told
+fault_line path (fault.Look told) = look_line path told
 fault_line path fault.Unbuilt = whole_line path (codes "not built")
 fault_line path fault.NoMemory = memory_line
 

@@ -44,14 +44,14 @@ NoneRose faults = (object : Object) → ¬ Rose (count_of faults object).0 (coun
 module _ (words : List (List ℕ)) (w : Work) where
   -- what the work came to: a row for each command, and one for words that are none
   pub record ComesTo (outcome : Result Verdict Stop) : Type 0 where
-    pub check : (path : List ℕ) → IsCheck words path → IfSome w.files (λ files. IfSome w.left.0 (λ held.
-        CheckComesTo files path held w.refused w.left.1 w.written.0 w.written.1 outcome))
-    pub serve : (path : List ℕ) → IsServe words path → IfSome w.files (λ files.
-        ServeComesTo files path w.refused w.left.0 w.left.1 w.written.0 w.written.1 outcome)
+    pub check : (path : List ℕ) (k : ℕ) → IsCheck words path k → IfSome w.files (λ files. IfSome w.left.0 (λ held.
+        CheckComesTo files path k held w.refused w.left.1 w.written.0 w.written.1 outcome))
+    pub serve : (path : List ℕ) (k : ℕ) → IsServe words path k → IfSome w.files (λ files.
+        ServeComesTo files path k w.refused w.left.0 w.left.1 w.written.0 w.written.1 outcome)
     pub none : IsNoCommand words → (outcome ≡ Err Words) × Keeps w.left.0 w.left.1 × Keeps w.written.0 w.written.1
     -- a command does not stop for its words
     pub unnamed : outcome ≡ Err Words → IsNoCommand words
-    pub cause : (path : List ℕ) → NamesFile words path → IsCaused w.files path w.refused outcome
+    pub cause : (path : List ℕ) (k : ℕ) → NamesFile words path k → IsCaused w.files path k w.refused outcome
     pub counts : (object : Object) → Counts object (count_of w.faults object).0 (count_of w.faults object).1 outcome
 
   -- The notes before the run and behind it, and how often they had failed. The status is that of the outcome. Where the notes did not fail and there was memory,
@@ -61,19 +61,19 @@ module _ (words : List (List ℕ)) (w : Work) where
     pub comes_to : ComesTo outcome
     pub status : EndsWith outcome code
     pub path : Option (List ℕ)
-    pub named : MatchOption path (IsNoCommand words) (NamesFile words)
+    pub named : MatchOption path (IsNoCommand words) (λ p. (k : ℕ) × NamesFile words p k)
     pub noted : code ≢ 7 → ¬ Rose failures.0 failures.1 → NotesOutcome path outcome notes.0 notes.1
     pub noted_part : NotesOutcomePart path outcome notes.0 notes.1
 
   -- where the grammar is built and nothing fails, the document is read and its line is written, or memory was refused
   abbrev pub ChecksAll : ℕ → Type 0
-  ChecksAll code = (path : List ℕ) → IsCheck words path → IfSome w.files (λ files. IfSome w.left.0 (λ held. (g : plain.Grammar) → HoldsGrammar files path g → IsClear g →
+  ChecksAll code = (path : List ℕ) (k : ℕ) → IsCheck words path k → IfSome w.files (λ files. IfSome w.left.0 (λ held. (g : plain.Grammar) → HoldsGrammar files path g → IsClear g k →
       NoneRose w.faults → CheckDone g held w.written.0 w.written.1 code))
 
   -- and where what the source holds begins with a session that ends with `exit` behind `shutdown`, it is answered whole, or memory was refused
   abbrev pub ServesAll : ℕ → Type 0
-  ServesAll code = (path : List ℕ) → IsServe words path → IfSome w.files (λ files. IfSome w.left.0 (λ held. (g : plain.Grammar) (replies : List Reply) →
-      HoldsGrammar files path g → IsClear g → IsSession g held replies → NoneRose w.faults → ServeDone replies w.written.0 w.written.1 code))
+  ServesAll code = (path : List ℕ) (k : ℕ) → IsServe words path k → IfSome w.files (λ files. IfSome w.left.0 (λ held. (g : plain.Grammar) (replies : List Reply) →
+      HoldsGrammar files path g → IsClear g k → IsSession g held replies → NoneRose w.faults → ServeDone replies w.written.0 w.written.1 code))
 
   -- all that is claimed of a run
   pub record Runs (notes : Option (List ℕ) × Option (List ℕ)) (failures : ℕ × ℕ) (code : ℕ) : Type 0 where

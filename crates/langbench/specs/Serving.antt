@@ -100,19 +100,19 @@ HasOneOutcome g = (bodies : List (List ℕ)) (found : List (List Found)) (t u : 
     Serves g (beginning []) bodies found t p e → Serves g (beginning []) bodies found u q f → (t ≡ u) × (p ≡ q) × (e ≡ f)
 
 -- a fact of the grammar that the path holds, which is built
-pub record OfGrammar (files : Files) (path : List ℕ) (Fact : plain.Grammar → Type 0) : Type 0 where
+pub record OfGrammar (files : Files) (path : List ℕ) (k : ℕ) (Fact : plain.Grammar → Type 0) : Type 0 where
   pub grammar : plain.Grammar
   pub holds : HoldsGrammar files path grammar
-  pub clear : IsClear grammar
+  pub clear : IsClear grammar k
   pub only : HasOneOutcome grammar
   pub fact : Fact grammar
 
-module _ (files : Files) (path : List ℕ) (refused before after old new : Option (List ℕ)) where
+module _ (files : Files) (path : List ℕ) (k : ℕ) (refused before after old new : Option (List ℕ)) where
   -- what was taken and written, and the cause of a fault of the grammar
   abbrev pub ServeComesTo : Result Verdict Stop → Type 0
-  ServeComesTo (Err (stop.Grammar found)) = Causes files path refused found × Keeps before after × Keeps old new
-  ServeComesTo (Err stop.Memory) = Keeps old new ⊎ OfGrammar files path (λ g. TalkedSome g before after old new)
-  ServeComesTo outcome = OfGrammar files path (λ g. Conversed g before after old new outcome)
+  ServeComesTo (Err (stop.Grammar found)) = Causes files path k refused found × Keeps before after × Keeps old new
+  ServeComesTo (Err stop.Memory) = Keeps old new ⊎ OfGrammar files path k (λ g. TalkedSome g before after old new)
+  ServeComesTo outcome = OfGrammar files path k (λ g. Conversed g before after old new outcome)
 
 -- What the source holds begins with a session: frames up to an `exit` that comes after `shutdown`, fewer bytes of them than may be taken, and these are the
 -- replies to them.

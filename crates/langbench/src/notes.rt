@@ -3,14 +3,16 @@ ghost use Rattle.std.specs.Prelude.{◌≡◌, ◌++◌, IfOk, IfSome, IsTrue, c
 ghost use Rattle.std.specs.Fmt.{decimal};
 ghost use Rattle.std.specs.Option.{option_copied};
 ghost use Rattle.lw_io.specs.Causes.{Rose};
-ghost use Rattle.langbench.specs.Notes.{file_line, placed_line, whole_line, refusal_text, load_line, problem_text, term_line, told_line, told_lines, fault_line, frame_line, IsStopLine, NotesPart, NotesStop};
+ghost use Rattle.langbench.specs.Notes.{file_line, placed_line, whole_line, refusal_text, load_line, problem_text, term_line, look_line, conflict_text, told_line, told_lines, fault_line, frame_line, IsStopLine, NotesPart, NotesStop};
 
 use crate::place::printed;
 use crate::stop::Stop;
 use lw_base::{Name, NoMemory};
 use lw_frame::FrameFault;
 use lw_io::{Sink, WriteFault, write_all};
-use lw_lang::{CompileFault, PatternProblem, ToldTermFault, ToldTerminal};
+use lw_lang::{
+    CompileFault, PatternProblem, ToldConflict, ToldLookFault, ToldTermFault, ToldTerminal,
+};
 use lw_load::LoadFault;
 use lw_syntax::ReadFault;
 use lw_text::Pos;
@@ -89,6 +91,7 @@ fn fault_line(alloc: Global, path: &Name, fault: &CompileFault) -> Result<String
         CompileFault::Load(found) => load_line(alloc, path, found),
         CompileFault::Faults(told) => told_lines(alloc, told.as_slice()),
         CompileFault::Term(told) => term_line(alloc, path, told),
+        CompileFault::Look(told) => look_line(alloc, path, told),
         CompileFault::Unbuilt => whole_line(alloc, path, "not built"),
         CompileFault::NoMemory => Ok(String::from_str(alloc, "out of memory\n")?),
     }
@@ -226,4 +229,26 @@ fn problem_text(found: PatternProblem) -> &'static str
         PatternProblem::Refused => "pattern refused",
         PatternProblem::MatchesEmpty => "matches nothing",
     }
+}
+
+// Why a grammar has no tables.
+fn look_line(alloc: Global, path: &Name, told: &ToldLookFault) -> Result<String, NoMemory>
+    ensures { IfOk result (λ line. string_bytes line ≡ look_line path.now told.now) }
+{
+    match told {
+        ToldLookFault::TooMany => whole_line(alloc, path, "too many lookahead strings"),
+        ToldLookFault::Conflict(conflict) => conflict_line(alloc, conflict),
+    }
+}
+
+// `PATH:LINE:COL: lookahead K: ways I and J share STRING`
+fn conflict_line(alloc: Global, told: &ToldConflict) -> Result<String, NoMemory>
+    ensures { IfOk result (λ line. string_bytes line ≡ placed_line told.now.place.path told.now.place.at (conflict_text told.now)) }
+{
+    let k = told.k;
+    let first = told.first;
+    let second = told.second;
+    let shared = &told.shared;
+    let what = format!(in alloc; "lookahead {k}: ways {first} and {second} share {shared}")?;
+    placed_line(alloc, &told.place.path, told.place.at, what.as_str())
 }

@@ -13,6 +13,7 @@ ghost use Rattle.langbench.specs.Talking.{AnswersNext, LosesPiece, Responds, Res
 use crate::desk::Desk;
 use crate::report::Verdict;
 use crate::stop::Stop;
+use crate::words::Root;
 use lw_base::{Name, NoMemory, Steps};
 use lw_frame::{FrameReader, LONGEST_SESSION, header_part};
 use lw_io::{Patterns, Read, Sink, Source, Store, write_all};
@@ -24,7 +25,7 @@ use std::sync::ledger::Ledger;
 /// Reads the grammar, then answers the session of the source frame by frame, and leaves it on the desk.
 pub(crate) fn serve<S: Source, K: Sink, F: Store, P: Patterns, L: Ledger>(
     alloc: Global,
-    path: &Name,
+    root: Root<'_>,
     source: &mut S,
     out: &mut K,
     store: &mut F,
@@ -33,15 +34,15 @@ pub(crate) fn serve<S: Source, K: Sink, F: Store, P: Patterns, L: Ledger>(
     steps: &mut Steps<L>,
 ) -> Result<Verdict, Stop>
     ensures works { IfSome (F.files store.old) (λ files.
-        ServeComesTo files path.now (P.last_refused patterns.new) (S.left source.old) (S.left source.new) (K.written out.old) (K.written out.new) result) }
-    ensures cause { IsCaused (F.files store.old) path.now (P.last_refused patterns.new) result }
+        ServeComesTo files root.path.now root.k (P.last_refused patterns.new) (S.left source.old) (S.left source.new) (K.written out.old) (K.written out.new) result) }
+    ensures cause { IsCaused (F.files store.old) root.path.now root.k (P.last_refused patterns.new) result }
     ensures not_words { ¬ (result ≡ Err Stop.Words) }
     ensures source { Counts TheSource (S.count source.old) (S.count source.new) result }
     ensures sink { Counts TheSink (K.count out.old) (K.count out.new) result }
     ensures store { Counts TheStore (F.count store.old) (F.count store.new) result }
     ensures patterns { Counts ThePatterns (P.count patterns.old) (P.count patterns.new) result }
 {
-    let language = compile(alloc, path, 2, store, patterns)?;
+    let language = compile(alloc, root.path, root.k, store, patterns)?;
     let mut session = Session::new(alloc, language, Mode::Full)?;
     let outcome = converse(alloc, &mut session, source, out, store, steps);
     desk.leave(session);

@@ -51,7 +51,10 @@ fn fault_code(fault: &CompileFault) -> u8
 {
     match fault {
         CompileFault::Load(found) => load_code(found),
-        CompileFault::Faults(_) | CompileFault::Term(_) | CompileFault::Unbuilt => 3,
+        CompileFault::Faults(_)
+        | CompileFault::Term(_)
+        | CompileFault::Look(_)
+        | CompileFault::Unbuilt => 3,
         CompileFault::NoMemory => 7,
     }
 }

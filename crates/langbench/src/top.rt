@@ -15,7 +15,7 @@ use crate::notes::note;
 use crate::report::{Report, Verdict, report_on};
 use crate::serve::serve;
 use crate::stop::Stop;
-use crate::words::{Command, command_of, grammar_named};
+use crate::words::{Command, Root, command_of, grammar_named};
 use lw_base::{LONGEST_DOCUMENT, Name, Steps};
 use lw_io::{Patterns, Sink, Source, Store, read_all, write_all};
 use lw_lang::{Language, compile};
@@ -34,7 +34,8 @@ pub struct Status {
 
 /// Runs the command that the words name.
 ///
-/// `check GRAMMAR` reads the grammar from the store and a document from the source, and writes one
+/// Behind `GRAMMAR` the words `--lookahead` and `1`, `2` or `3` may follow: how many kinds of tokens tell the ways of a choice apart, which
+/// are two where nothing is said. `check GRAMMAR` reads the grammar from the store and a document from the source, and writes one
 /// line: `ok`, or the document's fault. `serve GRAMMAR` answers the session of the source frame by frame,
 /// each reply before the next read, and leaves the session on the desk. The first that is met in this order
 /// ends the run: the words, the grammar, then the source in its order, each reply in its place. From status 2
@@ -119,9 +120,9 @@ fn act<S: Source, K: Sink, F: Store, P: Patterns, L: Ledger>(
     }) result }
 {
     match command_of(words) {
-        Some(Command::Check(path)) => check(alloc, path, source, out, store, patterns),
-        Some(Command::Serve(path)) => {
-            serve(alloc, path, source, out, store, patterns, desk, steps)
+        Some(Command::Check(root)) => check(alloc, root, source, out, store, patterns),
+        Some(Command::Serve(root)) => {
+            serve(alloc, root, source, out, store, patterns, desk, steps)
         }
         None => Err(Stop::Words),
     }
@@ -130,22 +131,22 @@ fn act<S: Source, K: Sink, F: Store, P: Patterns, L: Ledger>(
 // Reads the grammar, then the document to its end, and prints the document's line.
 fn check<S: Source, K: Sink, F: Store, P: Patterns>(
     alloc: Global,
-    path: &Name,
+    root: Root<'_>,
     source: &mut S,
     out: &mut K,
     store: &mut F,
     patterns: &mut P,
 ) -> Result<Verdict, Stop>
     ensures works { IfSome (F.files store.old) (λ files. IfSome (S.left source.old) (λ held.
-        CheckComesTo files path.now held (P.last_refused patterns.new) (S.left source.new) (K.written out.old) (K.written out.new) result)) }
-    ensures cause { IsCaused (F.files store.old) path.now (P.last_refused patterns.new) result }
+        CheckComesTo files root.path.now root.k held (P.last_refused patterns.new) (S.left source.new) (K.written out.old) (K.written out.new) result)) }
+    ensures cause { IsCaused (F.files store.old) root.path.now root.k (P.last_refused patterns.new) result }
     ensures not_words { ¬ (result ≡ Err Stop.Words) }
     ensures source { Counts TheSource (S.count source.old) (S.count source.new) result }
     ensures sink { Counts TheSink (K.count out.old) (K.count out.new) result }
     ensures store { Counts TheStore (F.count store.old) (F.count store.new) result }
     ensures patterns { Counts ThePatterns (P.count patterns.old) (P.count patterns.new) result }
 {
-    let language = compile(alloc, path, 2, store, patterns)?;
+    let language = compile(alloc, root.path, root.k, store, patterns)?;
     let report = reported(alloc, &language, source)?;
     print(out, &report)
 }

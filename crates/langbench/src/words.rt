@@ -1,48 +1,97 @@
 // The words of the command line.
-ghost use Rattle.std.specs.Prelude.{◌↔◌, IsTrue, List, MatchOption, ℕ};
-ghost use Rattle.langbench.specs.Words.{IsCommand, IsNoCommand, IsOperand, NamesFile, NamesGrammar};
+ghost use Rattle.std.specs.Prelude.{◌≤◌, ◌↔◌, IsTrue, IfSome, List, MatchOption, ℕ};
+ghost use Rattle.langbench.specs.Words.{IsCommand, IsDepth, IsNoCommand, IsOperand, NamesFile, NamesGrammar, SaysDepth};
 
 use lw_base::Name;
 
-/// What the words ask for, with the path of the grammar.
+/// The path of a grammar, and how many kinds a reader may look ahead.
+#[derive(Clone, Copy)]
+pub(crate) struct Root<'a> {
+    pub path: &'a Name,
+    pub k: u8,
+    ghost least: { 1 ≤ k },
+    ghost most: { k ≤ 3 },
+}
+
+/// What the words ask for.
 #[derive(Clone, Copy)]
 pub(crate) enum Command<'a> {
-    /// `check GRAMMAR`
-    Check(&'a Name),
-    /// `serve GRAMMAR`
-    Serve(&'a Name),
+    /// `check GRAMMAR [--lookahead K]`
+    Check(Root<'a>),
+    /// `serve GRAMMAR [--lookahead K]`
+    Serve(Root<'a>),
 }
 
 /// The command that the words are, if they are one.
 pub(crate) fn command_of(words: &[Name]) -> Option<Command<'_>>
     ensures { MatchOption result (IsNoCommand words.now) (IsCommand words.now) }
 {
-    if let Some(path) = grammar_behind(words, "check") {
-        return Some(Command::Check(path));
+    if let Some(root) = grammar_behind(words, "check") {
+        return Some(Command::Check(root));
     }
     match grammar_behind(words, "serve") {
-        Some(path) => Some(Command::Serve(path)),
+        Some(root) => Some(Command::Serve(root)),
         None => None,
     }
 }
 
-// The path of the grammar, where the words are this command.
-fn grammar_behind<'a>(words: &'a [Name], name: &str) -> Option<&'a Name>
-    ensures { MatchOption result ((path : List ℕ) → ¬ NamesGrammar name.now words.now path) (λ path. NamesGrammar name.now words.now path.now) }
+// The grammar, where the words are this command.
+fn grammar_behind<'a>(words: &'a [Name], name: &str) -> Option<Root<'a>>
+    ensures { MatchOption result ((path : List ℕ) (k : ℕ) → ¬ NamesGrammar name.now words.now path k)
+        (λ root. NamesGrammar name.now words.now root.path.now root.k) }
 {
     match words {
-        [command, path] if command.text() == name && is_operand(path.text()) => Some(path),
+        [command, path, options @ ..] if command.text() == name && is_operand(path.text()) => {
+            root_of(path, options)
+        }
         _ => None,
     }
 }
 
-/// The path of the grammar that the words name.
+// The grammar of this path, where these words stand behind it.
+fn root_of<'a>(path: &'a Name, options: &[Name]) -> Option<Root<'a>>
+    ensures path { IfSome result (λ root. root.path.now ≡ path.now) }
+    ensures depth { MatchOption result ((k : ℕ) → ¬ SaysDepth options.now k) (λ root. SaysDepth options.now root.k) }
+{
+    let k = depth_of(options)?;
+    Some(Root { path, k })
+}
+
+// How many kinds the words behind a grammar allow to look ahead.
+fn depth_of(options: &[Name]) -> Option<u8>
+    ensures depth { MatchOption result ((k : ℕ) → ¬ SaysDepth options.now k) (SaysDepth options.now) }
+    ensures least { IfSome result (λ k. 1 ≤ k) }
+    ensures most { IfSome result (λ k. k ≤ 3) }
+{
+    match options {
+        [] => Some(2),
+        [option, depth] if option.text() == "--lookahead" => depth_named(depth.text()),
+        _ => None,
+    }
+}
+
+// The number from 1 to 3 that a word is.
+fn depth_named(word: &str) -> Option<u8>
+    ensures depth { MatchOption result ((k : ℕ) → ¬ IsDepth word.now k) (IsDepth word.now) }
+    ensures least { IfSome result (λ k. 1 ≤ k) }
+    ensures most { IfSome result (λ k. k ≤ 3) }
+{
+    if word == "1" {
+        return Some(1);
+    }
+    if word == "2" {
+        return Some(2);
+    }
+    if word == "3" { Some(3) } else { None }
+}
+
+/// The grammar that the words name.
 pub(crate) fn grammar_named(words: &[Name]) -> Option<&Name>
-    ensures { MatchOption result (IsNoCommand words.now) (λ path. NamesFile words.now path.now) }
+    ensures { MatchOption result (IsNoCommand words.now) (λ path. (k : ℕ) × NamesFile words.now path.now k) }
 {
     match command_of(words) {
-        Some(Command::Check(path)) => Some(path),
-        Some(Command::Serve(path)) => Some(path),
+        Some(Command::Check(root)) => Some(root.path),
+        Some(Command::Serve(root)) => Some(root.path),
         None => None,
     }
 }

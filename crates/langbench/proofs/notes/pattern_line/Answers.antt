@@ -1,14 +1,7 @@
-use Rattle.std.proofs.Common.{◌≡◌, List, ℕ, [], ◌∷◌, ◌++◌, IfOk, string_bytes, codes, refl, ap, ◌∙◌, subst}
+use Rattle.std.proofs.Common.{◌≡◌, List, ℕ, ◌++◌, IfOk, string_bytes, codes, ◌∙◌, subst}
 use Rattle.langbench.specs.Notes.{placed_line, problem_text}
+use Rattle.langbench.proofs.JoinedTexts.{four}
 use Rattle.langbench.proofs.notes.pattern_line.Goals as goal
-
--- four texts joined from the right or from the left
-joined : (a b c : List ℕ) → a ++ (b ++ c) ≡ (a ++ b) ++ c
-joined [] b c = refl
-joined (x ∷ a) b c = ap (λ xs. x ∷ xs) (joined a b c)
-
-four : (a b c d : List ℕ) → a ++ (b ++ (c ++ d)) ≡ ((a ++ b) ++ c) ++ d
-four a b c d = joined a b (c ++ d) ∙ joined (a ++ b) c d
 
 pub returns : goal.returns
 returns c =

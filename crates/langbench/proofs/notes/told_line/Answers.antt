@@ -1,17 +1,9 @@
-use Rattle.std.proofs.Common.{◌≡◌, List, ℕ, [], ◌∷◌, ◌++◌, IfOk, string_bytes, codes, refl, ap, ◌∙◌, subst}
+use Rattle.std.proofs.Common.{◌≡◌, List, ℕ, ◌++◌, IfOk, string_bytes, codes, ◌∙◌, subst}
 use Rattle.std.specs.Fmt.{decimal}
 use Rattle.lw_told.specs.Texts.{fault_text}
 use Rattle.langbench.specs.Notes.{placed_line}
+use Rattle.langbench.proofs.JoinedTexts.{six}
 use Rattle.langbench.proofs.notes.told_line.Goals as goal
-
--- six texts joined from the right or from the left
-joined : (a b c : List ℕ) → a ++ (b ++ c) ≡ (a ++ b) ++ c
-joined [] b c = refl
-joined (x ∷ a) b c = ap (λ xs. x ∷ xs) (joined a b c)
-
-six : (a b c d e f : List ℕ) → a ++ (b ++ (c ++ (d ++ (e ++ f)))) ≡ ((((a ++ b) ++ c) ++ d) ++ e) ++ f
-six a b c d e f =
-    joined a b (c ++ (d ++ (e ++ f))) ∙ joined (a ++ b) c (d ++ (e ++ f)) ∙ joined ((a ++ b) ++ c) d (e ++ f) ∙ joined (((a ++ b) ++ c) ++ d) e f
 
 pub returns : goal.returns
 returns c =
