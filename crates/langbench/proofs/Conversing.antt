@@ -198,7 +198,7 @@ store_of_write {T} (Err e) before now is (inr memory) = subst (λ (r : Result T 
 -- what a session of this grammar came to is what the work answered
 module _ (files : Files) (path : List ℕ) (k : ℕ) (refused before after old new : Option (List ℕ)) (g : Grammar) (holds : HoldsGrammar files path g) (clear : IsClear g k) where
   of_this : {Fact : Grammar → Type 0} → Fact g → OfGrammar files path k Fact
-  of_this fact = record { grammar = g; holds = holds; clear = clear; only = one_session g clear; fact = fact }
+  of_this fact = record { grammar = g; holds = holds; clear = clear; only = one_session g k clear; fact = fact }
 
   pub works_by : (r : Result Verdict Stop) → Conversed g before after old new r → ServeComesTo files path k refused before after old new r
   works_by (Ok Whole) fact = of_this fact

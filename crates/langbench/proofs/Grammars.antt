@@ -29,11 +29,11 @@ not_empty words k filled at = by (slice_get words k) refl (sym (slice_get-map (�
         (inl (same_Some word.0 [] is))
 
 pub filled : (g : Grammar) (k : ℕ) → IsClear g k → HasNoEmptyKeyword g
-filled g k clear of k are at =
+filled g k clear of n are at =
     let row = clear.sound.tokens.row in
     let its = clear.sound.tokens.are_kinds in
-    not_empty row.keywords k clear.sound.tokens.sound.not_blank
-    (ap (λ texts. slice_get texts k) its.texts ∙ ap (λ (kinds : Kinds). slice_get kinds.keywords k) (one_kinds g its.kinds of its.are are) ∙ at)
+    not_empty row.keywords n clear.sound.tokens.sound.not_blank
+    (ap (λ texts. slice_get texts n) its.texts ∙ ap (λ (kinds : Kinds). slice_get kinds.keywords n) (one_kinds g its.kinds of its.are are) ∙ at)
 
 -- by such a grammar a session has one outcome
 pub one_session : (g : Grammar) (k : ℕ) → IsClear g k → HasOneOutcome g

@@ -9,3 +9,4 @@ pub mod Turns
 pub mod Done
 pub mod Conversing
 pub mod JoinedTexts
+pub mod WordLemmas

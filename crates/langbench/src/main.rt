@@ -17,6 +17,7 @@ mod desk;
 mod notes;
 mod place;
 mod report;
+mod root;
 mod serve;
 mod stop;
 mod top;

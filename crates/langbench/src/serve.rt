@@ -12,8 +12,8 @@ ghost use Rattle.langbench.specs.Talking.{AnswersNext, LosesPiece, Responds, Res
 
 use crate::desk::Desk;
 use crate::report::Verdict;
+use crate::root::Root;
 use crate::stop::Stop;
-use crate::words::Root;
 use lw_base::{Name, NoMemory, Steps};
 use lw_frame::{FrameReader, LONGEST_SESSION, header_part};
 use lw_io::{Patterns, Read, Sink, Source, Store, write_all};
@@ -34,8 +34,8 @@ pub(crate) fn serve<S: Source, K: Sink, F: Store, P: Patterns, L: Ledger>(
     steps: &mut Steps<L>,
 ) -> Result<Verdict, Stop>
     ensures works { IfSome (F.files store.old) (λ files.
-        ServeComesTo files root.path.now root.k (P.last_refused patterns.new) (S.left source.old) (S.left source.new) (K.written out.old) (K.written out.new) result) }
-    ensures cause { IsCaused (F.files store.old) root.path.now root.k (P.last_refused patterns.new) result }
+        ServeComesTo files root.entry.path.now root.entry.k (P.last_refused patterns.new) (S.left source.old) (S.left source.new) (K.written out.old) (K.written out.new) result) }
+    ensures cause { IsCaused (F.files store.old) root.entry.path.now root.entry.k (P.last_refused patterns.new) result }
     ensures not_words { ¬ (result ≡ Err Stop.Words) }
     ensures source { Counts TheSource (S.count source.old) (S.count source.new) result }
     ensures sink { Counts TheSink (K.count out.old) (K.count out.new) result }

@@ -244,6 +244,9 @@ fn the_longest_document_is_read(rt: HostRuntime) -> Result<(), Fail> {
 fn runs_stop_with_a_note(rt: HostRuntime) -> Result<(), Fail> {
     let known: &[&str] = &["check", PATH];
     let absent: &[&str] = &["check", "g.langium"];
+    let far: &[&str] = &["check", PATH, "--lookahead", "3"];
+    let too_far: &[&str] = &["check", PATH, "--lookahead", "4"];
+    let unsaid: &[&str] = &["check", PATH, "--lookahead"];
     for (words, grammar, failing, refused, code, out, note) in [
         (
             known,
@@ -286,6 +289,9 @@ fn runs_stop_with_a_note(rt: HostRuntime) -> Result<(), Fail> {
             "write failed\n",
         ),
         (&[], FLAT, NOTHING, "none", 2, "", USAGE),
+        (far, FLAT, NOTHING, "none", 0, "ok\n", ""),
+        (too_far, FLAT, NOTHING, "none", 2, "", USAGE),
+        (unsaid, FLAT, NOTHING, "none", 2, "", USAGE),
         (
             known,
             FLAT,
@@ -400,6 +406,10 @@ fn grammars_that_are_refused_are_told(rt: HostRuntime) -> Result<(), Fail> {
         (
             "grammar G entry A: x=ID; terminal ID: /[a-z]*/;",
             "g.langium:1:35: terminal ID: matches nothing\n",
+        ),
+        (
+            "grammar C entry A: x=ID | y=ID; terminal ID: /[a-z]+/;",
+            "g.langium:1:20: lookahead 2: ways 1 and 2 share ID <end>\n",
         ),
     ] {
         is_refused(&rt, rt.alloc(), grammar, note)?;

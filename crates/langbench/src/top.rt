@@ -13,9 +13,10 @@ ghost use Rattle.langbench.specs.Stops.{Counts, EndsWith, TheSource, TheSink, Th
 use crate::desk::Desk;
 use crate::notes::note;
 use crate::report::{Report, Verdict, report_on};
+use crate::root::Root;
 use crate::serve::serve;
 use crate::stop::Stop;
-use crate::words::{Command, Root, command_of, grammar_named};
+use crate::words::{Command, command_of, grammar_named};
 use lw_base::{LONGEST_DOCUMENT, Name, Steps};
 use lw_io::{Patterns, Sink, Source, Store, read_all, write_all};
 use lw_lang::{Language, compile};
@@ -138,8 +139,8 @@ fn check<S: Source, K: Sink, F: Store, P: Patterns>(
     patterns: &mut P,
 ) -> Result<Verdict, Stop>
     ensures works { IfSome (F.files store.old) (λ files. IfSome (S.left source.old) (λ held.
-        CheckComesTo files root.path.now root.k held (P.last_refused patterns.new) (S.left source.new) (K.written out.old) (K.written out.new) result)) }
-    ensures cause { IsCaused (F.files store.old) root.path.now root.k (P.last_refused patterns.new) result }
+        CheckComesTo files root.entry.path.now root.entry.k held (P.last_refused patterns.new) (S.left source.new) (K.written out.old) (K.written out.new) result)) }
+    ensures cause { IsCaused (F.files store.old) root.entry.path.now root.entry.k (P.last_refused patterns.new) result }
     ensures not_words { ¬ (result ≡ Err Stop.Words) }
     ensures source { Counts TheSource (S.count source.old) (S.count source.new) result }
     ensures sink { Counts TheSink (K.count out.old) (K.count out.new) result }

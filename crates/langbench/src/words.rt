@@ -1,17 +1,9 @@
 // The words of the command line.
-ghost use Rattle.std.specs.Prelude.{◌≤◌, ◌↔◌, IsTrue, IfSome, List, MatchOption, ℕ};
+ghost use Rattle.std.specs.Prelude.{◌≡◌, ◌≤◌, ◌↔◌, IsTrue, IfSome, List, MatchOption, ℕ};
 ghost use Rattle.langbench.specs.Words.{IsCommand, IsDepth, IsNoCommand, IsOperand, NamesFile, NamesGrammar, SaysDepth};
 
+use crate::root::Root;
 use lw_base::Name;
-
-/// The path of a grammar, and how many kinds a reader may look ahead.
-#[derive(Clone, Copy)]
-pub(crate) struct Root<'a> {
-    pub path: &'a Name,
-    pub k: u8,
-    ghost least: { 1 ≤ k },
-    ghost most: { k ≤ 3 },
-}
 
 /// What the words ask for.
 #[derive(Clone, Copy)]

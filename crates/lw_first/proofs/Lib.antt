@@ -1,0 +1,10 @@
+pub mod Adding
+pub mod CallForms
+pub mod CallingForms
+pub mod GrownSets
+pub mod Moving
+pub mod NewHeads
+pub mod PartForms
+pub mod RoundSteps
+pub mod RowForms
+pub mod Turns

@@ -1,1 +1,5 @@
 pub mod Before
+pub mod Calling
+pub mod Forms
+pub mod New
+pub mod Rounds

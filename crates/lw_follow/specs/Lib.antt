@@ -1,1 +1,4 @@
 pub mod Followed
+pub mod Rows
+pub mod Calls
+pub mod Rounds

@@ -1,13 +1,19 @@
 // What follows rules, by rounds.
-ghost use Rattle.std.specs.Prelude.{◌≡◌, IfOk, length};
+ghost use Rattle.std.specs.Prelude.{◌≡◌, ◌<◌, ◌↔◌, ℕ, [], true, IfOk, OnOk, IsTrue, MatchOption, length, replicate};
+ghost use Rattle.lw_grammar.specs.declared.grammar.Grammar.{Grammar};
+ghost use Rattle.lw_grammar.specs.declared.rule.Rule.{Rule};
 ghost use Rattle.lw_grammar.specs.Kinds.{Kinds, AreKinds};
+ghost use Rattle.lw_grammar.specs.Named.{IsEntry};
 ghost use Rattle.lw_look.specs.Heads.{AreClosedAfters, AreTrueAfters};
 ghost use Rattle.lw_heads.specs.Sets.{IsInSet};
 ghost use Rattle.lw_follow.specs.Followed.{HasRuleHeads};
+ghost use Rattle.lw_follow.specs.Rounds.{AreFirstAfters, AreWalked, IsUnderWay, IsWalked, WentOn};
 
+use crate::following::follow_element;
 use lw_base::NoMemory;
 use lw_first::First;
-use lw_heads::HeadSet;
+use lw_grammar::{Grammar, Rule};
+use lw_heads::{Head, HeadSet};
 use std::alloc::Global;
 
 /// For each rule what may follow its calls up to the end, cut to `k` kinds: all heads, and no others. What no sentence calls has
@@ -20,5 +26,121 @@ pub fn rule_followers(alloc: Global, first: &First<'_>) -> Result<Vec<HeadSet>, 
     ensures no_others { (kinds : Kinds) → AreKinds first.now.lexicon.g.now kinds →
         IfOk result (λ sets. AreTrueAfters first.now.lexicon.g.now kinds first.now.k (IsInSet first.now.heads.now) (IsInSet sets.items)) }
 {
-    Err(NoMemory)
+    let mut sets = first_sets(alloc, first.lexicon.g)?;
+    let mut walked = vec![in alloc; 0; first.lexicon.g.rules.len()]?;
+    go_round(alloc, first, walked.as_mut_slice(), sets.as_mut_slice())?;
+    Ok(sets)
+}
+
+/// For each rule no head, but for the entry rule the end.
+fn first_sets(alloc: Global, g: &Grammar) -> Result<Vec<HeadSet>, NoMemory>
+    ensures all { IfOk result (λ sets. length sets.items ≡ length g.now.rules) }
+    ensures first { IfOk result (λ sets. AreFirstAfters g.now sets.items) }
+{
+    let mut sets = empty_sets(alloc, g.rules.len())?;
+    let Some(rule) = entry(g) else {
+        return Ok(sets);
+    };
+    sets[rule].insert(Head::Nothing)?;
+    Ok(sets)
+}
+
+/// So many sets without a head.
+fn empty_sets(alloc: Global, count: usize) -> Result<Vec<HeadSet>, NoMemory>
+    ensures { IfOk result (λ sets. sets.items ≡ replicate count []) }
+{
+    let mut sets = Vec::with_capacity(alloc, count)?;
+    for _ in 0..count {
+        sets.push(HeadSet::new(alloc))?;
+    }
+    Ok(sets)
+}
+
+/// The number of the entry rule, if there is one.
+fn entry(g: &Grammar) -> Option<usize>
+    ensures { MatchOption result ((r : ℕ) (rule : Rule) → ¬ IsEntry g.now r rule) (λ r. (rule : Rule) × IsEntry g.now r rule) }
+{
+    for (number, rule) in g.rules.as_slice().iter().enumerate() {
+        if is_root_entry(rule) {
+            return Some(number);
+        }
+    }
+    None
+}
+
+fn is_root_entry(rule: &Rule) -> bool
+    ensures { IsTrue result ↔ ((rule.now.is_entry ≡ true) × (rule.now.file ≡ 0)) }
+{
+    rule.is_entry && rule.file == 0
+}
+
+/// Goes through rules round by round until a round finds none with new heads.
+fn go_round(
+    alloc: Global,
+    first: &First<'_>,
+    walked: &mut [usize],
+    sets: &mut [HeadSet],
+) -> Result<(), NoMemory>
+    requires ready { HasRuleHeads first.now }
+    requires walked { length walked.old ≡ length first.now.lexicon.g.now.rules }
+    requires all { length sets.old ≡ length first.now.lexicon.g.now.rules }
+    ensures { (kinds : Kinds) → AreKinds first.now.lexicon.g.now kinds →
+        IsUnderWay first.now.lexicon.g.now kinds first.now.k first.now.heads.now walked.old sets.old →
+        OnOk result (IsUnderWay first.now.lexicon.g.now kinds first.now.k first.now.heads.now walked.new sets.new
+        × AreWalked (length first.now.lexicon.g.now.rules) walked.new sets.new) }
+{
+    'rounds: while round(alloc, first, walked, sets)? {}
+    Ok(())
+}
+
+/// Goes through each rule that has new heads. Whether there was one.
+fn round(
+    alloc: Global,
+    first: &First<'_>,
+    walked: &mut [usize],
+    sets: &mut [HeadSet],
+) -> Result<bool, NoMemory>
+    requires ready { HasRuleHeads first.now }
+    requires walked { length walked.old ≡ length first.now.lexicon.g.now.rules }
+    requires all { length sets.old ≡ length first.now.lexicon.g.now.rules }
+    ensures under_way { (kinds : Kinds) → AreKinds first.now.lexicon.g.now kinds →
+        IsUnderWay first.now.lexicon.g.now kinds first.now.k first.now.heads.now walked.old sets.old →
+        OnOk result (IsUnderWay first.now.lexicon.g.now kinds first.now.k first.now.heads.now walked.new sets.new) }
+    ensures went_on { IfOk result (WentOn (AreWalked (length first.now.lexicon.g.now.rules)) walked.old sets.old walked.new sets.new) }
+{
+    let mut went_on = false;
+    for rule in 0..first.lexicon.g.rules.len() {
+        if go_through(alloc, first, rule, walked, sets)? {
+            went_on = true;
+        }
+    }
+    Ok(went_on)
+}
+
+/// Goes through the rule, if it has new heads: puts what may follow the rules that it calls into their sets. Whether it has.
+fn go_through(
+    alloc: Global,
+    first: &First<'_>,
+    rule: usize,
+    walked: &mut [usize],
+    sets: &mut [HeadSet],
+) -> Result<bool, NoMemory>
+    requires ready { HasRuleHeads first.now }
+    requires within { rule < length first.now.lexicon.g.now.rules }
+    requires walked { length walked.old ≡ length first.now.lexicon.g.now.rules }
+    requires all { length sets.old ≡ length first.now.lexicon.g.now.rules }
+    ensures under_way { (kinds : Kinds) → AreKinds first.now.lexicon.g.now kinds →
+        IsUnderWay first.now.lexicon.g.now kinds first.now.k first.now.heads.now walked.old sets.old →
+        OnOk result (IsUnderWay first.now.lexicon.g.now kinds first.now.k first.now.heads.now walked.new sets.new) }
+    ensures went_on { IfOk result (WentOn (IsWalked rule) walked.old sets.old walked.new sets.new) }
+{
+    let count = sets[rule].len();
+    if count <= walked[rule] {
+        return Ok(false);
+    }
+    walked[rule] = count;
+    let after = sets[rule].as_slice().to_vec(alloc)?;
+    let body = &first.lexicon.g.rules.as_slice()[rule].body;
+    follow_element(alloc, first, body, after.as_slice(), sets)?;
+    Ok(true)
 }

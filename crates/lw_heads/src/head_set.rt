@@ -1,7 +1,7 @@
 // A set of heads.
 ghost use Rattle.std.specs.Prelude.{◌≡◌, ◌+◌, ◌<◌, ◌≤◌, [], ◌∷◌, IfOk, OnOk, length, if◌then◌else◌, true, false};
 ghost use Rattle.lw_heads.specs.Heads.{kinds_in};
-ghost use Rattle.lw_heads.specs.Sets.{AddsHeads, IsAmongHeads, most_heads};
+ghost use Rattle.lw_heads.specs.Sets.{AddsHeads, AreDistinctHeads, IsAmongHeads, most_heads};
 
 use crate::Head;
 use indexmap::IndexSet;
@@ -42,6 +42,7 @@ impl HeadSet {
     pub fn len(&self) -> usize
         ensures count { result ≡ length self.now }
         ensures few { length self.now ≤ most_heads }
+        ensures distinct { AreDistinctHeads self.now }
     {
         self.heads.len()
     }

@@ -62,13 +62,7 @@ pub fn compile<F: Store, P: Patterns>(
     ensures files { F.files store.new ≡ F.files store.old }
 {
     let loaded = load(alloc, root, store)?;
-    build(
-        alloc,
-        loaded.grammar,
-        loaded.texts.as_slice(),
-        k,
-        patterns,
-    )
+    build(alloc, loaded.grammar, loaded.texts.as_slice(), k, patterns)
 }
 
 // Judges a grammar, the texts of whose files are these, and makes it ready.

@@ -1,5 +1,10 @@
 // That each fault is told, and where, and not in the nearest grammar that has it not.
-use crate::{CompileFault, FilePlace, PatternProblem, ToldTermFault, ToldTerminal, compile};
+ghost use Rattle.std.specs.Prelude.{◌≤◌};
+
+use crate::{
+    CompileFault, FilePlace, PatternProblem, ToldConflict, ToldLookFault, ToldTermFault,
+    ToldTerminal, compile,
+};
 use lw_base::{Name, NoMemory};
 use lw_io::{MemPatterns, MemStore};
 use lw_told::ToldFault;
@@ -69,16 +74,43 @@ fn shown_term(alloc: Global, told: &ToldTermFault) -> Result<String, NoMemory> {
     }
 }
 
-/// What is told of the grammar of this text.
+/// Why there are no tables, in one line.
+fn shown_look(alloc: Global, told: &ToldLookFault) -> Result<String, NoMemory> {
+    match told {
+        ToldLookFault::TooMany => Ok(String::from_str(alloc, "too many strings\n")?),
+        ToldLookFault::Conflict(conflict) => shown_conflict(alloc, conflict),
+    }
+}
+
+/// A conflict's place, how many kinds were looked at, the ways, and what they share.
+fn shown_conflict(alloc: Global, conflict: &ToldConflict) -> Result<String, NoMemory> {
+    let place = placed(alloc, &conflict.place)?;
+    let k = conflict.k;
+    let first = conflict.first;
+    let second = conflict.second;
+    let shared = &conflict.shared;
+    Ok(format!(in alloc; "{place} {k} {first} {second} {shared}\n")?)
+}
+
+/// What is told of the grammar of this text, where two kinds are looked at.
 fn faults_of(alloc: Global, text: &str) -> Result<String, NoMemory> {
+    told_of(alloc, text, 2)
+}
+
+/// What is told of the grammar of this text, where so many kinds are looked at.
+fn told_of(alloc: Global, text: &str, k: u8) -> Result<String, NoMemory>
+    requires least { 1 ≤ k }
+    requires most { k ≤ 3 }
+{
     let root = Name::from_text(alloc, "g.langium")?;
     let mut store = store_of(alloc, text)?;
     let mut patterns = MemPatterns::new(Vec::new(alloc));
-    match compile(alloc, &root, 1, &mut store, &mut patterns) {
+    match compile(alloc, &root, k, &mut store, &mut patterns) {
         Err(CompileFault::Faults(told)) => shown(alloc, told.as_slice()),
         Err(CompileFault::Load(_)) => Ok(String::from_str(alloc, "not loaded")?),
         Err(CompileFault::NoMemory) => Err(NoMemory),
         Err(CompileFault::Term(told)) => shown_term(alloc, &told),
+        Err(CompileFault::Look(told)) => shown_look(alloc, &told),
         Err(CompileFault::Unbuilt) | Ok(_) => Ok(String::new(alloc)),
     }
 }
@@ -299,6 +331,82 @@ fn each_fault_is_told_where_it_stands(rt: HostRuntime) -> Result<(), Fail> {
             let told = faults_of(rt.alloc(), text)?;
             assert_eq!(rt; told.as_str(), *lines);
         }
+    }
+    Ok(())
+}
+
+const LOOK_ROWS: [(&str, u8, &str); 13] = [
+    (
+        "grammar C entry A: x=ID | y=ID; terminal ID: /[a-z]+/;",
+        2,
+        "1:20 2 1 2 ID <end>\n",
+    ),
+    (
+        "grammar P entry A: 'a' x='b' | 'a' y='c';",
+        1,
+        "1:20 1 1 2 'a'\n",
+    ),
+    ("grammar P entry A: 'a' x='b' | 'a' y='c';", 2, ""),
+    ("grammar P entry A: 'a' x='b' | 'a' y='c';", 3, ""),
+    // What is optional inside what is optional.
+    (
+        "grammar G entry A: 'x' (a='a'?)?;",
+        2,
+        "1:24 2 1 2 <end> <end>\n",
+    ),
+    // A rule that cannot be reached.
+    (
+        "grammar G entry A: x=ID; B: y=ID | z=ID; terminal ID: /[a-z]+/;",
+        2,
+        "",
+    ),
+    // A choice in an assignment's value.
+    (
+        "grammar G entry A: x=('a' | 'b' | 'a');",
+        3,
+        "1:23 3 1 3 'a' <end> <end>\n",
+    ),
+    // A fragment's choice is one, whatever calls the fragment.
+    (
+        "grammar G entry A: 'p' F 'a' | 'y' F 'z'; fragment F: a='a'?;",
+        1,
+        "1:55 1 1 2 'a'\n",
+    ),
+    (
+        "grammar G entry A: 'p' F 'a' | 'y' F 'z'; fragment F: a='a'?;",
+        2,
+        "",
+    ),
+    // What is read again, and then once more behind it.
+    (
+        "grammar G entry A: x+=ID+ y=ID; terminal ID: /[a-z]+/;",
+        1,
+        "1:20 1 1 2 ID\n",
+    ),
+    (
+        "grammar G entry A: x+=ID+ y=ID; terminal ID: /[a-z]+/;",
+        2,
+        "",
+    ),
+    // The least pair of ways, though another one comes first in the order of kinds.
+    (
+        "grammar G entry A: x='b' | y='a' | z='a' | w='b';",
+        1,
+        "1:20 1 1 4 'b'\n",
+    ),
+    // What is printed first, though it has the greater number.
+    (
+        "grammar G entry A: x=B | y=B; B: n='z' | n='a';",
+        1,
+        "1:20 1 1 2 'a'\n",
+    ),
+];
+
+#[test]
+fn conflicts_are_told(rt: HostRuntime) -> Result<(), Fail> {
+    for (text, k, line) in LOOK_ROWS {
+        let told = told_of(rt.alloc(), text, k)?;
+        assert_eq!(rt; told.as_str(), line);
     }
     Ok(())
 }

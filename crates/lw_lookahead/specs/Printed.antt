@@ -1,5 +1,6 @@
 -- How a window is printed: the texts of its kinds, joined by one space, where the end is `<end>`.
 use Rattle.std.specs.Prelude.{ℕ, List, [], ◌∷◌, ◌++◌, Option, Some, None, codes, slice_index_or}
+use Rattle.std.specs.List.{flat_map}
 
 module _ (texts : List (List ℕ)) where
   abbrev pub shown : Option ℕ → List ℕ
@@ -10,3 +11,7 @@ module _ (texts : List (List ℕ)) where
   printed [] = []
   printed (x ∷ []) = shown x
   printed (x ∷ y ∷ xs) = shown x ++ (codes " " ++ printed (y ∷ xs))
+
+  -- each behind a space
+  abbrev pub spaced : List (Option ℕ) → List ℕ
+  spaced = flat_map (λ x. codes " " ++ shown x)

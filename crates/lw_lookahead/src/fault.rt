@@ -1,9 +1,11 @@
 // Why a grammar has no tables.
 ghost use Rattle.std.specs.Prelude.{◌≡◌};
 ghost use Rattle.lw_lookahead.specs.declared.fault.LookFault.TheVariants.{NoMemory as no_memory};
+ghost use Rattle.lw_lookahead.specs.Faults.{look_fault};
 
 use lw_base::{Name, NoMemory, Span};
 use lw_heads::Head;
+use lw_points::PointsFault;
 
 /// A choice at which two ways may be followed by the same.
 #[derive(Drop)]
@@ -35,5 +37,16 @@ impl From<NoMemory> for LookFault {
 
     fn from(_: NoMemory) -> Self {
         LookFault::NoMemory
+    }
+}
+
+impl From<PointsFault> for LookFault {
+    ghost from_gives = { λ fault look. look ≡ look_fault fault };
+
+    fn from(fault: PointsFault) -> Self {
+        match fault {
+            PointsFault::TooMany => LookFault::TooMany,
+            PointsFault::NoMemory => LookFault::NoMemory,
+        }
     }
 }

@@ -1,4 +1,8 @@
 // What is kept of the choices of a grammar.
+ghost use Rattle.std.specs.Prelude.{◌≤◌};
+ghost use Rattle.std.specs.List.{All};
+ghost use Rattle.lw_lookahead.specs.Entries.{AreEntries};
+
 use indexmap::IndexMap;
 use lw_heads::Head;
 
@@ -7,4 +11,6 @@ use lw_heads::Head;
 pub struct Tables {
     pub(crate) k: usize,
     pub(crate) points: Vec<IndexMap<Head, u16>>,
+    ghost most: { k ≤ 3 },
+    ghost entries: { All (λ point. AreEntries k point.entries) points.items },
 }

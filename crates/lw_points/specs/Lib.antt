@@ -1,2 +1,5 @@
 pub mod Written
 pub mod Points
+pub mod Ways
+pub mod Counted
+pub mod Gathering

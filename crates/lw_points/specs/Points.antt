@@ -1,5 +1,5 @@
 -- The choices of a grammar, each with the heads of its ways.
-use Rattle.std.specs.Prelude.{ℕ, ◌≡◌, ◌+◌, ◌<◌, ◌↔◌, List, Some, length, slice_get, take}
+use Rattle.std.specs.Prelude.{ℕ, ◌≡◌, ◌+◌, ◌<◌, ◌↔◌, List, Some, ⊤, length, slice_get, take}
 use Rattle.std.specs.List.{sum_by}
 use Rattle.lw_grammar.specs.declared.grammar.Grammar.{Grammar}
 use Rattle.lw_grammar.specs.Kinds.{Kinds}
@@ -7,7 +7,7 @@ use Rattle.lw_look.specs.Choices.{choice_sites}
 use Rattle.lw_look.specs.Sites.{PartSite}
 use Rattle.lw_look.specs.Heads.{CanLook}
 use Rattle.lw_heads.specs.declared.head.Head.{Head}
-use Rattle.lw_heads.specs.Sets.{IsInSet}
+use Rattle.lw_heads.specs.Sets.{AreDistinctHeads, IsInSet}
 use Rattle.lw_points.specs.declared.point.Point.{Point}
 use Rattle.lw_points.specs.declared.point.TheConstants.{MOST_STRINGS}
 use Rattle.lw_points.specs.declared.point.PointsFault.{PointsFault}
@@ -24,6 +24,8 @@ module _ (g : Grammar) (kinds : Kinds) (k : ℕ) (heads followers : List (List H
   pub record IsPointAt (s : PartSite) (point : Point) : Type 0 where
     pub place : IsWrittenAt g s point.file point.span
     pub exact : (way : ℕ) (h : List ℕ) → CanLook g kinds k (IsInSet heads) (IsInSet followers) s way h ↔ ((i : ℕ) × (way ≡ i + 1) × IsInSet point.ways.items i h)
+    -- of each way no head stands twice
+    pub distinct : (i : ℕ) (heads : List Head) → slice_get point.ways.items i ≡ Some heads → AreDistinctHeads heads
 
   -- those at these sites, in their order
   pub record ArePoints (sites : List PartSite) (points : List Point) : Type 0 where
@@ -33,4 +35,4 @@ module _ (g : Grammar) (kinds : Kinds) (k : ℕ) (heads followers : List (List H
   -- why the choices are not gathered
   abbrev pub CausesNoPoints : PointsFault → Type 0
   CausesNoPoints TooMany = (n : ℕ) × (points : List Point) × ArePoints (take n (choice_sites g)) points × (MOST_STRINGS < strings_in points)
-  CausesNoPoints NoMemory = Unit {0}
+  CausesNoPoints NoMemory = ⊤

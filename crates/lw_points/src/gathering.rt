@@ -3,13 +3,17 @@ ghost use Rattle.std.specs.Prelude.{◌≤◌, IfErr, IfOk};
 ghost use Rattle.lw_grammar.specs.Kinds.{Kinds, AreKinds};
 ghost use Rattle.lw_grammar.specs.Size.{size};
 ghost use Rattle.lw_look.specs.Choices.{choice_sites};
+ghost use Rattle.lw_heads.specs.Sets.{IsInSet};
 ghost use Rattle.lw_first.specs.Before.{IsReady};
 ghost use Rattle.lw_points.specs.declared.point.TheConstants.{MOST_STRINGS};
 ghost use Rattle.lw_points.specs.Points.{ArePoints, CausesNoPoints, strings_in};
+ghost use Rattle.lw_points.specs.Ways.{HasExactly};
 
+use crate::gathered::Gathered;
+use crate::walk::Walk;
 use crate::{Point, PointsFault};
 use lw_first::First;
-use lw_heads::HeadSet;
+use lw_heads::{Head, HeadSet};
 use std::alloc::Global;
 
 /// The choices of a grammar in their order, each with the heads of its ways, where these heads may follow the rules. As soon as there are
@@ -27,5 +31,28 @@ pub fn points(
     ensures fault { (kinds : Kinds) → AreKinds first.now.lexicon.g.now kinds →
         IfErr result (CausesNoPoints first.now.lexicon.g.now kinds first.now.k first.now.heads.now followers.now) }
 {
-    Err(PointsFault::NoMemory)
+    let mut gathered = Gathered::new(alloc);
+    for (number, rule) in first.lexicon.g.rules.as_slice().iter().enumerate() {
+        let walk = Walk {
+            first: *first,
+            file: rule.file,
+        };
+        walk.add_element(
+            alloc,
+            &rule.body,
+            heads_at(followers, number),
+            &mut gathered,
+        )?;
+    }
+    Ok(gathered.points)
+}
+
+/// The heads in the set of this number, none where there is no such set.
+fn heads_at(sets: &[HeadSet], number: usize) -> &[Head]
+    ensures { HasExactly (IsInSet sets.now number) result.now }
+{
+    match sets.get(number) {
+        Some(set) => set.as_slice(),
+        None => &[],
+    }
 }

@@ -1,0 +1,12 @@
+pub mod Lists
+pub mod Counted
+pub mod Parts
+pub mod Written
+pub mod Texts
+pub mod Filling
+pub mod ElementForms
+pub mod ValueForms
+pub mod Rows
+pub mod Starting
+pub mod Building
+pub mod Reaching
