@@ -1,0 +1,2 @@
+//! The tree that the marks of a derivation stand for.
+#![tactic(auto)]
