@@ -1,0 +1,11 @@
+// A cell of a list, and a list by its number.
+/// A list among those of [`Chains`]. The number 0 is the empty one.
+#[derive(Clone, Copy, Debug, PartialEq, Eq)]
+pub struct Link(pub u32);
+
+/// An item, and the list below it.
+#[derive(Clone, Copy, Debug)]
+pub struct Cell<T> {
+    pub item: T,
+    pub below: Link,
+}

@@ -1,0 +1,68 @@
+-- The readings of a list of kinds, as they are kept: the marks of each up to its last token, and the places that are still to be done.
+-- Held against the textbooks' viable prefixes: what is kept are all beginnings of sentences that have these kinds, and no others.
+use Rattle.std.specs.Prelude.{ℕ, ◌≡◌, List, [], ◌∷◌, ◌++◌, Any, All, Contains, Some, slice_get}
+use Rattle.lw_grammar.specs.declared.grammar.Grammar.{Grammar}
+use Rattle.lw_grammar.specs.declared.rule.Element.{Element}
+use Rattle.lw_grammar.specs.declared.rule.Rule.{Rule}
+use Rattle.lw_grammar.specs.declared.rule.Op.{Op}
+use Rattle.lw_grammar.specs.declared.rule.Value0.{Value0}
+use Rattle.lw_grammar.specs.Kinds.{Kinds}
+use Rattle.lw_grammar.specs.Named.{IsEntry}
+use Rattle.lw_grammar.specs.Reached.{IsReached}
+use Rattle.lw_base.specs.declared.numbers.KindId.{KindId}
+use Rattle.lw_sentences.specs.Marks.{Mark, kinds_of}
+use Rattle.lw_sentences.specs.Sentences.{IsSentence}
+use Rattle.lw_look.specs.Sites.{PartSite, rule_of, Body, Value, IsPartAt, RepeatedAt}
+use Rattle.lw_look.specs.Things.{Thing, Do, Assigned, Again, Leave}
+use Rattle.lw_program.specs.Says.{Task, Does, Reads}
+use Rattle.lw_recipes.specs.declared.mark.TreeMark.{TreeMark}
+use Rattle.lw_recipes.specs.declared.mark.TreeMark.TheVariants as numbered
+use Rattle.lw_recipes.specs.Meant.{AssignedAt, AreMeant}
+use Rattle.lw_begins.specs.Gives.{PlacesGive}
+
+-- the marks that were left, and the places that are still to be done, one after another
+pub record Reading : Type 0 where
+  pub marks : List TreeMark
+  pub rest : List ℕ
+
+module _ (g : Grammar) where
+  -- the task is at a part of a rule that can be reached; a value is assigned there by what the task says
+  pub data IsPlaced : Task → Type 0 where
+    element : {s : PartSite} {e : Element} → IsPartAt g s (Body e) → IsReached g (rule_of s) → IsPlaced (Does (Do s))
+    assigned : {p : List ℕ} {op : Op} {s : PartSite} {v : Value0} → IsPartAt g s (Value v) → AssignedAt g s p op → IsReached g (rule_of s) →
+        IsPlaced (Does (Assigned p op s))
+    again : {s : PartSite} {e : Element} → RepeatedAt g s e → IsReached g (rule_of s) → IsPlaced (Does (Again s))
+    leaves : {l : Mark} → IsPlaced (Does (Leave l))
+    reads : {s : PartSite} {v : Value0} → IsPartAt g s (Value v) → IsReached g (rule_of s) → IsPlaced (Reads s)
+
+module _ (g : Grammar) (kinds : Kinds) (tasks : List Task) where
+  -- m begins with the marks of the reading, and goes on with what its places give
+  pub record GoesOn (m : List Mark) (reading : Reading) : Type 0 where
+    pub front : List Mark
+    pub others : List Mark
+    pub meant : AreMeant g reading.marks front
+    pub gives : PlacesGive g kinds tasks reading.rest others
+    pub are : m ≡ front ++ others
+
+  -- the marks are those of the start, where nothing was read, or end with a token
+  pub data IsCut : List ℕ → List TreeMark → Type 0 where
+    nothing_read : {marks : List TreeMark} → IsCut [] marks
+    token : {k : ℕ} {ks : List ℕ} (marks : List TreeMark) (kind : KindId) → IsCut (k ∷ ks) (marks ++ numbered.Token kind ∷ [])
+
+  -- the place has a task of a rule that can be reached
+  abbrev pub HasPlace : ℕ → Type 0
+  HasPlace p = (t : Task) × (slice_get tasks p ≡ Some t) × IsPlaced g t
+
+  -- what is kept of one reading of these kinds: it goes on to sentences alone, it has the kinds, and it is cut behind its last token
+  pub record IsKept (ks : List ℕ) (reading : Reading) : Type 0 where
+    pub sound : (m : List Mark) → GoesOn m reading → IsSentence g kinds m
+    pub front : List Mark
+    pub meant : AreMeant g reading.marks front
+    pub kinds_are : kinds_of front ≡ ks
+    pub cut : IsCut ks reading.marks
+    pub placed : All HasPlace reading.rest
+
+  -- these are the readings of the kinds: each is one, and every sentence that begins with the kinds goes on from one of them
+  pub record Keeps (ks : List ℕ) (readings : List Reading) : Type 0 where
+    pub each : All (IsKept ks) readings
+    pub all : (m : List Mark) (ls : List ℕ) → IsSentence g kinds m → kinds_of m ≡ ks ++ ls → Any (GoesOn m) readings

@@ -1,0 +1,6 @@
+//! All readings of the first tokens of a text.
+#![tactic(auto)]
+
+mod fronts;
+
+pub use fronts::Fronts;
