@@ -1,29 +1,21 @@
 // The readings of the tokens so far.
-ghost use Rattle.std.specs.Prelude.{ℕ, ◌≡◌, ◌↔◌, List, [], ◌∷◌, ◌++◌, Some, IsTrue, IfOk, IfErr, OnErr, slice_get};
+ghost use Rattle.std.specs.Prelude.{ℕ, ◌≡◌, ◌↔◌, ◌<◌, List, [], IsTrue, IfOk, IfErr};
 ghost use Rattle.lw_grammar.specs.declared.grammar.Grammar.{Grammar};
 ghost use Rattle.lw_grammar.specs.declared.rule.Rule.{Rule};
-ghost use Rattle.lw_grammar.specs.Kinds.{Kinds, AreKinds, kind_count};
+ghost use Rattle.lw_grammar.specs.Kinds.{Kinds, kind_count};
 ghost use Rattle.lw_grammar.specs.Named.{IsEntry};
 ghost use Rattle.lw_sentences.specs.Sentences.{IsWhole, Starts};
 ghost use Rattle.lw_look.specs.Supplied.{IsSupplied};
-ghost use Rattle.lw_program.specs.ProgramOf.{IsProgramOf};
-ghost use Rattle.lw_begins.specs.Told.{TellsBegins};
-ghost use Rattle.lw_viable.specs.Readings.{Reading, Keeps};
+ghost use Rattle.lw_viable.specs.Fronts.{HoldReadings, IsKnownProgram, seen};
 
-use lw_base::{KindId, NoMemory, RuleId, Token};
+use crate::front::Front;
+use lw_base::{NoMemory, RuleId, Token};
 use lw_begins::Begins;
-use lw_chains::{Chains, Link};
+use lw_chains::Chains;
 use lw_program::Program;
 use lw_recipes::TreeMark;
 use std::alloc::Global;
 use std::marker::Model;
-
-/// One reading: the list of its marks, the latest first, and that of the places that are still to be done.
-#[derive(Clone, Copy, Debug)]
-pub(crate) struct Front {
-    pub(crate) marks: Link,
-    pub(crate) rest: Link,
-}
 
 /// All readings of the tokens so far: the beginnings of sentences with these kinds, as lists that share their ends.
 #[derive(Drop)]
@@ -33,4 +25,52 @@ pub struct Fronts<'p> {
     marks: Chains<TreeMark>,
     rests: Chains<u32>,
     kept: Vec<Front>,
+}
+
+impl Model for Fronts<'_> {
+    ghost use Rattle.std.specs.Prelude.{◌≤◌, length, map, All};
+    ghost use Rattle.lw_viable.specs.Fronts.{FrontsParts, reading_of};
+
+    ghost Value = { FrontsParts };
+
+    ghost view = { λ a. record { program = a.program.now; begins = a.begins.now; kept = map (reading_of a.marks a.rests) a.kept.items } };
+
+    ghost invariant = { λ a. All (λ front. (front.marks.0 ≤ length a.marks) × (front.rest.0 ≤ length a.rests)) a.kept.items };
+}
+
+impl<'p> Fronts<'p> {
+    /// The readings of no tokens: the entry rule is still to be done.
+    pub fn start(
+        alloc: Global,
+        program: &'p Program,
+        begins: &'p Begins,
+        entry: RuleId,
+    ) -> Result<Fronts<'p>, NoMemory>
+        requires known { (g : Grammar) × (kinds : Kinds) × (rule : Rule) × IsKnownProgram g kinds program.now begins.now × IsEntry g entry.0 rule }
+        ensures { (g : Grammar) (kinds : Kinds) (rule : Rule) → IsKnownProgram g kinds program.now begins.now → IsEntry g entry.0 rule →
+            IfOk result (λ fronts. HoldReadings g kinds [] fronts) }
+    {
+        Err(NoMemory)
+    }
+
+    /// Reads one more token, and answers whether some sentence begins with the kinds of the visible tokens so far. A hidden token changes
+    /// nothing. Where memory is wanting, the readings are those of before.
+    pub fn step(&mut self, token: Token) -> Result<bool, NoMemory>
+        requires known { (g : Grammar) × (kinds : Kinds) × (ks : List ℕ) × HoldReadings g kinds ks self.old × (token.kind.0 < kind_count kinds) }
+        ensures readings { (g : Grammar) (kinds : Kinds) (ks : List ℕ) → HoldReadings g kinds ks self.old → token.kind.0 < kind_count kinds →
+            IfOk result (λ starts. HoldReadings g kinds (seen ks token) self.new) }
+        ensures starts { (g : Grammar) (kinds : Kinds) (ks : List ℕ) → HoldReadings g kinds ks self.old → token.kind.0 < kind_count kinds →
+            IsSupplied g kinds → IfOk result (λ starts. IsTrue starts ↔ Starts g kinds (seen ks token)) }
+        ensures refused { IfErr result (λ refused. self.new ≡ self.old) }
+    {
+        Err(NoMemory)
+    }
+
+    /// Whether the visible tokens so far are a sentence. Takes no memory. Linear in what is still to be done of the readings.
+    pub fn complete(&self) -> bool
+        requires known { (g : Grammar) × (kinds : Kinds) × (ks : List ℕ) × HoldReadings g kinds ks self.now }
+        ensures { (g : Grammar) (kinds : Kinds) (ks : List ℕ) → HoldReadings g kinds ks self.now → IsTrue result ↔ IsWhole g kinds ks }
+    {
+        false
+    }
 }

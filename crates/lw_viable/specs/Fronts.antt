@@ -1,0 +1,37 @@
+-- What readings are kept over, and what they are asked for.
+use Rattle.std.specs.Prelude.{ℕ, ◌≡◌, ◌<◌, List, [], ◌∷◌, ◌++◌, if◌then◌else◌, reverse}
+use Rattle.lw_base.specs.declared.token.Token.{Token}
+use Rattle.lw_grammar.specs.declared.grammar.Grammar.{Grammar}
+use Rattle.lw_grammar.specs.Kinds.{Kinds, AreKinds, kind_count}
+use Rattle.lw_chains.specs.Chains.{chain}
+use Rattle.lw_program.specs.ProgramOf.{ProgramParts, IsProgramOf}
+use Rattle.lw_recipes.specs.declared.mark.TreeMark.{TreeMark}
+use Rattle.lw_begins.specs.Told.{BeginsParts, TellsBegins}
+use Rattle.lw_viable.specs.Readings.{Reading, Keeps}
+use Rattle.lw_viable.specs.declared.front.Front.{Front}
+
+-- a program, what is told of its places, and the readings that are kept
+pub record FrontsParts : Type 0 where
+  pub program : ProgramParts
+  pub begins : BeginsParts
+  pub kept : List Reading
+
+-- the reading of two lists: its marks, the latest of which stands first there, and its places
+abbrev pub reading_of : List (TreeMark × ℕ) → List (ℕ × ℕ) → Front → Reading
+reading_of marks rests front = record { marks = reverse (chain marks front.marks.0); rest = chain rests front.rest.0 }
+
+-- the kinds of the visible tokens, once one more token was read
+abbrev pub seen : List ℕ → Token → List ℕ
+seen ks token = if token.hidden then ks else ks ++ token.kind.0 ∷ []
+
+module _ (g : Grammar) (kinds : Kinds) where
+  -- the program is one of the grammar, and all is told of it
+  pub record IsKnownProgram (parts : ProgramParts) (told : BeginsParts) : Type 0 where
+    pub are : AreKinds g kinds
+    pub program : IsProgramOf g kinds parts
+    pub begins : TellsBegins g kinds program.tasks told
+
+  -- these are the readings of the kinds by a program of the grammar
+  pub record HoldReadings (ks : List ℕ) (fronts : FrontsParts) : Type 0 where
+    pub known : IsKnownProgram fronts.program fronts.begins
+    pub keeps : Keeps g kinds known.program.tasks ks fronts.kept

@@ -1,0 +1,9 @@
+// One reading by its lists.
+use lw_chains::Link;
+
+/// One reading: the list of its marks, the latest first, and that of the places that are still to be done.
+#[derive(Clone, Copy, Debug)]
+pub(crate) struct Front {
+    pub(crate) marks: Link,
+    pub(crate) rest: Link,
+}
