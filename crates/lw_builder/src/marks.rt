@@ -1,0 +1,80 @@
+// What each mark does, and the tree at the end.
+ghost use Rattle.std.specs.Prelude.{ℕ, ◌≡◌, List, [], ◌∷◌, ◌++◌, IfOk, OnOk, take};
+ghost use Rattle.lw_grammar.specs.declared.grammar.Grammar.{Grammar};
+ghost use Rattle.lw_sentences.specs.Marks.{Mark};
+ghost use Rattle.lw_marks.specs.Brackets.{Bracket};
+ghost use Rattle.lw_marks.specs.Follows.{Closes, Follows};
+ghost use Rattle.lw_marks.specs.Grown.{Grown};
+ghost use Rattle.lw_marks.specs.Trees.{IsOpened, parts_of};
+ghost use Rattle.lw_recipes.specs.Making.{AreRecipesOf};
+ghost use Rattle.lw_recipes.specs.Meant.{AreMeant, MeansMark};
+ghost use Rattle.lw_tree.specs.Parts.{SameTables, Tile};
+ghost use Rattle.lw_builder.specs.Built.{ArePartsOf, GoesOnBy, HasFollowed, IsOverSame, visible_of};
+
+use crate::Builder;
+use lw_base::{Name, NoMemory, Token};
+use lw_recipes::{Recipes, TreeMark};
+use lw_tree::Tree;
+use std::alloc::Global;
+
+impl<'a> Builder<'a> {
+    /// Nothing is built yet of the text with these visible tokens.
+    pub fn new(alloc: Global, recipes: &'a Recipes, text: &'a Name, visible: &'a [Token]) -> Builder<'a>
+        ensures { (g : Grammar) → AreRecipesOf g recipes.now → ArePartsOf text.now visible.now → HasFollowed g [] [] result }
+        ensures over { (result.text.now ≡ text.now) × (result.visible.now ≡ visible.now) × (result.recipes.now ≡ recipes.now) }
+    {
+        Builder {
+            recipes,
+            text,
+            visible,
+            read: 0,
+            finished: Vec::new(alloc),
+            kept: Vec::new(alloc),
+            loose: Vec::new(alloc),
+            refs: Vec::new(alloc),
+            brackets: Vec::new(alloc),
+        }
+    }
+
+    /// Follows one more mark.
+    pub fn mark(&mut self, mark: TreeMark) -> Result<(), NoMemory>
+        requires goes_on { (g : Grammar) × (m : List Mark) × (x : Mark) × (bs : List Bracket) × (after : List Bracket) ×
+            HasFollowed g m bs self.old × MeansMark g mark x × GoesOnBy g self.old x bs after }
+        ensures followed { (g : Grammar) (m : List Mark) (x : Mark) (bs after : List Bracket) → HasFollowed g m bs self.old → MeansMark g mark x →
+            GoesOnBy g self.old x bs after → OnOk result (HasFollowed g (m ++ x ∷ []) after self.new) }
+        ensures over { IsOverSame self.old self.new }
+    {
+        Err(NoMemory)
+    }
+
+    /// The tree that is there once all that is open is closed, the innermost first; a reference that is not finished is left out.
+    pub fn tree(self, tokens: Vec<Token>) -> Result<Tree, NoMemory>
+        requires closes { (g : Grammar) × (m : List Mark) × (bs : List Bracket) × (x : Grown) × HasFollowed g m bs self ×
+            Closes g self.text.now (take self.read self.visible.now) bs x }
+        requires tokens { Tile 0 tokens.items }
+        ensures { (g : Grammar) (m : List Mark) (bs : List Bracket) (x : Grown) → HasFollowed g m bs self →
+            Closes g self.text.now (take self.read self.visible.now) bs x →
+            IfOk result (λ tree. SameTables tree (parts_of x tokens.items self.recipes.now.naming)) }
+    {
+        Err(NoMemory)
+    }
+}
+
+/// The tree of marks by which some of the tokens of the text, those that are not hidden, were read.
+pub fn tree_of(
+    alloc: Global,
+    recipes: &Recipes,
+    marks: &[TreeMark],
+    tokens: Vec<Token>,
+    text: &Name,
+) -> Result<Tree, NoMemory>
+    requires follows { (g : Grammar) × (m : List Mark) × (bs : List Bracket) × (x : Grown) × AreRecipesOf g recipes.now × AreMeant g marks.now m ×
+        Follows g text.now m (visible_of tokens.items) bs × Closes g text.now (visible_of tokens.items) bs x }
+    requires tokens { Tile 0 tokens.items }
+    requires parts { ArePartsOf text.now tokens.items }
+    ensures { (g : Grammar) (m : List Mark) (bs : List Bracket) (x : Grown) → AreRecipesOf g recipes.now → AreMeant g marks.now m →
+        Follows g text.now m (visible_of tokens.items) bs → Closes g text.now (visible_of tokens.items) bs x →
+        IfOk result (IsOpened g text.now m (visible_of tokens.items) tokens.items) }
+{
+    Err(NoMemory)
+}
