@@ -27,6 +27,14 @@ use Rattle.lw_recipes.specs.declared.recipe.TextForm.{TextForm}
 use Rattle.lw_recipes.specs.declared.recipe.TextForm.TheVariants.{Plain, Identifier, Quoted}
 use Rattle.lw_recipes.specs.declared.recipe.ValueRecipe.{ValueRecipe}
 
+-- What is made of the values, by their numbers; what the actions do, by theirs; the types of the rules, by theirs; and the property that
+-- names nodes.
+pub record RecipeLists : Type 0 where
+  pub made : List ValueRecipe
+  pub done : List ActionRecipe
+  pub opened : List (Option TypeId)
+  pub naming : Option PropId
+
 -- what the token of a terminal of this name says
 abbrev pub text_form : List ℕ → TextForm
 text_form name = if bytes_eq name (codes "ID") then Identifier else if bytes_eq name (codes "STRING") then Quoted else Plain
@@ -58,14 +66,14 @@ module _ (g : Grammar) where
   IsPutNumber (Some put) (Some p) = IsPropertyNumber g put.0 p.0
   IsPutNumber _ _ = ⊥
 
-  -- by the numbers of values, actions and rules, what is made; and the property that names nodes
-  pub record AreRecipesOf (made : List ValueRecipe) (done : List ActionRecipe) (opened : List (Option TypeId)) (naming : Option PropId) : Type 0 where
+  -- these are what becomes of what is read by the grammar
+  pub record AreRecipesOf (recipes : RecipeLists) : Type 0 where
     pub values : (n : ℕ) (s : PartSite) (p : List ℕ) (op : Op) (c : Value0) → slice_get (put_sites g) n ≡ Some s → AssignedAt g s p op →
-        IsPartAt g s (Value c) → (recipe : ValueRecipe) × (slice_get made n ≡ Some recipe) × IsPropertyNumber g p recipe.prop.0
+        IsPartAt g s (Value c) → (recipe : ValueRecipe) × (slice_get recipes.made n ≡ Some recipe) × IsPropertyNumber g p recipe.prop.0
         × ((content : Content) → IsMadeBy op c content → recipe.content ≡ content)
     pub actions : (n : ℕ) (s : PartSite) (a : Action) → slice_get (act_sites g) n ≡ Some s → ElementAt g s (layer.Act a) →
-        (recipe : ActionRecipe) × (slice_get done n ≡ Some recipe) × IsTypeNumber g a.type_name recipe.type_id.0
+        (recipe : ActionRecipe) × (slice_get recipes.done n ≡ Some recipe) × IsTypeNumber g a.type_name recipe.type_id.0
         × IsPutNumber a.put recipe.put
     pub types : (r type : ℕ) (rule : Rule) (type_name : List ℕ) → slice_get g.rules r ≡ Some rule → HasType g rule type_name →
-        IsTypeNumber g type_name type → slice_get opened r ≡ Some (Some (record { 0 = type }))
-    pub name : IsNamingProperty g naming
+        IsTypeNumber g type_name type → slice_get recipes.opened r ≡ Some (Some (record { 0 = type }))
+    pub name : IsNamingProperty g recipes.naming

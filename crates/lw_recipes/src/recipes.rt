@@ -1,10 +1,11 @@
 // The recipes of a grammar.
-ghost use Rattle.std.specs.Prelude.{IfOk};
+ghost use Rattle.std.specs.Prelude.{◌≡◌, ◌<◌, Some, IfOk, MatchOption, length, slice_get};
+ghost use Rattle.lw_base.specs.declared.numbers.TypeId.{TypeId};
 ghost use Rattle.lw_lexicon.specs.Known.{IsLexicon};
 ghost use Rattle.lw_recipes.specs.Making.{AreRecipesOf};
 
 use crate::recipe::{ActionRecipe, ValueRecipe};
-use lw_base::{NoMemory, PropId, TypeId};
+use lw_base::{NoMemory, PropId, RuleId, TypeId};
 use lw_lexicon::Lexicon;
 use std::alloc::Global;
 use std::marker::Model;
@@ -12,18 +13,60 @@ use std::marker::Model;
 /// What becomes of what is read by a grammar.
 #[derive(Drop)]
 pub struct Recipes {
-    pub values: Vec<ValueRecipe>,
-    pub actions: Vec<ActionRecipe>,
-    pub types: Vec<Option<TypeId>>,
-    pub name: Option<PropId>,
+    values: Vec<ValueRecipe>,
+    actions: Vec<ActionRecipe>,
+    types: Vec<Option<TypeId>>,
+    naming: Option<PropId>,
+}
+
+impl Model for Recipes {
+    ghost use Rattle.lw_recipes.specs.Making.{RecipeLists};
+
+    ghost Value = { RecipeLists };
+
+    ghost view = { λ a. record { made = a.values.items; done = a.actions.items; opened = a.types.items; naming = a.naming } };
 }
 
 impl Recipes {
     /// Those of a grammar.
     pub fn of(alloc: Global, lexicon: Lexicon<'_>) -> Result<Recipes, NoMemory>
         requires known { IsLexicon lexicon }
-        ensures { IfOk result (λ recipes. AreRecipesOf lexicon.entry.g.now recipes.values.items recipes.actions.items recipes.types.items recipes.name) }
+        ensures { IfOk result (AreRecipesOf lexicon.entry.g.now) }
     {
         Err(NoMemory)
+    }
+
+    /// What is made of the value of this number, in constant time.
+    pub fn value(&self, number: u32) -> &ValueRecipe
+        requires { number < length self.now.made }
+        ensures { slice_get self.now.made number ≡ Some result.now }
+    {
+        &self.values[number as usize]
+    }
+
+    /// What the action of this number does, in constant time.
+    pub fn action(&self, number: u32) -> ActionRecipe
+        requires { number < length self.now.done }
+        ensures { slice_get self.now.done number ≡ Some result }
+    {
+        self.actions[number as usize]
+    }
+
+    /// The type of the nodes that the rule begins, in constant time. A rule without a type has none, nor has a number of no rule.
+    pub fn type_of_rule(&self, rule: RuleId) -> Option<TypeId>
+        ensures { MatchOption result ((t : TypeId) → ¬ (slice_get self.now.opened rule.0 ≡ Some (Some t)))
+            (λ t. slice_get self.now.opened rule.0 ≡ Some (Some t)) }
+    {
+        match self.types.as_slice().get(rule.0 as usize) {
+            Some(found) => *found,
+            None => None,
+        }
+    }
+
+    /// The property `name`, by whose value a node is named, where the grammar has one.
+    pub fn name(&self) -> Option<PropId>
+        ensures { result ≡ self.now.naming }
+    {
+        self.naming
     }
 }
