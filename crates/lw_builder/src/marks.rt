@@ -20,7 +20,7 @@ use std::alloc::Global;
 impl<'a> Builder<'a> {
     /// Nothing is built yet of the text with these visible tokens.
     pub fn new(alloc: Global, recipes: &'a Recipes, text: &'a Name, visible: &'a [Token]) -> Builder<'a>
-        ensures { (g : Grammar) → AreRecipesOf g recipes.now → ArePartsOf text.now visible.now → HasFollowed g [] [] result }
+        ensures nothing { (g : Grammar) → AreRecipesOf g recipes.now → ArePartsOf text.now visible.now → HasFollowed g [] [] result }
         ensures over { (result.text.now ≡ text.now) × (result.visible.now ≡ visible.now) × (result.recipes.now ≡ recipes.now) }
     {
         Builder {
@@ -52,9 +52,9 @@ impl<'a> Builder<'a> {
         requires closes { (g : Grammar) × (m : List Mark) × (bs : List Bracket) × (x : Grown) × HasFollowed g m bs self ×
             Closes g self.text.now (take self.read self.visible.now) bs x }
         requires tokens { Tile 0 tokens.items }
-        ensures { (g : Grammar) (m : List Mark) (bs : List Bracket) (x : Grown) → HasFollowed g m bs self →
-            Closes g self.text.now (take self.read self.visible.now) bs x →
-            IfOk result (λ tree. SameTables tree (parts_of x tokens.items self.recipes.now.naming)) }
+        ensures { (g : Grammar) (m : List Mark) (bs : List Bracket) (x : Grown) → HasFollowed g m bs self.entry →
+            Closes g self.entry.text.now (take self.entry.read self.entry.visible.now) bs x →
+            IfOk result (λ tree. SameTables tree (parts_of x tokens.items self.entry.recipes.now.naming)) }
     {
         Err(NoMemory)
     }
