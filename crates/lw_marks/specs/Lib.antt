@@ -4,3 +4,4 @@ pub mod Values
 pub mod Brackets
 pub mod Follows
 pub mod Trees
+pub mod Worked

@@ -1,0 +1,2 @@
+pub mod StateTree
+pub mod MoreTrees
