@@ -1,0 +1,31 @@
+// What a reader may expect of the trees of sentences.
+ghost use Rattle.std.specs.Prelude.{ℕ, ◌≡◌, ◌≢◌, List, [], ◌∷◌, ◌++◌};
+ghost use Rattle.lw_base.specs.declared.token.Token.{Token};
+ghost use Rattle.lw_grammar.specs.declared.grammar.Grammar.{Grammar};
+ghost use Rattle.lw_grammar.specs.declared.fault.GrammarFault.{GrammarFault};
+ghost use Rattle.lw_grammar.specs.Kinds.{Kinds, AreKinds};
+ghost use Rattle.lw_faults.specs.Faults.{IsCheckFault, IsTypeFault};
+ghost use Rattle.lw_sentences.specs.Marks.{Mark};
+ghost use Rattle.lw_sentences.specs.Sentences.{IsSentence};
+ghost use Rattle.lw_marks.specs.Brackets.{Bracket};
+ghost use Rattle.lw_marks.specs.Follows.{Closes, Follows};
+ghost use Rattle.lw_marks.specs.Grown.{Grown};
+ghost use Rattle.lw_rooted.specs.Growing.{GrowsOpen, GrowsRoot, ReadMarks};
+
+/// Marks that are followed leave one list of open brackets, and that is closed in one way: there is at most one tree of them.
+pub fn marks_have_one_tree()
+    ensures follows { (g : Grammar) (text : List ℕ) (m : List Mark) (ts : List Token) (bs other : List Bracket) → Follows g text m ts bs →
+        Follows g text m ts other → bs ≡ other }
+    ensures closes { (g : Grammar) (text : List ℕ) (ts : List Token) (bs : List Bracket) (x y : Grown) → Closes g text ts bs x →
+        Closes g text ts bs y → x ≡ y }
+{}
+
+/// In a grammar without faults each sentence has a tree, and so has each beginning of its marks that is not empty.
+pub fn each_sentence_has_a_tree()
+    ensures whole { (g : Grammar) (kinds : Kinds) (text : List ℕ) (m : List Mark) (ts : List Token) →
+        ((f : GrammarFault) → ¬ IsTypeFault g f) → ((f : GrammarFault) → ¬ IsCheckFault g f) → AreKinds g kinds → IsSentence g kinds m →
+        ReadMarks ts m → GrowsRoot g text m ts }
+    ensures begun { (g : Grammar) (kinds : Kinds) (text : List ℕ) (m others : List Mark) (ts : List Token) →
+        ((f : GrammarFault) → ¬ IsTypeFault g f) → ((f : GrammarFault) → ¬ IsCheckFault g f) → AreKinds g kinds → IsSentence g kinds (m ++ others) →
+        m ≢ [] → ReadMarks ts m → GrowsOpen g text m ts }
+{}
