@@ -1,11 +1,11 @@
 -- Heads that are put into a set for one item of a list after the other.
-use Rattle.std.proofs.Common.{◌≡◌, ℕ, ◌+◌, ◌<◌, List, [], ◌∷◌, ◌++◌, Contains, ◌⊎◌, inl, inr, ◌↔◌, take, length, get_or, refl, sym, ap, ◌∙◌, subst, arith}
+use Rattle.std.proofs.Common.{◌≡◌, ℕ, ◌+◌, ◌<◌, List, [], ◌∷◌, ◌++◌, Contains, ◌⊎◌, inl, inr, ◌↔◌, take, length, get_or, refl, sym, ap, ◌∙◌, subst}
 use Rattle.std.proofs.lemmas.List.{take_more, get_or_default}
 use Rattle.std.proofs.lemmas.List.Elements.{Contains-append_left, Contains-push, Contains-push_cases}
 use Rattle.lw_heads.specs.declared.head.Head.{Head}
 use Rattle.lw_heads.specs.Heads.{kinds_in}
 use Rattle.lw_heads.specs.Sets.{AddsHeads, IsAmongHeads}
-use Rattle.lw_heads.proofs.HeadLemmas.{adds_as, adds_none, adds_then}
+use Rattle.lw_heads.proofs.HeadLemmas.{adds_as, adds_then}
 
 pub ↔-sym : {P Q : Type 0} → P ↔ Q → Q ↔ P
 ↔-sym same = (same.1, same.0)
@@ -14,9 +14,6 @@ module _ {X : Type 0} (P : X → List ℕ → Type 0) where
   -- it is so of one of the items
   abbrev pub SomeOf : List X → List ℕ → Type 0
   SomeOf xs h = (x : X) × Contains xs x × P x h
-
-  pub some_none : (heads : List Head) → AddsHeads (SomeOf []) heads heads
-  some_none heads = adds_none heads (λ h (x, (k, inside, is), does). absurd (omega arith))
 
   pub some_next : (xs : List X) (i : ℕ) (x : X) → i < length xs → x ≡ get_or xs i x → (old mid new : List Head) → AddsHeads (SomeOf (take i xs)) old mid →
       AddsHeads (P x) mid new → AddsHeads (SomeOf (take (i + 1) xs)) old new
@@ -44,9 +41,6 @@ module _ (Q : List ℕ → List ℕ → Type 0) where
   -- it is so of one of the heads
   abbrev pub SomeHead : List Head → List ℕ → Type 0
   SomeHead heads h = (a : List ℕ) × IsAmongHeads heads a × Q a h
-
-  pub head_none : (heads : List Head) → AddsHeads (SomeHead []) heads heads
-  head_none heads = adds_none heads (λ h (a, (head, (k, inside, is), same), does). absurd (omega arith))
 
   pub head_next : (heads : List Head) (i : ℕ) (d : Head) → i < length heads → (old mid new : List Head) → AddsHeads (SomeHead (take i heads)) old mid →
       AddsHeads (Q (kinds_in (get_or heads i d))) mid new → AddsHeads (SomeHead (take (i + 1) heads)) old new

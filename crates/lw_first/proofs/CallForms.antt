@@ -11,7 +11,7 @@ use Rattle.lw_derivations.proofs.OneName.{one_reads}
 use Rattle.lw_look.proofs.Apart.{are_apart, no_terminal_is_rule}
 use Rattle.lw_heads.specs.declared.head.Head.{Head}
 use Rattle.lw_heads.specs.Sets.{IsAmongHeads}
-use Rattle.lw_lexicon.specs.Callees.{IsReadByName}
+use Rattle.lw_derivations.specs.Crossing.{IsReadBy}
 use Rattle.lw_first.specs.Forms.{HeadBefore, FollowedBefore, RuleBefore, KeywordBefore, CallBefore, CrossBefore}
 
 -- a head that has no room is the same before each head
@@ -58,7 +58,7 @@ module _ (g : Grammar) (kinds : Kinds) (k : ℕ) (sets : List (List Head)) (name
   nothing_before no_token no_rule h (inl (n, is, before)) = no_token n is
   nothing_before no_token no_rule h (inr (r, rule, is, before)) = no_rule r rule is
 
-  pub cross_before : (wanted : List ℕ) (written : Option (List ℕ)) → IsReadByName g wanted written name → (h : List ℕ) →
+  pub cross_before : (wanted : List ℕ) (written : Option (List ℕ)) → IsReadBy g wanted written name → (h : List ℕ) →
       CallBefore g kinds k sets name after h ↔ CrossBefore g kinds k sets wanted written after h
   cross_before wanted written is h =
       (λ before. (name, is, before), λ (other, was, before). subst (λ name. CallBefore g kinds k sets name after h) (one_reads g wanted written other name was is) before)

@@ -18,7 +18,7 @@ use Rattle.lw_look.specs.Sites.{Part, Body, Value, element_parts, value_parts}
 use Rattle.lw_look.specs.ReadBy as read
 use Rattle.lw_look.proofs.Reaching.{unmapped, one_item}
 use Rattle.lw_look.proofs.Standing.{among}
-use Rattle.lw_lexicon.specs.Callees.{IsReadByName}
+use Rattle.lw_derivations.specs.Crossing.{IsReadBy}
 use Rattle.lw_first.specs.Calling.{HasCall, here, inside, AddsCalls}
 
 module _ (g : Grammar) (r : ℕ) where
@@ -27,7 +27,7 @@ module _ (g : Grammar) (r : ℕ) where
   abbrev pub ValueCalls : Value0-F Value0 → Type 0
   ValueCalls (value.Keyword text s) = ⊥
   ValueCalls (value.Call name s) = (rule : Rule) × IsRule g name r rule
-  ValueCalls (value.Cross wanted written s) = (name : List ℕ) × IsReadByName g wanted written name × ((rule : Rule) × IsRule g name r rule)
+  ValueCalls (value.Cross wanted written s) = (name : List ℕ) × IsReadBy g wanted written name × ((rule : Rule) × IsRule g name r rule)
   ValueCalls (value.Choice vs s) = (v : Value0) × Contains vs v × HasCall g (Value v) r
 
   inside_value : (f : Value0-F Value0) (y : Part) (i : ℕ) → slice_get (value_parts f) i ≡ Some y → HasCall g y r → ValueCalls f

@@ -6,7 +6,7 @@ use Rattle.std.proofs.lemmas.List.Sums.{sum_by-set}
 use Rattle.std.proofs.lemmas.Option.{same_Some, slice_get_read}
 use Rattle.lw_heads.specs.declared.head.Head.{Head}
 use Rattle.lw_heads.specs.Sets.{AddsHeads, IsAmongHeads, IsInSet, most_heads}
-use Rattle.lw_first.specs.Rounds.{missing_in, GrewOrSame}
+use Rattle.lw_first.specs.Rounds.{heads_missing_in, GrewOrSame}
 
 set_here : {X : Type 0} (xs : List X) (i : ℕ) (y : X) → i < length xs → slice_get (set xs i y) i ≡ Some y
 set_here [] i y inside = absurd (omega arith)
@@ -65,8 +65,8 @@ module _ (sets : List (List Head)) (number : ℕ) (own new : List Head) (inside 
       by : (b : Bool) → ltb (length own) (length new) ≡ b → GrewOrSame sets (set sets number new) b
       by true more =
           let longer = ltb-true (length own) (length new) more in
-          let sum = sum_by-set missing_in sets number new own inside in
-          let here : missing_in (get_or sets number own) ≡ missing_in own = ap missing_in (sym is) in
+          let sum = sum_by-set heads_missing_in sets number new own inside in
+          let here : heads_missing_in (get_or sets number own) ≡ heads_missing_in own = ap heads_missing_in (sym is) in
           omega (arith, longer, sum, here, few)
       by false more =
           let old = not_new has_new grows same (ltb-false (length own) (length new) more) in

@@ -20,7 +20,7 @@ use Rattle.lw_heads.specs.Sets.{AddsHeads, IsAmongHeads, IsInSet}
 use Rattle.lw_heads.proofs.HeadLemmas.{adds_to_none, among_one}
 use Rattle.lw_first.specs.Before.{CanBefore}
 use Rattle.lw_first.specs.Calling.{HasAllCalls, HasCall}
-use Rattle.lw_first.specs.Rounds.{BodyCan, GrowsAt, StaysTrue, IsSettled, SettlesMore, WorksOrRests, NoneWaits, work_left}
+use Rattle.lw_first.specs.Rounds.{BodyCan, GrowsAt, StaysTrue, AreRulesSettled, SettlesMore, WorksOrRests, NoneWaits, rounds_left}
 use Rattle.lw_first.proofs.Moving.{moved}
 use Rattle.lw_first.proofs.GrownSets.{in_sets}
 
@@ -65,7 +65,7 @@ module _ (g : Grammar) (kinds : Kinds) (k : ℕ) where
 
   module _ (waiting : List Bool) (sets next : List (List Head)) (number : ℕ) (grows : GrowsAt g kinds k number sets next) where
     -- the rule that is done has what its body may have, as those that did not wait
-    done_has : IsSettled g kinds k (waiting, sets) → (r : ℕ) (h : List ℕ) → get_or (set waiting number false) r false ≡ false → BodyCan g kinds k sets r h → IsInSet next r h
+    done_has : AreRulesSettled g kinds k (waiting, sets) → (r : ℕ) (h : List ℕ) → get_or (set waiting number false) r false ≡ false → BodyCan g kinds k sets r h → IsInSet next r h
     done_has settled r h done can = elim (cases_eq r number) [
       | inl same ↦ (grows r h).1 (inr (same, subst (λ n. BodyCan g kinds k sets n h) same can))
       | inr differs ↦ (grows r h).1 (inl (settled r h (sym (get_or-set_other waiting number r false false differs) ∙ done) can))
@@ -86,7 +86,7 @@ module _ (g : Grammar) (kinds : Kinds) (k : ℕ) where
         known q f has (inr (same, _)) = absurd ((told r done).1 (subst (λ n. HasEdge graph n r) same (calls r rule q at has)))
 
   -- where no rule waits, the heads are all
-  pub all_settled : (waiting : List Bool) (sets : List (List Head)) → IsSettled g kinds k (waiting, sets) → NoneWaits 0 waiting → AreClosedHeads g kinds k (IsInSet sets)
+  pub all_settled : (waiting : List Bool) (sets : List (List Head)) → AreRulesSettled g kinds k (waiting, sets) → NoneWaits 0 waiting → AreClosedHeads g kinds k (IsInSet sets)
   all_settled waiting sets settled none = λ r rule h there can. settled r h (none r (omega arith)) (rule, there, can)
 
 -- ---- one rule after the other
@@ -94,8 +94,8 @@ module _ (g : Grammar) (kinds : Kinds) (k : ℕ) where
 pub works_more : (start mid next : List Bool × List (List Head)) (worked more : Bool) → WorksOrRests start mid worked → WorksOrRests mid next more →
     WorksOrRests start next (worked || more)
 works_more start mid next true true before now = omega (arith, before, now)
-works_more start mid next true false before now = subst (λ state. work_left state < work_left start) (sym now) before
-works_more start mid next false true before now = subst (λ state. work_left next < work_left state) before now
+works_more start mid next true false before now = subst (λ state. rounds_left state < rounds_left start) (sym now) before
+works_more start mid next false true before now = subst (λ state. rounds_left next < rounds_left state) before now
 works_more start mid next false false before now = now ∙ before
 
 pub rests_more : (number : ℕ) (mid next : List Bool × List (List Head)) (worked more : Bool) → (worked ≡ false → NoneWaits (number + 1) mid.0) → WorksOrRests mid next more →

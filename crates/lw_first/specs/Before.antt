@@ -8,7 +8,7 @@ use Rattle.lw_look.specs.Heads.{Can, RowCan, ManyCan}
 use Rattle.lw_heads.specs.declared.head.Head.{Head}
 use Rattle.lw_heads.specs.Sets.{IsAmongHeads, IsInSet}
 use Rattle.lw_first.specs.declared.first.First.{First}
-use Rattle.lw_lexicon.specs.Known.{IsLexicon}
+use Rattle.lw_lexicon.specs.Known.{IsKnownLexicon}
 
 -- `sets` has for each rule its heads, and `after` are those behind the part, the row, or the part that is read any number of times
 module _ (g : Grammar) (kinds : Kinds) (k : ℕ) (sets : List (List Head)) where
@@ -23,5 +23,5 @@ module _ (g : Grammar) (kinds : Kinds) (k : ℕ) (sets : List (List Head)) where
 
 -- names and kinds are known, and windows are of a size that heads may have
 pub record IsReady (first : First) : Type 0 where
-  pub lexicon : IsLexicon first.lexicon
+  pub lexicon : IsKnownLexicon first.lexicon
   pub most : first.k ≤ 3

@@ -6,7 +6,7 @@ use Rattle.lw_grammar.specs.Named.{IsRule}
 use Rattle.lw_graph.specs.Walks.{Links, HasEdge}
 use Rattle.lw_look.specs.Sites.{Part, Body, inner_parts}
 use Rattle.lw_look.specs.ReadBy.{PartReadsBy}
-use Rattle.lw_lexicon.specs.Known.{IsLexicon}
+use Rattle.lw_lexicon.specs.Known.{IsKnownLexicon}
 use Rattle.lw_first.specs.declared.callers.Caller.{Caller}
 
 module _ (g : Grammar) where
@@ -27,6 +27,6 @@ pub record AddsCalls (caller : ℕ) (Called : ℕ → Type 0) (old new : Links) 
 
 -- names are known, and each rule is a node
 pub record IsCaller (caller : Caller) (graph : Links) : Type 0 where
-  pub lexicon : IsLexicon caller.lexicon
+  pub lexicon : IsKnownLexicon caller.lexicon
   pub nodes : graph.nodes ≡ length caller.lexicon.g.now.rules
   pub within : caller.number < graph.nodes

@@ -10,7 +10,7 @@ use Rattle.lw_look.specs.Sites.{Body, Value}
 use Rattle.lw_look.specs.Heads.{Can}
 use Rattle.lw_heads.specs.declared.head.Head.{Head}
 use Rattle.lw_heads.specs.Sets.{IsAmongHeads, IsInSet}
-use Rattle.lw_lexicon.specs.Callees.{IsReadByName}
+use Rattle.lw_derivations.specs.Crossing.{IsReadBy}
 use Rattle.lw_first.specs.Before.{CanBefore, ManyCanBefore}
 
 module _ (k : ℕ) where
@@ -38,7 +38,7 @@ module _ (g : Grammar) (kinds : Kinds) (k : ℕ) (sets : List (List Head)) where
 
   -- what a cross-reference reads
   abbrev pub CrossBefore : List ℕ → Option (List ℕ) → List Head → List ℕ → Type 0
-  CrossBefore wanted written after h = (name : List ℕ) × IsReadByName g wanted written name × CallBefore name after h
+  CrossBefore wanted written after h = (name : List ℕ) × IsReadBy g wanted written name × CallBefore name after h
 
   -- one of these values
   abbrev pub ValuesBefore : List Value0 → List Head → List ℕ → Type 0

@@ -9,20 +9,20 @@ use Rattle.lw_look.specs.Heads.{Can, AreTrueHeads}
 use Rattle.lw_look.specs.Supplied.{NodesAreTold}
 use Rattle.lw_heads.specs.declared.head.Head.{Head}
 use Rattle.lw_heads.specs.Sets.{IsInSet, most_heads}
-use Rattle.lw_lexicon.specs.Known.{IsLexicon}
+use Rattle.lw_lexicon.specs.Known.{IsKnownLexicon}
 use Rattle.lw_first.specs.declared.rounds.Work.{Work}
 use Rattle.lw_first.specs.Calling.{HasAllCalls}
 
 -- how many heads are not in a set, and in all sets
-abbrev pub missing_in : List Head → ℕ
-missing_in heads = most_heads - length heads
+abbrev pub heads_missing_in : List Head → ℕ
+heads_missing_in heads = most_heads - length heads
 
-abbrev pub missing : List (List Head) → ℕ
-missing = sum_by missing_in
+abbrev pub heads_missing : List (List Head) → ℕ
+heads_missing = sum_by heads_missing_in
 
 -- a set got a head, or all are as they were
 abbrev pub GrewOrSame : List (List Head) → List (List Head) → Bool → Type 0
-GrewOrSame old new true = missing new < missing old
+GrewOrSame old new true = heads_missing new < heads_missing old
 GrewOrSame old new false = new ≡ old
 
 module _ (g : Grammar) (kinds : Kinds) (k : ℕ) where
@@ -39,20 +39,20 @@ module _ (g : Grammar) (kinds : Kinds) (k : ℕ) where
   StaysTrue old new = AreTrueHeads g kinds k (IsInSet old) → AreTrueHeads g kinds k (IsInSet new)
 
   -- the rules that do not wait have what their bodies may have
-  abbrev pub IsSettled : List Bool × List (List Head) → Type 0
-  IsSettled (waiting, sets) = (r : ℕ) (h : List ℕ) → slice_index_or waiting r false ≡ false → BodyCan sets r h → IsInSet sets r h
+  abbrev pub AreRulesSettled : List Bool × List (List Head) → Type 0
+  AreRulesSettled (waiting, sets) = (r : ℕ) (h : List ℕ) → slice_index_or waiting r false ≡ false → BodyCan sets r h → IsInSet sets r h
 
   -- and so it stays
   abbrev pub SettlesMore : List Bool × List (List Head) → List Bool × List (List Head) → Type 0
-  SettlesMore old new = IsSettled old → IsSettled new
+  SettlesMore old new = AreRulesSettled old → AreRulesSettled new
 
 -- how much work may be left: each head that comes in may let each rule wait
-abbrev pub work_left : List Bool × List (List Head) → ℕ
-work_left (waiting, sets) = missing sets * (length waiting + 1) + count_by (λ waits. waits) waiting
+abbrev pub rounds_left : List Bool × List (List Head) → ℕ
+rounds_left (waiting, sets) = heads_missing sets * (length waiting + 1) + count_by (λ waits. waits) waiting
 
 -- less work is left, or all is as it was
 abbrev pub WorksOrRests : List Bool × List (List Head) → List Bool × List (List Head) → Bool → Type 0
-WorksOrRests old new true = work_left new < work_left old
+WorksOrRests old new true = rounds_left new < rounds_left old
 WorksOrRests old new false = new ≡ old
 
 -- from this number on no rule waits
@@ -61,7 +61,7 @@ NoneWaits left waiting = (r : ℕ) → left ≤ r → slice_index_or waiting r f
 
 -- names are known, heads are of a size that they may have, and the callers are all there are
 pub record IsWork (work : Work) : Type 0 where
-  pub lexicon : IsLexicon work.lexicon
+  pub lexicon : IsKnownLexicon work.lexicon
   pub most : work.k ≤ 3
   pub told : NodesAreTold work.lexicon.g.now
   pub nodes : work.callers.now.nodes ≡ length work.lexicon.g.now.rules

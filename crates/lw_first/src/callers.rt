@@ -5,8 +5,8 @@ ghost use Rattle.lw_grammar.specs.declared.rule.Rule.{Rule};
 ghost use Rattle.lw_grammar.specs.declared.rule.Value0.{Value0};
 ghost use Rattle.lw_grammar.specs.Named.{IsRule};
 ghost use Rattle.lw_look.specs.Sites.{Body, Value};
-ghost use Rattle.lw_lexicon.specs.Callees.{IsReadByName};
-ghost use Rattle.lw_lexicon.specs.Known.{IsLexicon};
+ghost use Rattle.lw_derivations.specs.Crossing.{IsReadBy};
+ghost use Rattle.lw_lexicon.specs.Known.{IsKnownLexicon};
 ghost use Rattle.lw_first.specs.Calling.{AddsCalls, HasAllCalls, HasCall, IsCaller};
 
 use lw_base::{Name, NoMemory};
@@ -18,7 +18,7 @@ use std::alloc::Global;
 
 /// A graph of a grammar's rules. An edge leads from each to those that call it.
 pub(crate) fn callers_of_rules(alloc: Global, lexicon: Lexicon<'_>) -> Result<Graph, NoMemory>
-    requires { IsLexicon lexicon }
+    requires { IsKnownLexicon lexicon }
     ensures nodes { IfOk result (λ graph. graph.nodes ≡ length lexicon.entry.g.now.rules) }
     ensures all { IfOk result (HasAllCalls lexicon.entry.g.now) }
 {
@@ -114,7 +114,7 @@ impl Caller<'_> {
     ) -> Result<(), NoMemory>
         requires { IsCaller self.now graph.old }
         ensures { OnOk result (AddsCalls self.now.number
-            (λ r. (name : List ℕ) × IsReadByName self.now.lexicon.g.now wanted.now written.now name × ((rule : Rule) × IsRule self.now.lexicon.g.now name r rule))
+            (λ r. (name : List ℕ) × IsReadBy self.now.lexicon.g.now wanted.now written.now name × ((rule : Rule) × IsRule self.now.lexicon.g.now name r rule))
             graph.old graph.new) }
     {
         match self.lexicon.read_by(wanted, written) {

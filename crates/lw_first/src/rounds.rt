@@ -1,10 +1,10 @@
 // The heads of rules, by rounds.
-ghost use Rattle.std.specs.Prelude.{ℕ, ◌≡◌, ◌<◌, ◌≤◌, [], All, Contains, IfOk, OnOk, false, length, replicate, slice_index_or};
+ghost use Rattle.std.specs.Prelude.{ℕ, ◌≡◌, ◌<◌, ◌≤◌, All, Contains, IfOk, OnOk, false, length, slice_index_or};
 ghost use Rattle.lw_grammar.specs.Kinds.{Kinds, AreKinds};
 ghost use Rattle.lw_look.specs.Heads.{AreClosedHeads, AreTrueHeads};
 ghost use Rattle.lw_look.specs.Supplied.{NodesAreTold};
 ghost use Rattle.lw_heads.specs.Sets.{IsInSet};
-ghost use Rattle.lw_lexicon.specs.Known.{IsLexicon};
+ghost use Rattle.lw_lexicon.specs.Known.{IsKnownLexicon};
 ghost use Rattle.lw_first.specs.Rounds.{GrewOrSame, GrowsAt, IsWork, NoneWaits, SettlesMore, StaysTrue, WorksOrRests};
 
 use crate::First;
@@ -18,7 +18,7 @@ use std::alloc::Global;
 /// For each rule what its calls may begin with, cut to `k` kinds: all heads, and no others. Rules are gone through by rounds until
 /// none has a new head.
 pub fn rule_heads(alloc: Global, lexicon: Lexicon<'_>, k: usize) -> Result<Vec<HeadSet>, NoMemory>
-    requires known { IsLexicon lexicon }
+    requires known { IsKnownLexicon lexicon }
     requires most { k ≤ 3 }
     requires told { NodesAreTold lexicon.g.now }
     ensures all { IfOk result (λ sets. length sets.items ≡ length lexicon.entry.g.now.rules) }
@@ -53,7 +53,7 @@ impl Work<'_> {
     {
         let rules = self.lexicon.g.rules.len();
         let mut waiting = vec![in alloc; true; rules]?;
-        let mut sets = no_heads(alloc, rules)?;
+        let mut sets = HeadSet::empty_sets(alloc, rules)?;
         'rounds: while self.round(alloc, waiting.as_mut_slice(), sets.as_mut_slice())? {}
         Ok(sets)
     }
@@ -137,17 +137,6 @@ impl Work<'_> {
         own.insert_all(heads.as_slice())?;
         Ok(own.len() > before)
     }
-}
-
-/// So many sets with no head.
-fn no_heads(alloc: Global, rules: usize) -> Result<Vec<HeadSet>, NoMemory>
-    ensures { IfOk result (λ sets. sets.items ≡ replicate rules []) }
-{
-    let mut sets = Vec::with_capacity(alloc, rules)?;
-    for _ in 0..rules {
-        sets.push(HeadSet::new(alloc))?;
-    }
-    Ok(sets)
 }
 
 /// From now on these rules wait.

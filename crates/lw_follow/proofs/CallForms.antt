@@ -15,7 +15,7 @@ use Rattle.lw_look.specs.ReadBy as read
 use Rattle.lw_heads.specs.declared.head.Head.{Head}
 use Rattle.lw_heads.specs.Sets.{IsAmongHeads}
 use Rattle.lw_first.specs.Before.{RowCanBefore, ManyCanBefore}
-use Rattle.lw_lexicon.specs.Callees.{IsReadByName}
+use Rattle.lw_derivations.specs.Crossing.{IsReadBy}
 use Rattle.lw_follow.specs.Followed.{AreBehind}
 use Rattle.lw_follow.specs.Calls.{BehindCall, BehindCalls, BehindName, BehindRowCalls}
 use Rattle.lw_follow.specs.Calls as call
@@ -25,7 +25,7 @@ module _ (g : Grammar) (kinds : Kinds) (k : ℕ) (heads : List (List Head)) (aft
   abbrev pub ValueBehind : Value0-F Value0 → ℕ → List ℕ → Type 0
   ValueBehind (value.Keyword text s) r h = ⊥
   ValueBehind (value.Call name s) r h = BehindName g name after r h
-  ValueBehind (value.Cross wanted written s) r h = (name : List ℕ) × IsReadByName g wanted written name × BehindName g name after r h
+  ValueBehind (value.Cross wanted written s) r h = (name : List ℕ) × IsReadBy g wanted written name × BehindName g name after r h
   ValueBehind (value.Choice vs s) r h = (v : Value0) × Contains vs v × BehindCalls g kinds k heads (Value v) after r h
 
   -- behind those in an element of this form
@@ -48,7 +48,7 @@ module _ (g : Grammar) (kinds : Kinds) (k : ℕ) (heads : List (List Head)) (aft
   value_to {a} {r} {h} among (call.chosen_value {w} is has does) = subst (λ f. ValueBehind f r h) (sym is) (w, has, (a, among, does))
 
   cross_from : {v : Value0} {r : ℕ} {h : List ℕ} (wanted : List ℕ) (written : Option (List ℕ)) {s : Span} → out-Value0 v ≡ value.Cross wanted written s →
-      (name : List ℕ) → IsReadByName g wanted written name → BehindName g name after r h → BehindCalls g kinds k heads (Value v) after r h
+      (name : List ℕ) → IsReadBy g wanted written name → BehindName g name after r h → BehindCalls g kinds k heads (Value v) after r h
   cross_from {h} wanted None out name at (among, rule, means) = (h, among, call.called (read.crosses_by_name out at) means)
   cross_from {v} {r} {h} wanted (Some written) {s} out name same (among, rule, means) =
       (h, among, call.called (read.crosses (subst (λ name. out-Value0 v ≡ value.Cross wanted (Some name) s) same out)) means)

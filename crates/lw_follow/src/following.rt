@@ -3,7 +3,7 @@ ghost use Rattle.std.specs.Prelude.{◌≡◌, ◌<◌, ◌↔◌, ℕ, List, Co
 ghost use Rattle.lw_grammar.specs.declared.rule.Element.{Element};
 ghost use Rattle.lw_grammar.specs.declared.rule.Value0.{Value0};
 ghost use Rattle.lw_grammar.specs.Kinds.{Kinds, AreKinds};
-ghost use Rattle.lw_lexicon.specs.Callees.{IsReadByName};
+ghost use Rattle.lw_derivations.specs.Crossing.{IsReadBy};
 ghost use Rattle.lw_look.specs.Sites.{Body, Value};
 ghost use Rattle.lw_heads.specs.Sets.{IsAmongHeads};
 ghost use Rattle.lw_first.specs.Before.{ManyCanBefore, IsReady};
@@ -164,7 +164,7 @@ fn follow_cross(
 ) -> Result<(), NoMemory>
     requires ready { IsReady first.now }
     requires all { length sets.old ≡ length first.now.lexicon.g.now.rules }
-    ensures { OnOk result (AddsAfters (λ r h. (name : List ℕ) × IsReadByName first.now.lexicon.g.now wanted.now written.now name
+    ensures { OnOk result (AddsAfters (λ r h. (name : List ℕ) × IsReadBy first.now.lexicon.g.now wanted.now written.now name
         × BehindName first.now.lexicon.g.now name after.now r h) sets.old sets.new) }
 {
     match first.lexicon.read_by(wanted, written) {

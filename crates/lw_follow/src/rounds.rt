@@ -1,5 +1,5 @@
 // What follows rules, by rounds.
-ghost use Rattle.std.specs.Prelude.{◌≡◌, ◌<◌, ◌↔◌, ℕ, [], true, IfOk, OnOk, IsTrue, MatchOption, length, replicate};
+ghost use Rattle.std.specs.Prelude.{◌≡◌, ◌<◌, ◌↔◌, ℕ, true, IfOk, OnOk, IsTrue, MatchOption, length};
 ghost use Rattle.lw_grammar.specs.declared.grammar.Grammar.{Grammar};
 ghost use Rattle.lw_grammar.specs.declared.rule.Rule.{Rule};
 ghost use Rattle.lw_grammar.specs.Kinds.{Kinds, AreKinds};
@@ -37,22 +37,11 @@ fn first_sets(alloc: Global, g: &Grammar) -> Result<Vec<HeadSet>, NoMemory>
     ensures all { IfOk result (λ sets. length sets.items ≡ length g.now.rules) }
     ensures first { IfOk result (λ sets. AreFirstAfters g.now sets.items) }
 {
-    let mut sets = empty_sets(alloc, g.rules.len())?;
+    let mut sets = HeadSet::empty_sets(alloc, g.rules.len())?;
     let Some(rule) = entry(g) else {
         return Ok(sets);
     };
     sets[rule].insert(Head::Nothing)?;
-    Ok(sets)
-}
-
-/// So many sets without a head.
-fn empty_sets(alloc: Global, count: usize) -> Result<Vec<HeadSet>, NoMemory>
-    ensures { IfOk result (λ sets. sets.items ≡ replicate count []) }
-{
-    let mut sets = Vec::with_capacity(alloc, count)?;
-    for _ in 0..count {
-        sets.push(HeadSet::new(alloc))?;
-    }
     Ok(sets)
 }
 

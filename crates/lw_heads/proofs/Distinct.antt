@@ -48,7 +48,7 @@ head_exact (Three a b c) (Three d e f) h =
     ap₂ (λ x y. Three x y c) first second ∙ ap (Three d e) third
 head_exact _ _ h = absurd (true≢false (sym h))
 
-head_same : (x : Head) → (eq-value).it x x ≡ true
+pub head_same : (x : Head) → (eq-value).it x x ≡ true
 head_same Nothing = refl
 head_same (One a) = eq-eqb a.0 a.0 refl
 head_same (Two a b) = both (eqb a.0 a.0) (eqb b.0 b.0) (eq-eqb a.0 a.0 refl) (eq-eqb b.0 b.0 refl)
@@ -115,7 +115,7 @@ same_code (m ∷ ms) (n ∷ ns) small also same =
     let digit = one_digit m n (code ms) (code ns) small.0 also.0 same in
     ap₂ (λ k ks. k ∷ ks) digit.0 (same_code ms ns small.1 also.1 digit.1)
 
-same_kinds : (x y : Head) → kinds_in x ≡ kinds_in y → x ≡ y
+pub same_kinds : (x y : Head) → kinds_in x ≡ kinds_in y → x ≡ y
 same_kinds Nothing Nothing h = refl
 same_kinds (One a) (One b) h = ap One (ap kind cc)
 same_kinds (Two a b) (Two c d) h = ap₂ Two (ap kind cc) (ap kind cc)

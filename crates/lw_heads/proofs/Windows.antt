@@ -30,16 +30,8 @@ ends_enough (suc i) (suc m) (suc n) (x ∷ ks) within also = ap (λ ws. Some x �
 window_first : (n x : ℕ) (ks : List ℕ) → window (suc n) (x ∷ ks) ≡ Some x ∷ window n ks
 window_first n x ks = ap (λ ws. Some x ∷ ws) (ends_enough n (suc n) n ks (omega arith) (omega arith))
 
-pub length-window : (k : ℕ) (ks : List ℕ) → length (window k ks) ≡ k
-length-window zero ks = refl
-length-window (suc k) [] = ap suc (length-window k [])
-length-window (suc k) (x ∷ ks) = ap length (window_first k x ks) ∙ ap suc (length-window k ks)
-
 behind : {x y : Option ℕ} {xs ys : List (Option ℕ)} → x ∷ xs ≡ y ∷ ys → xs ≡ ys
 behind same = cc
-
-first : {x y : Option ℕ} {xs ys : List (Option ℕ)} → x ∷ xs ≡ y ∷ ys → x ≡ y
-first same = cc
 
 module _ (k n : ℕ) (next : Option ℕ) (w : List (Option ℕ)) (is : k ≡ suc n) where
   -- what is seen behind the first place is no window

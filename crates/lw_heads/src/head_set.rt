@@ -1,5 +1,5 @@
 // A set of heads.
-ghost use Rattle.std.specs.Prelude.{◌≡◌, ◌+◌, ◌<◌, ◌≤◌, [], ◌∷◌, IfOk, OnOk, length, if◌then◌else◌, true, false};
+ghost use Rattle.std.specs.Prelude.{◌≡◌, ◌+◌, ◌<◌, ◌≤◌, [], ◌∷◌, IfOk, OnOk, length, replicate, if◌then◌else◌, true, false};
 ghost use Rattle.lw_heads.specs.Heads.{kinds_in};
 ghost use Rattle.lw_heads.specs.Sets.{AddsHeads, AreDistinctHeads, IsAmongHeads, most_heads};
 
@@ -36,6 +36,17 @@ impl HeadSet {
         HeadSet {
             heads: IndexSet::new(alloc),
         }
+    }
+
+    /// So many sets without a head. Only the list of them takes memory.
+    pub fn empty_sets(alloc: Global, count: usize) -> Result<Vec<HeadSet>, NoMemory>
+        ensures { IfOk result (λ sets. sets.items ≡ replicate count []) }
+    {
+        let mut sets = Vec::with_capacity(alloc, count)?;
+        for _ in 0..count {
+            sets.push(HeadSet::new(alloc))?;
+        }
+        Ok(sets)
     }
 
     /// How many heads there are.

@@ -2,17 +2,12 @@
 use Rattle.std.proofs.Common.{◌≡◌, ℕ, ◌+◌, ◌<◌, List, [], ◌∷◌, ◌++◌, length, get_or, take, sym, ap, ◌∙◌, subst}
 use Rattle.std.specs.List.{AllZip}
 use Rattle.std.proofs.lemmas.List.{take_more}
+use Rattle.lw_lookahead.proofs.ChoiceSteps.{zip_push}
 
 module _ {A B : Type 0} (R : A → B → Type 0) where
-  pub zip_push : (xs : List A) (ys : List B) (x : A) (y : B) → AllZip R xs ys → R x y → AllZip R (xs ++ x ∷ []) (ys ++ y ∷ [])
-  zip_push [] [] x y all r = (r, tt)
-  zip_push [] (b ∷ ys) x y all r = absurd all
-  zip_push (a ∷ xs) [] x y all r = absurd all
-  zip_push (a ∷ xs) (b ∷ ys) x y all r = (all.0, zip_push xs ys x y all.1 r)
-
   -- item by item
   pub zip_more : (xs : List A) (i : ℕ) (x : A) → i < length xs → x ≡ get_or xs i x → (ys : List B) → AllZip R (take i xs) ys → {new : List B} (y : B) → R x y →
       new ≡ ys ++ y ∷ [] → AllZip R (take (i + 1) xs) new
   zip_more xs i x inside there ys so_far y tied put =
       let one = take_more xs i x inside ∙ ap (λ y. take i xs ++ y ∷ []) (sym there) in
-      subst (λ zs. AllZip R (take (i + 1) xs) zs) (sym put) (subst (λ zs. AllZip R zs (ys ++ y ∷ [])) (sym one) (zip_push (take i xs) ys x y so_far tied))
+      subst (λ zs. AllZip R (take (i + 1) xs) zs) (sym put) (subst (λ zs. AllZip R zs (ys ++ y ∷ [])) (sym one) (zip_push R (take i xs) ys x y so_far tied))

@@ -7,7 +7,7 @@ ghost use Rattle.lw_gramcheck.specs.Judging.{IsFaultless};
 ghost use Rattle.lw_token_sets.specs.Numbered.{AreNumberedKindsOf};
 ghost use Rattle.lw_token_sets.specs.TokenSets.{IsTokenSetOf, HasTokens};
 ghost use Rattle.lw_lang.specs.Compiled.{HoldsGrammar, IsClear, HasTables, Causes, GrammarCauses, IsBehindTokens, IsUnbuiltOrMemory, CountsStore, CountsPatterns, KeepsPatterns};
-ghost use Rattle.lw_lexicon.specs.Known.{IsLexicon};
+ghost use Rattle.lw_lexicon.specs.Known.{IsKnownLexicon};
 ghost use Rattle.lw_lang.specs.ToldTerms.{CanBeTold, IsToldOr};
 ghost use Rattle.lw_lang.specs.ToldLooks.{CanLookBeTold, IsLookToldOr};
 ghost use Rattle.lw_grammar.specs.KindTexts.{AreKindTexts};
@@ -167,7 +167,7 @@ fn build_sound(
 // What the names of a grammar mean.
 fn lexicon<'a>(g: &'a Grammar, numbered: &'a NumberedKinds) -> Lexicon<'a>
     requires { AreNumberedKindsOf g.now numbered.now }
-    ensures lexicon { IsLexicon result }
+    ensures lexicon { IsKnownLexicon result }
     ensures grammar { result.g.now ≡ g.now }
 {
     Lexicon {

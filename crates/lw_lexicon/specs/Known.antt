@@ -4,7 +4,7 @@ use Rattle.lw_name_rules.specs.NameTable.{AreNameRulesOf}
 use Rattle.lw_kinds.specs.Rows.{AreKindRowOf}
 use Rattle.lw_lexicon.specs.declared.lexicon.Lexicon.{Lexicon}
 
-pub record IsLexicon (lexicon : Lexicon) : Type 0 where
+pub record IsKnownLexicon (lexicon : Lexicon) : Type 0 where
   pub numbers : AreNumbersOf lexicon.g.now lexicon.numbers.now
   pub name_rules : AreNameRulesOf lexicon.g.now lexicon.name_rules.now
   pub kinds : AreKindRowOf lexicon.g.now lexicon.kinds.now

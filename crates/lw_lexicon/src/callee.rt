@@ -1,8 +1,9 @@
 // What a call reads.
 ghost use Rattle.std.specs.Prelude.{ℕ, List, MatchOption};
 ghost use Rattle.lw_grammar.specs.Kinds.{Kinds, AreKinds, IsKeywordKind};
-ghost use Rattle.lw_lexicon.specs.Callees.{IsCallee, IsReadByName};
-ghost use Rattle.lw_lexicon.specs.Known.{IsLexicon};
+ghost use Rattle.lw_derivations.specs.Crossing.{IsReadBy};
+ghost use Rattle.lw_lexicon.specs.Callees.{IsCalleeNamed};
+ghost use Rattle.lw_lexicon.specs.Known.{IsKnownLexicon};
 
 use crate::Lexicon;
 use lw_base::{KindId, Name};
@@ -22,7 +23,7 @@ pub enum Callee {
 impl Lexicon<'_> {
     /// The kind of a keyword, in expected constant time.
     pub fn keyword(&self, text: &Name) -> Option<KindId>
-        requires { IsLexicon self.now }
+        requires { IsKnownLexicon self.now }
         ensures { (kinds : Kinds) → AreKinds self.now.g.now kinds →
             MatchOption result ((k : ℕ) → ¬ IsKeywordKind kinds text.now k) (λ kind. IsKeywordKind kinds text.now kind.0) }
     {
@@ -31,8 +32,8 @@ impl Lexicon<'_> {
 
     /// What a call of this name reads, in expected constant time for rules.
     pub fn callee(&self, name: &Name) -> Callee
-        requires { IsLexicon self.now }
-        ensures { (kinds : Kinds) → AreKinds self.now.g.now kinds → IsCallee self.now.g.now kinds name.now result }
+        requires { IsKnownLexicon self.now }
+        ensures { (kinds : Kinds) → AreKinds self.now.g.now kinds → IsCalleeNamed self.now.g.now kinds name.now result }
     {
         match self.numbers.called(self.g, name) {
             Called::Rule(number, _) => Callee::Rule(number),
@@ -46,9 +47,9 @@ impl Lexicon<'_> {
 
     /// The name of the rule or terminal that reads a cross-reference to this type, where this rule is written or none.
     pub fn read_by<'a>(&'a self, wanted: &Name, written: &'a Option<Name>) -> Option<&'a Name>
-        requires { IsLexicon self.now }
-        ensures { MatchOption result ((name : List ℕ) → ¬ IsReadByName self.now.g.now wanted.now written.now name)
-            (λ name. IsReadByName self.now.g.now wanted.now written.now name.now) }
+        requires { IsKnownLexicon self.now }
+        ensures { MatchOption result ((name : List ℕ) → ¬ IsReadBy self.now.g.now wanted.now written.now name)
+            (λ name. IsReadBy self.now.g.now wanted.now written.now name.now) }
     {
         match written {
             Some(name) => Some(name),

@@ -16,7 +16,7 @@ use Rattle.lw_grammar.specs.declared.rule.Value0.TheOpen.{Value0-F}
 use Rattle.lw_look.specs.Sites.{PartSite, rule_of, body, ◌▸◌, Part, Body, Value, element_parts, value_parts, inner_parts, IsPartAt, ElementAt, ValueAt, AlternativeAt, OptionalAt, RepeatedAt}
 use Rattle.lw_look.specs.Sites as site
 use Rattle.lw_look.specs.Supplied.{ChoicesHaveParts}
-use Rattle.lw_look.specs.Choices.{inside, value_choices, value_layer_choices, element_choices, layer_choices, rule_choices, choice_sites, IsChoice, alternatives, optional, repeated}
+use Rattle.lw_look.specs.Choices.{inside, value_choices, value_layer_choice_sites, element_choices, layer_choice_sites, rule_choices, choice_sites, IsChoice, alternatives, optional, repeated}
 use Rattle.lw_look.proofs.ByParts.{by_all_parts}
 use Rattle.lw_look.proofs.Paths.{LiesAt, lies_at_itself, lies_at_whole, not_at_part, one_part, lies_in_rule}
 use Rattle.lw_look.proofs.Standing.{among}
@@ -53,9 +53,9 @@ abbrev below : PartSite → ℕ → List Part → List PartSite
 below s i xs = inside s i (map part_choices xs)
 
 split : (x : Part) (s : PartSite) → part_choices x s ≡ itself x s ++ below s 0 (inner_parts x)
-split (Body e) s = ap (λ choices. choices s) (fold_out-Element (PartSite → List PartSite) layer_choices e) ∙ by (out-Element e)
+split (Body e) s = ap (λ choices. choices s) (fold_out-Element (PartSite → List PartSite) layer_choice_sites e) ∙ by (out-Element e)
   where
-    by : (f : Element-F Element) → layer_choices (map-Element Element (PartSite → List PartSite) element_choices f) s ≡ layer_itself f s ++ below s 0 (element_parts f)
+    by : (f : Element-F Element) → layer_choice_sites (map-Element Element (PartSite → List PartSite) element_choices f) s ≡ layer_itself f s ++ below s 0 (element_parts f)
     by (layer.Keyword text span) = refl
     by (layer.Call name span) = refl
     by (layer.Assign p op v span) = sym (append-nil (value_choices v (s ▸ 0)))
@@ -65,9 +65,9 @@ split (Body e) s = ap (λ choices. choices s) (fold_out-Element (PartSite → Li
     by (layer.Maybe e span) = ap (λ sites. s ∷ sites) (sym (append-nil (element_choices e (s ▸ 0))))
     by (layer.Many e span) = ap (λ sites. s ∷ sites) (sym (append-nil (element_choices e (s ▸ 0))))
     by (layer.Some1 e span) = ap (λ sites. s ∷ sites) (sym (append-nil (element_choices e (s ▸ 0))))
-split (Value v) s = ap (λ choices. choices s) (fold_out-Value0 (PartSite → List PartSite) value_layer_choices v) ∙ by (out-Value0 v)
+split (Value v) s = ap (λ choices. choices s) (fold_out-Value0 (PartSite → List PartSite) value_layer_choice_sites v) ∙ by (out-Value0 v)
   where
-    by : (f : Value0-F Value0) → value_layer_choices (map-Value0 Value0 (PartSite → List PartSite) value_choices f) s ≡ value_itself f s ++ below s 0 (value_parts f)
+    by : (f : Value0-F Value0) → value_layer_choice_sites (map-Value0 Value0 (PartSite → List PartSite) value_choices f) s ≡ value_itself f s ++ below s 0 (value_parts f)
     by (value.Keyword text span) = refl
     by (value.Call name span) = refl
     by (value.Cross wanted rule span) = refl

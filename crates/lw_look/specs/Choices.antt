@@ -17,26 +17,26 @@ abbrev pub inside : PartSite → ℕ → List (PartSite → List PartSite) → L
 inside s i [] = []
 inside s i (part ∷ parts) = part (s ▸ i) ++ inside s (i + 1) parts
 
-abbrev pub value_layer_choices : Value0-F (PartSite → List PartSite) → PartSite → List PartSite
-value_layer_choices (value.Choice parts span) s = s ∷ inside s 0 parts
-value_layer_choices _ s = []
+abbrev pub value_layer_choice_sites : Value0-F (PartSite → List PartSite) → PartSite → List PartSite
+value_layer_choice_sites (value.Choice parts span) s = s ∷ inside s 0 parts
+value_layer_choice_sites _ s = []
 
 -- the choices in a value that is assigned at a site
 abbrev pub value_choices : Value0 → PartSite → List PartSite
-value_choices = fold-Value0 (PartSite → List PartSite) value_layer_choices
+value_choices = fold-Value0 (PartSite → List PartSite) value_layer_choice_sites
 
-abbrev pub layer_choices : Element-F (PartSite → List PartSite) → PartSite → List PartSite
-layer_choices (layer.Assign p op v span) s = value_choices v (s ▸ 0)
-layer_choices (layer.Group parts span) s = inside s 0 parts
-layer_choices (layer.Choice parts span) s = s ∷ inside s 0 parts
-layer_choices (layer.Maybe part span) s = s ∷ part (s ▸ 0)
-layer_choices (layer.Many part span) s = s ∷ part (s ▸ 0)
-layer_choices (layer.Some1 part span) s = s ∷ part (s ▸ 0)
-layer_choices _ s = []
+abbrev pub layer_choice_sites : Element-F (PartSite → List PartSite) → PartSite → List PartSite
+layer_choice_sites (layer.Assign p op v span) s = value_choices v (s ▸ 0)
+layer_choice_sites (layer.Group parts span) s = inside s 0 parts
+layer_choice_sites (layer.Choice parts span) s = s ∷ inside s 0 parts
+layer_choice_sites (layer.Maybe part span) s = s ∷ part (s ▸ 0)
+layer_choice_sites (layer.Many part span) s = s ∷ part (s ▸ 0)
+layer_choice_sites (layer.Some1 part span) s = s ∷ part (s ▸ 0)
+layer_choice_sites _ s = []
 
 -- the choices in an element that stands at a site
 abbrev pub element_choices : Element → PartSite → List PartSite
-element_choices = fold-Element (PartSite → List PartSite) layer_choices
+element_choices = fold-Element (PartSite → List PartSite) layer_choice_sites
 
 -- those of rules, from the rule of this number on
 abbrev pub rule_choices : ℕ → List Rule → List PartSite

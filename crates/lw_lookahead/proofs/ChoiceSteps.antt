@@ -7,7 +7,7 @@ use Rattle.lw_heads.specs.declared.head.Head.{Head}
 use Rattle.lw_points.specs.declared.point.Point.{Point}
 use Rattle.lw_lookahead.specs.declared.fault.LookFault.{LookFault}
 use Rattle.lw_lookahead.specs.declared.fault.LookFault.TheVariants as fault
-use Rattle.lw_lookahead.specs.Seen.{AreEntriesOf}
+use Rattle.lw_lookahead.specs.Seen.{AreEntriesOfChoice}
 use Rattle.lw_lookahead.specs.Shared.{CausesNoEntries, CausesNoEntriesAt}
 
 -- what stands at the same place
@@ -29,7 +29,7 @@ abbrev pub Entries : Type 0
 Entries = HashMap Head ℕ (BuildHasherDefault FoldHasher)
 
 abbrev pub AreOf : ℕ → Point → Entries → Type 0
-AreOf k point entries = AreEntriesOf k point entries.entries
+AreOf k point entries = AreEntriesOfChoice k point entries.entries
 
 -- a choice has none, behind choices that have entries
 pub no_entries : (texts : List (List ℕ)) (k : ℕ) (choices : List Point) (i : ℕ) (all : List Entries) (choice : Point) → i < length choices →
@@ -47,7 +47,7 @@ no_entries texts k choices i all choice inside zip is fault.NoMemory conflicts =
 -- ---- one more
 
 module _ {A B : Type 0} (R : A → B → Type 0) where
-  zip_push : (xs : List A) (ys : List B) (x : A) (y : B) → AllZip R xs ys → R x y → AllZip R (xs ++ x ∷ []) (ys ++ y ∷ [])
+  pub zip_push : (xs : List A) (ys : List B) (x : A) (y : B) → AllZip R xs ys → R x y → AllZip R (xs ++ x ∷ []) (ys ++ y ∷ [])
   zip_push [] [] x y zip is = (is, tt)
   zip_push [] (b ∷ ys) x y zip is = absurd zip
   zip_push (a ∷ xs) [] x y zip is = absurd zip

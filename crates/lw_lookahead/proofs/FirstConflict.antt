@@ -22,9 +22,9 @@ use Rattle.lw_subtypes.proofs.Lists.{at_of}
 use Rattle.lw_lookahead.specs.declared.fault.Conflict.{Conflict}
 use Rattle.lw_lookahead.specs.Conflicts.{IsClearAt, IsFirstConflict, IsShared}
 use Rattle.lw_lookahead.specs.Entries.{AreEntries, IsOfBoth}
-use Rattle.lw_lookahead.specs.Printed.{printed}
-use Rattle.lw_lookahead.specs.Seen.{AreEntriesOf, AreSeen, IsSeenAt}
-use Rattle.lw_lookahead.specs.Shared.{AreFewHeads, IsClear, IsFirstConflictIn, heads_at}
+use Rattle.lw_lookahead.specs.Printed.{window_text}
+use Rattle.lw_lookahead.specs.Seen.{AreEntriesOfChoice, AreSeen, IsSeenAt}
+use Rattle.lw_lookahead.specs.Shared.{AreFewHeads, SharesNoHead, IsFirstConflictIn, heads_at}
 use Rattle.lw_lookahead.specs.Tables.{AreEntriesAt}
 use Rattle.lw_lookahead.proofs.ChoiceSteps.{AreOf, Entries, zip_at, zip_length}
 use Rattle.lw_lookahead.proofs.Counting.{item_of, looks_at_choice}
@@ -51,10 +51,10 @@ module _ (g : Grammar) (kinds : Kinds) (k : ℕ) where
         let same : other ≡ head = one_seen k other head (few.short other j own) (few.short head i has) (sym shows ∙ shown) in
         (head, (has, subst (λ h. Contains (heads_at point) (h, j)) same own), shown)
 
-    clear_at : IsClear point → IsClearAt g kinds k s
+    clear_at : SharesNoHead point → IsClearAt g kinds k s
     clear_at clear i j seen looks also = let (head, both, shown) = shared_head i j seen looks also in clear i j head both
 
-    entries_at : (entries : List (Head × ℕ)) → AreEntriesOf k point entries → AreEntriesAt g kinds k s entries
+    entries_at : (entries : List (Head × ℕ)) → AreEntriesOfChoice k point entries → AreEntriesAt g kinds k s entries
     entries_at entries are way seen = (λ looks. to ((is.exact way seen).0 looks), λ shown. from shown.0 shown.1 shown.2)
       where
         to : (head : Head) × Contains (heads_at point) (head, way) × (seen ≡ window k (kinds_in head)) →
@@ -76,7 +76,7 @@ module _ (g : Grammar) (kinds : Kinds) (k : ℕ) where
     point_at : (n : ℕ) (s : PartSite) → slice_get (choice_sites g) n ≡ Some s → (point : Point) × (slice_get points n ≡ Some point)
     point_at n s at = item_of points n (omega (arith, seen.all, slice_get_within (choice_sites g) n s at))
 
-    clear_there : (n : ℕ) (s : PartSite) → slice_get (choice_sites g) n ≡ Some s → ((point : Point) → slice_get points n ≡ Some point → IsClear point) → IsClearAt g kinds k s
+    clear_there : (n : ℕ) (s : PartSite) → slice_get (choice_sites g) n ≡ Some s → ((point : Point) → slice_get points n ≡ Some point → SharesNoHead point) → IsClearAt g kinds k s
     clear_there n s at clear =
         let (point, there) = point_at n s at in clear_at s point (seen.each n s point at there) (few_at n point there) (clear point there)
 
@@ -90,7 +90,7 @@ module _ (g : Grammar) (kinds : Kinds) (k : ℕ) where
           let (point, there) = point_at n s at in
           let (own, found, are) = zip_at (AreOf k) points all n point zip there in
           let same : own.entries ≡ entries = same_Some own.entries entries (sym (ap (option_map (λ (own : Entries). own.entries)) found) ∙ is) in
-          entries_at s point (seen.each n s point at there) (few_at n point there) entries (subst (AreEntriesOf k point) same are)
+          entries_at s point (seen.each n s point at there) (few_at n point there) entries (subst (AreEntriesOfChoice k point) same are)
 
       pub is_ll : IsLL g kinds k
       is_ll s i j w looks also =
@@ -109,10 +109,10 @@ module _ (g : Grammar) (kinds : Kinds) (k : ℕ) where
 
       -- whatever window both ways share is printed no earlier
       no_earlier : (w : List (Option ℕ)) → IsShared g kinds k s conflict.first conflict.second w →
-          slice_cmp nat_cmp conflict.text (printed (texts_of kinds) w) ≢ Greater
+          slice_cmp nat_cmp conflict.text (window_text (texts_of kinds) w) ≢ Greater
       no_earlier w both =
           let (head, have, shown) = shared_head s first.point is few_here conflict.first conflict.second w both.0 both.1 in
-          subst (λ w. slice_cmp nat_cmp conflict.text (printed (texts_of kinds) w) ≢ Greater) (sym shown) (first.conflicts.first.first head have)
+          subst (λ w. slice_cmp nat_cmp conflict.text (window_text (texts_of kinds) w) ≢ Greater) (sym shown) (first.conflicts.first.first head have)
 
       no_lesser : (i j : ℕ) (w : List (Option ℕ)) → i < j → IsShared g kinds k s i j w → (conflict.first < i) ⊎ ((conflict.first ≡ i) × (conflict.second ≤ j))
       no_lesser i j w before both = let (head, have, shown) = shared_head s first.point is few_here i j w both.0 both.1 in first.conflicts.pair.least i j head before have

@@ -6,7 +6,7 @@ use Rattle.std.proofs.lemmas.Cmp.{nat_list_cmp_total}
 use Rattle.std.proofs.lemmas.List.{take_more}
 use Rattle.std.proofs.lemmas.List.Elements.{Contains-append_left, Contains-push, Contains-push_cases}
 use Rattle.lw_heads.specs.declared.head.Head.{Head}
-use Rattle.lw_lookahead.specs.Shared.{IsBefore, IsFirstPrintedOf, KeepsFirst, head_text}
+use Rattle.lw_lookahead.specs.Shared.{StandsInFront, IsFirstPrintedOf, KeepsFirst, head_text}
 
 -- ---- texts by their order
 
@@ -66,20 +66,20 @@ module _ (texts : List (List ℕ)) (k : ℕ) (entries : List (Head × ℕ)) (way
         by head one (inr is) = absurd (other (subst (λ h. Contains entries (h, way)) (sym is) one.1))
 
     module _ (own : Contains entries (x, way)) (text : List ℕ) (is_text : text ≡ head_text texts k x) where
-      taken : (least : Option (Head × List ℕ)) → IsBefore text least → First heads least → First more (Some (x, text))
+      taken : (least : Option (Head × List ℕ)) → StandsInFront text least → First heads least → First more (Some (x, text))
       taken least front first = record {
         is = (Contains-push heads x, own);
         printed_so = is_text;
         first = λ head one. by least front first head (was_or_new head one);
       }
         where
-          by : (least : Option (Head × List ℕ)) → IsBefore text least → First heads least → (head : Head) →
+          by : (least : Option (Head × List ℕ)) → StandsInFront text least → First heads least → (head : Head) →
               IsOne heads head ⊎ (x ≡ head) → order text (head_text texts k head) ≢ Greater
           by None front none head (inl was) = absurd (none head was)
           by (Some least) front first head (inl was) = in_front text least.1 (head_text texts k head) front (first.first head was)
           by least front first head (inr is) = subst (λ t. order text t ≢ Greater) (is_text ∙ ap (head_text texts k) is) (itself text)
 
-      left : (least : Option (Head × List ℕ)) → ¬ IsBefore text least → First heads least → First more least
+      left : (least : Option (Head × List ℕ)) → ¬ StandsInFront text least → First heads least → First more least
       left None none first = absurd (none tt)
       left (Some least) none first = record {
         is = still least.0 first.is;

@@ -11,10 +11,11 @@ use Rattle.lw_look.specs.Sites.{PartSite}
 use Rattle.lw_look.proofs.HeadsCover.{one_head}
 use Rattle.lw_heads.specs.declared.head.Head.{Head}
 use Rattle.lw_heads.specs.Heads.{kinds_in}
+use Rattle.lw_heads.proofs.Distinct.{same_kinds}
 use Rattle.lw_lookahead.specs.declared.kept.Tables.{Tables}
 use Rattle.lw_lookahead.specs.Entries.{AreEntries}
 use Rattle.lw_lookahead.specs.Tables.{AreEntriesAt, AreTables}
-use Rattle.lw_lookahead.proofs.HeadKeys.{entry_found, found, found_entry, same_kinds}
+use Rattle.lw_lookahead.proofs.HeadKeys.{entry_found, found, found_entry}
 
 -- heads of no more than k kinds that are seen alike are one
 pub one_seen : (k : ℕ) (head other : Head) → length (kinds_in head) ≤ k → length (kinds_in other) ≤ k → window k (kinds_in head) ≡ window k (kinds_in other) → head ≡ other

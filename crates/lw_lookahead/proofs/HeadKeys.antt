@@ -1,45 +1,12 @@
--- Heads as keys: what a look-up finds is an entry, and a head that has an entry is found. Heads of the same kinds are one.
-use Rattle.std.proofs.Common.{◌≡◌, ℕ, zero, suc, List, [], ◌∷◌, Bool, true, false, cond, ◌&&◌, Option, Some, None, IsTrue, nat_eq, ◌↔◌, Contains, refl, sym, ap, ap₂, ◌∙◌, true≢false, eqb, eqb-true, arith}
+-- Heads as keys: what a look-up finds is an entry, and a head that has an entry is found.
+use Rattle.std.proofs.Common.{◌≡◌, ℕ, zero, suc, List, [], ◌∷◌, Bool, true, false, cond, Option, Some, None, IsTrue, nat_eq, ◌↔◌, Contains, refl, sym, ap, ◌∙◌, true≢false, eqb-true, arith}
 use Rattle.std.specs.Map.{lookup}
 use Rattle.std.specs.Option.{option_eq}
 use Rattle.std.proofs.lemmas.Bool.{eq-eqb}
 use Rattle.std.proofs.lemmas.Map.Views.{Contains-from_lookup}
-use Rattle.lw_base.specs.declared.numbers.KindId.{KindId}
 use Rattle.lw_heads.specs.declared.head.Head.{Head}
-use Rattle.lw_heads.specs.declared.head.Head.TheVariants.{Nothing, One, Two, Three}
 use Rattle.lw_heads.specs.contracts.head.HeadPartialEq.TheImpl.{eq-value}
-use Rattle.lw_heads.specs.Heads.{kinds_in}
-use Rattle.lw_heads.proofs.Distinct.{head_exact}
-
--- ---- kinds
-
-abbrev kind : ℕ → KindId
-kind n = record { 0 = n }
-
-pub same_kinds : (x y : Head) → kinds_in x ≡ kinds_in y → x ≡ y
-same_kinds Nothing Nothing h = refl
-same_kinds (One a) (One b) h = ap One (ap kind cc)
-same_kinds (Two a b) (Two c d) h = ap₂ Two (ap kind cc) (ap kind cc)
-same_kinds (Three a b c) (Three d e f) h =
-    let first : a ≡ d = ap kind cc in
-    let second : b ≡ e = ap kind cc in
-    let third : c ≡ f = ap kind cc in
-    ap₂ (λ x y. Three x y c) first second ∙ ap (Three d e) third
-same_kinds _ _ h = cc
-
--- ---- look-ups
-
-both : (a b : Bool) → a ≡ true → b ≡ true → (a && b) ≡ true
-both a b p q = ap₂ (λ x y. x && y) p q
-
-same : (n : ℕ) → eqb n n ≡ true
-same n = eq-eqb n n refl
-
-head_same : (x : Head) → (eq-value).it x x ≡ true
-head_same Nothing = refl
-head_same (One a) = same a.0
-head_same (Two a b) = both _ _ (same a.0) (same b.0)
-head_same (Three a b c) = both _ _ (same a.0) (both _ _ (same b.0) (same c.0))
+use Rattle.lw_heads.proofs.Distinct.{head_exact, head_same}
 
 abbrev pub found : Head → List (Head × ℕ) → Option ℕ
 found head entries = lookup ((eq-value).it head) entries

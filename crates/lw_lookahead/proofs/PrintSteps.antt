@@ -6,11 +6,11 @@ use Rattle.std.proofs.lemmas.List.{take_more}
 use Rattle.std.proofs.lemmas.List.Concat.{flat_map-append}
 use Rattle.lw_base.specs.declared.numbers.KindId.{KindId}
 use Rattle.lw_heads.specs.Heads.{seen_in}
-use Rattle.lw_lookahead.specs.Printed.{printed, shown, spaced}
+use Rattle.lw_lookahead.specs.Printed.{window_text, shown, spaced}
 
 module _ (texts : List (List ℕ)) where
   -- behind the first place each stands behind a space
-  pub printed_spaced : (x : Option ℕ) (xs : List (Option ℕ)) → printed texts (x ∷ xs) ≡ shown texts x ++ spaced texts xs
+  pub printed_spaced : (x : Option ℕ) (xs : List (Option ℕ)) → window_text texts (x ∷ xs) ≡ shown texts x ++ spaced texts xs
   printed_spaced x [] = sym (append-nil (shown texts x))
   printed_spaced x (y ∷ xs) =
       ap (λ text. shown texts x ++ (codes " " ++ text)) (printed_spaced y xs) ∙ ap (λ text. shown texts x ++ text) (sym (append_assoc (codes " ") (shown texts y) (spaced texts xs)))

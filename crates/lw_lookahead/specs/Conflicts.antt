@@ -16,7 +16,7 @@ use Rattle.lw_points.specs.Written.{IsWrittenAt}
 use Rattle.lw_lookahead.specs.declared.fault.Conflict.{Conflict}
 use Rattle.lw_lookahead.specs.declared.fault.LookFault.{LookFault}
 use Rattle.lw_lookahead.specs.declared.fault.LookFault.TheVariants as fault
-use Rattle.lw_lookahead.specs.Printed.{printed}
+use Rattle.lw_lookahead.specs.Printed.{window_text}
 
 module _ (g : Grammar) (kinds : Kinds) (k : ℕ) where
   -- at the choice no window comes next at two ways
@@ -39,9 +39,9 @@ module _ (g : Grammar) (kinds : Kinds) (k : ℕ) where
     pub shared : IsShared site conflict.first conflict.second (window k (kinds_in conflict.shared))
     pub least_pair : (i j : ℕ) (seen : List (Option ℕ)) → i < j → IsShared site i j seen →
         (conflict.first < i) ⊎ ((conflict.first ≡ i) × (conflict.second ≤ j))
-    pub text : conflict.text ≡ printed (texts_of kinds) (window k (kinds_in conflict.shared))
+    pub text : conflict.text ≡ window_text (texts_of kinds) (window k (kinds_in conflict.shared))
     pub least_text : (seen : List (Option ℕ)) → IsShared site conflict.first conflict.second seen →
-        slice_cmp nat_cmp conflict.text (printed (texts_of kinds) seen) ≢ Greater
+        slice_cmp nat_cmp conflict.text (window_text (texts_of kinds) seen) ≢ Greater
 
   abbrev pub CausesNoTables : LookFault → Type 0
   CausesNoTables (fault.Conflict conflict) = ¬ (HasMoreStrings g kinds k MOST_STRINGS) × IsFirstConflict conflict

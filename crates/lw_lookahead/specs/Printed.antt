@@ -7,10 +7,10 @@ module _ (texts : List (List ℕ)) where
   shown None = codes "<end>"
   shown (Some kind) = slice_index_or texts kind []
 
-  abbrev pub printed : List (Option ℕ) → List ℕ
-  printed [] = []
-  printed (x ∷ []) = shown x
-  printed (x ∷ y ∷ xs) = shown x ++ (codes " " ++ printed (y ∷ xs))
+  abbrev pub window_text : List (Option ℕ) → List ℕ
+  window_text [] = []
+  window_text (x ∷ []) = shown x
+  window_text (x ∷ y ∷ xs) = shown x ++ (codes " " ++ window_text (y ∷ xs))
 
   -- each behind a space
   abbrev pub spaced : List (Option ℕ) → List ℕ

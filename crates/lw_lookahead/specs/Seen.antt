@@ -14,7 +14,7 @@ use Rattle.lw_points.specs.Written.{IsWrittenAt}
 use Rattle.lw_lookahead.specs.declared.fault.LookFault.{LookFault}
 use Rattle.lw_lookahead.specs.declared.fault.LookFault.TheVariants as fault
 use Rattle.lw_lookahead.specs.Entries.{AreEntries, AreFirstWays}
-use Rattle.lw_lookahead.specs.Shared.{IsClear, heads_at}
+use Rattle.lw_lookahead.specs.Shared.{SharesNoHead, heads_at}
 
 module _ (g : Grammar) (kinds : Kinds) (k : ℕ) where
   -- at the site stands this choice, and the windows of its ways are exactly those of its heads
@@ -35,7 +35,7 @@ module _ (g : Grammar) (kinds : Kinds) (k : ℕ) where
   CausesNoChoices fault.NoMemory = ⊤
 
 -- the entries of a choice that has no conflict: for each head its way
-pub record AreEntriesOf (k : ℕ) (point : Point) (entries : List (Head × ℕ)) : Type 0 where
-  pub clear : IsClear point
+pub record AreEntriesOfChoice (k : ℕ) (point : Point) (entries : List (Head × ℕ)) : Type 0 where
+  pub clear : SharesNoHead point
   pub first : AreFirstWays (heads_at point) entries
   pub known : AreEntries k entries

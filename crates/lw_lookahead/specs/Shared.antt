@@ -11,7 +11,7 @@ use Rattle.lw_lookahead.specs.declared.fault.Conflict.{Conflict}
 use Rattle.lw_lookahead.specs.declared.fault.LookFault.{LookFault}
 use Rattle.lw_lookahead.specs.declared.fault.LookFault.TheVariants as fault
 use Rattle.lw_lookahead.specs.Entries.{IsLeastPair, IsLeastPairOf, IsOfBoth, of_ways}
-use Rattle.lw_lookahead.specs.Printed.{printed}
+use Rattle.lw_lookahead.specs.Printed.{window_text}
 
 -- the heads of a choice's ways, each beside its way
 abbrev pub heads_at : Point → List (Head × ℕ)
@@ -23,21 +23,21 @@ pub record AreFewHeads (k : ℕ) (point : Point) : Type 0 where
   pub few : (i : ℕ) (heads : List Head) → slice_get point.ways.items i ≡ Some heads → 0 < length heads → i < 65535
 
 -- no two ways have a head in common
-abbrev pub IsClear : Point → Type 0
-IsClear point = IsLeastPairOf (heads_at point) None
+abbrev pub SharesNoHead : Point → Type 0
+SharesNoHead point = IsLeastPairOf (heads_at point) None
 
 -- the text stands in front of the one that was the first so far, if one was
-abbrev pub IsBefore : List ℕ → Option (Head × List ℕ) → Type 0
-IsBefore text least = MatchOption least ⊤ (λ found. slice_cmp nat_cmp text found.1 ≡ Less)
+abbrev pub StandsInFront : List ℕ → Option (Head × List ℕ) → Type 0
+StandsInFront text least = MatchOption least ⊤ (λ found. slice_cmp nat_cmp text found.1 ≡ Less)
 
 -- a head with its text takes the place of the first so far, where it stands in front of that
 abbrev pub KeepsFirst : Head → List ℕ → Option (Head × List ℕ) → Option (Head × List ℕ) → Type 0
-KeepsFirst head text old new = (IsBefore text old × (new ≡ Some (head, text))) ⊎ (¬ IsBefore text old × (new ≡ old))
+KeepsFirst head text old new = (StandsInFront text old × (new ≡ Some (head, text))) ⊎ (¬ StandsInFront text old × (new ≡ old))
 
 -- `texts` has the texts of kinds, by which windows of k kinds are printed
 module _ (texts : List (List ℕ)) (k : ℕ) where
   abbrev pub head_text : Head → List ℕ
-  head_text head = printed texts (window k (kinds_in head))
+  head_text head = window_text texts (window k (kinds_in head))
 
   -- one that is so, with its text, of which no other one that is so is printed in front; or none is so
   pub record IsFirstPrinted (is_so : Head → Type 0) (head : Head) (text : List ℕ) : Type 0 where
@@ -61,7 +61,7 @@ module _ (texts : List (List ℕ)) (k : ℕ) where
     pub number : ℕ
     pub point : Point
     pub at : slice_get points number ≡ Some point
-    pub clear : (n : ℕ) (other : Point) → n < number → slice_get points n ≡ Some other → IsClear other
+    pub clear : (n : ℕ) (other : Point) → n < number → slice_get points n ≡ Some other → SharesNoHead other
     pub conflicts : IsConflictAt point conflict
 
   -- why a choice, and why choices, have no entries

@@ -2,9 +2,9 @@
 ghost use Rattle.std.specs.Prelude.{ℕ, ◌≤◌, ◌↔◌, Contains, IsTrue, IfOk};
 ghost use Rattle.lw_grammar.specs.Kinds.{Kinds, AreKinds};
 ghost use Rattle.lw_grammar.specs.KindTexts.{texts_of};
-ghost use Rattle.lw_lexicon.specs.Known.{IsLexicon};
+ghost use Rattle.lw_lexicon.specs.Known.{IsKnownLexicon};
 ghost use Rattle.lw_lookahead.specs.Entries.{AreEntries, AreFirstWays, IsLeastPair};
-ghost use Rattle.lw_lookahead.specs.Shared.{AreFewHeads, IsBefore, IsConflictAt, IsFirstPrintedOf, KeepsFirst, heads_at};
+ghost use Rattle.lw_lookahead.specs.Shared.{AreFewHeads, StandsInFront, IsConflictAt, IsFirstPrintedOf, KeepsFirst, heads_at};
 
 use crate::Conflict;
 use crate::printed::print;
@@ -24,7 +24,7 @@ pub(crate) fn conflict_at(
     ways: &IndexMap<Head, u16>,
     pair: (u16, u16),
 ) -> Result<Conflict, NoMemory>
-    requires known { IsLexicon lexicon.now }
+    requires known { IsKnownLexicon lexicon.now }
     requires most { k ≤ 3 }
     requires short { AreFewHeads k point.now }
     requires first { AreFirstWays (heads_at point.now) ways.now.entries }
@@ -55,7 +55,7 @@ fn first_printed(
     ways: &IndexMap<Head, u16>,
     way: u16,
 ) -> Result<Option<(Head, Name)>, NoMemory>
-    requires known { IsLexicon lexicon.now }
+    requires known { IsKnownLexicon lexicon.now }
     requires most { k ≤ 3 }
     requires entries { AreEntries k ways.now.entries }
     ensures { (kinds : Kinds) → AreKinds lexicon.now.g.now kinds →
@@ -90,7 +90,7 @@ fn keep_first(least: &mut Option<(Head, Name)>, head: Head, text: Name)
 
 /// Whether the text comes first, before the one that is there.
 fn is_before(text: &Name, least: &Option<(Head, Name)>) -> bool
-    ensures { IsTrue result ↔ IsBefore text.now least.now }
+    ensures { IsTrue result ↔ StandsInFront text.now least.now }
 {
     match least {
         Some((_, least)) => text < least,

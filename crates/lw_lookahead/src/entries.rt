@@ -2,7 +2,7 @@
 ghost use Rattle.std.specs.Prelude.{ℕ, ◌≡◌, ◌+◌, ◌<◌, ◌≤◌, ◌⊎◌, List, [], ◌∷◌, ◌++◌, Some, IfSome, IfOk, OnOk, length, slice_get};
 ghost use Rattle.lw_heads.specs.declared.head.Head.{Head as the_head};
 ghost use Rattle.lw_lookahead.specs.Entries.{AreUpTo, IsNoLaterPair, of_way, of_ways};
-ghost use Rattle.lw_lookahead.specs.Gathered.{AreGathered};
+ghost use Rattle.lw_lookahead.specs.Gathered.{AreGatheredWays};
 
 use indexmap::IndexMap;
 use lw_base::NoMemory;
@@ -20,7 +20,7 @@ impl Entries {
     /// Those of ways, which are counted from one.
     pub(crate) fn of(alloc: Global, ways: &[HeadSet]) -> Result<Entries, NoMemory>
         requires { (i : ℕ) (heads : List the_head) → slice_get ways.now i ≡ Some heads → 0 < length heads → i < 65535 }
-        ensures { IfOk result (AreGathered (of_ways 1 ways.now)) }
+        ensures { IfOk result (AreGatheredWays (of_ways 1 ways.now)) }
     {
         let mut entries = Entries {
             ways: IndexMap::new(alloc),
@@ -35,7 +35,7 @@ impl Entries {
     /// Puts in the heads of a way. Those of earlier ways are there.
     fn put_way(&mut self, heads: &[Head], way: usize) -> Result<(), NoMemory>
         requires { 0 < length heads.now → way ≤ 65535 }
-        ensures { OnOk result ((pairs : List (the_head × ℕ)) → AreGathered pairs self.old → AreUpTo way pairs → AreGathered (pairs ++ of_way way heads.now) self.new) }
+        ensures { OnOk result ((pairs : List (the_head × ℕ)) → AreGatheredWays pairs self.old → AreUpTo way pairs → AreGatheredWays (pairs ++ of_way way heads.now) self.new) }
     {
         for head in heads {
             self.put(*head, way as u16)?;
@@ -45,7 +45,7 @@ impl Entries {
 
     /// Puts in a head of a way. No later way is there.
     fn put(&mut self, head: Head, way: u16) -> Result<(), NoMemory>
-        ensures { OnOk result ((pairs : List (the_head × ℕ)) → AreGathered pairs self.old → AreUpTo way pairs → AreGathered (pairs ++ (head, way) ∷ []) self.new) }
+        ensures { OnOk result ((pairs : List (the_head × ℕ)) → AreGatheredWays pairs self.old → AreUpTo way pairs → AreGatheredWays (pairs ++ (head, way) ∷ []) self.new) }
     {
         match self.ways.get(&head).copied() {
             None => {

@@ -7,10 +7,10 @@ ghost use Rattle.lw_grammar.specs.Size.{size};
 ghost use Rattle.lw_look.specs.Looks.{IsLL};
 ghost use Rattle.lw_look.specs.Strings.{HasMoreStrings};
 ghost use Rattle.lw_look.specs.Supplied.{NodesAreTold};
-ghost use Rattle.lw_lexicon.specs.Known.{IsLexicon};
+ghost use Rattle.lw_lexicon.specs.Known.{IsKnownLexicon};
 ghost use Rattle.lw_points.specs.declared.point.TheConstants.{MOST_STRINGS};
 ghost use Rattle.lw_lookahead.specs.Conflicts.{CausesNoTables};
-ghost use Rattle.lw_lookahead.specs.Seen.{AreEntriesOf, AreSeen, CausesNoChoices};
+ghost use Rattle.lw_lookahead.specs.Seen.{AreEntriesOfChoice, AreSeen, CausesNoChoices};
 ghost use Rattle.lw_lookahead.specs.Shared.{AreFewHeads, CausesNoEntries, CausesNoEntriesAt};
 ghost use Rattle.lw_lookahead.specs.Tables.{AreTables};
 
@@ -29,7 +29,7 @@ use std::alloc::Global;
 /// The tables of a grammar for windows of `k` kinds. Strings are counted first; then the first choice decides at which a window comes next
 /// at two ways.
 pub fn tables(alloc: Global, lexicon: Lexicon<'_>, k: usize) -> Result<Tables, LookFault>
-    requires known { IsLexicon lexicon }
+    requires known { IsKnownLexicon lexicon }
     requires most { k ≤ 3 }
     requires told { NodesAreTold lexicon.g.now }
     requires small { size lexicon.g.now ≤ 65535 }
@@ -45,7 +45,7 @@ pub fn tables(alloc: Global, lexicon: Lexicon<'_>, k: usize) -> Result<Tables, L
 
 /// The choices of a grammar with the heads of their ways.
 fn choices(alloc: Global, lexicon: &Lexicon<'_>, k: usize) -> Result<Vec<Point>, LookFault>
-    requires known { IsLexicon lexicon.now }
+    requires known { IsKnownLexicon lexicon.now }
     requires most { k ≤ 3 }
     requires told { NodesAreTold lexicon.now.g.now }
     requires small { size lexicon.now.g.now ≤ 65535 }
@@ -71,10 +71,10 @@ fn all_entries(
     k: usize,
     choices: &[Point],
 ) -> Result<Vec<IndexMap<Head, u16>>, LookFault>
-    requires known { IsLexicon lexicon.now }
+    requires known { IsKnownLexicon lexicon.now }
     requires most { k ≤ 3 }
     requires short { All (AreFewHeads k) choices.now }
-    ensures entries { IfOk result (λ all. AllZip (λ point entries. AreEntriesOf k point entries.entries) choices.now all.items) }
+    ensures entries { IfOk result (λ all. AllZip (λ point entries. AreEntriesOfChoice k point entries.entries) choices.now all.items) }
     ensures fault { (kinds : Kinds) → AreKinds lexicon.now.g.now kinds → IfErr result (CausesNoEntries (texts_of kinds) k choices.now) }
 {
     let mut all = Vec::new(alloc);
@@ -101,10 +101,10 @@ fn entries(
     k: usize,
     choice: &Point,
 ) -> Result<IndexMap<Head, u16>, LookFault>
-    requires known { IsLexicon lexicon.now }
+    requires known { IsKnownLexicon lexicon.now }
     requires most { k ≤ 3 }
     requires short { AreFewHeads k choice.now }
-    ensures entries { IfOk result (λ entries. AreEntriesOf k choice.now entries.entries) }
+    ensures entries { IfOk result (λ entries. AreEntriesOfChoice k choice.now entries.entries) }
     ensures fault { (kinds : Kinds) → AreKinds lexicon.now.g.now kinds → IfErr result (CausesNoEntriesAt (texts_of kinds) k choice.now) }
 {
     let Entries { ways, pair } = Entries::of(alloc, choice.ways.as_slice())?;

@@ -4,8 +4,8 @@ ghost use Rattle.std.specs.Option.{option_map};
 ghost use Rattle.lw_grammar.specs.Kinds.{Kinds, AreKinds};
 ghost use Rattle.lw_grammar.specs.KindTexts.{quoted, texts_of};
 ghost use Rattle.lw_heads.specs.Heads.{seen_in};
-ghost use Rattle.lw_lexicon.specs.Known.{IsLexicon};
-ghost use Rattle.lw_lookahead.specs.Printed.{printed, shown, spaced};
+ghost use Rattle.lw_lexicon.specs.Known.{IsKnownLexicon};
+ghost use Rattle.lw_lookahead.specs.Printed.{window_text, shown, spaced};
 
 use lw_base::{KindId, Name, NoMemory};
 use lw_lexicon::Lexicon;
@@ -17,9 +17,9 @@ pub(crate) fn print(
     lexicon: &Lexicon<'_>,
     window: &[Option<KindId>],
 ) -> Result<Name, NoMemory>
-    requires { IsLexicon lexicon.now }
+    requires { IsKnownLexicon lexicon.now }
     ensures { (kinds : Kinds) → AreKinds lexicon.now.g.now kinds →
-        IfOk result (λ text. text ≡ printed (texts_of kinds) (seen_in window.now)) }
+        IfOk result (λ text. text ≡ window_text (texts_of kinds) (seen_in window.now)) }
 {
     let mut text = String::new(alloc);
     let Some((first, others)) = window.split_first() else {
@@ -36,7 +36,7 @@ fn push_others(
     lexicon: &Lexicon<'_>,
     others: &[Option<KindId>],
 ) -> Result<(), NoMemory>
-    requires { IsLexicon lexicon.now }
+    requires { IsKnownLexicon lexicon.now }
     ensures { (kinds : Kinds) → AreKinds lexicon.now.g.now kinds →
         OnOk result (string_bytes text.new ≡ string_bytes text.old ++ spaced (texts_of kinds) (seen_in others.now)) }
 {
@@ -49,7 +49,7 @@ fn push_others(
 
 /// Puts what is seen at one place behind the text.
 fn push_seen(text: &mut String, lexicon: &Lexicon<'_>, seen: Option<KindId>) -> Result<(), NoMemory>
-    requires { IsLexicon lexicon.now }
+    requires { IsKnownLexicon lexicon.now }
     ensures { (kinds : Kinds) → AreKinds lexicon.now.g.now kinds →
         OnOk result (string_bytes text.new ≡ string_bytes text.old ++ shown (texts_of kinds) (option_map (λ kind. kind.0) seen)) }
 {
@@ -61,7 +61,7 @@ fn push_seen(text: &mut String, lexicon: &Lexicon<'_>, seen: Option<KindId>) -> 
 
 /// Puts the text of a kind behind the text.
 fn push_kind(text: &mut String, lexicon: &Lexicon<'_>, kind: KindId) -> Result<(), NoMemory>
-    requires { IsLexicon lexicon.now }
+    requires { IsKnownLexicon lexicon.now }
     ensures { (kinds : Kinds) → AreKinds lexicon.now.g.now kinds →
         OnOk result (string_bytes text.new ≡ string_bytes text.old ++ slice_index_or (texts_of kinds) kind.0 []) }
 {

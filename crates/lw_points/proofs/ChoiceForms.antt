@@ -13,14 +13,14 @@ use Rattle.lw_grammar.specs.declared.rule.Op.{Op}
 use Rattle.lw_grammar.specs.declared.rule.Action.{Action}
 use Rattle.std.specs.Prelude.{ℕ}
 use Rattle.lw_look.specs.Sites.{PartSite, ◌▸◌}
-use Rattle.lw_look.specs.Choices.{element_choices, layer_choices, value_choices, value_layer_choices, inside}
+use Rattle.lw_look.specs.Choices.{element_choices, layer_choice_sites, value_choices, value_layer_choice_sites, inside}
 
 module _ (s : PartSite) where
   by_layer : (e : Element) (f : Element-F Element) → out-Element e ≡ f →
-      element_choices e s ≡ layer_choices (map-Element Element (PartSite → List PartSite) element_choices f) s
+      element_choices e s ≡ layer_choice_sites (map-Element Element (PartSite → List PartSite) element_choices f) s
   by_layer e f is =
       ap (λ choices. choices s)
-      (fold_out-Element (PartSite → List PartSite) layer_choices e ∙ ap (λ f. layer_choices (map-Element Element (PartSite → List PartSite) element_choices f)) is)
+      (fold_out-Element (PartSite → List PartSite) layer_choice_sites e ∙ ap (λ f. layer_choice_sites (map-Element Element (PartSite → List PartSite) element_choices f)) is)
 
   pub choices-Keyword : (text : List ℕ) (span : Span) → element_choices (element.Keyword text span) s ≡ []
   choices-Keyword text span = by_layer _ _ (element.outs-Keyword text span)
@@ -55,11 +55,11 @@ module _ (s : PartSite) where
   choices_repeated e part span (inr is) = ap (λ e. element_choices e s) is ∙ choices-Some1 part span
 
   value_by_layer : (v : Value0) (f : Value0-F Value0) → out-Value0 v ≡ f →
-      value_choices v s ≡ value_layer_choices (map-Value0 Value0 (PartSite → List PartSite) value_choices f) s
+      value_choices v s ≡ value_layer_choice_sites (map-Value0 Value0 (PartSite → List PartSite) value_choices f) s
   value_by_layer v f is =
       ap (λ choices. choices s)
-      (fold_out-Value0 (PartSite → List PartSite) value_layer_choices v
-      ∙ ap (λ f. value_layer_choices (map-Value0 Value0 (PartSite → List PartSite) value_choices f)) is)
+      (fold_out-Value0 (PartSite → List PartSite) value_layer_choice_sites v
+      ∙ ap (λ f. value_layer_choice_sites (map-Value0 Value0 (PartSite → List PartSite) value_choices f)) is)
 
   pub values-Keyword : (text : List ℕ) (span : Span) → value_choices (value.Keyword text span) s ≡ []
   values-Keyword text span = value_by_layer _ _ (value.outs-Keyword text span)

@@ -18,7 +18,7 @@ use Rattle.lw_look.specs.Sites as site
 use Rattle.lw_look.specs.Looks as ends
 use Rattle.lw_look.proofs.Standing.{layer_part_stands, way_stands, row_part_stands, option_stands, repeated_stands}
 use Rattle.lw_points.specs.Ways.{HasExactly}
-use Rattle.lw_points.specs.Gathering.{IsElementAt, IsValueAt, HasRow, HasAlternatives, HasSomeAlternatives, HasValueAlternatives, HasSomeValueAlternatives, HasOptional, HasRepeated}
+use Rattle.lw_points.specs.Gathering.{IsElementAt, IsValueAt, HasRowAt, HasAlternatives, HasSomeAlternatives, HasValueAlternatives, HasSomeValueAlternatives, HasOptional, HasRepeated}
 use Rattle.lw_points.proofs.FollowForms.{followed_other, followed_again, followed_in_row}
 use Rattle.lw_points.proofs.GatherSteps.{LeadsTo}
 use Rattle.lw_points.proofs.SiteForms.{choice_is_other, optional_is_other, assigned_is_other, value_is_other}
@@ -26,7 +26,7 @@ use Rattle.lw_points.proofs.SiteForms.{choice_is_other, optional_is_other, assig
 -- ---- what an element or a value is
 
 module _ (g : Grammar) (s : PartSite) where
-  pub row_at : (e : Element) (parts : List Element) (span : Span) → e ≡ element.Group parts span → IsElementAt e g s → HasRow parts g s
+  pub row_at : (e : Element) (parts : List Element) (span : Span) → e ≡ element.Group parts span → IsElementAt e g s → HasRowAt parts g s
   row_at e parts span is at = site.row (subst (ElementAt g s) (ap out-Element is ∙ element.outs-Group parts span) (site.element_at at))
 
   pub alternatives_at : (e : Element) (parts : List Element) (span : Span) → e ≡ element.Choice parts span → IsElementAt e g s → HasAlternatives parts span g s
@@ -89,9 +89,9 @@ module _ (first : First) (file : ℕ) (after : List Head) where
   pub leads_in_row : (es : List Element) (behind : List (List Head)) (i : ℕ) (e : Element) (set : List Head) → i < length es → e ≡ get_or es i e →
       slice_get behind i ≡ Some set →
       ((kinds : Kinds) → AreKinds first.lexicon.g.now kinds → AreBehind first.lexicon.g.now kinds first.k first.heads.now es after behind) →
-      LeadsTo first file (HasRow es) after i (IsElementAt e) set
+      LeadsTo first file (HasRowAt es) after i (IsElementAt e) set
   leads_in_row es behind i e set inside is at all kinds followers s are there follows =
       (stands there, followed_in_row first.lexicon.g.now kinds first.k first.heads.now followers follows es behind i set there inside (all kinds are) at)
     where
-      stands : HasRow es first.lexicon.g.now s → IsElementAt e first.lexicon.g.now (s ▸ i)
+      stands : HasRowAt es first.lexicon.g.now s → IsElementAt e first.lexicon.g.now (s ▸ i)
       stands (site.row row) = row_part_stands first.lexicon.g.now row (slice_get_read es (length es) i e refl inside is)

@@ -12,8 +12,8 @@ use Rattle.lw_points.specs.declared.point.Point.{Point}
 use Rattle.lw_points.specs.declared.point.PointsFault.{PointsFault}
 use Rattle.lw_points.specs.declared.point.PointsFault.TheVariants.{TooMany, NoMemory}
 use Rattle.lw_points.specs.Points.{IsPointAt, ArePoints, CausesNoPoints}
-use Rattle.lw_points.specs.Counted.{IsPut}
-use Rattle.lw_points.specs.Gathering.{Puts, Gathers}
+use Rattle.lw_points.specs.Counted.{IsPutPoint}
+use Rattle.lw_points.specs.Gathering.{PutsPoints, GathersPoints}
 
 module _ (g : Grammar) (kinds : Kinds) (k : ℕ) (heads followers : List (List Head)) where
   -- ---- the points of sites
@@ -43,16 +43,16 @@ module _ (g : Grammar) (kinds : Kinds) (k : ℕ) (heads followers : List (List H
 
   -- ---- put one after the other
 
-  pub puts_none : (sites : List PartSite) (old : List Point) → Puts g kinds k heads followers sites sites old old
+  pub puts_none : (sites : List PartSite) (old : List Point) → PutsPoints g kinds k heads followers sites sites old old
   puts_none sites old = record { front = []; parts = refl; points = []; are = are_none; grown = sym (append-nil old) }
 
   pub puts_one : (s : PartSite) (point : Point) (old new : List Point) → IsPointAt g kinds k heads followers s point → new ≡ old ++ point ∷ [] →
-      Puts g kinds k heads followers (s ∷ []) [] old new
+      PutsPoints g kinds k heads followers (s ∷ []) [] old new
   puts_one s point old new is grown = record { front = s ∷ []; parts = refl; points = point ∷ []; are = are_more s point [] [] is are_none; grown = grown }
 
   -- of sites that were left some are left
-  puts_more : (sites xs more left : List PartSite) (old mid new : List Point) → Puts g kinds k heads followers sites (xs ++ left) old mid →
-      Puts g kinds k heads followers xs more mid new → Puts g kinds k heads followers sites (more ++ left) old new
+  puts_more : (sites xs more left : List PartSite) (old mid new : List Point) → PutsPoints g kinds k heads followers sites (xs ++ left) old mid →
+      PutsPoints g kinds k heads followers xs more mid new → PutsPoints g kinds k heads followers sites (more ++ left) old new
   puts_more sites xs more left old mid new one two = record {
     front = one.front ++ two.front;
     parts = append_assoc one.front two.front (more ++ left) ∙ ap (λ ys. one.front ++ ys) (sym (append_assoc two.front more left) ∙ ap (λ ys. ys ++ left) two.parts) ∙ one.parts;
@@ -61,44 +61,44 @@ module _ (g : Grammar) (kinds : Kinds) (k : ℕ) (heads followers : List (List H
     grown = two.grown ∙ ap (λ ps. ps ++ two.points) one.grown ∙ append_assoc old one.points two.points;
   }
 
-  pub puts_on : (sites xs left : List PartSite) (old mid new : List Point) → Puts g kinds k heads followers sites (xs ++ left) old mid →
-      Puts g kinds k heads followers xs [] mid new → Puts g kinds k heads followers sites left old new
+  pub puts_on : (sites xs left : List PartSite) (old mid new : List Point) → PutsPoints g kinds k heads followers sites (xs ++ left) old mid →
+      PutsPoints g kinds k heads followers xs [] mid new → PutsPoints g kinds k heads followers sites left old new
   puts_on sites xs left old mid new one two = puts_more sites xs [] left old mid new one two
 
-  pub fails_on : (sites xs left : List PartSite) (old mid new : List Point) (fault : PointsFault) → Puts g kinds k heads followers sites (xs ++ left) old mid →
-      Gathers g kinds k heads followers xs mid new (Err fault) → Gathers g kinds k heads followers sites old new (Err fault)
+  pub fails_on : (sites xs left : List PartSite) (old mid new : List Point) (fault : PointsFault) → PutsPoints g kinds k heads followers sites (xs ++ left) old mid →
+      GathersPoints g kinds k heads followers xs mid new (Err fault) → GathersPoints g kinds k heads followers sites old new (Err fault)
   fails_on sites xs left old mid new TooMany one (more, two, many) = (more ++ left, puts_more sites xs more left old mid new one two, many)
   fails_on sites xs left old mid new NoMemory one two = tt
 
   -- what is left was gathered
-  pub gathers_on : (sites xs : List PartSite) (old mid new : List Point) (result : Result (Unit {0}) PointsFault) → Puts g kinds k heads followers sites xs old mid →
-      Gathers g kinds k heads followers xs mid new result → Gathers g kinds k heads followers sites old new result
-  gathers_on sites xs old mid new (Ok u) one two = puts_on sites xs [] old mid new (subst (λ ys. Puts g kinds k heads followers sites ys old mid) (sym (append-nil xs)) one) two
+  pub gathers_on : (sites xs : List PartSite) (old mid new : List Point) (result : Result (Unit {0}) PointsFault) → PutsPoints g kinds k heads followers sites xs old mid →
+      GathersPoints g kinds k heads followers xs mid new result → GathersPoints g kinds k heads followers sites old new result
+  gathers_on sites xs old mid new (Ok u) one two = puts_on sites xs [] old mid new (subst (λ ys. PutsPoints g kinds k heads followers sites ys old mid) (sym (append-nil xs)) one) two
   gathers_on sites xs old mid new (Err fault) one two =
-      fails_on sites xs [] old mid new fault (subst (λ ys. Puts g kinds k heads followers sites ys old mid) (sym (append-nil xs)) one) two
+      fails_on sites xs [] old mid new fault (subst (λ ys. PutsPoints g kinds k heads followers sites ys old mid) (sym (append-nil xs)) one) two
 
   -- one point was put, or too many heads were found with it
   pub put_gathers : (s : PartSite) (point : Point) (old new : List Point) (result : Result (Unit {0}) PointsFault) → IsPointAt g kinds k heads followers s point →
-      IsPut point old new result → Gathers g kinds k heads followers (s ∷ []) old new result
+      IsPutPoint point old new result → GathersPoints g kinds k heads followers (s ∷ []) old new result
   put_gathers s point old new (Ok u) is put = puts_one s point old new is put
   put_gathers s point old new (Err TooMany) is put = ([], puts_one s point old new is put.0, put.1)
   put_gathers s point old new (Err NoMemory) is put = tt
 
   -- no memory is told with nothing
   pub no_memory_gathers : (sites : List PartSite) (old new : List Point) (result : Result (Unit {0}) PointsFault) → IsErrAnd result (λ fault. fault ≡ NoMemory) →
-      Gathers g kinds k heads followers sites old new result
+      GathersPoints g kinds k heads followers sites old new result
   no_memory_gathers sites old new (Ok u) not = absurd not
-  no_memory_gathers sites old new (Err fault) is = subst (λ fault. Gathers g kinds k heads followers sites old new (Err fault)) (sym is) tt
+  no_memory_gathers sites old new (Err fault) is = subst (λ fault. GathersPoints g kinds k heads followers sites old new (Err fault)) (sym is) tt
 
   -- ---- at the end
 
-  pub all_points : (sites : List PartSite) (points : List Point) → Puts g kinds k heads followers sites [] [] points →
+  pub all_points : (sites : List PartSite) (points : List Point) → PutsPoints g kinds k heads followers sites [] [] points →
       ArePoints g kinds k heads followers sites points
   all_points sites points puts =
       subst (λ ps. ArePoints g kinds k heads followers sites ps) (sym puts.grown)
       (subst (λ xs. ArePoints g kinds k heads followers xs puts.points) (sym (append-nil puts.front) ∙ puts.parts) puts.are)
 
-  pub causes : (points : List Point) (fault : PointsFault) → Gathers g kinds k heads followers (choice_sites g) [] points (Err fault) →
+  pub causes : (points : List Point) (fault : PointsFault) → GathersPoints g kinds k heads followers (choice_sites g) [] points (Err fault) →
       CausesNoPoints g kinds k heads followers fault
   causes points TooMany (left, puts, many) = (
     length puts.front,

@@ -13,7 +13,7 @@ use Rattle.lw_first.specs.declared.first.First.{First}
 use Rattle.lw_points.specs.declared.point.Point.{Point}
 use Rattle.lw_points.specs.declared.point.PointsFault.{PointsFault}
 use Rattle.lw_points.specs.Ways.{HasExactly}
-use Rattle.lw_points.specs.Gathering.{Puts, Gathers, GathersWhere, IsElementAt}
+use Rattle.lw_points.specs.Gathering.{PutsPoints, GathersPoints, GathersWhere, IsElementAt}
 use Rattle.lw_points.proofs.FollowForms.{followed_body}
 use Rattle.lw_points.proofs.PutSteps.{puts_none, puts_on, fails_on}
 
@@ -22,26 +22,26 @@ module _ (first : First) (followers : List (List Head)) where
   abbrev pub IsLeftFrom : ℕ → List Point → Type 0
   IsLeftFrom i points =
       (kinds : Kinds) → AreKinds first.lexicon.g.now kinds →
-      Puts first.lexicon.g.now kinds first.k first.heads.now followers (choice_sites first.lexicon.g.now) (rule_choices i (drop i first.lexicon.g.now.rules)) [] points
+      PutsPoints first.lexicon.g.now kinds first.k first.heads.now followers (choice_sites first.lexicon.g.now) (rule_choices i (drop i first.lexicon.g.now.rules)) [] points
 
   pub rules_begin : (points : List Point) → points ≡ [] → IsLeftFrom 0 points
   rules_begin points none kinds are =
-      subst (λ new. Puts first.lexicon.g.now kinds first.k first.heads.now followers (choice_sites first.lexicon.g.now) (choice_sites first.lexicon.g.now) [] new) (sym none)
+      subst (λ new. PutsPoints first.lexicon.g.now kinds first.k first.heads.now followers (choice_sites first.lexicon.g.now) (choice_sites first.lexicon.g.now) [] new) (sym none)
       (puts_none first.lexicon.g.now kinds first.k first.heads.now followers (choice_sites first.lexicon.g.now) [])
 
   pub rules_end : (i : ℕ) (points : List Point) (kinds : Kinds) → AreKinds first.lexicon.g.now kinds → length first.lexicon.g.now.rules ≤ i → IsLeftFrom i points →
-      Puts first.lexicon.g.now kinds first.k first.heads.now followers (choice_sites first.lexicon.g.now) [] [] points
+      PutsPoints first.lexicon.g.now kinds first.k first.heads.now followers (choice_sites first.lexicon.g.now) [] [] points
   rules_end i points kinds are past left =
-      subst (λ sites. Puts first.lexicon.g.now kinds first.k first.heads.now followers (choice_sites first.lexicon.g.now) sites [] points)
+      subst (λ sites. PutsPoints first.lexicon.g.now kinds first.k first.heads.now followers (choice_sites first.lexicon.g.now) sites [] points)
       (ap (rule_choices i) (drop_all i first.lexicon.g.now.rules past)) (left kinds are)
 
   module _ (i : ℕ) (rule : Rule) (within : i < length first.lexicon.g.now.rules) (is : rule ≡ get_or first.lexicon.g.now.rules i rule) (after : List Head)
       (exact : HasExactly (IsInSet followers i) after) (mid new : List Point) (left : IsLeftFrom i mid) where
     module _ (kinds : Kinds) (are : AreKinds first.lexicon.g.now kinds) where
-      before : Puts first.lexicon.g.now kinds first.k first.heads.now followers (choice_sites first.lexicon.g.now)
+      before : PutsPoints first.lexicon.g.now kinds first.k first.heads.now followers (choice_sites first.lexicon.g.now)
           (element_choices rule.body (body i) ++ rule_choices (i + 1) (drop (i + 1) first.lexicon.g.now.rules)) [] mid
       before =
-          subst (λ sites. Puts first.lexicon.g.now kinds first.k first.heads.now followers (choice_sites first.lexicon.g.now) sites [] mid)
+          subst (λ sites. PutsPoints first.lexicon.g.now kinds first.k first.heads.now followers (choice_sites first.lexicon.g.now) sites [] mid)
           (ap (rule_choices i) (drop_more first.lexicon.g.now.rules i rule within ∙ ap (λ y. y ∷ drop (i + 1) first.lexicon.g.now.rules) (sym is))) (left kinds are)
 
     pub rules_go_on : GathersWhere first rule.file (IsElementAt rule.body) after (element_choices rule.body) mid new (Ok tt) → IsLeftFrom (i + 1) new
@@ -53,7 +53,7 @@ module _ (first : First) (followers : List (List Head)) where
 
     pub rules_fail : (fault : PointsFault) → GathersWhere first rule.file (IsElementAt rule.body) after (element_choices rule.body) mid new (Err fault) →
         (kinds : Kinds) → AreKinds first.lexicon.g.now kinds →
-        Gathers first.lexicon.g.now kinds first.k first.heads.now followers (choice_sites first.lexicon.g.now) [] new (Err fault)
+        GathersPoints first.lexicon.g.now kinds first.k first.heads.now followers (choice_sites first.lexicon.g.now) [] new (Err fault)
     rules_fail fault gathers kinds are =
         let there = slice_get_read first.lexicon.g.now.rules (length first.lexicon.g.now.rules) i rule refl within is in
         fails_on first.lexicon.g.now kinds first.k first.heads.now followers (choice_sites first.lexicon.g.now) (element_choices rule.body (body i))

@@ -8,12 +8,12 @@ use Rattle.lw_points.specs.declared.point.PointsFault.TheVariants.{TooMany, NoMe
 use Rattle.lw_points.specs.Points.{strings_in}
 
 -- their heads are counted, and are not too many
-pub record IsCounted (gathered : Gathered) : Type 0 where
+pub record AreCountedPoints (gathered : Gathered) : Type 0 where
   pub count : gathered.strings ≡ strings_in gathered.points.items
   pub few : gathered.strings ≤ MOST_STRINGS
 
 -- the choice was put behind the others, and where it is told that heads are too many they are
-abbrev pub IsPut : Point → List Point → List Point → Result (Unit {0}) PointsFault → Type 0
-IsPut point old new (Ok _) = new ≡ old ++ point ∷ []
-IsPut point old new (Err TooMany) = (new ≡ old ++ point ∷ []) × (MOST_STRINGS < strings_in new)
-IsPut point old new (Err NoMemory) = Unit {0}
+abbrev pub IsPutPoint : Point → List Point → List Point → Result (Unit {0}) PointsFault → Type 0
+IsPutPoint point old new (Ok _) = new ≡ old ++ point ∷ []
+IsPutPoint point old new (Err TooMany) = (new ≡ old ++ point ∷ []) × (MOST_STRINGS < strings_in new)
+IsPutPoint point old new (Err NoMemory) = Unit {0}

@@ -30,7 +30,7 @@ module _ (g : Grammar) (kinds : Kinds) (k : ℕ) (heads followers : List (List H
     pub exact : HasExactly (CanFollow g kinds k (IsInSet heads) (IsInSet followers) s) after
 
   -- the choices at the first of these sites were put behind the others, and those at the last are left
-  pub record Puts (sites left : List PartSite) (old new : List Point) : Type 0 where
+  pub record PutsPoints (sites left : List PartSite) (old new : List Point) : Type 0 where
     pub front : List PartSite
     pub parts : front ++ left ≡ sites
     pub points : List Point
@@ -38,10 +38,10 @@ module _ (g : Grammar) (kinds : Kinds) (k : ℕ) (heads followers : List (List H
     pub grown : new ≡ old ++ points
 
   -- all were put there, or so many that their heads are too many
-  abbrev pub Gathers : List PartSite → List Point → List Point → Result (Unit {0}) PointsFault → Type 0
-  Gathers sites old new (Ok _) = Puts sites [] old new
-  Gathers sites old new (Err TooMany) = (left : List PartSite) × Puts sites left old new × (MOST_STRINGS < strings_in new)
-  Gathers sites old new (Err NoMemory) = Unit {0}
+  abbrev pub GathersPoints : List PartSite → List Point → List Point → Result (Unit {0}) PointsFault → Type 0
+  GathersPoints sites old new (Ok _) = PutsPoints sites [] old new
+  GathersPoints sites old new (Err TooMany) = (left : List PartSite) × PutsPoints sites left old new × (MOST_STRINGS < strings_in new)
+  GathersPoints sites old new (Err NoMemory) = Unit {0}
 
 -- in whichever rule of this file it is so at a site, and these heads may follow, the choices there are gathered
 abbrev pub GathersWhere : First → ℕ → (Grammar → PartSite → Type 0) → List Head → (PartSite → List PartSite) → List Point → List Point →
@@ -49,7 +49,7 @@ abbrev pub GathersWhere : First → ℕ → (Grammar → PartSite → Type 0) �
 GathersWhere first file is_so after choices old new result =
     (kinds : Kinds) (followers : List (List Head)) (s : PartSite) → AreKinds first.lexicon.g.now kinds → is_so first.lexicon.g.now s →
     IsFollowedBy first.lexicon.g.now kinds first.k first.heads.now followers s file after →
-    Gathers first.lexicon.g.now kinds first.k first.heads.now followers (choices s) old new result
+    GathersPoints first.lexicon.g.now kinds first.k first.heads.now followers (choices s) old new result
 
 -- ---- what stands at a site
 
@@ -59,8 +59,8 @@ IsElementAt e g s = IsPartAt g s (Body e)
 abbrev pub IsValueAt : Value0 → Grammar → PartSite → Type 0
 IsValueAt v g s = IsPartAt g s (Value v)
 
-abbrev pub HasRow : List Element → Grammar → PartSite → Type 0
-HasRow es g s = RowAt g s es
+abbrev pub HasRowAt : List Element → Grammar → PartSite → Type 0
+HasRowAt es g s = RowAt g s es
 
 abbrev pub HasAlternatives : List Element → Span → Grammar → PartSite → Type 0
 HasAlternatives es span g s = ElementAt g s (layer.Choice es span)
@@ -83,8 +83,8 @@ HasRepeated e span g s = ElementAt g s (layer.Many e span) ⊎ ElementAt g s (la
 -- ---- which choices
 
 -- the choice at the site alone
-abbrev pub alone : PartSite → List PartSite
-alone s = s ∷ []
+abbrev pub site_alone : PartSite → List PartSite
+site_alone s = s ∷ []
 
 -- that choice, and those in its part
 abbrev pub with_part : Element → PartSite → List PartSite

@@ -3,7 +3,7 @@ ghost use Rattle.std.specs.Prelude.{◌≡◌, ◌+◌, ◌<◌, ◌≤◌, [], 
 ghost use Rattle.std.specs.List.{sum_by};
 ghost use Rattle.lw_heads.specs.Sets.{AreDistinctHeads};
 ghost use Rattle.lw_points.specs.declared.point.TheConstants.{MOST_STRINGS};
-ghost use Rattle.lw_points.specs.Counted.{IsCounted, IsPut};
+ghost use Rattle.lw_points.specs.Counted.{AreCountedPoints, IsPutPoint};
 
 use crate::{MOST_STRINGS, Point, PointsFault};
 use lw_heads::HeadSet;
@@ -20,7 +20,7 @@ impl Gathered {
     /// No choice.
     pub(crate) fn new(alloc: Global) -> Gathered
         ensures none { result.points.items ≡ [] }
-        ensures counted { IsCounted result }
+        ensures counted { AreCountedPoints result }
     {
         Gathered {
             points: Vec::new(alloc),
@@ -30,10 +30,10 @@ impl Gathered {
 
     /// Puts the choice behind the others. It is there, too, where there are too many heads with it.
     pub(crate) fn put(&mut self, point: Point) -> Result<(), PointsFault>
-        requires { IsCounted self.old }
-        ensures put { IsPut point self.old.points.items self.new.points.items result }
+        requires { AreCountedPoints self.old }
+        ensures put { IsPutPoint point self.old.points.items self.new.points.items result }
         ensures distinct { All AreDistinctHeads point.ways.items }
-        ensures counted { OnOk result (IsCounted self.new) }
+        ensures counted { OnOk result (AreCountedPoints self.new) }
     {
         let strings = count_with(self.strings, point.ways.as_slice());
         if self.points.push(point).is_err() {

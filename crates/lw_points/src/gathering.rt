@@ -1,7 +1,6 @@
 // The choices of a grammar, in their order.
 ghost use Rattle.std.specs.Prelude.{◌≤◌, IfErr, IfOk};
 ghost use Rattle.lw_grammar.specs.Kinds.{Kinds, AreKinds};
-ghost use Rattle.lw_grammar.specs.Size.{size};
 ghost use Rattle.lw_look.specs.Choices.{choice_sites};
 ghost use Rattle.lw_heads.specs.Sets.{IsInSet};
 ghost use Rattle.lw_first.specs.Before.{IsReady};
@@ -24,7 +23,6 @@ pub fn points(
     followers: &[HeadSet],
 ) -> Result<Vec<Point>, PointsFault>
     requires ready { IsReady first.now }
-    requires small { size first.now.lexicon.g.now ≤ 65535 }
     ensures points { (kinds : Kinds) → AreKinds first.now.lexicon.g.now kinds →
         IfOk result (λ points. ArePoints first.now.lexicon.g.now kinds first.now.k first.now.heads.now followers.now (choice_sites first.now.lexicon.g.now) points.items) }
     ensures few { IfOk result (λ points. strings_in points.items ≤ MOST_STRINGS) }

@@ -3,19 +3,19 @@ ghost use Rattle.std.specs.Prelude.{OnOk, map};
 ghost use Rattle.lw_grammar.specs.Kinds.{Kinds, AreKinds};
 ghost use Rattle.lw_look.specs.Choices.{element_choices, value_choices, inside};
 ghost use Rattle.lw_first.specs.Before.{ManyCanBefore, IsReady};
-ghost use Rattle.lw_points.specs.Counted.{IsCounted};
+ghost use Rattle.lw_points.specs.Counted.{AreCountedPoints};
 ghost use Rattle.lw_points.specs.Gathering.{
   GathersWhere,
   IsElementAt,
   IsValueAt,
-  HasRow,
+  HasRowAt,
   HasAlternatives,
   HasValueAlternatives,
   HasSomeAlternatives,
   HasSomeValueAlternatives,
   HasOptional,
   HasRepeated,
-  alone,
+  site_alone,
   with_part,
 };
 ghost use Rattle.lw_points.specs.Ways.{HasExactly};
@@ -48,9 +48,9 @@ impl Walk<'_> {
         gathered: &mut Gathered,
     ) -> Result<(), PointsFault>
         requires ready { IsReady self.now.first }
-        requires counted { IsCounted gathered.old }
+        requires counted { AreCountedPoints gathered.old }
         ensures gathers { GathersWhere self.now.first self.now.file (IsElementAt element.now) after.now (element_choices element.now) gathered.old.points.items gathered.new.points.items result }
-        ensures counted { OnOk result (IsCounted gathered.new) }
+        ensures counted { OnOk result (AreCountedPoints gathered.new) }
     {
         match element {
             Element::Keyword(..) | Element::Call(..) | Element::Act(_) => Ok(()),
@@ -80,9 +80,9 @@ impl Walk<'_> {
         gathered: &mut Gathered,
     ) -> Result<(), PointsFault>
         requires ready { IsReady self.now.first }
-        requires counted { IsCounted gathered.old }
-        ensures gathers { GathersWhere self.now.first self.now.file (HasRow parts.now) after.now (λ s. inside s 0 (map element_choices parts.now)) gathered.old.points.items gathered.new.points.items result }
-        ensures counted { OnOk result (IsCounted gathered.new) }
+        requires counted { AreCountedPoints gathered.old }
+        ensures gathers { GathersWhere self.now.first self.now.file (HasRowAt parts.now) after.now (λ s. inside s 0 (map element_choices parts.now)) gathered.old.points.items gathered.new.points.items result }
+        ensures counted { OnOk result (AreCountedPoints gathered.new) }
     {
         let behind = behind_each(alloc, &self.first, parts, after)?;
         for (number, part) in parts.iter().enumerate() {
@@ -101,9 +101,9 @@ impl Walk<'_> {
         gathered: &mut Gathered,
     ) -> Result<(), PointsFault>
         requires ready { IsReady self.now.first }
-        requires counted { IsCounted gathered.old }
+        requires counted { AreCountedPoints gathered.old }
         ensures gathers { GathersWhere self.now.first self.now.file (HasSomeAlternatives parts.now) after.now (λ s. inside s 0 (map element_choices parts.now)) gathered.old.points.items gathered.new.points.items result }
-        ensures counted { OnOk result (IsCounted gathered.new) }
+        ensures counted { OnOk result (AreCountedPoints gathered.new) }
     {
         for part in parts {
             self.add_element(alloc, part, after, gathered)?;
@@ -122,9 +122,9 @@ impl Walk<'_> {
         gathered: &mut Gathered,
     ) -> Result<(), PointsFault>
         requires ready { IsReady self.now.first }
-        requires counted { IsCounted gathered.old }
+        requires counted { AreCountedPoints gathered.old }
         ensures gathers { GathersWhere self.now.first self.now.file (HasRepeated part.now span) after.now (with_part part.now) gathered.old.points.items gathered.new.points.items result }
-        ensures counted { OnOk result (IsCounted gathered.new) }
+        ensures counted { OnOk result (AreCountedPoints gathered.new) }
     {
         let again = repeated_heads(alloc, &self.first, part, after)?;
         self.put_repeated(alloc, part, span, again.as_slice(), after, gathered)?;
@@ -141,9 +141,9 @@ impl Walk<'_> {
         gathered: &mut Gathered,
     ) -> Result<(), PointsFault>
         requires ready { IsReady self.now.first }
-        requires counted { IsCounted gathered.old }
+        requires counted { AreCountedPoints gathered.old }
         ensures gathers { GathersWhere self.now.first self.now.file (IsValueAt value.now) after.now (value_choices value.now) gathered.old.points.items gathered.new.points.items result }
-        ensures counted { OnOk result (IsCounted gathered.new) }
+        ensures counted { OnOk result (AreCountedPoints gathered.new) }
     {
         match value {
             Value0::Keyword(..) | Value0::Call(..) | Value0::Cross(..) => Ok(()),
@@ -164,9 +164,9 @@ impl Walk<'_> {
         gathered: &mut Gathered,
     ) -> Result<(), PointsFault>
         requires ready { IsReady self.now.first }
-        requires counted { IsCounted gathered.old }
+        requires counted { AreCountedPoints gathered.old }
         ensures gathers { GathersWhere self.now.first self.now.file (HasSomeValueAlternatives values.now) after.now (λ s. inside s 0 (map value_choices values.now)) gathered.old.points.items gathered.new.points.items result }
-        ensures counted { OnOk result (IsCounted gathered.new) }
+        ensures counted { OnOk result (AreCountedPoints gathered.new) }
     {
         for value in values {
             self.add_value(alloc, value, after, gathered)?;
@@ -184,9 +184,9 @@ impl Walk<'_> {
         gathered: &mut Gathered,
     ) -> Result<(), PointsFault>
         requires ready { IsReady self.now.first }
-        requires counted { IsCounted gathered.old }
-        ensures gathers { GathersWhere self.now.first self.now.file (HasAlternatives parts.now span) after.now alone gathered.old.points.items gathered.new.points.items result }
-        ensures counted { OnOk result (IsCounted gathered.new) }
+        requires counted { AreCountedPoints gathered.old }
+        ensures gathers { GathersWhere self.now.first self.now.file (HasAlternatives parts.now span) after.now site_alone gathered.old.points.items gathered.new.points.items result }
+        ensures counted { OnOk result (AreCountedPoints gathered.new) }
     {
         let ways = alternatives(alloc, &self.first, parts, after)?;
         gathered.put(Point {
@@ -206,9 +206,9 @@ impl Walk<'_> {
         gathered: &mut Gathered,
     ) -> Result<(), PointsFault>
         requires ready { IsReady self.now.first }
-        requires counted { IsCounted gathered.old }
-        ensures gathers { GathersWhere self.now.first self.now.file (HasValueAlternatives values.now span) after.now alone gathered.old.points.items gathered.new.points.items result }
-        ensures counted { OnOk result (IsCounted gathered.new) }
+        requires counted { AreCountedPoints gathered.old }
+        ensures gathers { GathersWhere self.now.first self.now.file (HasValueAlternatives values.now span) after.now site_alone gathered.old.points.items gathered.new.points.items result }
+        ensures counted { OnOk result (AreCountedPoints gathered.new) }
     {
         let ways = value_alternatives(alloc, &self.first, values, after)?;
         gathered.put(Point {
@@ -228,9 +228,9 @@ impl Walk<'_> {
         gathered: &mut Gathered,
     ) -> Result<(), PointsFault>
         requires ready { IsReady self.now.first }
-        requires counted { IsCounted gathered.old }
-        ensures gathers { GathersWhere self.now.first self.now.file (HasOptional part.now span) after.now alone gathered.old.points.items gathered.new.points.items result }
-        ensures counted { OnOk result (IsCounted gathered.new) }
+        requires counted { AreCountedPoints gathered.old }
+        ensures gathers { GathersWhere self.now.first self.now.file (HasOptional part.now span) after.now site_alone gathered.old.points.items gathered.new.points.items result }
+        ensures counted { OnOk result (AreCountedPoints gathered.new) }
     {
         let ways = two_ways(alloc, &self.first, part, after, after)?;
         gathered.put(Point {
@@ -251,11 +251,11 @@ impl Walk<'_> {
         gathered: &mut Gathered,
     ) -> Result<(), PointsFault>
         requires ready { IsReady self.now.first }
-        requires counted { IsCounted gathered.old }
+        requires counted { AreCountedPoints gathered.old }
         requires again { (kinds : Kinds) → AreKinds self.now.first.lexicon.g.now kinds →
             HasExactly (ManyCanBefore self.now.first.lexicon.g.now kinds self.now.first.k self.now.first.heads.now part.now after.now) again.now }
-        ensures gathers { GathersWhere self.now.first self.now.file (HasRepeated part.now span) after.now alone gathered.old.points.items gathered.new.points.items result }
-        ensures counted { OnOk result (IsCounted gathered.new) }
+        ensures gathers { GathersWhere self.now.first self.now.file (HasRepeated part.now span) after.now site_alone gathered.old.points.items gathered.new.points.items result }
+        ensures counted { OnOk result (AreCountedPoints gathered.new) }
     {
         let ways = two_ways(alloc, &self.first, part, again, after)?;
         gathered.put(Point {

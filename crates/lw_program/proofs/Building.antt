@@ -14,13 +14,13 @@ use Rattle.lw_look.specs.Sites as site
 use Rattle.lw_program.specs.declared.counts.Counts.{Counts}
 use Rattle.lw_program.specs.Numbered.{put_sites, act_sites}
 use Rattle.lw_program.specs.Says.{Task, SaidAt}
-use Rattle.lw_program.specs.Counting.{no_sites, both, element_sites, rule_sites, IsCounted, AreNext}
+use Rattle.lw_program.specs.Counting.{joined_sites, element_sites, rule_sites, AreSitesCounted, AreNext}
 use Rattle.lw_program.specs.Filled.{Listing}
-use Rattle.lw_program.specs.Placed.{Continues, IsStarted, IsPlaced}
+use Rattle.lw_program.specs.Placed.{PlacesMore, IsStarted, IsPlaced}
 use Rattle.lw_program.specs.Placed as placing
-use Rattle.lw_program.specs.ProgramOf.{StartsAt, IsProgramOf}
+use Rattle.lw_program.specs.ProgramOf.{StartsRuleAt, IsProgramOf}
 use Rattle.lw_program.proofs.Lists.{slice_get_more, slice_get_after}
-use Rattle.lw_program.proofs.Counted.{both_none, both_assoc, counted_none, counted_both, front_next, rest_next}
+use Rattle.lw_program.proofs.Counted.{both_none, both_assoc, counted_both, front_next, rest_next}
 use Rattle.lw_program.proofs.Filling.{said_more}
 
 -- nothing has been counted
@@ -29,21 +29,21 @@ no_counts = record { points = 0; puts = 0; acts = 0 }
 
 -- the sites of the rules before one, of it, and of those behind
 rules_split : (k : ℕ) (rules : List Rule) (i : ℕ) (rule : Rule) → slice_get rules i ≡ Some rule →
-    rule_sites k rules ≡ both (rule_sites k (take i rules)) (both (element_sites (body (k + i)) rule.body) (rule_sites (k + i + 1) (drop (suc i) rules)))
+    rule_sites k rules ≡ joined_sites (rule_sites k (take i rules)) (joined_sites (element_sites (body (k + i)) rule.body) (rule_sites (k + i + 1) (drop (suc i) rules)))
 rules_split k [] i rule is = absurd (none-some rule is)
 rules_split k (x ∷ rules) zero rule is =
     let at : k ≡ k + 0 = omega arith in
-    ap (λ n. both (element_sites (body n) x.body) (rule_sites (n + 1) rules)) at
-    ∙ ap (λ (x : Rule). both (element_sites (body (k + 0)) x.body) (rule_sites (k + 0 + 1) rules)) (same_Some x rule is)
+    ap (λ n. joined_sites (element_sites (body n) x.body) (rule_sites (n + 1) rules)) at
+    ∙ ap (λ (x : Rule). joined_sites (element_sites (body (k + 0)) x.body) (rule_sites (k + 0 + 1) rules)) (same_Some x rule is)
 rules_split k (x ∷ rules) (suc i) rule is =
     let at : k + 1 + i ≡ k + suc i = omega arith in
-    ap (both (element_sites (body k) x.body))
+    ap (joined_sites (element_sites (body k) x.body))
     (rules_split (k + 1) rules i rule is
-    ∙ ap (λ n. both (rule_sites (k + 1) (take i rules)) (both (element_sites (body n) rule.body) (rule_sites (n + 1) (drop (suc i) rules)))) at)
-    ∙ sym (both_assoc (element_sites (body k) x.body) (rule_sites (k + 1) (take i rules)) (both (element_sites (body (k + suc i)) rule.body) (rule_sites (k + suc i + 1) (drop (suc i) rules))))
+    ∙ ap (λ n. joined_sites (rule_sites (k + 1) (take i rules)) (joined_sites (element_sites (body n) rule.body) (rule_sites (n + 1) (drop (suc i) rules)))) at)
+    ∙ sym (both_assoc (element_sites (body k) x.body) (rule_sites (k + 1) (take i rules)) (joined_sites (element_sites (body (k + suc i)) rule.body) (rule_sites (k + suc i + 1) (drop (suc i) rules))))
 
 rules_next : (k : ℕ) (rules : List Rule) (i : ℕ) (rule : Rule) → slice_get rules i ≡ Some rule →
-    rule_sites k (take (suc i) rules) ≡ both (rule_sites k (take i rules)) (element_sites (body (k + i)) rule.body)
+    rule_sites k (take (suc i) rules) ≡ joined_sites (rule_sites k (take i rules)) (element_sites (body (k + i)) rule.body)
 rules_next k [] i rule is = absurd (none-some rule is)
 rules_next k (x ∷ rules) zero rule is =
     let at : k ≡ k + 0 = omega arith in
@@ -52,8 +52,8 @@ rules_next k (x ∷ rules) zero rule is =
     ∙ ap (λ (x : Rule). element_sites (body (k + 0)) x.body) (same_Some x rule is)
 rules_next k (x ∷ rules) (suc i) rule is =
     let at : k + 1 + i ≡ k + suc i = omega arith in
-    ap (both (element_sites (body k) x.body))
-    (rules_next (k + 1) rules i rule is ∙ ap (λ n. both (rule_sites (k + 1) (take i rules)) (element_sites (body n) rule.body)) at)
+    ap (joined_sites (element_sites (body k) x.body))
+    (rules_next (k + 1) rules i rule is ∙ ap (λ n. joined_sites (rule_sites (k + 1) (take i rules)) (element_sites (body n) rule.body)) at)
     ∙ sym (both_assoc (element_sites (body k) x.body) (rule_sites (k + 1) (take i rules)) (element_sites (body (k + suc i)) rule.body))
 
 module _ (g : Grammar) (kinds : Kinds) where
@@ -63,21 +63,10 @@ module _ (g : Grammar) (kinds : Kinds) where
     pub sized : length tasks ≡ length so_far.code
     pub said : (p : ℕ) → p < length so_far.code → SaidAt g kinds tasks so_far.code p
     pub all : length starts ≡ i
-    pub counted : IsCounted (rule_sites 0 (take i g.rules)) no_counts so_far.counts
+    pub counted : AreSitesCounted (rule_sites 0 (take i g.rules)) no_counts so_far.counts
     pub reached : (r : ℕ) (rule : Rule) → r < i → IsReached g r → slice_get g.rules r ≡ Some rule →
-        (start : ℕ) × (slice_get starts r ≡ Some (Some start)) × StartsAt g kinds tasks r rule start
+        (start : ℕ) × (slice_get starts r ≡ Some (Some start)) × StartsRuleAt g kinds tasks r rule start
     pub others : (r : ℕ) → r < i → ¬ IsReached g r → slice_get starts r ≡ Some None
-
-  pub builds_none : (so_far : Listing) → so_far.code ≡ [] → so_far.counts ≡ no_counts → IsBuilt 0 [] so_far
-  builds_none so_far code counts = record {
-    tasks = [];
-    sized = sym (ap length code);
-    said = λ p below. let long = ap length code in absurd (omega (arith, below, long));
-    all = refl;
-    counted = subst (IsCounted no_sites no_counts) (sym counts) (counted_none no_counts);
-    reached = λ r rule below is there. absurd (omega (arith, below));
-    others = λ r below not. absurd (omega (arith, below));
-  }
 
   pub builds_all : {starts : List (Option ℕ)} {so_far : Listing} (n : ℕ) → length g.rules ≤ n → n ≤ length g.rules → IsBuilt n starts so_far →
       IsProgramOf g kinds record { code = so_far.code; starts = starts }
@@ -94,7 +83,7 @@ module _ (g : Grammar) (kinds : Kinds) where
     next_here : AreNext g mid.counts (element_sites (body i) rule.body)
     next_here =
         front_next g (element_sites (body i) rule.body) (rule_sites (i + 1) (drop (suc i) g.rules)) mid.counts
-        (rest_next g (rule_sites 0 (take i g.rules)) (both (element_sites (body i) rule.body) (rule_sites (i + 1) (drop (suc i) g.rules))) no_counts mid.counts
+        (rest_next g (rule_sites 0 (take i g.rules)) (joined_sites (element_sites (body i) rule.body) (rule_sites (i + 1) (drop (suc i) g.rules))) no_counts mid.counts
         before.counted (subst (AreNext g no_counts) split all_next))
       where
         all_next : AreNext g no_counts (rule_sites 0 g.rules)
@@ -107,19 +96,19 @@ module _ (g : Grammar) (kinds : Kinds) where
             first : (all : List PartSite) (j : ℕ) (s : PartSite) → slice_get all j ≡ Some s → slice_get all (0 + j) ≡ Some s
             first all j s is = let zero_on : 0 + j ≡ j = omega arith in ap (slice_get all) zero_on ∙ is
 
-        split : rule_sites 0 g.rules ≡ both (rule_sites 0 (take i g.rules)) (both (element_sites (body i) rule.body) (rule_sites (i + 1) (drop (suc i) g.rules)))
+        split : rule_sites 0 g.rules ≡ joined_sites (rule_sites 0 (take i g.rules)) (joined_sites (element_sites (body i) rule.body) (rule_sites (i + 1) (drop (suc i) g.rules)))
         split =
             let zero_on : 0 + i ≡ i = omega arith in
             rules_split 0 g.rules i rule at
-            ∙ ap (λ n. both (rule_sites 0 (take i g.rules)) (both (element_sites (body n) rule.body) (rule_sites (n + 1) (drop (suc i) g.rules)))) zero_on
+            ∙ ap (λ n. joined_sites (rule_sites 0 (take i g.rules)) (joined_sites (element_sites (body n) rule.body) (rule_sites (n + 1) (drop (suc i) g.rules)))) zero_on
 
-    counted_here : (new : Listing) → IsCounted (element_sites (body i) rule.body) mid.counts new.counts →
-        IsCounted (rule_sites 0 (take (i + 1) g.rules)) no_counts new.counts
+    counted_here : (new : Listing) → AreSitesCounted (element_sites (body i) rule.body) mid.counts new.counts →
+        AreSitesCounted (rule_sites 0 (take (i + 1) g.rules)) no_counts new.counts
     counted_here new here =
         let zero_on : 0 + i ≡ i = omega arith in
         let more : suc i ≡ i + 1 = omega arith in
-        subst (λ sites. IsCounted sites no_counts new.counts)
-        (ap (λ n. both (rule_sites 0 (take i g.rules)) (element_sites (body n) rule.body)) (sym zero_on) ∙ sym (rules_next 0 g.rules i rule at)
+        subst (λ sites. AreSitesCounted sites no_counts new.counts)
+        (ap (λ n. joined_sites (rule_sites 0 (take i g.rules)) (element_sites (body n) rule.body)) (sym zero_on) ∙ sym (rules_next 0 g.rules i rule at)
         ∙ ap (λ n. rule_sites 0 (take n g.rules)) more)
         (counted_both before.counted here)
 
@@ -132,7 +121,7 @@ module _ (g : Grammar) (kinds : Kinds) where
         let there : r ≡ length starts + 0 = omega (arith, same, b) in
         ap (slice_get (starts ++ start ∷ [])) there ∙ slice_get_after starts (start ∷ []) 0 start refl
 
-    leaves_out : {new : Listing} → ¬ IsReached g i → new.code ≡ mid.code → IsCounted (element_sites (body i) rule.body) mid.counts new.counts →
+    leaves_out : {new : Listing} → ¬ IsReached g i → new.code ≡ mid.code → AreSitesCounted (element_sites (body i) rule.body) mid.counts new.counts →
         IsBuilt (i + 1) (starts ++ None ∷ []) new
     leaves_out {new} not code here = record {
       tasks = before.tasks;
@@ -145,7 +134,7 @@ module _ (g : Grammar) (kinds : Kinds) where
     }
       where
         reached : (r : ℕ) (other : Rule) → r < i + 1 → IsReached g r → slice_get g.rules r ≡ Some other →
-            (start : ℕ) × (slice_get (starts ++ None ∷ []) r ≡ Some (Some start)) × StartsAt g kinds before.tasks r other start
+            (start : ℕ) × (slice_get (starts ++ None ∷ []) r ≡ Some (Some start)) × StartsRuleAt g kinds before.tasks r other start
         reached r other below is there =
             elim (cases_lt r i) [
               | inl less ↦ let old = before.reached r other less is there in (old.0, slice_get_more starts (None ∷ []) r (Some old.0) old.1, old.2)
@@ -171,7 +160,7 @@ module _ (g : Grammar) (kinds : Kinds) where
       others = others;
     }
       where
-        on : Continues g kinds (body i) rule.body shuts start mid new before.tasks
+        on : PlacesMore g kinds (body i) rule.body shuts start mid new before.tasks
         on = started.said before.tasks (site.whole at) before.sized next_here
 
         said : (p : ℕ) → p < length new.code → SaidAt g kinds (before.tasks ++ on.more) new.code p
@@ -181,15 +170,15 @@ module _ (g : Grammar) (kinds : Kinds) where
               | inr past ↦ on.said p past below
             ]
 
-        begins : (r : ℕ) (other : Rule) → r ≡ i → slice_get g.rules r ≡ Some other → StartsAt g kinds (before.tasks ++ on.more) r other start
+        begins : (r : ℕ) (other : Rule) → r ≡ i → slice_get g.rules r ≡ Some other → StartsRuleAt g kinds (before.tasks ++ on.more) r other start
         begins r other same there =
             let one : rule ≡ other = same_Some rule other (sym at ∙ ap (slice_get g.rules) (sym same) ∙ there) in
-            subst (λ r. StartsAt g kinds (before.tasks ++ on.more) r other start) (sym same)
-            (subst (λ other. StartsAt g kinds (before.tasks ++ on.more) i other start) one
+            subst (λ r. StartsRuleAt g kinds (before.tasks ++ on.more) r other start) (sym same)
+            (subst (λ other. StartsRuleAt g kinds (before.tasks ++ on.more) i other start) one
             record { whole = on.whole; shut = λ fragment makes. on.shut (told fragment makes) })
 
         reached : (r : ℕ) (other : Rule) → r < i + 1 → IsReached g r → slice_get g.rules r ≡ Some other →
-            (first : ℕ) × (slice_get (starts ++ Some start ∷ []) r ≡ Some (Some first)) × StartsAt g kinds (before.tasks ++ on.more) r other first
+            (first : ℕ) × (slice_get (starts ++ Some start ∷ []) r ≡ Some (Some first)) × StartsRuleAt g kinds (before.tasks ++ on.more) r other first
         reached r other below is there =
             elim (cases_lt r i) [
               | inl less ↦

@@ -18,9 +18,9 @@ use Rattle.lw_look.specs.Choices.{choice_sites}
 use Rattle.lw_program.specs.declared.instr.Instr.{Instr}
 use Rattle.lw_program.specs.declared.instr.Instr.TheVariants.{Token, End, Act, Row, Choice, Maybe, Loop, Once}
 use Rattle.lw_program.specs.Numbered.{act_sites}
-use Rattle.lw_program.specs.Says.{Task, Does, Reads, layer_thing, thing_of, NamesLater, CallsBy, Says, SaidAt}
+use Rattle.lw_program.specs.Says.{Task, Does, Reads, layer_thing, thing_of, NamesLater, CallsBy, SaysTask, SaidAt}
 use Rattle.lw_program.specs.Says as says
-use Rattle.lw_program.specs.Counting.{no_sites, choice_site, element_sites, IsCounted, AreNext, after_point, after_act}
+use Rattle.lw_program.specs.Counting.{no_sites, choice_site, element_sites, AreSitesCounted, AreNext, after_point, after_act}
 use Rattle.lw_program.specs.Filled.{Listing, Want, element_want, value_want, wants_from, all_sites, AreWanted, Filled}
 use Rattle.lw_program.proofs.Written.{IsWritten, written, written_there}
 use Rattle.lw_program.proofs.Texts.{calls_name_none}
@@ -54,11 +54,11 @@ module _ (g : Grammar) (kinds : Kinds) where
 
   -- a place where a task is wanted of an element of this form
   pub fills_task : (s : PartSite) (e : Element) (f : Element-F Element) (task : Task) (instr : Instr) {place : ℕ} {old mid new : Listing} → out-Element e ≡ f →
-      place < length old.code → IsWritten place instr (length (inner_elements f)) old.code mid.code → IsCounted (own_sites s f) old.counts mid.counts →
+      place < length old.code → IsWritten place instr (length (inner_elements f)) old.code mid.code → AreSitesCounted (own_sites s f) old.counts mid.counts →
       NamesLater place instr →
       ((tasks : List Task) → ElementAt g s f → AreNext g old.counts (own_sites s f) →
       ((i : ℕ) (x : Element) → slice_get (inner_elements f) i ≡ Some x → slice_get tasks (length old.code + i) ≡ Some (thing_of (s ▸ i) x)) →
-      Says g kinds tasks task instr) →
+      SaysTask g kinds tasks task instr) →
       Filled g kinds (wants_from element_want s 0 (inner_elements f)) (length old.code) mid new → Filled g kinds (task_want task s e ∷ []) place old new
   fills_task s e f task instr {place} {old} {mid} {new} is inside is_written counted later says rest =
       fills g kinds (task_want task s e) (wants_from element_want s 0 (inner_elements f)) (own_sites s f) instr inside
@@ -69,11 +69,11 @@ module _ (g : Grammar) (kinds : Kinds) where
       at i (element_want (s ▸ (0 + i)) x) (want_of element_want s 0 (inner_elements f) i x is) ∙ ap (λ n. Some (thing_of (s ▸ n) x)) there)) rest
 
   pub fills_form : (s : PartSite) (e : Element) (f : Element-F Element) (instr : Instr) {place : ℕ} {old mid new : Listing} → out-Element e ≡ f →
-      place < length old.code → IsWritten place instr (length (inner_elements f)) old.code mid.code → IsCounted (own_sites s f) old.counts mid.counts →
+      place < length old.code → IsWritten place instr (length (inner_elements f)) old.code mid.code → AreSitesCounted (own_sites s f) old.counts mid.counts →
       NamesLater place instr →
       ((tasks : List Task) → ElementAt g s f → AreNext g old.counts (own_sites s f) →
       ((i : ℕ) (x : Element) → slice_get (inner_elements f) i ≡ Some x → slice_get tasks (length old.code + i) ≡ Some (thing_of (s ▸ i) x)) →
-      Says g kinds tasks (layer_thing s f) instr) →
+      SaysTask g kinds tasks (layer_thing s f) instr) →
       Filled g kinds (wants_from element_want s 0 (inner_elements f)) (length old.code) mid new → Filled g kinds (element_want s e ∷ []) place old new
   fills_form s e f instr {place} {old} {mid} {new} is inside is_written counted later says rest =
       subst (λ task. Filled g kinds (task_want task s e ∷ []) place old new) (ap (layer_thing s) (sym is))
@@ -103,7 +103,7 @@ module _ (g : Grammar) (kinds : Kinds) where
   pub fills_assigned : (s : PartSite) (e : Element) (p : List ℕ) (op : Op) (v : Value0) (span : Span) {place : ℕ} {old new : Listing} →
       out-Element e ≡ layer.Assign p op v span → Filled g kinds (value_want p op (s ▸ 0) v ∷ []) place old new → Filled g kinds (element_want s e ∷ []) place old new
   fills_assigned s e p op v span {place} {old} {new} is filled =
-      record { grown = filled.grown; kept = filled.kept; counted = subst (λ sites. IsCounted sites old.counts new.counts) (sym same) filled.counted; said = said }
+      record { grown = filled.grown; kept = filled.kept; counted = subst (λ sites. AreSitesCounted sites old.counts new.counts) (sym same) filled.counted; said = said }
     where
       same : all_sites (element_want s e ∷ []) ≡ all_sites (value_want p op (s ▸ 0) v ∷ [])
       same = both_none (element_sites s e) ∙ sites_of s e (layer.Assign p op v span) is
@@ -172,7 +172,7 @@ module _ (g : Grammar) (kinds : Kinds) where
       fills_task s e f (Does (Again s)) (Loop record { 0 = old.counts.points } inner) is inside
       (subst (λ es. IsWritten place (Loop record { 0 = old.counts.points } inner) (length es) old.code mid.code) (sym one)
       (written place (Loop record { 0 = old.counts.points } inner) 1 old.code mid.code inside code))
-      (subst (λ sites. IsCounted sites old.counts mid.counts) (sym own) (counted_point s old.counts mid.counts counts)) (omega (arith, inside, at))
+      (subst (λ sites. AreSitesCounted sites old.counts mid.counts) (sym own) (counted_point s old.counts mid.counts counts)) (omega (arith, inside, at))
       (λ tasks here next parts. says.loop (repeated here)
       (first_of (choice_sites g) old.counts.points s ((subst (AreNext g old.counts) own next).choices 0 s refl))
       (let there : inner ≡ length old.code + 0 = omega (arith, at) in ap (slice_get tasks) there ∙ parts 0 x (ap (λ es. slice_get es 0) one)))
@@ -202,7 +202,7 @@ module _ (g : Grammar) (kinds : Kinds) where
 
       means : (tasks : List Task) → IsPartAt g s (Body e) → AreNext g old.counts no_sites →
           ((i : ℕ) (w : Want) → slice_get (task_want (Does (Again s)) s e ∷ []) i ≡ Some w → slice_get tasks (length old.code + i) ≡ Some w.task) →
-          Says g kinds tasks (Does (Do s)) (Once rest)
+          SaysTask g kinds tasks (Does (Do s)) (Once rest)
       means tasks stands next there =
           let here : rest ≡ length old.code + 0 = omega (arith, at) in
           says.once (subst (ElementAt g s) is (site.element_at stands)) (ap (slice_get tasks) here ∙ there 0 (task_want (Does (Again s)) s e) refl)

@@ -7,9 +7,9 @@ use Rattle.lw_grammar.specs.declared.grammar.Grammar.{Grammar}
 use Rattle.lw_grammar.specs.Kinds.{Kinds}
 use Rattle.lw_look.specs.Sites.{IsPartAt}
 use Rattle.lw_program.specs.declared.instr.Instr.{Instr}
-use Rattle.lw_program.specs.Says.{Task, StandFrom, Says, SaidAt, NamesLater}
+use Rattle.lw_program.specs.Says.{Task, StandFrom, SaysTask, SaidAt, NamesLater}
 use Rattle.lw_program.specs.Says as says
-use Rattle.lw_program.specs.Counting.{Sites, no_sites, both, IsCounted, AreNext}
+use Rattle.lw_program.specs.Counting.{Sites, no_sites, joined_sites, AreSitesCounted, AreNext}
 use Rattle.lw_program.specs.Filled.{Listing, Want, all_sites, AreWanted, Filled}
 use Rattle.lw_program.proofs.Lists.{slice_get_more, slice_get_after}
 use Rattle.lw_program.proofs.Written.{IsWritten}
@@ -27,7 +27,7 @@ module _ (g : Grammar) (kinds : Kinds) where
       each = λ i x is. slice_get_more tasks more (first + i) (task i x) (stand.each i x is);
     }
 
-    says_more : {t : Task} {instr : Instr} → Says g kinds tasks t instr → Says g kinds (tasks ++ more) t instr
+    says_more : {t : Task} {instr : Instr} → SaysTask g kinds tasks t instr → SaysTask g kinds (tasks ++ more) t instr
     says_more (says.keyword at kind) = says.keyword at kind
     says_more (says.called at calls) = says.called at calls
     says_more (says.acted at is) = says.acted at is
@@ -88,8 +88,8 @@ module _ (g : Grammar) (kinds : Kinds) where
           beside_these (inl h) = inl h
           beside_these (inr h) = inr (let l = long in omega (arith, h, l))
 
-      counted : IsCounted (all_sites (ws ++ vs)) old.counts new.counts
-      counted = subst (λ sites. IsCounted sites old.counts new.counts) (sym (all_sites-append ws vs)) (counted_both a.counted b.counted)
+      counted : AreSitesCounted (all_sites (ws ++ vs)) old.counts new.counts
+      counted = subst (λ sites. AreSitesCounted sites old.counts new.counts) (sym (all_sites-append ws vs)) (counted_both a.counted b.counted)
 
       said : (tasks : List Task) → AreWanted g (ws ++ vs) first tasks old → (more : List Task) × (length (tasks ++ more) ≡ length new.code) ×
           ((p : ℕ) → ((first ≤ p) × (p < first + length (ws ++ vs))) ⊎ (length old.code ≤ p) → p < length new.code → SaidAt g kinds (tasks ++ more) new.code p)
@@ -99,7 +99,7 @@ module _ (g : Grammar) (kinds : Kinds) where
         λ p spot below. subst (λ ts. SaidAt g kinds ts new.code p) joined (each p spot below),
       )
         where
-          next : AreNext g old.counts (both (all_sites ws) (all_sites vs))
+          next : AreNext g old.counts (joined_sites (all_sites ws) (all_sites vs))
           next = subst (AreNext g old.counts) (all_sites-append ws vs) wanted.next
 
           before : (more : List Task) × (length (tasks ++ more) ≡ length mid.code) ×
@@ -147,10 +147,10 @@ module _ (g : Grammar) (kinds : Kinds) where
 
   -- a place, and then those of its parts, which are reserved behind all
   pub fills : (w : Want) (ws : List Want) (own : Sites) (instr : Instr) {place : ℕ} {old mid new : Listing} → place < length old.code →
-      IsWritten place instr (length ws) old.code mid.code → IsCounted own old.counts mid.counts → w.sites ≡ both own (all_sites ws) →
+      IsWritten place instr (length ws) old.code mid.code → AreSitesCounted own old.counts mid.counts → w.sites ≡ joined_sites own (all_sites ws) →
       (IsPartAt g w.site w.part → (i : ℕ) (x : Want) → slice_get ws i ≡ Some x → IsPartAt g x.site x.part) → NamesLater place instr →
       ((tasks : List Task) → IsPartAt g w.site w.part → AreNext g old.counts own →
-      ((i : ℕ) (x : Want) → slice_get ws i ≡ Some x → slice_get tasks (length old.code + i) ≡ Some x.task) → Says g kinds tasks w.task instr) →
+      ((i : ℕ) (x : Want) → slice_get ws i ≡ Some x → slice_get tasks (length old.code + i) ≡ Some x.task) → SaysTask g kinds tasks w.task instr) →
       Filled g kinds ws (length old.code) mid new → Filled g kinds (w ∷ []) place old new
   fills w ws own instr {place} {old} {mid} {new} inside written own_counted sites parts later says rest =
       record { grown = grown; kept = kept; counted = counted; said = said }
@@ -168,11 +168,11 @@ module _ (g : Grammar) (kinds : Kinds) where
           other (inl h) same = omega (arith, h, same)
           other (inr h) same = omega (arith, h, same)
 
-      whole : all_sites (w ∷ []) ≡ both own (all_sites ws)
+      whole : all_sites (w ∷ []) ≡ joined_sites own (all_sites ws)
       whole = both_none w.sites ∙ sites
 
-      counted : IsCounted (all_sites (w ∷ [])) old.counts new.counts
-      counted = subst (λ sites. IsCounted sites old.counts new.counts) (sym whole) (counted_both own_counted rest.counted)
+      counted : AreSitesCounted (all_sites (w ∷ [])) old.counts new.counts
+      counted = subst (λ sites. AreSitesCounted sites old.counts new.counts) (sym whole) (counted_both own_counted rest.counted)
 
       said : (tasks : List Task) → AreWanted g (w ∷ []) place tasks old → (more : List Task) × (length (tasks ++ more) ≡ length new.code) ×
           ((p : ℕ) → ((place ≤ p) × (p < place + 1)) ⊎ (length old.code ≤ p) → p < length new.code → SaidAt g kinds (tasks ++ more) new.code p)
@@ -185,7 +185,7 @@ module _ (g : Grammar) (kinds : Kinds) where
           stands : IsPartAt g w.site w.part
           stands = wanted.stand 0 w refl
 
-          next : AreNext g old.counts (both own (all_sites ws))
+          next : AreNext g old.counts (joined_sites own (all_sites ws))
           next = subst (AreNext g old.counts) whole wanted.next
 
           behind : (i : ℕ) (x : Want) → slice_get ws i ≡ Some x → slice_get (tasks ++ tasks_of ws) (length old.code + i) ≡ Some x.task
@@ -237,7 +237,7 @@ module _ (g : Grammar) (kinds : Kinds) where
 
   -- a place where this instruction stands already
   pub stays_filled : (w : Want) (instr : Instr) {place : ℕ} (so_far : Listing) → place < length so_far.code → slice_get so_far.code place ≡ Some instr →
-      w.sites ≡ no_sites → NamesLater place instr → ((tasks : List Task) → IsPartAt g w.site w.part → Says g kinds tasks w.task instr) →
+      w.sites ≡ no_sites → NamesLater place instr → ((tasks : List Task) → IsPartAt g w.site w.part → SaysTask g kinds tasks w.task instr) →
       Filled g kinds (w ∷ []) place so_far so_far
   stays_filled w instr {place} so_far inside is none later says =
       fills w [] no_sites instr inside record { sized = omega arith; here = is; kept = λ p below other. refl } (counted_none so_far.counts) none

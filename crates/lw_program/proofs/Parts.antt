@@ -13,10 +13,10 @@ use Rattle.lw_grammar.specs.declared.rule.Value0.TheFolds.{map-Value0}
 use Rattle.lw_grammar.specs.declared.rule.Value0.TheOpen as value
 use Rattle.lw_grammar.specs.declared.rule.Value0.TheOpen.{Value0-F}
 use Rattle.lw_look.specs.Sites.{PartSite, ◌▸◌}
-use Rattle.lw_look.specs.Choices.{inside, element_choices, layer_choices, value_choices, value_layer_choices}
+use Rattle.lw_look.specs.Choices.{inside, element_choices, layer_choice_sites, value_choices, value_layer_choice_sites}
 use Rattle.lw_program.specs.declared.counts.Counts.{Counts}
 use Rattle.lw_program.specs.Numbered.{element_puts, layer_puts, element_acts, layer_acts, value_puts, value_layer_puts}
-use Rattle.lw_program.specs.Counting.{Sites, no_sites, both, choice_site, put_site, act_site, element_sites, value_sites, IsCounted}
+use Rattle.lw_program.specs.Counting.{Sites, no_sites, joined_sites, choice_site, put_site, act_site, element_sites, value_sites, AreSitesCounted}
 use Rattle.lw_program.specs.Filled.{Want, element_want, value_want, wants_from, all_sites}
 use Rattle.lw_program.proofs.Counted.{same_sites, both_none, all_sites-append, counted_both}
 
@@ -40,7 +40,7 @@ own_sites s (layer.Some1 e span) = choice_site s
 own_sites s _ = no_sites
 
 abbrev pub form_sites : PartSite → Element-F Element → Sites
-form_sites s f = both (own_sites s f) (all_sites (wants_from element_want s 0 (inner_elements f)))
+form_sites s f = joined_sites (own_sites s f) (all_sites (wants_from element_want s 0 (inner_elements f)))
 
 choices_inside : (s : PartSite) (i : ℕ) (es : List Element) → inside s i (map element_choices es) ≡ (all_sites (wants_from element_want s i es)).choices
 choices_inside s i [] = refl
@@ -54,7 +54,7 @@ acts_inside : (s : PartSite) (i : ℕ) (es : List Element) → inside s i (map e
 acts_inside s i [] = refl
 acts_inside s i (e ∷ es) = ap (λ xs. element_acts e (s ▸ i) ++ xs) (acts_inside s (i + 1) es)
 
-choices_of : (s : PartSite) (f : Element-F Element) → layer_choices (map-Element Element (PartSite → List PartSite) element_choices f) s ≡ (form_sites s f).choices
+choices_of : (s : PartSite) (f : Element-F Element) → layer_choice_sites (map-Element Element (PartSite → List PartSite) element_choices f) s ≡ (form_sites s f).choices
 choices_of s (layer.Keyword t span) = refl
 choices_of s (layer.Call t span) = refl
 choices_of s (layer.Assign p op v span) = sym (append-nil (value_choices v (s ▸ 0)))
@@ -91,14 +91,14 @@ acts_of s (layer.Some1 e span) = sym (append-nil (element_acts e (s ▸ 0)))
 pub sites_of : (s : PartSite) (e : Element) (f : Element-F Element) → out-Element e ≡ f → element_sites s e ≡ form_sites s f
 sites_of s e f is =
     same_sites (element_sites s e) (form_sites s (out-Element e))
-    (ap (λ h. h s) (fold_out-Element (PartSite → List PartSite) layer_choices e) ∙ choices_of s (out-Element e))
+    (ap (λ h. h s) (fold_out-Element (PartSite → List PartSite) layer_choice_sites e) ∙ choices_of s (out-Element e))
     (ap (λ h. h s) (fold_out-Element (PartSite → List PartSite) layer_puts e) ∙ puts_of s (out-Element e))
     (ap (λ h. h s) (fold_out-Element (PartSite → List PartSite) layer_acts e) ∙ acts_of s (out-Element e))
     ∙ ap (form_sites s) is
 
-pub counted_form : (s : PartSite) (e : Element) (f : Element-F Element) {old new : Counts} → out-Element e ≡ f → IsCounted (form_sites s f) old new →
-    IsCounted (element_sites s e) old new
-counted_form s e f {old} {new} is = subst (λ sites. IsCounted sites old new) (sym (sites_of s e f is))
+pub counted_form : (s : PartSite) (e : Element) (f : Element-F Element) {old new : Counts} → out-Element e ≡ f → AreSitesCounted (form_sites s f) old new →
+    AreSitesCounted (element_sites s e) old new
+counted_form s e f {old} {new} is = subst (λ sites. AreSitesCounted sites old new) (sym (sites_of s e f is))
 
 -- of a value
 
@@ -117,11 +117,11 @@ no_acts p op s i [] = refl
 no_acts p op s i (v ∷ vs) = no_acts p op s (i + 1) vs
 
 abbrev pub value_form_sites : List ℕ → Op → PartSite → Value0-F Value0 → Sites
-value_form_sites p op s (value.Choice vs span) = both (choice_site s) (all_sites (wants_from (value_want p op) s 0 vs))
+value_form_sites p op s (value.Choice vs span) = joined_sites (choice_site s) (all_sites (wants_from (value_want p op) s 0 vs))
 value_form_sites p op s _ = put_site s
 
 value_choices_of : (p : List ℕ) (op : Op) (s : PartSite) (f : Value0-F Value0) →
-    value_layer_choices (map-Value0 Value0 (PartSite → List PartSite) value_choices f) s ≡ (value_form_sites p op s f).choices
+    value_layer_choice_sites (map-Value0 Value0 (PartSite → List PartSite) value_choices f) s ≡ (value_form_sites p op s f).choices
 value_choices_of p op s (value.Keyword t span) = refl
 value_choices_of p op s (value.Call t span) = refl
 value_choices_of p op s (value.Cross t r span) = refl
@@ -144,7 +144,7 @@ value_acts_of p op s (value.Choice vs span) = no_acts p op s 0 vs
 pub value_sites_of : (p : List ℕ) (op : Op) (s : PartSite) (v : Value0) (f : Value0-F Value0) → out-Value0 v ≡ f → value_sites s v ≡ value_form_sites p op s f
 value_sites_of p op s v f is =
     same_sites (value_sites s v) (value_form_sites p op s (out-Value0 v))
-    (ap (λ h. h s) (fold_out-Value0 (PartSite → List PartSite) value_layer_choices v) ∙ value_choices_of p op s (out-Value0 v))
+    (ap (λ h. h s) (fold_out-Value0 (PartSite → List PartSite) value_layer_choice_sites v) ∙ value_choices_of p op s (out-Value0 v))
     (ap (λ h. h s) (fold_out-Value0 (PartSite → List PartSite) value_layer_puts v) ∙ value_puts_of p op s (out-Value0 v))
     (value_acts_of p op s (out-Value0 v))
     ∙ ap (value_form_sites p op s) is
@@ -191,10 +191,10 @@ module _ {X : Type 0} (want : PartSite → X → Want) where
       ∙ ap (λ n. wants_from want s 0 (take i xs) ++ (want (s ▸ n) x ∷ [])) at
 
   pub counted_next : (s : PartSite) (xs : List X) (i : ℕ) (x : X) {old mid new : Counts} → i < length xs → x ≡ get_or xs i x →
-      IsCounted (all_sites (wants_from want s 0 (take i xs))) old mid → IsCounted (want (s ▸ i) x).sites mid new →
-      IsCounted (all_sites (wants_from want s 0 (take (i + 1) xs))) old new
+      AreSitesCounted (all_sites (wants_from want s 0 (take i xs))) old mid → AreSitesCounted (want (s ▸ i) x).sites mid new →
+      AreSitesCounted (all_sites (wants_from want s 0 (take (i + 1) xs))) old new
   counted_next s xs i x {old} {mid} {new} inside is before here =
-      subst (λ sites. IsCounted sites old new)
-      (ap (both (all_sites (wants_from want s 0 (take i xs)))) (sym (both_none (want (s ▸ i) x).sites))
+      subst (λ sites. AreSitesCounted sites old new)
+      (ap (joined_sites (all_sites (wants_from want s 0 (take i xs)))) (sym (both_none (want (s ▸ i) x).sites))
       ∙ sym (all_sites-append (wants_from want s 0 (take i xs)) (want (s ▸ i) x ∷ [])) ∙ ap all_sites (sym (wants_next s xs i x inside is)))
       (counted_both before here)

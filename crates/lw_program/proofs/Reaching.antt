@@ -20,7 +20,7 @@ use Rattle.lw_look.specs.Sites.{◌▸◌, Part, Body, Value, element_parts, val
 use Rattle.lw_look.specs.Sites as site
 use Rattle.lw_look.specs.ReadBy.{PartKeyword, PartReadsBy}
 use Rattle.lw_look.specs.ReadBy as read
-use Rattle.lw_lexicon.specs.Callees.{IsReadByName}
+use Rattle.lw_derivations.specs.Crossing.{IsReadBy}
 use Rattle.lw_numbers.proofs.Sizes.{length-le-sum_by}
 use Rattle.lw_program.specs.Reach.{IsComplete, IsInReach, AreInReach}
 use Rattle.lw_program.proofs.Parts.{inner_elements}
@@ -56,12 +56,12 @@ module _ (g : Grammar) where
 
   -- what reads a cross-reference is known, and so is its call
   pub knows_cross : {v : Value0} {wanted : List ℕ} (written : Option (List ℕ)) {span : Span} → IsComplete g → IsInReach g (Value v) →
-      out-Value0 v ≡ value.Cross wanted written span → (kinds : Kinds) → AreKinds g kinds → (name : List ℕ) × IsReadByName g wanted written name
+      out-Value0 v ≡ value.Cross wanted written span → (kinds : Kinds) → AreKinds g kinds → (name : List ℕ) × IsReadBy g wanted written name
   knows_cross None complete (s, reached, stands) is kinds are = (complete.supplied kinds are).cross s _ _ _ reached stands is
   knows_cross (Some name) complete in_reach is kinds are = (name, refl)
 
   pub crosses_read : {v : Value0} {wanted : List ℕ} (written : Option (List ℕ)) {span : Span} (name : List ℕ) →
-      out-Value0 v ≡ value.Cross wanted written span → IsReadByName g wanted written name → PartReadsBy g (Value v) name
+      out-Value0 v ≡ value.Cross wanted written span → IsReadBy g wanted written name → PartReadsBy g (Value v) name
   crosses_read None name is by = read.crosses_by_name is by
   crosses_read {v} {wanted} (Some called) {span} name is by = subst (PartReadsBy g (Value v)) by (read.crosses is)
 

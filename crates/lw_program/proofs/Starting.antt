@@ -12,9 +12,9 @@ use Rattle.lw_look.specs.Things.{Leave}
 use Rattle.lw_program.specs.declared.instr.Instr.TheVariants.{End, Shut}
 use Rattle.lw_program.specs.Says.{Task, Does, SaidAt}
 use Rattle.lw_program.specs.Says as says
-use Rattle.lw_program.specs.Counting.{no_sites, element_sites, IsCounted, AreNext}
+use Rattle.lw_program.specs.Counting.{no_sites, element_sites, AreSitesCounted, AreNext}
 use Rattle.lw_program.specs.Filled.{Listing, Want, element_want, all_sites, Filled}
-use Rattle.lw_program.specs.Placed.{Continues, IsStarted, ending}
+use Rattle.lw_program.specs.Placed.{PlacesMore, IsStarted, ending}
 use Rattle.lw_program.proofs.Lists.{slice_get_more, slice_get_before, slice_get_after}
 use Rattle.lw_program.proofs.Counted.{both_none}
 use Rattle.lw_program.proofs.Filling.{tasks_of, fills_both, stays_filled}
@@ -93,13 +93,13 @@ module _ (g : Grammar) (kinds : Kinds) where
           ∙ ap (λ xs. slice_get xs p) code
           ∙ slice_get_before old.code (End ∷ ending shuts) p below End
 
-      counted : IsCounted (element_sites s e) old.counts new.counts
+      counted : AreSitesCounted (element_sites s e) old.counts new.counts
       counted =
-          subst (λ from. IsCounted (element_sites s e) from new.counts) counts
-          (subst (λ sites. IsCounted sites mid.counts new.counts) (body_sites s e shuts) filled.counted)
+          subst (λ from. AreSitesCounted (element_sites s e) from new.counts) counts
+          (subst (λ sites. AreSitesCounted sites mid.counts new.counts) (body_sites s e shuts) filled.counted)
 
       said : (tasks : List Task) → IsPartAt g s (Body e) → length tasks ≡ length old.code → AreNext g old.counts (element_sites s e) →
-          Continues g kinds s e shuts start old new tasks
+          PlacesMore g kinds s e shuts start old new tasks
       said tasks stands sized next = record {
         more = tasks_of ws ++ inner.0;
         sized = ap length (sym joined) ∙ inner.1;

@@ -17,7 +17,7 @@ use Rattle.lw_look.specs.Choices.{choice_sites}
 use Rattle.lw_program.specs.declared.instr.Instr.{Instr}
 use Rattle.lw_program.specs.declared.instr.Instr.TheVariants.{End, Choice, Put}
 use Rattle.lw_program.specs.Numbered.{put_sites}
-use Rattle.lw_program.specs.Says.{Task, Does, Reads, layer_thing, thing_of, NamesLater, CallsBy, Says, SaidAt}
+use Rattle.lw_program.specs.Says.{Task, Does, Reads, layer_thing, thing_of, NamesLater, CallsBy, SaysTask, SaidAt}
 use Rattle.lw_program.specs.Says as says
 use Rattle.lw_program.specs.Counting.{no_sites, choice_site, put_site, AreNext, after_point, after_put}
 use Rattle.lw_program.specs.Filled.{Listing, Want, value_want, wants_from, Filled}
@@ -51,7 +51,7 @@ module _ (g : Grammar) (kinds : Kinds) where
 
       means : (tasks : List Task) → IsPartAt g s (Value v) → AreNext g old.counts (choice_site s) →
           ((i : ℕ) (w : Want) → slice_get (wants_from (value_want p op) s 0 vs) i ≡ Some w → slice_get tasks (length old.code + i) ≡ Some w.task) →
-          Says g kinds tasks (Does (Assigned p op s)) instr
+          SaysTask g kinds tasks (Does (Assigned p op s)) instr
       means tasks stands next there =
           says.value_choice (subst (ValueAt g s v) is (site.value_at stands)) (first_of (choice_sites g) old.counts.points s (next.choices 0 s refl)) record {
             sized = omega (arith, counted);
@@ -66,7 +66,7 @@ module _ (g : Grammar) (kinds : Kinds) where
   pub fills_put : (p : List ℕ) (op : Op) (s : PartSite) (v : Value0) (f : Value0-F Value0) (text : Instr) {place : ℕ} {old new : Listing} →
       out-Value0 v ≡ f → value_form_sites p op s f ≡ put_site s → place < length old.code → new.counts ≡ after_put old.counts →
       new.code ≡ set (set (old.code ++ replicate 2 End) place (Put old.counts.puts (length old.code))) (length old.code) text → NamesLater (length old.code) text →
-      ((tasks : List Task) → ValueAt g s v f → Says g kinds tasks (Reads s) text) → Filled g kinds (value_want p op s v ∷ []) place old new
+      ((tasks : List Task) → ValueAt g s v f → SaysTask g kinds tasks (Reads s) text) → Filled g kinds (value_want p op s v ∷ []) place old new
   fills_put p op s v f text {place} {old} {new} is one inside counts code later reads =
       fills g kinds (value_want p op s v) wants (put_site s) (Put old.counts.puts (length old.code)) inside
       (written place (Put old.counts.puts (length old.code)) 2 old.code mid.code inside refl)
@@ -100,7 +100,7 @@ module _ (g : Grammar) (kinds : Kinds) where
 
       means : (tasks : List Task) → IsPartAt g s (Value v) → AreNext g old.counts (put_site s) →
           ((i : ℕ) (w : Want) → slice_get wants i ≡ Some w → slice_get tasks (length old.code + i) ≡ Some w.task) →
-          Says g kinds tasks (Does (Assigned p op s)) (Put old.counts.puts (length old.code))
+          SaysTask g kinds tasks (Does (Assigned p op s)) (Put old.counts.puts (length old.code))
       means tasks stands next there =
           let here : length old.code ≡ length old.code + 0 = omega arith in
           says.put stands (first_of (put_sites g) old.counts.puts s (next.puts 0 s refl)) (ap (slice_get tasks) here ∙ there 0 want_text refl) (there 1 want_end refl)

@@ -28,8 +28,8 @@ abbrev pub act_site : PartSite → Sites
 act_site s = record { choices = []; puts = []; acts = s ∷ [] }
 
 -- the one and then the other
-abbrev pub both : Sites → Sites → Sites
-both a b = record { choices = a.choices ++ b.choices; puts = a.puts ++ b.puts; acts = a.acts ++ b.acts }
+abbrev pub joined_sites : Sites → Sites → Sites
+joined_sites a b = record { choices = a.choices ++ b.choices; puts = a.puts ++ b.puts; acts = a.acts ++ b.acts }
 
 abbrev pub element_sites : PartSite → Element → Sites
 element_sites s e = record { choices = element_choices e s; puts = element_puts e s; acts = element_acts e s }
@@ -42,7 +42,7 @@ abbrev pub rule_sites : ℕ → List Rule → Sites
 rule_sites r rules = record { choices = rule_choices r rules; puts = rule_puts r rules; acts = rule_acts r rules }
 
 -- so many are counted further
-pub record IsCounted (sites : Sites) (old new : Counts) : Type 0 where
+pub record AreSitesCounted (sites : Sites) (old new : Counts) : Type 0 where
   pub points : new.points ≡ old.points + length sites.choices
   pub puts : new.puts ≡ old.puts + length sites.puts
   pub acts : new.acts ≡ old.acts + length sites.acts
@@ -57,11 +57,11 @@ abbrev pub after_act : Counts → Counts
 after_act counts = record { points = counts.points; puts = counts.puts; acts = counts.acts + 1 }
 
 -- these stand side by side among all, from this number on
-abbrev pub StandAmong : List PartSite → ℕ → List PartSite → Type 0
-StandAmong all from sites = (i : ℕ) (s : PartSite) → slice_get sites i ≡ Some s → slice_get all (from + i) ≡ Some s
+abbrev pub StandInOrder : List PartSite → ℕ → List PartSite → Type 0
+StandInOrder all from sites = (i : ℕ) (s : PartSite) → slice_get sites i ≡ Some s → slice_get all (from + i) ≡ Some s
 
 -- these are the next to be counted
 pub record AreNext (g : Grammar) (counts : Counts) (sites : Sites) : Type 0 where
-  pub choices : StandAmong (choice_sites g) counts.points sites.choices
-  pub puts : StandAmong (put_sites g) counts.puts sites.puts
-  pub acts : StandAmong (act_sites g) counts.acts sites.acts
+  pub choices : StandInOrder (choice_sites g) counts.points sites.choices
+  pub puts : StandInOrder (put_sites g) counts.puts sites.puts
+  pub acts : StandInOrder (act_sites g) counts.acts sites.acts

@@ -11,7 +11,7 @@ use Rattle.lw_program.specs.declared.counts.Counts.{Counts}
 use Rattle.lw_program.specs.declared.draft.Draft.{Draft}
 use Rattle.lw_program.specs.declared.instr.Instr.{Instr}
 use Rattle.lw_program.specs.Says.{Task, Does, thing_of, SaidAt}
-use Rattle.lw_program.specs.Counting.{Sites, no_sites, both, element_sites, value_sites, IsCounted, AreNext}
+use Rattle.lw_program.specs.Counting.{Sites, no_sites, joined_sites, element_sites, value_sites, AreSitesCounted, AreNext}
 
 -- instructions so far, and what has been counted
 pub record Listing : Type 0 where
@@ -41,7 +41,7 @@ wants_from want s i (x ∷ xs) = want (s ▸ i) x ∷ wants_from want s (i + 1) 
 
 abbrev pub all_sites : List Want → Sites
 all_sites [] = no_sites
-all_sites (w ∷ ws) = both w.sites (all_sites ws)
+all_sites (w ∷ ws) = joined_sites w.sites (all_sites ws)
 
 module _ (g : Grammar) where
   -- these are the tasks so far, those that are wanted stand side by side from this place on, and their numbers come next
@@ -57,7 +57,7 @@ module _ (g : Grammar) (kinds : Kinds) where
     pub grown : length old.code ≤ length new.code
     pub kept : (p : ℕ) → p < length old.code → (p < first) ⊎ (first + length ws ≤ p) →
         slice_get new.code p ≡ slice_get old.code p
-    pub counted : IsCounted (all_sites ws) old.counts new.counts
+    pub counted : AreSitesCounted (all_sites ws) old.counts new.counts
     pub said : (tasks : List Task) → AreWanted g ws first tasks old →
         (more : List Task) × (length (tasks ++ more) ≡ length new.code) ×
         ((p : ℕ) → ((first ≤ p) × (p < first + length ws)) ⊎ (length old.code ≤ p) → p < length new.code →

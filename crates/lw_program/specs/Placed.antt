@@ -10,7 +10,7 @@ use Rattle.lw_look.specs.Things.{Leave}
 use Rattle.lw_program.specs.declared.instr.Instr.{Instr}
 use Rattle.lw_program.specs.declared.instr.Instr.TheVariants.{Shut}
 use Rattle.lw_program.specs.Says.{Task, Does, thing_of, SaidAt}
-use Rattle.lw_program.specs.Counting.{element_sites, IsCounted, AreNext}
+use Rattle.lw_program.specs.Counting.{element_sites, AreSitesCounted, AreNext}
 use Rattle.lw_program.specs.Filled.{Listing}
 
 -- what stands behind a body
@@ -20,7 +20,7 @@ ending false = []
 
 module _ (g : Grammar) (kinds : Kinds) (s : PartSite) (e : Element) where
   -- the tasks of before and these more
-  pub record Continues (shuts : Bool) (start : ℕ) (old new : Listing) (tasks : List Task) : Type 0 where
+  pub record PlacesMore (shuts : Bool) (start : ℕ) (old new : Listing) (tasks : List Task) : Type 0 where
     pub more : List Task
     pub sized : length (tasks ++ more) ≡ length new.code
     pub whole : slice_get (tasks ++ more) start ≡ Some (thing_of s e)
@@ -30,12 +30,12 @@ module _ (g : Grammar) (kinds : Kinds) (s : PartSite) (e : Element) where
   pub record IsStarted (shuts : Bool) (start : ℕ) (old new : Listing) : Type 0 where
     pub grown : length old.code ≤ length new.code
     pub kept : (p : ℕ) → p < length old.code → slice_get new.code p ≡ slice_get old.code p
-    pub counted : IsCounted (element_sites s e) old.counts new.counts
+    pub counted : AreSitesCounted (element_sites s e) old.counts new.counts
     pub said : (tasks : List Task) → IsPartAt g s (Body e) → length tasks ≡ length old.code → AreNext g old.counts (element_sites s e) →
-        Continues shuts start old new tasks
+        PlacesMore shuts start old new tasks
 
   -- whether the rule is reached, whether it is to be shut, and its start
   pub data IsPlaced : Bool → Bool → Option ℕ → Listing → Listing → Type 0 where
-    left_out : {shuts : Bool} {old new : Listing} → new.code ≡ old.code → IsCounted (element_sites s e) old.counts new.counts →
+    left_out : {shuts : Bool} {old new : Listing} → new.code ≡ old.code → AreSitesCounted (element_sites s e) old.counts new.counts →
         IsPlaced false shuts None old new
     placed : {shuts : Bool} {start : ℕ} {old new : Listing} → IsStarted shuts start old new → IsPlaced true shuts (Some start) old new

@@ -18,7 +18,7 @@ pub record ProgramParts : Type 0 where
 
 module _ (g : Grammar) (kinds : Kinds) where
   -- at the place stands the body of the rule, and behind it the end of its node where it makes one
-  pub record StartsAt (tasks : List Task) (r : ℕ) (rule : Rule) (start : ℕ) : Type 0 where
+  pub record StartsRuleAt (tasks : List Task) (r : ℕ) (rule : Rule) (start : ℕ) : Type 0 where
     pub whole : slice_get tasks start ≡ Some (thing_of (body r) rule.body)
     pub shut : rule.is_fragment ≡ false → MakesNodes g rule → slice_get tasks (start + 1) ≡ Some (Does (Leave mark.Shut))
 
@@ -28,5 +28,5 @@ module _ (g : Grammar) (kinds : Kinds) where
     pub said : (p : ℕ) → p < length program.code → SaidAt g kinds tasks program.code p
     pub all : length program.starts ≡ length g.rules
     pub reached : (r : ℕ) (rule : Rule) → IsReached g r → slice_get g.rules r ≡ Some rule →
-        (start : ℕ) × (slice_get program.starts r ≡ Some (Some start)) × StartsAt tasks r rule start
+        (start : ℕ) × (slice_get program.starts r ≡ Some (Some start)) × StartsRuleAt tasks r rule start
     pub others : (r : ℕ) → r < length g.rules → ¬ IsReached g r → slice_get program.starts r ≡ Some None

@@ -62,35 +62,35 @@ module _ (g : Grammar) (kinds : Kinds) where
   IsPoint point s = slice_get (choice_sites g) point.0 ≡ Some s
 
   module _ (tasks : List Task) where
-    pub data Says : Task → Instr → Type 0 where
+    pub data SaysTask : Task → Instr → Type 0 where
       keyword : {s : PartSite} {text : List ℕ} {span : Span} {k : KindId} → ElementAt g s (layer.Keyword text span) →
-          IsKeywordKind kinds text k.0 → Says (Does (Do s)) (Token k)
+          IsKeywordKind kinds text k.0 → SaysTask (Does (Do s)) (Token k)
       called : {s : PartSite} {name : List ℕ} {span : Span} {instr : Instr} → ElementAt g s (layer.Call name span) → CallsBy name instr →
-          Says (Does (Do s)) instr
+          SaysTask (Does (Do s)) instr
       acted : {s : PartSite} {a : Action} {n : ℕ} → ElementAt g s (layer.Act a) → slice_get (act_sites g) n ≡ Some s →
-          Says (Does (Do s)) (Act n)
+          SaysTask (Does (Do s)) (Act n)
       row : {s : PartSite} {es : List Element} {first end : ℕ} → RowAt g s es →
-          StandFrom tasks (λ i e. thing_of (s ▸ i) e) es first end → Says (Does (Do s)) (Row first end)
+          StandFrom tasks (λ i e. thing_of (s ▸ i) e) es first end → SaysTask (Does (Do s)) (Row first end)
       choice : {s : PartSite} {es : List Element} {span : Span} {point : PointId} {first end : ℕ} → ElementAt g s (layer.Choice es span) →
-          IsPoint point s → StandFrom tasks (λ i e. thing_of (s ▸ i) e) es first end → Says (Does (Do s)) (Choice point first end)
+          IsPoint point s → StandFrom tasks (λ i e. thing_of (s ▸ i) e) es first end → SaysTask (Does (Do s)) (Choice point first end)
       maybe : {s : PartSite} {e : Element} {point : PointId} {inner : ℕ} → OptionalAt g s e → IsPoint point s →
-          slice_get tasks inner ≡ Some (thing_of (s ▸ 0) e) → Says (Does (Do s)) (Maybe point inner)
+          slice_get tasks inner ≡ Some (thing_of (s ▸ 0) e) → SaysTask (Does (Do s)) (Maybe point inner)
       loop : {s : PartSite} {e : Element} {point : PointId} {inner : ℕ} → RepeatedAt g s e → IsPoint point s →
-          slice_get tasks inner ≡ Some (thing_of (s ▸ 0) e) → Says (Does (Again s)) (Loop point inner)
+          slice_get tasks inner ≡ Some (thing_of (s ▸ 0) e) → SaysTask (Does (Again s)) (Loop point inner)
       -- of `+`: the body of the loop at this place is read first
       once : {s : PartSite} {e : Element} {span : Span} {rest : ℕ} → ElementAt g s (layer.Some1 e span) →
-          slice_get tasks rest ≡ Some (Does (Again s)) → Says (Does (Do s)) (Once rest)
+          slice_get tasks rest ≡ Some (Does (Again s)) → SaysTask (Does (Do s)) (Once rest)
       value_choice : {p : List ℕ} {op : Op} {s : PartSite} {v : Value0} {vs : List Value0} {span : Span} {point : PointId} {first end : ℕ} →
           ValueAt g s v (value.Choice vs span) → IsPoint point s →
-          StandFrom tasks (λ i w. Does (Assigned p op (s ▸ i))) vs first end → Says (Does (Assigned p op s)) (Choice point first end)
+          StandFrom tasks (λ i w. Does (Assigned p op (s ▸ i))) vs first end → SaysTask (Does (Assigned p op s)) (Choice point first end)
       put : {p : List ℕ} {op : Op} {s : PartSite} {v : Value0} {n first : ℕ} → IsPartAt g s (Value v) → slice_get (put_sites g) n ≡ Some s →
           slice_get tasks first ≡ Some (Reads s) → slice_get tasks (first + 1) ≡ Some (Does (Leave mark.End)) →
-          Says (Does (Assigned p op s)) (Put n first)
+          SaysTask (Does (Assigned p op s)) (Put n first)
       reads_keyword : {s : PartSite} {v : Value0} {text : List ℕ} {span : Span} {k : KindId} → ValueAt g s v (value.Keyword text span) →
-          IsKeywordKind kinds text k.0 → Says (Reads s) (Token k)
-      reads_call : {s : PartSite} {v : Value0} {name : List ℕ} {instr : Instr} → ValueCallsAt g s v name → CallsBy name instr → Says (Reads s) instr
-      ends : Says (Does (Leave mark.End)) End
-      shuts : Says (Does (Leave mark.Shut)) Shut
+          IsKeywordKind kinds text k.0 → SaysTask (Reads s) (Token k)
+      reads_call : {s : PartSite} {v : Value0} {name : List ℕ} {instr : Instr} → ValueCallsAt g s v name → CallsBy name instr → SaysTask (Reads s) instr
+      ends : SaysTask (Does (Leave mark.End)) End
+      shuts : SaysTask (Does (Leave mark.Shut)) Shut
 
     -- the equation of one place
     pub record SaidAt (code : List Instr) (p : ℕ) : Type 0 where
@@ -98,5 +98,5 @@ module _ (g : Grammar) (kinds : Kinds) where
       pub instr : Instr
       pub stands : slice_get tasks p ≡ Some task
       pub is : slice_get code p ≡ Some instr
-      pub says : Says task instr
+      pub says : SaysTask task instr
       pub later : NamesLater p instr

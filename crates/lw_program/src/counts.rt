@@ -2,7 +2,7 @@
 ghost use Rattle.std.specs.Prelude.{ℕ, List, ◌≡◌, ◌+◌, IfOk, OnOk, ◌∷◌, []};
 ghost use Rattle.lw_grammar.specs.declared.rule.Op.{Op};
 ghost use Rattle.lw_look.specs.Sites.{PartSite};
-ghost use Rattle.lw_program.specs.Counting.{IsCounted, both, choice_site, element_sites, value_sites, after_point, after_put, after_act};
+ghost use Rattle.lw_program.specs.Counting.{AreSitesCounted, joined_sites, choice_site, element_sites, value_sites, after_point, after_put, after_act};
 ghost use Rattle.lw_program.specs.Filled.{element_want, value_want, wants_from, all_sites};
 
 use lw_base::{NoMemory, PointId};
@@ -42,7 +42,7 @@ impl Counts {
     /// Goes past an element.
     #[cycle(elements)]
     pub(crate) fn pass(&mut self, element: &Element) -> Result<(), NoMemory>
-        ensures { (s : PartSite) → OnOk result (IsCounted (element_sites s element.now) self.old self.new) }
+        ensures { (s : PartSite) → OnOk result (AreSitesCounted (element_sites s element.now) self.old self.new) }
     {
         match element {
             Element::Keyword(..) => Ok(()),
@@ -66,7 +66,7 @@ impl Counts {
     /// Goes past `?`, `*` or `+` and what it holds.
     #[cycle(elements)]
     fn pass_inner(&mut self, part: &Element) -> Result<(), NoMemory>
-        ensures { (s : PartSite) → OnOk result (IsCounted (both (choice_site s) (all_sites (wants_from element_want s 0 (part.now ∷ [])))) self.old self.new) }
+        ensures { (s : PartSite) → OnOk result (AreSitesCounted (joined_sites (choice_site s) (all_sites (wants_from element_want s 0 (part.now ∷ [])))) self.old self.new) }
     {
         self.next_point()?;
         self.pass(part)
@@ -74,7 +74,7 @@ impl Counts {
 
     #[cycle(elements)]
     fn pass_all(&mut self, elements: &[Element]) -> Result<(), NoMemory>
-        ensures { (s : PartSite) → OnOk result (IsCounted (all_sites (wants_from element_want s 0 elements.now)) self.old self.new) }
+        ensures { (s : PartSite) → OnOk result (AreSitesCounted (all_sites (wants_from element_want s 0 elements.now)) self.old self.new) }
     {
         for element in elements {
             self.pass(element)?;
@@ -84,7 +84,7 @@ impl Counts {
 
     #[cycle(values)]
     fn pass_value(&mut self, value: &Value0) -> Result<(), NoMemory>
-        ensures { (s : PartSite) → OnOk result (IsCounted (value_sites s value.now) self.old self.new) }
+        ensures { (s : PartSite) → OnOk result (AreSitesCounted (value_sites s value.now) self.old self.new) }
     {
         match value {
             Value0::Keyword(..) => self.pass_single(),
@@ -107,7 +107,7 @@ impl Counts {
 
     #[cycle(values)]
     fn pass_values(&mut self, values: &[Value0]) -> Result<(), NoMemory>
-        ensures { (p : List ℕ) (op : Op) (s : PartSite) → OnOk result (IsCounted (all_sites (wants_from (value_want p op) s 0 values.now)) self.old self.new) }
+        ensures { (p : List ℕ) (op : Op) (s : PartSite) → OnOk result (AreSitesCounted (all_sites (wants_from (value_want p op) s 0 values.now)) self.old self.new) }
     {
         for value in values {
             self.pass_value(value)?;

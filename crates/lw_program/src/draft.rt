@@ -3,7 +3,7 @@ ghost use Rattle.std.specs.Prelude.{ℕ, List, ◌≡◌, ◌+◌, ◌<◌, ◌�
 ghost use Rattle.lw_grammar.specs.declared.rule.Op.{Op};
 ghost use Rattle.lw_grammar.specs.Kinds.{Kinds, AreKinds};
 ghost use Rattle.lw_look.specs.Sites.{PartSite, Body, Value};
-ghost use Rattle.lw_lexicon.specs.Known.{IsLexicon};
+ghost use Rattle.lw_lexicon.specs.Known.{IsKnownLexicon};
 ghost use Rattle.lw_program.specs.Reach.{IsComplete, IsInReach, AreInReach};
 ghost use Rattle.lw_program.specs.Filled.{Filled, listing, element_want, value_want, wants_from};
 
@@ -30,7 +30,7 @@ impl Draft {
         place: usize,
         element: &Element,
     ) -> Result<(), NoMemory>
-        requires known { IsLexicon lexicon }
+        requires known { IsKnownLexicon lexicon }
         requires complete { IsComplete lexicon.g.now }
         requires reach { IsInReach lexicon.g.now (Body element.now) }
         requires inside { place < length self.old.code.items }
@@ -83,7 +83,7 @@ impl Draft {
         first: usize,
         elements: &[Element],
     ) -> Result<(), NoMemory>
-        requires known { IsLexicon lexicon }
+        requires known { IsKnownLexicon lexicon }
         requires complete { IsComplete lexicon.g.now }
         requires reach { AreInReach lexicon.g.now Body elements.now }
         requires inside { first + length elements.now ≤ length self.old.code.items }
@@ -99,7 +99,7 @@ impl Draft {
     /// The same of a value that is assigned.
     #[cycle(values)]
     fn value(&mut self, lexicon: Lexicon<'_>, place: usize, value: &Value0) -> Result<(), NoMemory>
-        requires known { IsLexicon lexicon }
+        requires known { IsKnownLexicon lexicon }
         requires complete { IsComplete lexicon.g.now }
         requires reach { IsInReach lexicon.g.now (Value value.now) }
         requires inside { place < length self.old.code.items }
@@ -134,7 +134,7 @@ impl Draft {
         first: usize,
         values: &[Value0],
     ) -> Result<(), NoMemory>
-        requires known { IsLexicon lexicon }
+        requires known { IsKnownLexicon lexicon }
         requires complete { IsComplete lexicon.g.now }
         requires reach { AreInReach lexicon.g.now Value values.now }
         requires inside { first + length values.now ≤ length self.old.code.items }

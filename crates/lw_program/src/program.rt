@@ -5,7 +5,7 @@ ghost use Rattle.lw_grammar.specs.Size.{size};
 ghost use Rattle.lw_look.specs.Supplied.{IsSupplied};
 ghost use Rattle.lw_derivations.specs.Reading.{IsReadingOf};
 ghost use Rattle.lw_subtypes.specs.Kinship.{AreNodeRules};
-ghost use Rattle.lw_lexicon.specs.Known.{IsLexicon};
+ghost use Rattle.lw_lexicon.specs.Known.{IsKnownLexicon};
 ghost use Rattle.lw_program.specs.ProgramOf.{IsProgramOf};
 
 use crate::Instr;
@@ -41,7 +41,7 @@ impl Program {
         reading: &Reading,
         nodes: &[bool],
     ) -> Result<Program, NoMemory>
-        requires known { IsLexicon lexicon }
+        requires known { IsKnownLexicon lexicon }
         requires read { IsReadingOf lexicon.g.now reading.now }
         requires told { AreNodeRules lexicon.g.now nodes.now }
         requires supplied { (kinds : Kinds) → AreKinds lexicon.g.now kinds → IsSupplied lexicon.g.now kinds }

@@ -2,7 +2,7 @@
 ghost use Rattle.std.specs.Prelude.{◌≡◌, ◌∷◌, ◌++◌, length, IsTrue, IfOk};
 ghost use Rattle.lw_grammar.specs.Kinds.{Kinds, AreKinds};
 ghost use Rattle.lw_look.specs.Sites.{PartSite, Body};
-ghost use Rattle.lw_lexicon.specs.Known.{IsLexicon};
+ghost use Rattle.lw_lexicon.specs.Known.{IsKnownLexicon};
 ghost use Rattle.lw_program.specs.Reach.{IsComplete, IsInReach};
 ghost use Rattle.lw_program.specs.Filled.{listing};
 ghost use Rattle.lw_program.specs.Placed.{IsStarted, IsPlaced, ending};
@@ -23,7 +23,7 @@ impl Draft {
         is_reached: bool,
         shuts: bool,
     ) -> Result<Option<u32>, NoMemory>
-        requires known { IsLexicon lexicon }
+        requires known { IsKnownLexicon lexicon }
         requires complete { IsComplete lexicon.g.now }
         requires reach { IsTrue is_reached → IsInReach lexicon.g.now (Body rule.now.body) }
         ensures { (kinds : Kinds) (s : PartSite) → AreKinds lexicon.entry.g.now kinds →
@@ -40,7 +40,7 @@ impl Draft {
 
     /// Puts a body behind all places, and the end of a node behind it where it is to be shut.
     fn start(&mut self, lexicon: Lexicon<'_>, body: &Element, shuts: bool) -> Result<u32, NoMemory>
-        requires known { IsLexicon lexicon }
+        requires known { IsKnownLexicon lexicon }
         requires complete { IsComplete lexicon.g.now }
         requires reach { IsInReach lexicon.g.now (Body body.now) }
         ensures { (kinds : Kinds) (s : PartSite) → AreKinds lexicon.entry.g.now kinds →

@@ -4,7 +4,7 @@ use Rattle.std.proofs.lemmas.Result.{on_ok_weaker}
 use Rattle.lw_grammar.specs.declared.rule.Value0.{Value0}
 use Rattle.lw_grammar.specs.declared.rule.Value0.TheVariants.{outs-Keyword, outs-Call, outs-Cross, outs-Choice}
 use Rattle.lw_derivations.proofs.BelowLemmas.{at_some_place}
-use Rattle.lw_lexicon.specs.Callees.{IsReadByName}
+use Rattle.lw_derivations.specs.Crossing.{IsReadBy}
 use Rattle.lw_look.specs.Sites.{Value}
 use Rattle.lw_follow.specs.Calls.{BehindCalls, BehindName}
 use Rattle.lw_follow.specs.Rounds.{AddsAfters}
@@ -36,7 +36,7 @@ follow_value-returns-in-Cross t c kinds are =
     let g = first.lexicon.g.now in
     let after = c.args.after.now in
     on_ok_weaker c.follow_cross.result
-    (puts_as (λ r h. (name : List ℕ) × IsReadByName g c.in-Cross.wanted c.in-Cross.written name × BehindName g name after r h)
+    (puts_as (λ r h. (name : List ℕ) × IsReadBy g c.in-Cross.wanted c.in-Cross.written name × BehindName g name after r h)
     (BehindCalls g kinds first.k first.heads.now (Value c.args.value.now) after)
     (value_behind_by g kinds first.k first.heads.now after c.in-Cross.is (outs-Cross _ _ _)) c.args.sets.now c.follow_cross.new.sets)
     c.follow_cross.ensures

@@ -2,12 +2,12 @@ use Rattle.std.proofs.Common.{◌≡◌, ℕ, List, Option, Some, None, sym, ◌
 use Rattle.std.proofs.lemmas.Result.{on_ok_weaker}
 use Rattle.lw_grammar.specs.declared.grammar.Grammar.{Grammar}
 use Rattle.lw_derivations.proofs.OneName.{one_reads}
-use Rattle.lw_lexicon.specs.Callees.{IsReadByName}
+use Rattle.lw_derivations.specs.Crossing.{IsReadBy}
 use Rattle.lw_follow.specs.Calls.{BehindName}
 use Rattle.lw_follow.proofs.Putting.{puts_as}
 use Rattle.lw_follow.proofs.following.follow_cross.Goals as goal
 
-one_name : (g : Grammar) (wanted : List ℕ) (written : Option (List ℕ)) (a b : List ℕ) → IsReadByName g wanted written a → IsReadByName g wanted written b → a ≡ b
+one_name : (g : Grammar) (wanted : List ℕ) (written : Option (List ℕ)) (a b : List ℕ) → IsReadBy g wanted written a → IsReadBy g wanted written b → a ≡ b
 one_name g wanted None a b is was = one_reads g wanted None a b is was
 one_name g wanted (Some name) a b is was = sym is ∙ was
 
@@ -19,7 +19,7 @@ returns-in-Some c =
     let after = c.args.after.now in
     let name = c.in-Some.name.now in
     on_ok_weaker c.follow_name.result
-    (puts_as (BehindName g name after) (λ r h. (x : List ℕ) × IsReadByName g wanted written x × BehindName g x after r h)
+    (puts_as (BehindName g name after) (λ r h. (x : List ℕ) × IsReadBy g wanted written x × BehindName g x after r h)
     (λ r h. (
       λ behind. (name, c.in-Some.ensures, behind),
       λ (other, was, behind). subst (λ x. BehindName g x after r h) (one_name g wanted written other name was c.in-Some.ensures) behind,

@@ -3,7 +3,7 @@ use Rattle.std.proofs.lemmas.List.{take_all}
 use Rattle.lw_grammar.specs.KindTexts.{texts_of}
 use Rattle.lw_heads.specs.declared.head.Head.TheVariants.{Nothing}
 use Rattle.lw_heads.specs.Heads.{seen_in}
-use Rattle.lw_lookahead.specs.Printed.{printed}
+use Rattle.lw_lookahead.specs.Printed.{window_text}
 use Rattle.lw_lookahead.specs.Shared.{IsFirstPrintedOf}
 use Rattle.lw_lookahead.proofs.FirstPrinted.{IsOne, kept_next, passed_next}
 use Rattle.lw_lookahead.proofs.conflict.first_printed.Goals as goal
@@ -24,7 +24,7 @@ pub loop-head-preserved : goal.loop-head-preserved
 loop-head-preserved c kinds of =
     kept_next (texts_of kinds) c.args.k c.args.ways.now.entries c.args.way c.args.heads.now c.loop-head.head-index Nothing c.loop-head-test.true
     ((c.is_first_way.ensures c.args.k c.requires.entries).0 (search rules)) c.in_ok-text.text
-    (c.in_ok-text.ensures kinds of ∙ ap (printed (texts_of kinds)) (ap seen_in c.as_slice.ensures.value ∙ c.window.ensures)) c.loop-head.least (c.loop-head.invariant kinds of) c.keep_first.new.least c.keep_first.ensures
+    (c.in_ok-text.ensures kinds of ∙ ap (window_text (texts_of kinds)) (ap seen_in c.as_slice.ensures.value ∙ c.window.ensures)) c.loop-head.least (c.loop-head.invariant kinds of) c.keep_first.new.least c.keep_first.ensures
 
 pub returns : goal.returns
 returns c kinds of =

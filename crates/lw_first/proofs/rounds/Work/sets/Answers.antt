@@ -1,7 +1,7 @@
 use Rattle.std.proofs.Common.{◌++◌, length, take, drop, sym, ap, ◌∙◌, subst, arith}
 use Rattle.lw_look.specs.Heads.{AreClosedHeads, AreTrueHeads}
 use Rattle.lw_heads.specs.Sets.{IsInSet}
-use Rattle.lw_first.specs.Rounds.{IsSettled}
+use Rattle.lw_first.specs.Rounds.{AreRulesSettled}
 use Rattle.lw_first.proofs.RoundSteps.{all_settled, written_back}
 use Rattle.lw_first.proofs.rounds.Work.sets.Goals as goal
 
@@ -24,11 +24,11 @@ rounds-preserved c =
           subst (λ s. AreTrueHeads g kinds work.k (IsInSet s)) (sym sets_back)
           (round.no_others kinds are (subst (λ s. AreTrueHeads g kinds work.k (IsInSet s)) (sym heads.value) (was.true_heads kinds are)));
       settled = λ kinds are.
-          subst (λ w. IsSettled g kinds work.k (w, take c.rounds.sets.len (sets ++ drop (length sets) c.rounds.sets.items))) (sym flags_back)
-          (subst (λ s. IsSettled g kinds work.k (waiting, s)) (sym sets_back)
+          subst (λ w. AreRulesSettled g kinds work.k (w, take c.rounds.sets.len (sets ++ drop (length sets) c.rounds.sets.items))) (sym flags_back)
+          (subst (λ s. AreRulesSettled g kinds work.k (waiting, s)) (sym sets_back)
           (round.settles kinds are
-          (subst (λ w. IsSettled g kinds work.k (w, c.as_mut_slice-in-rounds.result.now)) (sym flags.value)
-          (subst (λ s. IsSettled g kinds work.k (c.rounds.waiting.items, s)) (sym heads.value) (was.settled kinds are)))));
+          (subst (λ w. AreRulesSettled g kinds work.k (w, c.as_mut_slice-in-rounds.result.now)) (sym flags.value)
+          (subst (λ s. AreRulesSettled g kinds work.k (c.rounds.waiting.items, s)) (sym heads.value) (was.settled kinds are)))));
     }
 
 pub returns-clause-closed : goal.returns-clause-closed
@@ -41,8 +41,8 @@ returns-clause-closed c = λ kinds are.
     let sets = c.round.new.sets in
     let sets_back = written_back c.rounds.sets.len sets c.rounds.sets.items (omega (arith, c.rounds.sets.ok.0, heads.len, c.round.auto.sets)) in
     let settled = round.settles kinds are
-    (subst (λ w. IsSettled g kinds work.k (w, c.as_mut_slice-in-rounds.result.now)) (sym flags.value)
-    (subst (λ s. IsSettled g kinds work.k (c.rounds.waiting.items, s)) (sym heads.value) (c.rounds.invariant.settled kinds are))) in
+    (subst (λ w. AreRulesSettled g kinds work.k (w, c.as_mut_slice-in-rounds.result.now)) (sym flags.value)
+    (subst (λ s. AreRulesSettled g kinds work.k (c.rounds.waiting.items, s)) (sym heads.value) (c.rounds.invariant.settled kinds are))) in
     subst (λ s. AreClosedHeads g kinds work.k (IsInSet s)) (sym sets_back) (all_settled g kinds work.k c.round.new.waiting sets settled (round.rests c.if-branch.false))
 
 pub returns-clause-no_others : goal.returns-clause-no_others

@@ -1,7 +1,7 @@
 use Rattle.std.proofs.Common.{refl, ◌∙◌, subst}
 use Rattle.std.proofs.lemmas.List.{take_all}
 use Rattle.lw_lookahead.specs.Entries.{of_ways}
-use Rattle.lw_lookahead.specs.Gathered.{AreGathered}
+use Rattle.lw_lookahead.specs.Gathered.{AreGatheredWays}
 use Rattle.lw_lookahead.proofs.GatherSteps.{gathered_next, gathered_none}
 use Rattle.lw_lookahead.proofs.entries.Entries.of.Goals as goal
 
@@ -15,5 +15,5 @@ loop-place-preserved c =
 
 pub returns : goal.returns
 returns c =
-    subst (λ ways. AreGathered (of_ways 1 ways) c.loop-place.entries) (take_all c.loop-place.place c.args.ways.now c.loop-place-test.false)
+    subst (λ ways. AreGatheredWays (of_ways 1 ways) c.loop-place.entries) (take_all c.loop-place.place c.args.ways.now c.loop-place-test.false)
     c.loop-place.invariant

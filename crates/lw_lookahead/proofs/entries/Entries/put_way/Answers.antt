@@ -1,7 +1,7 @@
 use Rattle.std.proofs.Common.{◌++◌, subst}
 use Rattle.std.proofs.lemmas.List.{take_all}
 use Rattle.lw_lookahead.specs.Entries.{of_way}
-use Rattle.lw_lookahead.specs.Gathered.{AreGathered}
+use Rattle.lw_lookahead.specs.Gathered.{AreGatheredWays}
 use Rattle.lw_lookahead.proofs.GatherSteps.{gathers_next, gathers_none}
 use Rattle.lw_lookahead.proofs.entries.Entries.put_way.Goals as goal
 
@@ -15,5 +15,5 @@ loop-head-preserved c pairs gathered up_to =
 
 pub returns : goal.returns
 returns c pairs gathered up_to =
-    subst (λ heads. AreGathered (pairs ++ of_way c.args.way heads) c.loop-head.self) (take_all c.loop-head.head-index c.args.heads.now c.loop-head-test.false)
+    subst (λ heads. AreGatheredWays (pairs ++ of_way c.args.way heads) c.loop-head.self) (take_all c.loop-head.head-index c.args.heads.now c.loop-head-test.false)
     (c.loop-head.invariant pairs gathered up_to).0

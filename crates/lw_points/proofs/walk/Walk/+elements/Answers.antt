@@ -3,7 +3,7 @@ use Rattle.std.proofs.lemmas.Option.{slice_get-get_or}
 use Rattle.lw_first.specs.Before.{ManyCanBefore}
 use Rattle.lw_look.specs.Sites.{◌▸◌}
 use Rattle.lw_look.specs.Choices.{element_choices, value_choices, inside}
-use Rattle.lw_points.specs.Gathering.{HasRow, HasSomeAlternatives, HasAlternatives, HasOptional, HasRepeated, IsElementAt, IsValueAt, GathersWhere, alone, with_part}
+use Rattle.lw_points.specs.Gathering.{HasRowAt, HasSomeAlternatives, HasAlternatives, HasOptional, HasRepeated, IsElementAt, IsValueAt, GathersWhere, site_alone, with_part}
 use Rattle.lw_points.specs.Ways.{HasExactly}
 use Rattle.lw_points.proofs.PutSteps.{no_memory_gathers}
 use Rattle.lw_points.proofs.ChoiceForms.{element_alone, choices-Assign, choices-Group, choices-Choice, choices-Maybe, choices_repeated}
@@ -50,9 +50,9 @@ add_element-returns-in-Group-clause-gathers t c =
     let parts = c.in-Group.parts in
     let span = c.in-Group.field-1 in
     let new = c.add_row.new.gathered.points.items in
-    gathers_as first file (IsElementAt e) after (HasRow parts) (element_choices e) (λ s. inside s 0 (map element_choices parts)) old new c.add_row.result
+    gathers_as first file (IsElementAt e) after (HasRowAt parts) (element_choices e) (λ s. inside s 0 (map element_choices parts)) old new c.add_row.result
     (λ g s. row_at g s e parts span c.in-Group.is) (λ s. ap (λ e. element_choices e s) c.in-Group.is ∙ choices-Group s parts span)
-    (subst (λ es. GathersWhere first file (HasRow es) after (λ s. inside s 0 (map element_choices es)) old new c.add_row.result) c.as_slice.ensures c.add_row.ensures.gathers)
+    (subst (λ es. GathersWhere first file (HasRowAt es) after (λ s. inside s 0 (map element_choices es)) old new c.add_row.result) c.as_slice.ensures c.add_row.ensures.gathers)
 
 pub add_element-returns-in_err-put_alternatives-in-Choice-clause-gathers : goal.add_element-returns-in_err-put_alternatives-in-Choice-clause-gathers
 add_element-returns-in_err-put_alternatives-in-Choice-clause-gathers t c =
@@ -69,7 +69,7 @@ add_element-returns-in_err-put_alternatives-in-Choice-clause-gathers t c =
     (gathers_as first file (IsElementAt e) after (HasAlternatives parts span) (element_choices e) (λ s. s ∷ inside s 0 (map element_choices parts)) old new (Err fault)
     (λ g s. alternatives_at g s e parts span c.in-Choice.is) (λ s. ap (λ e. element_choices e s) c.in-Choice.is ∙ choices-Choice s parts span)
     (outer_fails first file (HasAlternatives parts span) after (λ s. inside s 0 (map element_choices parts)) old new fault
-    (subst (λ es. GathersWhere first file (HasAlternatives es span) after alone old new (Err fault)) c.as_slice-in-Choice.ensures c.in_err-put_alternatives-in-Choice.ensures.gathers)))
+    (subst (λ es. GathersWhere first file (HasAlternatives es span) after site_alone old new (Err fault)) c.as_slice-in-Choice.ensures c.in_err-put_alternatives-in-Choice.ensures.gathers)))
 
 pub add_element-returns-in_ok-put_alternatives-in-Choice-clause-gathers : goal.add_element-returns-in_ok-put_alternatives-in-Choice-clause-gathers
 add_element-returns-in_ok-put_alternatives-in-Choice-clause-gathers t c =
@@ -86,7 +86,7 @@ add_element-returns-in_ok-put_alternatives-in-Choice-clause-gathers t c =
     (λ g s. alternatives_at g s e parts span c.in-Choice.is) (λ s. ap (λ e. element_choices e s) c.in-Choice.is ∙ choices-Choice s parts span)
     (outer_then first file (HasAlternatives parts span) after (λ s. inside s 0 (map element_choices parts)) old mid tt new (HasSomeAlternatives parts) c.add_alternatives.result
     (λ g s at. (span, at))
-    (subst (λ es. GathersWhere first file (HasAlternatives es span) after alone old mid (Ok tt)) c.as_slice-in-Choice.ensures c.in_ok-put_alternatives-in-Choice.ensures.gathers)
+    (subst (λ es. GathersWhere first file (HasAlternatives es span) after site_alone old mid (Ok tt)) c.as_slice-in-Choice.ensures c.in_ok-put_alternatives-in-Choice.ensures.gathers)
     (subst (λ es. GathersWhere first file (HasSomeAlternatives es) after (λ s. inside s 0 (map element_choices es)) mid new c.add_alternatives.result) c.as_slice-in-Choice-2.ensures
     c.add_alternatives.ensures.gathers))
 
@@ -105,7 +105,7 @@ add_element-returns-in_err-put_optional-in-Maybe-clause-gathers t c =
     (gathers_as first file (IsElementAt e) after (HasOptional part span) (element_choices e) (with_part part) old new (Err fault)
     (λ g s. optional_at g s e part span c.in-Maybe.is) (λ s. ap (λ e. element_choices e s) c.in-Maybe.is ∙ choices-Maybe s part span)
     (outer_fails first file (HasOptional part span) after (λ s. element_choices part (s ▸ 0)) old new fault
-    (subst (λ p. GathersWhere first file (HasOptional p span) after alone old new (Err fault)) c.get.ensures c.in_err-put_optional-in-Maybe.ensures.gathers)))
+    (subst (λ p. GathersWhere first file (HasOptional p span) after site_alone old new (Err fault)) c.get.ensures c.in_err-put_optional-in-Maybe.ensures.gathers)))
 
 pub add_element-returns-in_ok-put_optional-in-Maybe-clause-gathers : goal.add_element-returns-in_ok-put_optional-in-Maybe-clause-gathers
 add_element-returns-in_ok-put_optional-in-Maybe-clause-gathers t c =
@@ -122,7 +122,7 @@ add_element-returns-in_ok-put_optional-in-Maybe-clause-gathers t c =
     (λ g s. optional_at g s e part span c.in-Maybe.is) (λ s. ap (λ e. element_choices e s) c.in-Maybe.is ∙ choices-Maybe s part span)
     (outer_then_part first file (HasOptional part span) after (element_choices part) old mid new tt (IsElementAt part) after c.add_element.result
     (leads_optional first file after part span)
-    (subst (λ p. GathersWhere first file (HasOptional p span) after alone old mid (Ok tt)) c.get.ensures c.in_ok-put_optional-in-Maybe.ensures.gathers)
+    (subst (λ p. GathersWhere first file (HasOptional p span) after site_alone old mid (Ok tt)) c.get.ensures c.in_ok-put_optional-in-Maybe.ensures.gathers)
     (subst (λ p. GathersWhere first file (IsElementAt p) after (element_choices p) mid new c.add_element.result) c.get-in-Maybe.ensures c.add_element.ensures.gathers))
 
 pub add_element-returns-in-Many-clause-gathers : goal.add_element-returns-in-Many-clause-gathers
@@ -235,7 +235,7 @@ pub add_row-loop-number-init : goal.add_row-loop-number-init
 add_row-loop-number-init t c =
     let parts = c.args.parts.now in
     record {
-      gathers = loop_begins c.args.self.now.first c.args.self.now.file (HasRow parts) c.args.after.now element_choices parts c.args.gathered.now.points.items;
+      gathers = loop_begins c.args.self.now.first c.args.self.now.file (HasRowAt parts) c.args.after.now element_choices parts c.args.gathered.now.points.items;
       counted = c.requires.counted;
     }
 
@@ -253,7 +253,7 @@ add_row-loop-number-preserved t c =
     let inside_sets : i < length sets = omega (arith, (c.in_ok-behind.ensures known.kinds known.are).all, c.loop-number-test.true) in
     let set_there : slice_get sets i ≡ Some c.as_slice.result.now = slice_get-get_or sets i c.index.result.now inside_sets ∙ ap Some (sym c.index.ensures ∙ sym c.as_slice.ensures) in
     record {
-      gathers = loop_goes_on first file (HasRow parts) after element_choices parts i e c.loop-number-test.true c.index-parts-number.is (IsElementAt e) c.as_slice.result.now
+      gathers = loop_goes_on first file (HasRowAt parts) after element_choices parts i e c.loop-number-test.true c.index-parts-number.is (IsElementAt e) c.as_slice.result.now
           (leads_in_row first file after parts sets i e c.as_slice.result.now c.loop-number-test.true c.index-parts-number.is set_there c.in_ok-behind.ensures) old c.loop-number.gathered.points.items
           c.add_element.new.gathered.points.items c.loop-number.invariant.gathers tt c.in_ok-add_element.ensures.gathers;
       counted = c.in_ok-add_element.ensures.counted;
@@ -274,14 +274,14 @@ add_row-returns-in_err-add_element-clause-gathers t c =
     let known = c.requires.ready.lexicon.kinds in
     let inside_sets : i < length sets = omega (arith, (c.in_ok-behind.ensures known.kinds known.are).all, c.loop-number-test.true) in
     let set_there : slice_get sets i ≡ Some c.as_slice.result.now = slice_get-get_or sets i c.index.result.now inside_sets ∙ ap Some (sym c.index.ensures ∙ sym c.as_slice.ensures) in
-    handed_on (GathersWhere first file (HasRow parts) after (λ s. inside s 0 (map element_choices parts)) old new) c.from_residual-in_err-add_element.result fault
+    handed_on (GathersWhere first file (HasRowAt parts) after (λ s. inside s 0 (map element_choices parts)) old new) c.from_residual-in_err-add_element.result fault
     c.from_residual-in_err-add_element.ensures.1
-    (loop_fails first file (HasRow parts) after element_choices parts i e c.loop-number-test.true c.index-parts-number.is (IsElementAt e) c.as_slice.result.now
+    (loop_fails first file (HasRowAt parts) after element_choices parts i e c.loop-number-test.true c.index-parts-number.is (IsElementAt e) c.as_slice.result.now
     (leads_in_row first file after parts sets i e c.as_slice.result.now c.loop-number-test.true c.index-parts-number.is set_there c.in_ok-behind.ensures) old c.loop-number.gathered.points.items new c.loop-number.invariant.gathers fault
     c.in_err-add_element.ensures.gathers)
 
 pub add_row-returns-clause-gathers : goal.add_row-returns-clause-gathers
 add_row-returns-clause-gathers t c =
     let parts = c.args.parts.now in
-    loop_ends c.args.self.now.first c.args.self.now.file (HasRow parts) c.args.after.now element_choices parts c.loop-number.number
+    loop_ends c.args.self.now.first c.args.self.now.file (HasRowAt parts) c.args.after.now element_choices parts c.loop-number.number
     c.args.gathered.now.points.items c.loop-number.gathered.points.items tt c.loop-number-test.false c.loop-number.invariant.gathers

@@ -1,6 +1,6 @@
 use Rattle.lw_look.specs.Choices.{element_choices}
-use Rattle.lw_points.specs.Counted.{IsCounted}
-use Rattle.lw_points.specs.Gathering.{HasRow, HasSomeAlternatives}
+use Rattle.lw_points.specs.Counted.{AreCountedPoints}
+use Rattle.lw_points.specs.Gathering.{HasRowAt, HasSomeAlternatives}
 use Rattle.lw_points.proofs.GatherSteps.{PutsWhere, all_inside, left_inside}
 use Rattle.lw_points.proofs.walk.Walk.+elements.Given as goal
 
@@ -10,14 +10,14 @@ invariant-add_alternatives-loop-part l = record {
       (all_inside l.self.first l.self.file (HasSomeAlternatives l.parts) l.after element_choices l.parts)
       (left_inside l.self.first l.self.file (HasSomeAlternatives l.parts) l.after element_choices l.parts l.part-index)
       l.fn.gathered.points.items l.gathered.points.items;
-  counted : IsCounted l.gathered;
+  counted : AreCountedPoints l.gathered;
 }
 
 abbrev pub invariant-add_row-loop-number : goal.invariant-add_row-loop-number
 invariant-add_row-loop-number l = record {
-  gathers : PutsWhere l.self.first l.self.file (HasRow l.parts) l.after
-      (all_inside l.self.first l.self.file (HasRow l.parts) l.after element_choices l.parts)
-      (left_inside l.self.first l.self.file (HasRow l.parts) l.after element_choices l.parts l.number)
+  gathers : PutsWhere l.self.first l.self.file (HasRowAt l.parts) l.after
+      (all_inside l.self.first l.self.file (HasRowAt l.parts) l.after element_choices l.parts)
+      (left_inside l.self.first l.self.file (HasRowAt l.parts) l.after element_choices l.parts l.number)
       l.fn.gathered.points.items l.gathered.points.items;
-  counted : IsCounted l.gathered;
+  counted : AreCountedPoints l.gathered;
 }

@@ -1,6 +1,6 @@
 use Rattle.std.proofs.Common.{◌∷◌, ◌∙◌, Ok, Err, map, subst, ap}
 use Rattle.lw_look.specs.Choices.{value_choices, inside}
-use Rattle.lw_points.specs.Gathering.{HasSomeValueAlternatives, HasValueAlternatives, IsValueAt, GathersWhere, alone}
+use Rattle.lw_points.specs.Gathering.{HasSomeValueAlternatives, HasValueAlternatives, IsValueAt, GathersWhere, site_alone}
 use Rattle.lw_points.proofs.ChoiceForms.{value_alone, values-Choice}
 use Rattle.lw_points.proofs.GatherSteps.{handed_on, gathers_none, gathers_as, outer_fails, outer_then, loop_begins, loop_ends, loop_goes_on, loop_fails}
 use Rattle.lw_points.proofs.LeadForms.{values_at, leads_value}
@@ -36,7 +36,7 @@ add_value-returns-in_err-put_values-in-Choice-clause-gathers t c =
     (gathers_as first file (IsValueAt v) after (HasValueAlternatives values span) (value_choices v) (λ s. s ∷ inside s 0 (map value_choices values)) old new (Err fault)
     (λ g s. values_at g s v values span c.in-Choice.is) (λ s. ap (λ v. value_choices v s) c.in-Choice.is ∙ values-Choice s values span)
     (outer_fails first file (HasValueAlternatives values span) after (λ s. inside s 0 (map value_choices values)) old new fault
-    (subst (λ vs. GathersWhere first file (HasValueAlternatives vs span) after alone old new (Err fault)) c.as_slice.ensures c.in_err-put_values-in-Choice.ensures.gathers)))
+    (subst (λ vs. GathersWhere first file (HasValueAlternatives vs span) after site_alone old new (Err fault)) c.as_slice.ensures c.in_err-put_values-in-Choice.ensures.gathers)))
 
 pub add_value-returns-in_ok-put_values-in-Choice-clause-gathers : goal.add_value-returns-in_ok-put_values-in-Choice-clause-gathers
 add_value-returns-in_ok-put_values-in-Choice-clause-gathers t c =
@@ -53,7 +53,7 @@ add_value-returns-in_ok-put_values-in-Choice-clause-gathers t c =
     (λ g s. values_at g s v values span c.in-Choice.is) (λ s. ap (λ v. value_choices v s) c.in-Choice.is ∙ values-Choice s values span)
     (outer_then first file (HasValueAlternatives values span) after (λ s. inside s 0 (map value_choices values)) old mid tt new (HasSomeValueAlternatives values) c.add_values.result
     (λ g s at. (span, at))
-    (subst (λ vs. GathersWhere first file (HasValueAlternatives vs span) after alone old mid (Ok tt)) c.as_slice.ensures c.in_ok-put_values-in-Choice.ensures.gathers)
+    (subst (λ vs. GathersWhere first file (HasValueAlternatives vs span) after site_alone old mid (Ok tt)) c.as_slice.ensures c.in_ok-put_values-in-Choice.ensures.gathers)
     (subst (λ vs. GathersWhere first file (HasSomeValueAlternatives vs) after (λ s. inside s 0 (map value_choices vs)) mid new c.add_values.result) c.as_slice-in-Choice.ensures
     c.add_values.ensures.gathers))
 

@@ -1,5 +1,5 @@
 use Rattle.lw_look.specs.Choices.{value_choices}
-use Rattle.lw_points.specs.Counted.{IsCounted}
+use Rattle.lw_points.specs.Counted.{AreCountedPoints}
 use Rattle.lw_points.specs.Gathering.{HasSomeValueAlternatives}
 use Rattle.lw_points.proofs.GatherSteps.{PutsWhere, all_inside, left_inside}
 use Rattle.lw_points.proofs.walk.Walk.+values.Given as goal
@@ -10,5 +10,5 @@ invariant-add_values-loop-value l = record {
       (all_inside l.self.first l.self.file (HasSomeValueAlternatives l.values) l.after value_choices l.values)
       (left_inside l.self.first l.self.file (HasSomeValueAlternatives l.values) l.after value_choices l.values l.value-index)
       l.fn.gathered.points.items l.gathered.points.items;
-  counted : IsCounted l.gathered;
+  counted : AreCountedPoints l.gathered;
 }

@@ -1,6 +1,6 @@
 use Rattle.std.proofs.Common.{refl}
 use Rattle.lw_points.specs.declared.point.Point.{Point}
-use Rattle.lw_points.specs.Gathering.{alone}
+use Rattle.lw_points.specs.Gathering.{site_alone}
 use Rattle.lw_points.proofs.PutSteps.{put_gathers, no_memory_gathers}
 use Rattle.lw_points.proofs.PointForms.{values_point}
 use Rattle.lw_points.proofs.walk.Walk.put_values.Goals as goal
@@ -10,7 +10,7 @@ returns-in_err-ways-clause-gathers c =
     let first = c.args.self.now.first in
     let old = c.args.gathered.now.points.items in
     λ kinds followers s are at follows.
-    no_memory_gathers first.lexicon.g.now kinds first.k first.heads.now followers (alone s) old old c.from_residual.result c.from_residual.ensures.1
+    no_memory_gathers first.lexicon.g.now kinds first.k first.heads.now followers (site_alone s) old old c.from_residual.result c.from_residual.ensures.1
 
 pub returns-clause-gathers : goal.returns-clause-gathers
 returns-clause-gathers c =

@@ -5,7 +5,7 @@ use Rattle.lw_grammar.specs.declared.rule.Value0.{out-Value0}
 use Rattle.lw_grammar.specs.declared.rule.Value0.TheViews.{outs-Choice}
 use Rattle.lw_grammar.specs.declared.rule.Value0.TheOpen as value
 use Rattle.lw_look.specs.Sites.{◌▸◌}
-use Rattle.lw_program.specs.Counting.{IsCounted}
+use Rattle.lw_program.specs.Counting.{AreSitesCounted}
 use Rattle.lw_program.specs.Filled.{value_want, wants_from, all_sites}
 use Rattle.lw_program.proofs.Counted.{counted_both, counted_point}
 use Rattle.lw_program.proofs.Parts.{value_sites_of, counted_next}
@@ -15,10 +15,10 @@ pub pass_value-returns-in_ok-next_point-in-Choice : goal.pass_value-returns-in_o
 pass_value-returns-in_ok-next_point-in-Choice t c s =
     let at = c.in-Choice in
     on_ok_weaker c.pass_values.result (λ rest.
-    subst (λ sites. IsCounted sites c.args.self.now c.pass_values.new.self)
+    subst (λ sites. AreSitesCounted sites c.args.self.now c.pass_values.new.self)
     (sym (value_sites_of [] One s c.args.value.now (value.Choice at.values at.field-1) (ap out-Value0 at.is ∙ outs-Choice at.values at.field-1)))
     (counted_both (counted_point s c.args.self.now c.next_point.new.self c.in_ok-next_point-in-Choice.ensures.1)
-    (subst (λ values. IsCounted (all_sites (wants_from (value_want [] One) s 0 values)) c.next_point.new.self c.pass_values.new.self) c.as_slice.ensures rest)))
+    (subst (λ values. AreSitesCounted (all_sites (wants_from (value_want [] One) s 0 values)) c.next_point.new.self c.pass_values.new.self) c.as_slice.ensures rest)))
     (c.pass_values.ensures [] One s)
 
 pub pass_values-loop-value-preserved : goal.pass_values-loop-value-preserved
