@@ -2,7 +2,11 @@
 #![tactic(auto)]
 
 mod finished;
+mod nodes;
+mod numbers;
 mod preorder;
+mod references;
+mod values;
 
 pub use finished::Finished;
 pub use preorder::in_preorder;

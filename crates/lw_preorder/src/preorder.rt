@@ -6,6 +6,10 @@ ghost use Rattle.lw_tree.specs.Parts.{SameTables, Tile};
 ghost use Rattle.lw_preorder.specs.Tables.{AreTablesOf};
 
 use crate::Finished;
+use crate::nodes::nodes_by_number;
+use crate::numbers::numbers;
+use crate::references::name_references;
+use crate::values::name_values;
 use lw_base::{NoMemory, NodeId, PropId, Token};
 use lw_tree::{Reference, Tree, Value};
 use std::alloc::Global;
@@ -15,8 +19,8 @@ use std::alloc::Global;
 pub fn in_preorder(
     alloc: Global,
     finished: Vec<Finished>,
-    values: Vec<(NodeId, PropId, Value)>,
-    refs: Vec<Reference>,
+    mut values: Vec<(NodeId, PropId, Value)>,
+    mut refs: Vec<Reference>,
     tokens: Vec<Token>,
     name: Option<PropId>,
 ) -> Result<Tree, NoMemory>
@@ -25,5 +29,9 @@ pub fn in_preorder(
     requires tokens { Tile 0 tokens.items }
     ensures { (x : Grown) → AreTablesOf x finished.items values.items refs.items → IfOk result (λ tree. SameTables tree (parts_of x tokens.items name)) }
 {
-    Err(NoMemory)
+    let numbers = numbers(alloc, finished.as_slice())?;
+    let nodes = nodes_by_number(alloc, finished.as_slice(), numbers.as_slice())?;
+    name_values(numbers.as_slice(), values.as_mut_slice());
+    name_references(numbers.as_slice(), refs.as_mut_slice());
+    Tree::new(alloc, nodes, values, refs, tokens, name)
 }
