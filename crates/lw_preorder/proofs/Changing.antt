@@ -1,42 +1,23 @@
--- A list whose items are changed one after the other.
-use Rattle.std.proofs.Common.{ℕ, zero, suc, ◌≡◌, ◌+◌, ◌≤◌, ◌<◌, List, [], ◌∷◌, length, map, get_or, All, refl, sym, subst, ap, ◌∙◌, arith}
-use Rattle.std.proofs.Math.ListN.{set}
+-- The items of a list changed in their turns, in place.
+use Rattle.std.proofs.Common.{ℕ, zero, suc, ◌≡◌, ◌≤◌, ◌<◌, List, [], ◌∷◌, ◌++◌, length, map, take, drop, get_or, All, refl, sym, subst, ap, ◌∙◌, arith}
+use Rattle.std.proofs.lemmas.List.{append-nil, drop_all, length-map, take_all, take-append-le}
 
--- the first so many are changed
-abbrev pub changed : {X : Type 0} → (X → X) → ℕ → List X → List X
-changed f zero xs = xs
-changed f (suc i) [] = []
-changed f (suc i) (x ∷ xs) = f x ∷ changed f i xs
+-- the next is as it was
+unchanged : {X : Type 0} (f : X → X) (xs : List X) (i : ℕ) (d : X) → i < length xs → get_or (map f (take i xs) ++ drop i xs) i d ≡ get_or xs i d
+unchanged f [] i d lt = absurd (omega (arith, lt))
+unchanged f (x ∷ xs) zero d lt = refl
+unchanged f (x ∷ xs) (suc i) d lt = unchanged f xs i d (omega (arith, lt))
 
--- the next is not changed yet
-pub get_or-changed : {X : Type 0} (f : X → X) (i : ℕ) (xs : List X) (d : X) → get_or (changed f i xs) i d ≡ get_or xs i d
-get_or-changed f zero xs d = refl
-get_or-changed f (suc i) [] d = refl
-get_or-changed f (suc i) (x ∷ xs) d = get_or-changed f i xs d
+pub next_is : {X : Type 0} (f : X → X) (xs ys whole : List X) (i : ℕ) (d : X) (P : X → Type 0) → i < length xs → ys ≡ map f (take i xs) ++ drop i xs → xs ≡ whole →
+    All P whole → P (get_or ys i d)
+next_is f xs ys whole i d P lt e same all =
+    let as_it_was : get_or ys i d ≡ get_or whole i d = ap (λ l. get_or l i d) e ∙ unchanged f xs i d lt ∙ ap (λ l. get_or l i d) same in
+    subst P (sym as_it_was) (all i d (omega (arith, lt, ap length same)))
 
-pub changed-more : {X : Type 0} (f : X → X) (i : ℕ) (xs : List X) (d : X) → i < length xs → set (changed f i xs) i (f (get_or xs i d)) ≡ changed f (suc i) xs
-changed-more f i [] d lt = absurd (omega (arith, lt))
-changed-more f zero (x ∷ xs) d lt = refl
-changed-more f (suc i) (x ∷ xs) d lt = ap (λ l. f x ∷ l) (changed-more f i xs d (omega (arith, lt)))
-
-pub changed-all : {X : Type 0} (f : X → X) (i : ℕ) (xs : List X) → length xs ≤ i → changed f i xs ≡ map f xs
-changed-all f zero [] le = refl
-changed-all f zero (x ∷ xs) le = absurd (omega (arith, le))
-changed-all f (suc i) [] le = refl
-changed-all f (suc i) (x ∷ xs) le = ap (λ l. f x ∷ l) (changed-all f i xs (omega (arith, le)))
-
--- what a loop over the items meets and leaves
-pub next-all : {X : Type 0} (P : X → Type 0) (f : X → X) (i : ℕ) (xs ys : List X) (d : X) → ys ≡ changed f i xs → i < length xs → All P xs → P (get_or ys i d)
-next-all P f i xs ys d e lt all =
-    let same : get_or ys i d ≡ get_or xs i d = ap (λ l. get_or l i d) e ∙ get_or-changed f i xs d in
-    subst P (sym same) (all i d lt)
-
-pub next-changed : {X : Type 0} (f : X → X) (i : ℕ) (xs ys : List X) (d new : X) → ys ≡ changed f i xs → i < length xs → new ≡ f (get_or ys i d) →
-    set ys i new ≡ changed f (i + 1) xs
-next-changed f i xs ys d new e lt is =
-    let same : get_or ys i d ≡ get_or xs i d = ap (λ l. get_or l i d) e ∙ get_or-changed f i xs d in
-    let next : suc i ≡ i + 1 = omega arith in
-    ap (λ l. set l i new) e ∙ ap (λ y. set (changed f i xs) i y) (is ∙ ap f same) ∙ changed-more f i xs d lt ∙ ap (λ k. changed f k xs) next
-
-pub all-changed : {X : Type 0} (f : X → X) (i : ℕ) (xs ys : List X) → ys ≡ changed f i xs → length xs ≤ i → ys ≡ map f xs
-all-changed f i xs ys e le = e ∙ changed-all f i xs le
+-- the list that a loop over the items hands back
+pub handed_back : {X : Type 0} (f : X → X) (xs ys whole : List X) (i n : ℕ) → length xs ≤ i → ys ≡ map f (take i xs) ++ drop i xs → xs ≡ whole → n ≡ length xs →
+    take n (ys ++ drop (length ys) whole) ≡ map f whole
+handed_back f xs ys whole i n le e same long =
+    let done : ys ≡ map f xs = e ∙ ap (λ l. map f l ++ drop i xs) (take_all i xs le) ∙ ap (λ l. map f xs ++ l) (drop_all i xs le) ∙ append-nil (map f xs) in
+    let room : length ys ≡ n = omega (arith, ap length done, length-map xs f, long) in
+    take-append-le n ys (drop (length ys) whole) (omega (arith, room)) ∙ take_all n ys (omega (arith, room)) ∙ done ∙ ap (map f) same

@@ -8,8 +8,8 @@ ghost use Rattle.lw_preorder.specs.Tables.{AreTablesOf};
 use crate::Finished;
 use crate::nodes::nodes_by_number;
 use crate::numbers::numbers;
-use crate::references::name_references;
-use crate::values::name_values;
+use crate::references::references_by_number;
+use crate::values::values_by_number;
 use lw_base::{NoMemory, NodeId, PropId, Token};
 use lw_tree::{Reference, Tree, Value};
 use std::alloc::Global;
@@ -19,8 +19,8 @@ use std::alloc::Global;
 pub fn in_preorder(
     alloc: Global,
     finished: Vec<Finished>,
-    mut values: Vec<(NodeId, PropId, Value)>,
-    mut refs: Vec<Reference>,
+    values: Vec<(NodeId, PropId, Value)>,
+    refs: Vec<Reference>,
     tokens: Vec<Token>,
     name: Option<PropId>,
 ) -> Result<Tree, NoMemory>
@@ -31,7 +31,7 @@ pub fn in_preorder(
 {
     let numbers = numbers(alloc, finished.as_slice())?;
     let nodes = nodes_by_number(alloc, finished.as_slice(), numbers.as_slice())?;
-    name_values(numbers.as_slice(), values.as_mut_slice());
-    name_references(numbers.as_slice(), refs.as_mut_slice());
+    let values = values_by_number(numbers.as_slice(), values);
+    let refs = references_by_number(numbers.as_slice(), refs);
     Tree::new(alloc, nodes, values, refs, tokens, name)
 }

@@ -16,13 +16,17 @@ fn name_by_number(numbers: &[u32], value: &mut Value)
     }
 }
 
-/// Names the nodes that hold these values, and the nodes among them, by number. The order stays.
-pub fn name_values(numbers: &[u32], values: &mut [(NodeId, PropId, Value)])
-    requires { All (HasPlaces (length numbers.now)) values.old }
-    ensures { values.new ≡ map (entry_by_number numbers.now) values.old }
+/// These values, with the nodes that hold them and the nodes among them named by number. The order stays.
+pub fn values_by_number(
+    numbers: &[u32],
+    mut values: Vec<(NodeId, PropId, Value)>,
+) -> Vec<(NodeId, PropId, Value)>
+    requires { All (HasPlaces (length numbers.now)) values.items }
+    ensures { result.items ≡ map (entry_by_number numbers.now) values.items }
 {
     for (own, _, value) in values.iter_mut() {
         *own = NodeId(numbers[own.0 as usize]);
         name_by_number(numbers, value);
     }
+    values
 }

@@ -11,17 +11,15 @@ numbers-requires-clause-nested c =
     let t = c.requires.tables in
     nested_tree c.as_slice.result.now (t.0, c.as_slice.ensures.value ∙ t.1.nodes)
 
-pub name_values-requires : goal.name_values-requires
-name_values-requires c =
+pub values_by_number-values-requires : goal.values_by_number-values-requires
+values_by_number-values-requires c =
     let t = c.requires.tables in
-    All-same (HasPlaces (length c.as_slice-4.result.now)) _ _ c.as_mut_slice.ensures.value
-    (values_within t.0 _ _ _ _ t.1 (ap length c.as_slice-4.ensures.value ∙ c.in_ok-numbers.ensures.as_many ∙ ap length c.as_slice.ensures.value))
+    values_within t.0 _ _ _ _ t.1 (ap length c.as_slice-4.ensures.value ∙ c.in_ok-numbers.ensures.as_many ∙ ap length c.as_slice.ensures.value)
 
-pub name_references-requires : goal.name_references-requires
-name_references-requires c =
+pub references_by_number-refs-requires : goal.references_by_number-refs-requires
+references_by_number-refs-requires c =
     let t = c.requires.tables in
-    All-same (OwnerWithin (length c.as_slice-5.result.now)) _ _ c.as_mut_slice-2.ensures.value
-    (refs_within t.0 _ _ _ _ t.1 (ap length c.as_slice-5.ensures.value ∙ c.in_ok-numbers.ensures.as_many ∙ ap length c.as_slice.ensures.value))
+    refs_within t.0 _ _ _ _ t.1 (ap length c.as_slice-5.ensures.value ∙ c.in_ok-numbers.ensures.as_many ∙ ap length c.as_slice.ensures.value)
 
 pub new-requires-clause-room : goal.new-requires-clause-room
 new-requires-clause-room c =
@@ -35,7 +33,7 @@ returns c = λ x tables.
     (λ tree same.
     same_tree x _ _ _ _ c.in_ok-numbers.numbers.items _ _ _ c.args.tokens.items c.args.name tree tables c.in_ok-numbers.ensures c.as_slice.ensures.value
     (c.in_ok-nodes.ensures x (c.as_slice-2.ensures.value ∙ tables.nodes))
-    (c.name_values.ensures ∙ ap (λ ns. map (entry_by_number ns) c.as_mut_slice.result.now) c.as_slice-4.ensures.value ∙ ap (map (entry_by_number c.in_ok-numbers.numbers.items)) c.as_mut_slice.ensures.value)
-    (c.name_references.ensures ∙ ap (λ ns. map (reference_by_number ns) c.as_mut_slice-2.result.now) c.as_slice-5.ensures.value ∙ ap (map (reference_by_number c.in_ok-numbers.numbers.items)) c.as_mut_slice-2.ensures.value)
+    (c.values_by_number-values.ensures ∙ ap (λ ns. map (entry_by_number ns) c.args.values.items) c.as_slice-4.ensures.value)
+    (c.references_by_number-refs.ensures ∙ ap (λ ns. map (reference_by_number ns) c.args.refs.items) c.as_slice-5.ensures.value)
     same)
     c.new.ensures
