@@ -10,7 +10,9 @@ use Rattle.lw_tree.specs.declared.node.Node.{Node}
 use Rattle.lw_preorder.specs.declared.finished.Finished.{Finished}
 use Rattle.lw_marks.specs.Grown.{Grown, nodes}
 use Rattle.lw_preorder.specs.Finishing.{finished, IsFinishedTree, AreNested, StandsIn, AreNumbered, HasEach, renumbered, with_number}
-use Rattle.lw_preorder.proofs.TreeNumbers.{nested, has, only, length-finished}
+use Rattle.lw_preorder.proofs.Lengths.{length-finished}
+use Rattle.lw_preorder.proofs.Nesting.{nested}
+use Rattle.lw_preorder.proofs.ByNumber.{has, only}
 
 pub nested_tree : (all : List Finished) → IsFinishedTree all → AreNested all
 nested_tree all tree =

@@ -1,9 +1,8 @@
-use Rattle.std.proofs.Common.{◌≡◌, ◌∙◌, ap, length, map, arith}
-use Rattle.std.proofs.lemmas.List.Elements.{All-same}
+use Rattle.std.proofs.Common.{◌∙◌, ap, length, map, arith}
 use Rattle.std.proofs.lemmas.Result.{IfOk-weaker}
-use Rattle.lw_preorder.specs.Renaming.{HasPlaces, entry_by_number, reference_by_number}
+use Rattle.lw_preorder.specs.Renaming.{entry_by_number, reference_by_number}
 use Rattle.lw_preorder.proofs.Placing.{nested_tree}
-use Rattle.lw_preorder.proofs.Naming.{OwnerWithin, length-made, values_within, refs_within, same_tree}
+use Rattle.lw_preorder.proofs.WholeTables.{length-made, values_within, refs_within, same_tree}
 use Rattle.lw_preorder.proofs.preorder.in_preorder.Goals as goal
 
 pub numbers-requires-clause-nested : goal.numbers-requires-clause-nested
