@@ -12,7 +12,6 @@ use Rattle.lw_preorder.proofs.Each.{Each, each-append, each-front, each-back, ea
 pub size_positive : (g : Grown) → 1 ≤ size g
 size_positive (Grow t s held) = omega arith
 
-
 mutual
   pub length-finished : (above : Option NodeId) (p : Option PropId) (b : ℕ) (g : Grown) → length (finished above p b g) ≡ size g
   length-finished above p b (Grow t s held) =
