@@ -6,12 +6,20 @@ ghost use Rattle.lw_tree.specs.Parts.{SameTables, Tile};
 ghost use Rattle.lw_preorder.specs.Tables.{AreTablesOf};
 
 use crate::Finished;
+use crate::nodes::nodes_by_number;
+use crate::numbers::numbers;
+use crate::references::references_by_number;
+use crate::values::values_by_number;
 use lw_base::{NoMemory, NodeId, PropId, Token};
 use lw_tree::{Reference, Tree, Value};
 use std::alloc::Global;
 
-/// The tree whose tables, in the order of finishing, are these. Its nodes are numbered with each container before its contents and children
-/// in order.
+/// The tree whose tables, in the order of finishing, are these: `finished` has the nodes, `values` each value with the place of the node
+/// that holds it and its property, where a `Child` is a place too, and `refs` the references in text order with the places of the nodes
+/// that they stand in. `name` is the number of the property `name`, where the grammar has one. In the tree each place has become a number:
+/// each container comes before what is inside it, and what is inside in its order.
+///
+/// The only error is that memory is refused; what was given is then gone. Linear but for the sort of the values.
 pub fn in_preorder(
     alloc: Global,
     finished: Vec<Finished>,
@@ -25,5 +33,9 @@ pub fn in_preorder(
     requires tokens { Tile 0 tokens.items }
     ensures { (x : Grown) → AreTablesOf x finished.items values.items refs.items → IfOk result (λ tree. SameTables tree (parts_of x tokens.items name)) }
 {
-    Err(NoMemory)
+    let numbers = numbers(alloc, finished.as_slice())?;
+    let nodes = nodes_by_number(alloc, finished.as_slice(), numbers.as_slice())?;
+    let values = values_by_number(numbers.as_slice(), values);
+    let refs = references_by_number(numbers.as_slice(), refs);
+    Tree::new(alloc, nodes, values, refs, tokens, name)
 }

@@ -1,0 +1,14 @@
+pub mod Each
+pub mod Numbering
+pub mod Lengths
+pub mod Nesting
+pub mod TreeNumbers
+pub mod ByNumber
+pub mod Placing
+pub mod Changing
+pub mod PartNumbers
+pub mod Joining
+pub mod NamedReferences
+pub mod NamedValues
+pub mod PlacesWithin
+pub mod WholeTables
