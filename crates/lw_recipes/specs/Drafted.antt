@@ -1,13 +1,15 @@
 -- What is put behind the recipes so far where a part of a rule is gone past: one for each of its values, and one for each of its actions.
-use Rattle.std.specs.Prelude.{ℕ, ◌≡◌, ◌++◌, List, Option, Some, Contains, map, slice_get}
+use Rattle.std.specs.Prelude.{ℕ, ◌≡◌, ◌≢◌, ◌++◌, List, Option, Some, Contains, map, slice_get}
 use Rattle.std.specs.List.{AllZip}
 use Rattle.lw_base.specs.declared.numbers.TypeId.{TypeId}
+use Rattle.lw_base.specs.declared.token.Span.{Span}
 use Rattle.lw_grammar.specs.declared.grammar.Grammar.{Grammar}
 use Rattle.lw_grammar.specs.declared.rule.Action.{Action}
 use Rattle.lw_grammar.specs.declared.rule.Element.TheOpen as layer
 use Rattle.lw_grammar.specs.declared.rule.Op.{Op}
 use Rattle.lw_grammar.specs.declared.rule.Rule.{Rule}
-use Rattle.lw_grammar.specs.declared.rule.Value0.{Value0}
+use Rattle.lw_grammar.specs.declared.rule.Value0.{Value0, out-Value0}
+use Rattle.lw_grammar.specs.declared.rule.Value0.TheOpen as value
 use Rattle.lw_grammar.specs.Subtypes.{HasType}
 use Rattle.lw_look.specs.Sites.{PartSite, ◌▸◌, Part, Value, IsPartAt, ElementAt}
 use Rattle.lw_marks.specs.Numbers.{IsTypeNumber, IsPropertyNumber}
@@ -25,6 +27,10 @@ pub record AddsFor {X Y : Type 0} (fits : X → Y → Type 0) (xs : List X) (old
   pub more : List Y
   pub behind : new ≡ old ++ more
   pub each : AllZip fits xs more
+
+-- the value is no choice
+abbrev pub IsSingle : Value0 → Type 0
+IsSingle v = (vs : List Value0) (s : Span) → out-Value0 v ≢ value.Choice vs s
 
 module _ (g : Grammar) where
   -- ---- where parts stand

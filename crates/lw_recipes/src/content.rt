@@ -1,5 +1,5 @@
 // What the text that is read for a value becomes.
-ghost use Rattle.std.specs.Prelude.{◌≡◌, ◌≢◌};
+ghost use Rattle.std.specs.Prelude.{◌≡◌, ◌≢◌, IfOk};
 ghost use Rattle.lw_base.specs.declared.token.Span.{Span};
 ghost use Rattle.lw_grammar.specs.declared.rule.Op.{Op};
 ghost use Rattle.lw_grammar.specs.declared.rule.Op.TheVariants.{Flag};
@@ -7,19 +7,42 @@ ghost use Rattle.lw_grammar.specs.declared.rule.Value0.{Value0, out-Value0};
 ghost use Rattle.lw_grammar.specs.declared.rule.Value0.TheOpen as value;
 ghost use Rattle.lw_grammar.specs.declared.terminal.Primitive.TheVariants as primitive;
 ghost use Rattle.lw_lexicon.specs.Known.{IsLexicon};
-ghost use Rattle.lw_recipes.specs.Drafted.{IsContentOf};
+ghost use Rattle.lw_recipes.specs.Drafted.{IsContentOf, IsSingle};
 ghost use Rattle.lw_recipes.specs.Making.{IsNameForm, text_form};
 ghost use Rattle.lw_recipes.specs.declared.recipe.TextForm.{TextForm};
 
 use crate::numbering::type_number;
 use crate::recipe::{Content, TextForm};
-use lw_base::Name;
-use lw_grammar::{Primitive, Terminal};
+use lw_base::{Name, NoMemory};
+use lw_grammar::{Op, Primitive, Terminal, Value0};
 use lw_lexicon::Lexicon;
 use lw_numbers::Called;
+use std::alloc::Global;
+
+/// What a value becomes that is no choice and goes in by this operator.
+pub(crate) fn content_of(
+    alloc: Global,
+    lexicon: Lexicon<'_>,
+    op: Op,
+    value: &Value0,
+) -> Result<Content, NoMemory>
+    requires known { IsLexicon lexicon }
+    requires single { IsSingle value.now }
+    ensures { IfOk result (IsContentOf lexicon.entry.g.now op value.now) }
+{
+    if op == Op::Flag {
+        return Ok(Content::Truth);
+    }
+    match value {
+        Value0::Keyword(text, _) => Ok(Content::Keyword(text.copy(alloc)?)),
+        Value0::Call(name, _) => Ok(called(lexicon, name)),
+        Value0::Cross(wanted, written, _) => Ok(referred(lexicon, wanted, written)),
+        Value0::Choice(..) => unreachable!(),
+    }
+}
 
 /// What a call of this name becomes. A name that means nothing is a text like any other.
-pub(crate) fn called(lexicon: Lexicon<'_>, name: &Name) -> Content
+fn called(lexicon: Lexicon<'_>, name: &Name) -> Content
     requires known { IsLexicon lexicon }
     ensures { (op : Op) (c : Value0) (s : Span) → op ≢ Flag → out-Value0 c ≡ value.Call name.now s → IsContentOf lexicon.entry.g.now op c result }
 {
@@ -44,7 +67,7 @@ fn of_terminal(terminal: &Terminal) -> Content
 
 /// What a cross-reference to this type becomes, where this rule is written for it or none. One that no rule reads, or whose type is
 /// unknown, is a text like any other.
-pub(crate) fn referred(lexicon: Lexicon<'_>, wanted: &Name, written: &Option<Name>) -> Content
+fn referred(lexicon: Lexicon<'_>, wanted: &Name, written: &Option<Name>) -> Content
     requires known { IsLexicon lexicon }
     ensures { (op : Op) (c : Value0) (s : Span) → op ≢ Flag → out-Value0 c ≡ value.Cross wanted.now written.now s →
         IsContentOf lexicon.entry.g.now op c result }

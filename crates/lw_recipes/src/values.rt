@@ -1,13 +1,13 @@
 // The recipes of the values of an assignment.
-ghost use Rattle.std.specs.Prelude.{ℕ, ◌≡◌, ◌++◌, ◌∷◌, [], OnOk, map};
+ghost use Rattle.std.specs.Prelude.{ℕ, ◌∷◌, [], OnOk, map};
 ghost use Rattle.lw_look.specs.Choices.{inside};
 ghost use Rattle.lw_look.specs.Sites.{PartSite, ◌▸◌, Value, IsPartAt};
 ghost use Rattle.lw_lexicon.specs.Known.{IsLexicon};
 ghost use Rattle.lw_program.specs.Numbered.{value_puts};
-ghost use Rattle.lw_recipes.specs.Drafted.{AddsFor, ArePartsAt, GoesTo, IsValueRecipe};
+ghost use Rattle.lw_recipes.specs.Drafted.{AddsFor, ArePartsAt, GoesTo, IsSingle, IsValueRecipe};
 
-use crate::content::{called, referred};
-use crate::recipe::{Content, ValueRecipe};
+use crate::content::content_of;
+use crate::recipe::ValueRecipe;
 use lw_base::{NoMemory, PropId};
 use lw_grammar::{Op, Value0};
 use lw_lexicon::Lexicon;
@@ -34,13 +34,10 @@ pub(crate) fn put_value(
         OnOk result (AddsFor (IsValueRecipe lexicon.entry.g.now) (value_puts value.now s) recipes.old.items recipes.new.items) }
 {
     match value {
+        Value0::Keyword(..) => put_single(alloc, lexicon, target, value, recipes),
+        Value0::Call(..) => put_single(alloc, lexicon, target, value, recipes),
+        Value0::Cross(..) => put_single(alloc, lexicon, target, value, recipes),
         Value0::Choice(ways, _) => put_ways(alloc, lexicon, target, ways.as_slice(), recipes),
-        _ if target.op == Op::Flag => put(target.prop, Content::Truth, recipes),
-        Value0::Keyword(text, _) => put(target.prop, Content::Keyword(text.copy(alloc)?), recipes),
-        Value0::Call(name, _) => put(target.prop, called(lexicon, name), recipes),
-        Value0::Cross(wanted, written, _) => {
-            put(target.prop, referred(lexicon, wanted, written), recipes)
-        }
     }
 }
 
@@ -62,9 +59,23 @@ fn put_ways(
     Ok(())
 }
 
-fn put(prop: PropId, content: Content, recipes: &mut Vec<ValueRecipe>) -> Result<(), NoMemory>
-    ensures { OnOk result (recipes.new.items ≡ recipes.old.items ++ (record { prop = prop; content = content }) ∷ []) }
+/// The same of a value that is no choice.
+fn put_single(
+    alloc: Global,
+    lexicon: Lexicon<'_>,
+    target: Target,
+    value: &Value0,
+    recipes: &mut Vec<ValueRecipe>,
+) -> Result<(), NoMemory>
+    requires known { IsLexicon lexicon }
+    requires single { IsSingle value.now }
+    ensures { (s : PartSite) → GoesTo lexicon.entry.g.now target s → IsPartAt lexicon.entry.g.now s (Value value.now) →
+        OnOk result (AddsFor (IsValueRecipe lexicon.entry.g.now) (s ∷ []) recipes.old.items recipes.new.items) }
 {
-    recipes.push(ValueRecipe { prop, content })?;
+    let content = content_of(alloc, lexicon, target.op, value)?;
+    recipes.push(ValueRecipe {
+        prop: target.prop,
+        content,
+    })?;
     Ok(())
 }
