@@ -2,19 +2,16 @@
 use Rattle.std.proofs.Common.{◌≡◌, ◌≢◌, ℕ, zero, suc, ◌+◌, ◌++◌, List, [], ◌∷◌, Some, map, take, slice_get, refl, sym, ap, ◌∙◌, subst, arith}
 use Rattle.std.proofs.lemmas.List.{append-nil, append_assoc}
 use Rattle.std.proofs.lemmas.Option.{none-some, same_Some}
-use Rattle.lw_base.specs.declared.token.Span.{Span}
 use Rattle.lw_grammar.specs.declared.rule.Element.{Element, out-Element, fold_out-Element}
 use Rattle.lw_grammar.specs.declared.rule.Element.TheFolds.{map-Element}
 use Rattle.lw_grammar.specs.declared.rule.Element.TheOpen.{Element-F}
 use Rattle.lw_grammar.specs.declared.rule.Rule.{Rule}
 use Rattle.lw_grammar.specs.declared.rule.Value0.{Value0, out-Value0, fold_out-Value0}
 use Rattle.lw_grammar.specs.declared.rule.Value0.TheFolds.{map-Value0}
-use Rattle.lw_grammar.specs.declared.rule.Value0.TheOpen as value
 use Rattle.lw_grammar.specs.declared.rule.Value0.TheOpen.{Value0-F}
 use Rattle.lw_look.specs.Choices.{inside}
 use Rattle.lw_look.specs.Sites.{PartSite, body, ◌▸◌}
 use Rattle.lw_program.specs.Numbered.{element_puts, layer_puts, element_acts, layer_acts, value_puts, value_layer_puts, rule_puts, rule_acts}
-use Rattle.lw_recipes.specs.Drafted.{IsSingle}
 
 pub puts_by : (e : Element) (f : Element-F Element) → out-Element e ≡ f → element_puts e ≡ layer_puts (map-Element Element (PartSite → List PartSite) element_puts f)
 puts_by e f is =
@@ -30,16 +27,6 @@ pub value_puts_by : (v : Value0) (f : Value0-F Value0) → out-Value0 v ≡ f �
 value_puts_by v f is =
     fold_out-Value0 (PartSite → List PartSite) value_layer_puts v
     ∙ ap (λ f. value_layer_puts (map-Value0 Value0 (PartSite → List PartSite) value_puts f)) is
-
--- a value that is no choice is one site
-pub single_site : (v : Value0) (s : PartSite) → IsSingle v → value_puts v s ≡ s ∷ []
-single_site v s single = by (out-Value0 v) refl
-  where
-    by : (f : Value0-F Value0) → out-Value0 v ≡ f → value_puts v s ≡ s ∷ []
-    by (value.Keyword t span) is = ap (λ h. h s) (value_puts_by v (value.Keyword t span) is)
-    by (value.Call t span) is = ap (λ h. h s) (value_puts_by v (value.Call t span) is)
-    by (value.Cross t r span) is = ap (λ h. h s) (value_puts_by v (value.Cross t r span) is)
-    by (value.Choice vs span) is = absurd (single vs span is)
 
 -- ---- one part or one rule more
 
