@@ -53,6 +53,13 @@ module _ (g : Grammar) where
         (adds_both (IsActionRecipe g) one.actions other.actions);
   }
 
+  pub none_drafted : (draft : Draft) (opened : List (Option TypeId)) → draft.values.items ≡ [] → draft.actions.items ≡ [] → opened ≡ [] → AreDrafted g [] draft opened
+  none_drafted draft opened values actions types = record {
+    values = subst (AllZip (IsValueRecipe g) []) (sym values) tt;
+    actions = subst (AllZip (IsActionRecipe g) []) (sym actions) tt;
+    types = subst (AllZip (IsOpened g) []) (sym types) tt;
+  }
+
   -- one rule more
   pub rule_drafted : (i : ℕ) (rule : Rule) (type : Option TypeId) (old new : Draft) (opened more : List (Option TypeId)) → slice_get g.rules i ≡ Some rule →
       AreDrafted g (take i g.rules) old opened → IsDrafted g (element_puts rule.body (body i)) (element_acts rule.body (body i)) old new → IsOpened g rule type →
