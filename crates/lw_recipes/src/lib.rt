@@ -12,3 +12,6 @@ mod values;
 pub use mark::TreeMark;
 pub use recipe::{ActionRecipe, Content, TextForm, ValueRecipe};
 pub use recipes::Recipes;
+
+#[cfg(test)]
+mod tests;

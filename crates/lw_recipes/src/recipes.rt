@@ -15,9 +15,9 @@ use std::marker::Model;
 /// What becomes of what is read by a grammar.
 #[derive(Drop)]
 pub struct Recipes {
-    values: Vec<ValueRecipe>,
-    actions: Vec<ActionRecipe>,
-    types: Vec<Option<TypeId>>,
+    pub(crate) values: Vec<ValueRecipe>,
+    pub(crate) actions: Vec<ActionRecipe>,
+    pub(crate) types: Vec<Option<TypeId>>,
     naming: Option<PropId>,
 }
 

@@ -9,4 +9,4 @@ abbrev pub invariant-pass_all-loop-element : goal.invariant-pass_all-loop-elemen
 invariant-pass_all-loop-element l =
     (s : PartSite) → ArePartsAt l.lexicon.g.now s (map Body l.elements) →
     IsDrafted l.lexicon.g.now (inside s 0 (map element_puts (take l.element-index l.elements))) (inside s 0 (map element_acts (take l.element-index l.elements)))
-        l.fn.self l.self
+    l.fn.self l.self
