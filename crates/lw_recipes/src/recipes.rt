@@ -4,6 +4,8 @@ ghost use Rattle.lw_base.specs.declared.numbers.TypeId.{TypeId};
 ghost use Rattle.lw_lexicon.specs.Known.{IsLexicon};
 ghost use Rattle.lw_recipes.specs.Making.{AreRecipesOf};
 
+use crate::draft::Draft;
+use crate::numbering::{naming_property, opened_type};
 use crate::recipe::{ActionRecipe, ValueRecipe};
 use lw_base::{NoMemory, PropId, RuleId, TypeId};
 use lw_lexicon::Lexicon;
@@ -13,9 +15,9 @@ use std::marker::Model;
 /// What becomes of what is read by a grammar.
 #[derive(Drop)]
 pub struct Recipes {
-    values: Vec<ValueRecipe>,
-    actions: Vec<ActionRecipe>,
-    types: Vec<Option<TypeId>>,
+    pub(crate) values: Vec<ValueRecipe>,
+    pub(crate) actions: Vec<ActionRecipe>,
+    pub(crate) types: Vec<Option<TypeId>>,
     naming: Option<PropId>,
 }
 
@@ -33,7 +35,22 @@ impl Recipes {
         requires known { IsLexicon lexicon }
         ensures { IfOk result (AreRecipesOf lexicon.entry.g.now) }
     {
-        Err(NoMemory)
+        let mut draft = Draft {
+            values: Vec::new(alloc),
+            actions: Vec::new(alloc),
+        };
+        let mut types = Vec::new(alloc);
+        for rule in lexicon.g.rules.as_slice() {
+            draft.pass(alloc, lexicon, &rule.body)?;
+            types.push(opened_type(lexicon, rule))?;
+        }
+        let naming = naming_property(alloc, lexicon)?;
+        Ok(Recipes {
+            values: draft.values,
+            actions: draft.actions,
+            types,
+            naming,
+        })
     }
 
     /// What is made of the value of this number, in constant time.

@@ -1,0 +1,119 @@
+// What the text that is read for a value becomes.
+ghost use Rattle.std.specs.Prelude.{◌≡◌, ◌≢◌, IfOk};
+ghost use Rattle.lw_base.specs.declared.token.Span.{Span};
+ghost use Rattle.lw_grammar.specs.declared.rule.Op.{Op};
+ghost use Rattle.lw_grammar.specs.declared.rule.Op.TheVariants.{Flag};
+ghost use Rattle.lw_grammar.specs.declared.rule.Value0.{Value0, out-Value0};
+ghost use Rattle.lw_grammar.specs.declared.rule.Value0.TheOpen as value;
+ghost use Rattle.lw_grammar.specs.declared.terminal.Primitive.TheVariants as primitive;
+ghost use Rattle.lw_lexicon.specs.Known.{IsLexicon};
+ghost use Rattle.lw_recipes.specs.Drafted.{IsContentOf, IsSingle};
+ghost use Rattle.lw_recipes.specs.Making.{IsNameForm, text_form};
+ghost use Rattle.lw_recipes.specs.declared.recipe.TextForm.{TextForm};
+
+use crate::numbering::type_number;
+use crate::recipe::{Content, TextForm};
+use lw_base::{Name, NoMemory};
+use lw_grammar::{Op, Primitive, Terminal, Value0};
+use lw_lexicon::Lexicon;
+use lw_numbers::Called;
+use std::alloc::Global;
+
+/// What a value becomes that is no choice and goes in by this operator.
+pub(crate) fn content_of(
+    alloc: Global,
+    lexicon: Lexicon<'_>,
+    op: Op,
+    value: &Value0,
+) -> Result<Content, NoMemory>
+    requires known { IsLexicon lexicon }
+    requires single { IsSingle value.now }
+    ensures { IfOk result (IsContentOf lexicon.entry.g.now op value.now) }
+{
+    if op == Op::Flag {
+        return Ok(Content::Truth);
+    }
+    match value {
+        Value0::Keyword(text, _) => Ok(Content::Keyword(text.copy(alloc)?)),
+        Value0::Call(name, _) => Ok(called(lexicon, name)),
+        Value0::Cross(wanted, written, _) => Ok(referred(lexicon, wanted, written)),
+        Value0::Choice(..) => unreachable!(),
+    }
+}
+
+/// What a call of this name becomes. A name that means nothing is a text like any other.
+fn called(lexicon: Lexicon<'_>, name: &Name) -> Content
+    requires known { IsLexicon lexicon }
+    ensures { (op : Op) (c : Value0) (s : Span) → op ≢ Flag → out-Value0 c ≡ value.Call name.now s → IsContentOf lexicon.entry.g.now op c result }
+{
+    match lexicon.numbers.called(lexicon.g, name) {
+        Called::Terminal(_, terminal) => of_terminal(terminal),
+        Called::Rule(..) => Content::Text(TextForm::Plain),
+        Called::Nothing => Content::Text(TextForm::Plain),
+    }
+}
+
+/// What a token of the terminal becomes: the type that it returns decides, and after that its name.
+fn of_terminal(terminal: &Terminal) -> Content
+    ensures number { terminal.now.gives ≡ primitive.Number → result ≡ Content.Number }
+    ensures words { terminal.now.gives ≢ primitive.Number → result ≡ Content.Text (text_form terminal.now.name) }
+{
+    if terminal.gives == Primitive::Number {
+        Content::Number
+    } else {
+        Content::Text(text_form(&terminal.name))
+    }
+}
+
+/// What a cross-reference to this type becomes, where this rule is written for it or none. One that no rule reads, or whose type is
+/// unknown, is a text like any other.
+fn referred(lexicon: Lexicon<'_>, wanted: &Name, written: &Option<Name>) -> Content
+    requires known { IsLexicon lexicon }
+    ensures { (op : Op) (c : Value0) (s : Span) → op ≢ Flag → out-Value0 c ≡ value.Cross wanted.now written.now s →
+        IsContentOf lexicon.entry.g.now op c result }
+{
+    let Some(name) = lexicon.read_by(wanted, written) else {
+        return Content::Text(TextForm::Plain);
+    };
+    match type_number(lexicon, wanted) {
+        Some(want) => Content::Reference(want, name_form(lexicon, name)),
+        None => Content::Text(TextForm::Plain),
+    }
+}
+
+/// In which form a reference looks up what the terminal or the rule of this name reads.
+fn name_form(lexicon: Lexicon<'_>, name: &Name) -> TextForm
+    requires known { IsLexicon lexicon }
+    ensures { (form : TextForm) → IsNameForm lexicon.entry.g.now name.now form → result ≡ form }
+{
+    match lexicon.numbers.called(lexicon.g, name) {
+        Called::Terminal(_, terminal) => name_form_of_terminal(terminal),
+        Called::Rule(..) => TextForm::Plain,
+        Called::Nothing => TextForm::Plain,
+    }
+}
+
+/// The digits of a number are a name as they stand.
+fn name_form_of_terminal(terminal: &Terminal) -> TextForm
+    ensures number { terminal.now.gives ≡ primitive.Number → result ≡ TextForm.Plain }
+    ensures words { terminal.now.gives ≢ primitive.Number → result ≡ text_form terminal.now.name }
+{
+    if terminal.gives == Primitive::Number {
+        TextForm::Plain
+    } else {
+        text_form(&terminal.name)
+    }
+}
+
+/// What the text of a token of a terminal of this name says.
+fn text_form(name: &Name) -> TextForm
+    ensures { result ≡ text_form name.now }
+{
+    if name.text() == "ID" {
+        TextForm::Identifier
+    } else if name.text() == "STRING" {
+        TextForm::Quoted
+    } else {
+        TextForm::Plain
+    }
+}

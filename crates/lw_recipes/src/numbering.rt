@@ -1,0 +1,91 @@
+// The numbers of types and properties.
+ghost use Rattle.std.specs.Prelude.{ℕ, ◌≡◌, List, Some, IfOk, MatchOption, Contains};
+ghost use Rattle.lw_grammar.specs.declared.grammar.Grammar.{Grammar};
+ghost use Rattle.lw_grammar.specs.Subtypes.{HasType};
+ghost use Rattle.lw_lexicon.specs.Known.{IsLexicon};
+ghost use Rattle.lw_marks.specs.Numbers.{IsTypeNumber, IsPropertyNumber, IsNamingProperty};
+ghost use Rattle.lw_numbers.specs.Numbering.{type_names, property_names};
+ghost use Rattle.lw_recipes.specs.Drafted.{IsOpened};
+
+use lw_base::{Name, NoMemory, PropId, TypeId};
+use lw_grammar::{Rule, RuleResult};
+use lw_lexicon::Lexicon;
+use std::alloc::Global;
+
+/// The number of the type of this name.
+pub(crate) fn type_number(lexicon: Lexicon<'_>, name: &Name) -> Option<TypeId>
+    requires known { IsLexicon lexicon }
+    ensures { MatchOption result ((n : ℕ) → ¬ IsTypeNumber lexicon.entry.g.now name.now n) (λ id. IsTypeNumber lexicon.entry.g.now name.now id.0) }
+{
+    lexicon.numbers.type_of(name)
+}
+
+/// The same, of a type that the grammar names.
+pub(crate) fn named_type(lexicon: Lexicon<'_>, name: &Name) -> TypeId
+    requires known { IsLexicon lexicon }
+    requires named { Contains (type_names lexicon.g.now) name.now }
+    ensures { IsTypeNumber lexicon.entry.g.now name.now result.0 }
+{
+    match type_number(lexicon, name) {
+        Some(id) => id,
+        None => unreachable!(),
+    }
+}
+
+/// The number of the property of this name.
+fn property_number(lexicon: Lexicon<'_>, name: &Name) -> Option<PropId>
+    requires known { IsLexicon lexicon }
+    ensures { MatchOption result ((n : ℕ) → ¬ IsPropertyNumber lexicon.entry.g.now name.now n)
+        (λ id. IsPropertyNumber lexicon.entry.g.now name.now id.0) }
+{
+    lexicon.numbers.prop(name)
+}
+
+/// The same, of a property that the grammar names.
+pub(crate) fn named_property(lexicon: Lexicon<'_>, name: &Name) -> PropId
+    requires known { IsLexicon lexicon }
+    requires named { Contains (property_names lexicon.g.now) name.now }
+    ensures { IsPropertyNumber lexicon.entry.g.now name.now result.0 }
+{
+    match property_number(lexicon, name) {
+        Some(id) => id,
+        None => unreachable!(),
+    }
+}
+
+/// The property `name`, where the grammar has one.
+pub(crate) fn naming_property(
+    alloc: Global,
+    lexicon: Lexicon<'_>,
+) -> Result<Option<PropId>, NoMemory>
+    requires known { IsLexicon lexicon }
+    ensures { IfOk result (IsNamingProperty lexicon.entry.g.now) }
+{
+    let name = Name::from_text(alloc, "name")?;
+    Ok(property_number(lexicon, &name))
+}
+
+/// The number of the rule's type, where it has a type.
+pub(crate) fn opened_type(lexicon: Lexicon<'_>, rule: &Rule) -> Option<TypeId>
+    requires known { IsLexicon lexicon }
+    ensures { IsOpened lexicon.entry.g.now rule.now result }
+{
+    match type_of(rule) {
+        Some(name) => type_number(lexicon, name),
+        None => None,
+    }
+}
+
+/// The type of a rule: the one after `returns` or `infers`, else the rule's own name.
+fn type_of(rule: &Rule) -> Option<&Name>
+    ensures { (g : Grammar) → MatchOption result ((own : List ℕ) → ¬ HasType g rule.now own) (λ own. HasType g rule.now own.now) }
+{
+    if rule.is_fragment {
+        return None;
+    }
+    match &rule.result {
+        RuleResult::Own => Some(&rule.name),
+        RuleResult::Returns(name, _) | RuleResult::Infers(name, _) => Some(name),
+        RuleResult::Gives(_) => None,
+    }
+}
