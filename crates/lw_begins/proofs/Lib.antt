@@ -1,0 +1,4 @@
+pub mod Made
+pub mod Later
+pub mod Meeting
+pub mod NoToken
