@@ -1,5 +1,5 @@
 -- Of each item something is made, side by side, as far as the items are gone through.
-use Rattle.std.proofs.Common.{◌≡◌, ℕ, ◌+◌, ◌<◌, ◌≤◌, List, [], ◌∷◌, ◌++◌, Bool, true, false, Some, length, slice_get, IsTrue, ◌↔◌, refl, sym, ap, ◌∙◌, subst, arith, inl, inr}
+use Rattle.std.proofs.Common.{◌≡◌, ℕ, ◌+◌, ◌<◌, ◌≤◌, List, [], ◌∷◌, ◌++◌, Bool, true, Some, length, slice_get, IsTrue, ◌↔◌, refl, sym, ap, ◌∙◌, subst, arith, inl, inr}
 use Rattle.std.proofs.lemmas.List.{length-append}
 use Rattle.std.proofs.lemmas.Option.{slice_get_within, same_Some}
 use Rattle.std.proofs.lemmas.Bool.{cases_lt}
@@ -22,8 +22,7 @@ module _ {X Y : Type 0} (Fits : ℕ → X → Y → Type 0) (xs : List X) where
         | inl before ↦ let m = made.made i z before there in (m.0, slice_get_more ys (y ∷ []) i m.0 m.1, m.2)
         | inr past ↦
             let same : n ≡ i = omega arith in
-            let last : length ys + 0 ≡ i = omega (arith, same, made.sized) in
-            (
+            let last : length ys + 0 ≡ i = omega (arith, same, made.sized) in (
               y,
               subst (λ i. slice_get (ys ++ y ∷ []) i ≡ Some y) last (slice_get_after ys (y ∷ []) 0 y refl),
               subst (λ z. Fits i z y) (same_Some x z (sym at ∙ ap (slice_get xs) same ∙ there)) (subst (λ i. Fits i x y) same fits),

@@ -1,5 +1,5 @@
 -- Which parts of a grammar may be read without a token, form by form, and which tasks may be done so.
-use Rattle.std.proofs.Common.{◌≡◌, ℕ, zero, suc, List, [], ◌∷◌, ◌++◌, Some, None, Contains, ◌↔◌, slice_get, refl, sym, ap, ◌∙◌, subst}
+use Rattle.std.proofs.Common.{◌≡◌, ℕ, zero, suc, List, [], ◌∷◌, ◌++◌, Some, Contains, slice_get, refl, sym, ap, ◌∙◌, subst}
 use Rattle.lw_base.specs.declared.token.Span.{Span}
 use Rattle.lw_grammar.specs.declared.grammar.Grammar.{Grammar}
 use Rattle.lw_grammar.specs.declared.rule.Element.{Element, out-Element}
@@ -16,16 +16,6 @@ use Rattle.lw_sentences.specs.Marks as mark
 use Rattle.lw_sentences.specs.Yields.{Yields, Gives, YieldsAll, Repeats, Calls, RuleGives, ValueYields, ValueGives}
 use Rattle.lw_sentences.specs.Yields as y
 use Rattle.lw_sentences.proofs.Joined.{kinds_join}
-use Rattle.lw_look.proofs.Covering.{before_last}
-use Rattle.lw_look.proofs.OneStep.{part_yields, again_gives, part_reads}
-use Rattle.lw_look.proofs.Standing.{one_stands, same_value, layer_part_stands}
-use Rattle.lw_look.specs.Sites.{PartSite, ◌▸◌, Body, Value, IsPartAt, ElementAt, ValueAt, RepeatedAt}
-use Rattle.lw_look.specs.Sites as site
-use Rattle.lw_look.specs.Things.{Thing, Do, Assigned, Again, Leave, ThingGives}
-use Rattle.lw_look.specs.Things as t
-use Rattle.lw_program.specs.Says.{Task, Does, Reads, layer_thing, thing_of}
-use Rattle.lw_begins.specs.Gives.{TaskGives, MayBeEmpty}
-use Rattle.lw_begins.specs.Gives as give
 
 -- ---- lists of kinds that are empty
 
@@ -37,7 +27,7 @@ nothing_behind : (xs ys : List ℕ) → xs ++ ys ≡ [] → ys ≡ []
 nothing_behind [] ys none = none
 nothing_behind (x ∷ xs) ys none = absurd (cc)
 
-front_none : (m n : List Mark) → kinds_of (m ++ n) ≡ [] → kinds_of m ≡ []
+pub front_none : (m n : List Mark) → kinds_of (m ++ n) ≡ [] → kinds_of m ≡ []
 front_none m n none = nothing_before (kinds_of m) (kinds_of n) (sym (kinds_join m n) ∙ none)
 
 back_none : (m n : List Mark) → kinds_of (m ++ n) ≡ [] → kinds_of n ≡ []
@@ -46,7 +36,7 @@ back_none m n none = nothing_behind (kinds_of m) (kinds_of n) (sym (kinds_join m
 both_none : (m n : List Mark) → kinds_of m ≡ [] → kinds_of n ≡ [] → kinds_of (m ++ n) ≡ []
 both_none m n none also = kinds_join m n ∙ ap (λ ks. ks ++ kinds_of n) none ∙ also
 
-a_token : {k : ℕ} → kinds_of (mark.Token k ∷ []) ≡ [] → ⊥
+pub a_token : {k : ℕ} → kinds_of (mark.Token k ∷ []) ≡ [] → ⊥
 a_token none = cc
 
 module _ (g : Grammar) (kinds : Kinds) where

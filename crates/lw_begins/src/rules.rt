@@ -87,5 +87,8 @@ fn set_flag(flags: &mut Vec<bool>, number: usize)
 fn has_empty_head(heads: &HeadSet) -> bool
     ensures { IsTrue result ↔ IsAmongHeads heads.now [] }
 {
-    heads.as_slice().iter().any(|head| matches!(head, Head::Nothing))
+    heads
+        .as_slice()
+        .iter()
+        .any(|head| matches!(head, Head::Nothing))
 }

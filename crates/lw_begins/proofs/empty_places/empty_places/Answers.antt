@@ -1,8 +1,7 @@
 -- One more place is told.
-use Rattle.std.proofs.Common.{◌≡◌, ◌+◌, ◌-◌, ◌<◌, ◌≤◌, ◌↔◌, IsTrue, length, get_or, sym, ap, ◌∙◌, subst, arith}
+use Rattle.std.proofs.Common.{◌≡◌, ◌+◌, ◌-◌, ◌<◌, ◌↔◌, IsTrue, length, get_or, ◌∙◌, subst, arith}
 use Rattle.std.proofs.lemmas.List.{length-set}
 use Rattle.std.proofs.lemmas.Option.{slice_get-get_or}
-use Rattle.lw_base.specs.declared.numbers.KindId.{KindId}
 use Rattle.lw_program.specs.declared.instr.Instr.TheVariants.{Token}
 use Rattle.lw_begins.specs.EmptyBy.{AreEmptyFrom, IsEmptyBy}
 use Rattle.lw_begins.proofs.Later.{one_place_more}

@@ -1,5 +1,5 @@
 -- Set after set is told.
-use Rattle.std.proofs.Common.{◌≡◌, ℕ, ◌+◌, ◌↔◌, List, [], Bool, IsTrue, length, refl, sym, subst, arith}
+use Rattle.std.proofs.Common.{ℕ, ◌+◌, ◌↔◌, List, [], Bool, IsTrue, length, refl, sym, subst}
 use Rattle.std.proofs.lemmas.Option.{slice_get_read}
 use Rattle.lw_heads.specs.declared.head.Head.{Head}
 use Rattle.lw_heads.specs.Sets.{IsAmongHeads}
@@ -14,7 +14,7 @@ loop-heads-preserved c =
     let sets = c.args.sets.now in
     let i = c.loop-heads.heads-index in
     let at = slice_get_read sets (length sets) i c.heads-item.result refl c.loop-heads-test.true c.heads-item.is in
-    subst (λ flags. MadeUpTo TellsEmptyHead sets flags (i + 1)) (sym c.in_ok-push.ensures.items)
+    subst (λ flags. MadeUpTo TellsEmptyHead sets flags (i + 1)) (sym {A = List Bool} c.in_ok-push.ensures.items)
     (one_more TellsEmptyHead sets c.loop-heads.flags.items i c.heads-item.result c.has_empty_head.result c.loop-heads.invariant at c.has_empty_head.ensures)
 
 pub returns : goal.returns

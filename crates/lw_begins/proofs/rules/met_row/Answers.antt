@@ -1,5 +1,5 @@
 -- Head after head is met.
-use Rattle.std.proofs.Common.{◌≡◌, ◌≤◌, length, get_or, slice_get, sym, ap, ◌∙◌, subst}
+use Rattle.std.proofs.Common.{◌≤◌, length, get_or, slice_get, sym, ap, ◌∙◌, subst}
 use Rattle.std.proofs.lemmas.Option.{slice_get-get_or}
 use Rattle.lw_heads.specs.declared.head.Head.TheVariants.{Nothing}
 use Rattle.lw_begins.proofs.Meeting.{meet_next, met_by_all}

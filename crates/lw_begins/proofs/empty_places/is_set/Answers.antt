@@ -1,2 +1,0 @@
-use Rattle.lw_begins.proofs.NoToken.{a_token}
-use Rattle.lw_begins.proofs.empty_places.is_set.Goals as goal
