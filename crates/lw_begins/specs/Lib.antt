@@ -1,2 +1,4 @@
 pub mod Gives
 pub mod Told
+pub mod EmptyBy
+pub mod BeginsWith

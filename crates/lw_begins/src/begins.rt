@@ -6,7 +6,10 @@ ghost use Rattle.lw_lexicon.specs.Known.{IsLexicon};
 ghost use Rattle.lw_program.specs.ProgramOf.{IsProgramOf};
 ghost use Rattle.lw_subtypes.specs.Kinship.{AreNodeRules};
 
+use crate::empty_places::empty_places;
+use crate::rules::{empty_rules, met_kinds, opening_rules};
 use lw_base::{KindId, NoMemory};
+use lw_first::rule_heads;
 use lw_lexicon::Lexicon;
 use lw_program::Program;
 use std::alloc::Global;
@@ -42,7 +45,14 @@ impl Begins {
         ensures { (kinds : Kinds) (is : IsProgramOf lexicon.entry.g.now kinds program.now) → AreKinds lexicon.entry.g.now kinds →
             IfOk result (λ begins. TellsBegins lexicon.entry.g.now kinds is.tasks begins) }
     {
-        Err(NoMemory)
+        let heads = rule_heads(alloc, lexicon, 1)?;
+        let calls = empty_rules(alloc, heads.as_slice())?;
+        let kinds = lexicon.kinds.keyword_count() + lexicon.kinds.terminal_count();
+        Ok(Begins {
+            empty: empty_places(alloc, calls.as_slice(), program.code())?,
+            meets: met_kinds(alloc, heads.as_slice(), kinds)?,
+            nodes: opening_rules(alloc, lexicon.g.rules.as_slice(), nodes)?,
+        })
     }
 
     /// Whether the place may read nothing. Constant time.

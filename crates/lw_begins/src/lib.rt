@@ -2,5 +2,7 @@
 #![tactic(auto)]
 
 mod begins;
+mod empty_places;
+mod rules;
 
 pub use begins::Begins;
