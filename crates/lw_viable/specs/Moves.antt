@@ -35,8 +35,8 @@ module _ (program : ProgramParts) (nodes : List Bool) where
     leaves : {point : PointId} {inner : ℕ} → slice_get program.code p ≡ Some (Loop point inner) → Moves p None []
     once : {point : PointId} {rest inner : ℕ} → slice_get program.code p ≡ Some (Once rest) → slice_get program.code rest ≡ Some (Loop point inner) →
         Moves p None (inner ∷ rest ∷ [])
-    puts : {n first : ℕ} → slice_get program.code p ≡ Some (Put n first) → Moves p (Some (mark.Put n)) (first ∷ first + 1 ∷ [])
+    puts : {n first : ℕ} → slice_get program.code p ≡ Some (Put n first) → Moves p (Some (mark.Put n)) (first ∷ (first + 1) ∷ [])
     opens : {r start : ℕ} → slice_get program.code p ≡ Some (Call r) → slice_get program.starts r ≡ Some (Some start) →
-        slice_get nodes r ≡ Some true → Moves p (Some (mark.Open (record { 0 = r }))) (start ∷ start + 1 ∷ [])
+        slice_get nodes r ≡ Some true → Moves p (Some (mark.Open (record { 0 = r }))) (start ∷ (start + 1) ∷ [])
     calls : {r start : ℕ} → slice_get program.code p ≡ Some (Call r) → slice_get program.starts r ≡ Some (Some start) →
         ¬ (slice_get nodes r ≡ Some true) → Moves p None (start ∷ [])
