@@ -1,9 +1,8 @@
 -- What one move at a place of a program does: the mark that it leaves, if any, and the places that are then to be done in its place.
 -- Held against the textbooks' recursive descent, each way of a choice taken.
-use Rattle.std.specs.Prelude.{ℕ, ◌≡◌, ◌+◌, ◌-◌, ◌<◌, ◌≤◌, List, [], ◌∷◌, ◌++◌, Option, Some, None, Bool, true, zero, suc, slice_get}
+use Rattle.std.specs.Prelude.{ℕ, ◌≡◌, ◌+◌, ◌-◌, ◌<◌, ◌≤◌, List, [], ◌∷◌, Option, Some, None, Bool, true, zero, suc, slice_get}
 use Rattle.lw_base.specs.declared.numbers.KindId.{KindId}
 use Rattle.lw_base.specs.declared.numbers.PointId.{PointId}
-use Rattle.lw_base.specs.declared.numbers.RuleId.{RuleId}
 use Rattle.lw_program.specs.declared.instr.Instr.TheVariants.{Token, End, Shut, Act, Row, Choice, Maybe, Loop, Once, Put, Call}
 use Rattle.lw_program.specs.ProgramOf.{ProgramParts}
 use Rattle.lw_recipes.specs.declared.mark.TreeMark.{TreeMark}
