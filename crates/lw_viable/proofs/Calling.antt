@@ -52,7 +52,7 @@ module _ (g : Grammar) (kinds : Kinds) where
   named_reads {wanted} {m} name is (y.cross_by_name other is' calls) =
       (refl, subst (λ n. Calls g kinds n m) (one_name_rule g wanted other name is' is) calls)
 
-  formed : {v c : Value0} {s : PartSite} {f : Value0-F Value0} {m : List Mark} → ValueAt g s v f → ValueYields g kinds v c m → ValueGives g kinds v f c m
+  pub formed : {v c : Value0} {s : PartSite} {f : Value0-F Value0} {m : List Mark} → ValueAt g s v f → ValueYields g kinds v c m → ValueGives g kinds v f c m
   formed {v} {c} {m} at r = subst (λ f. ValueGives g kinds v f c m) (value_form g at).1 (unlayered_value g kinds r)
 
   value_calls : {s : PartSite} {v c : Value0} {name : List ℕ} {m : List Mark} → ValueCallsAt g s v name → ValueYields g kinds v c m →

@@ -7,3 +7,5 @@ pub mod Entering
 pub mod Saying
 pub mod Exact
 pub mod Moving
+pub mod Moved
+pub mod Finishing
