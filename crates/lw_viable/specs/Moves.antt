@@ -1,9 +1,8 @@
 -- What one move at a place of a program does: the mark that it leaves, if any, and the places that are then to be done in its place.
 -- Held against the textbooks' recursive descent, each way of a choice taken.
-use Rattle.std.specs.Prelude.{ℕ, ◌≡◌, ◌+◌, ◌-◌, ◌<◌, ◌≤◌, List, [], ◌∷◌, ◌++◌, Option, Some, None, Bool, true, zero, suc, slice_get}
+use Rattle.std.specs.Prelude.{ℕ, ◌≡◌, ◌+◌, ◌-◌, ◌<◌, ◌≤◌, List, [], ◌∷◌, Option, Some, None, Bool, true, zero, suc, slice_get}
 use Rattle.lw_base.specs.declared.numbers.KindId.{KindId}
 use Rattle.lw_base.specs.declared.numbers.PointId.{PointId}
-use Rattle.lw_base.specs.declared.numbers.RuleId.{RuleId}
 use Rattle.lw_program.specs.declared.instr.Instr.TheVariants.{Token, End, Shut, Act, Row, Choice, Maybe, Loop, Once, Put, Call}
 use Rattle.lw_program.specs.ProgramOf.{ProgramParts}
 use Rattle.lw_recipes.specs.declared.mark.TreeMark.{TreeMark}
@@ -35,8 +34,8 @@ module _ (program : ProgramParts) (nodes : List Bool) where
     leaves : {point : PointId} {inner : ℕ} → slice_get program.code p ≡ Some (Loop point inner) → Moves p None []
     once : {point : PointId} {rest inner : ℕ} → slice_get program.code p ≡ Some (Once rest) → slice_get program.code rest ≡ Some (Loop point inner) →
         Moves p None (inner ∷ rest ∷ [])
-    puts : {n first : ℕ} → slice_get program.code p ≡ Some (Put n first) → Moves p (Some (mark.Put n)) (first ∷ first + 1 ∷ [])
+    puts : {n first : ℕ} → slice_get program.code p ≡ Some (Put n first) → Moves p (Some (mark.Put n)) (first ∷ (first + 1) ∷ [])
     opens : {r start : ℕ} → slice_get program.code p ≡ Some (Call r) → slice_get program.starts r ≡ Some (Some start) →
-        slice_get nodes r ≡ Some true → Moves p (Some (mark.Open (record { 0 = r }))) (start ∷ start + 1 ∷ [])
+        slice_get nodes r ≡ Some true → Moves p (Some (mark.Open (record { 0 = r }))) (start ∷ (start + 1) ∷ [])
     calls : {r start : ℕ} → slice_get program.code p ≡ Some (Call r) → slice_get program.starts r ≡ Some (Some start) →
         ¬ (slice_get nodes r ≡ Some true) → Moves p None (start ∷ [])

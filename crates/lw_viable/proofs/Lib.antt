@@ -1,0 +1,11 @@
+pub mod Giving
+pub mod Doing
+pub mod Marking
+pub mod Beside
+pub mod Calling
+pub mod Entering
+pub mod Saying
+pub mod Exact
+pub mod Moving
+pub mod Moved
+pub mod Finishing
