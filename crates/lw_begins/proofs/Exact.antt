@@ -25,7 +25,7 @@ use Rattle.lw_look.proofs.Naming.{one_name_rule}
 use Rattle.lw_look.proofs.Standing.{place_of, among, one_stands, same_body, row_part_stands, repeated_stands, way_stands}
 use Rattle.lw_program.specs.declared.instr.Instr.{Instr}
 use Rattle.lw_program.specs.declared.instr.Instr.TheVariants.{Loop, Once}
-use Rattle.lw_program.specs.Says.{Task, Does, Reads, thing_of, NamesLater, StandFrom, CallsBy, Says, SaidAt}
+use Rattle.lw_program.specs.Says.{Task, Does, Reads, thing_of, NamesLater, StandFrom, CallsBy, SaysTask, SaidAt}
 use Rattle.lw_program.specs.Says as say
 use Rattle.lw_begins.specs.EmptyBy.{IsFlagged, IsEmptyBy, AreEmptyFrom}
 use Rattle.lw_begins.specs.Gives.{MayBeEmpty}
@@ -127,7 +127,7 @@ module _ (g : Grammar) (kinds : Kinds) (tasks : List Task) (calls empty : List B
       at : RepeatedAt g s e
       stands : slice_get tasks inner ≡ Some (thing_of (s ▸ 0) e)
 
-    loop_of : {s : PartSite} {instr : Instr} → Says g kinds tasks (Does (Again s)) instr → IsLoopOf s instr
+    loop_of : {s : PartSite} {instr : Instr} → SaysTask g kinds tasks (Does (Again s)) instr → IsLoopOf s instr
     loop_of (say.loop {e} {point} {inner} at number stands) = record { point = point; inner = inner; is = refl; e = e; at = at; stands = stands }
 
     module _ (sized : length tasks ≡ length code) (said : (p : ℕ) → p < length code → SaidAt g kinds tasks code p) where
@@ -142,7 +142,7 @@ module _ (g : Grammar) (kinds : Kinds) (tasks : List Task) (calls empty : List B
           here = said rest below
 
           loop : IsLoopOf s here.instr
-          loop = loop_of (subst (λ t. Says g kinds tasks t here.instr) (same_Some here.task (Does (Again s)) (sym here.stands ∙ there)) here.says)
+          loop = loop_of (subst (λ t. SaysTask g kinds tasks t here.instr) (same_Some here.task (Does (Again s)) (sym here.stands ∙ there)) here.says)
 
           is_loop : slice_get code rest ≡ Some (Loop loop.point loop.inner)
           is_loop = here.is ∙ ap Some loop.is
@@ -175,7 +175,7 @@ module _ (g : Grammar) (kinds : Kinds) (tasks : List Task) (calls empty : List B
 
       -- ---- each instruction
 
-      place_told : {t : Task} {instr : Instr} (p : ℕ) → PlacesAreTold p → Says g kinds tasks t instr → NamesLater p instr →
+      place_told : {t : Task} {instr : Instr} (p : ℕ) → PlacesAreTold p → SaysTask g kinds tasks t instr → NamesLater p instr →
           MayBeEmpty g kinds t ↔ IsEmptyBy calls code empty instr
       place_told p told (say.keyword at is) later = (λ may. no_keyword g kinds ((layer_task g kinds at).0 may), λ none. absurd none)
       place_told p told (say.called at by) later =

@@ -2,7 +2,7 @@
 ghost use Rattle.std.specs.Prelude.{◌≡◌, ◌↔◌, Some, IsTrue, IfOk, true, slice_get};
 ghost use Rattle.lw_grammar.specs.Kinds.{Kinds, AreKinds};
 ghost use Rattle.lw_begins.specs.Told.{BeginsParts, IsMet, TellsBegins};
-ghost use Rattle.lw_lexicon.specs.Known.{IsLexicon};
+ghost use Rattle.lw_lexicon.specs.Known.{IsKnownLexicon};
 ghost use Rattle.lw_program.specs.ProgramOf.{IsProgramOf};
 ghost use Rattle.lw_subtypes.specs.Kinship.{AreNodeRules};
 
@@ -40,7 +40,7 @@ impl Begins {
         program: &Program,
         nodes: &[bool],
     ) -> Result<Begins, NoMemory>
-        requires known { IsLexicon lexicon }
+        requires known { IsKnownLexicon lexicon }
         requires told { AreNodeRules lexicon.g.now nodes.now }
         ensures { (kinds : Kinds) (is : IsProgramOf lexicon.entry.g.now kinds program.now) → AreKinds lexicon.entry.g.now kinds →
             IfOk result (λ begins. TellsBegins lexicon.entry.g.now kinds is.tasks begins) }

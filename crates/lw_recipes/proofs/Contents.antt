@@ -16,7 +16,7 @@ use Rattle.lw_grammar.specs.NameRules.{IsNameRule}
 use Rattle.lw_grammar.proofs.FirstLemmas.{first_item}
 use Rattle.lw_sentences.proofs.Meaning.{one_of_two}
 use Rattle.lw_look.proofs.Naming.{one_name_rule}
-use Rattle.lw_lexicon.specs.Callees.{IsReadByName}
+use Rattle.lw_derivations.specs.Crossing.{IsReadBy}
 use Rattle.lw_marks.specs.Numbers.{IsTypeNumber}
 use Rattle.lw_marks.specs.Follows.{RefersBy}
 use Rattle.lw_marks.specs.Follows as refers
@@ -108,21 +108,21 @@ module _ (g : Grammar) where
 
   -- ---- cross-references
 
-  pub one_reader : (wanted : List ℕ) (written : Option (List ℕ)) (a b : List ℕ) → IsReadByName g wanted written a → IsReadByName g wanted written b → a ≡ b
+  pub one_reader : (wanted : List ℕ) (written : Option (List ℕ)) (a b : List ℕ) → IsReadBy g wanted written a → IsReadBy g wanted written b → a ≡ b
   one_reader wanted None a b is was = one_name_rule g wanted a b is was
   one_reader wanted (Some name) a b is was = sym is ∙ was
 
   reader_of : {c : Value0} {wanted name : List ℕ} (type_name : List ℕ) (written : Option (List ℕ)) (s : Span) → out-Value0 c ≡ value.Cross type_name written s →
-      RefersBy g c wanted name → (wanted ≡ type_name) × IsReadByName g type_name written name
+      RefersBy g c wanted name → (wanted ≡ type_name) × IsReadBy g type_name written name
   reader_of {wanted} {name} type_name written s at (refers.written is) =
-      let same : Some name ≡ written = cc in (cc, subst (λ written. IsReadByName g type_name written name) same refl)
+      let same : Some name ≡ written = cc in (cc, subst (λ written. IsReadBy g type_name written name) same refl)
   reader_of {wanted} {name} type_name written s at (refers.by_type is reads) =
       let same : None ≡ written = cc in
       let typed : wanted ≡ type_name = cc in
-      (typed, subst (λ written. IsReadByName g type_name written name) same (subst (λ wanted. IsNameRule g wanted name) typed reads))
+      (typed, subst (λ written. IsReadBy g type_name written name) same (subst (λ wanted. IsNameRule g wanted name) typed reads))
 
   pub cross_content : (type_name : List ℕ) (written : Option (List ℕ)) (found : Content) →
-      ((want : TypeId) (name : List ℕ) (form : TextForm) → IsReadByName g type_name written name → IsTypeNumber g type_name want.0 → IsNameForm g name form →
+      ((want : TypeId) (name : List ℕ) (form : TextForm) → IsReadBy g type_name written name → IsTypeNumber g type_name want.0 → IsNameForm g name form →
       found ≡ content.Reference want form) →
       (op : Op) (c : Value0) (s : Span) → op ≢ Flag → out-Value0 c ≡ value.Cross type_name written s → IsContentOf g op c found
   cross_content type_name written found told op c s not at other (make.truth is) = absurd (not is)

@@ -6,7 +6,7 @@ ghost use Rattle.lw_grammar.specs.declared.rule.Op.TheVariants.{Flag};
 ghost use Rattle.lw_grammar.specs.declared.rule.Value0.{Value0, out-Value0};
 ghost use Rattle.lw_grammar.specs.declared.rule.Value0.TheOpen as value;
 ghost use Rattle.lw_grammar.specs.declared.terminal.Primitive.TheVariants as primitive;
-ghost use Rattle.lw_lexicon.specs.Known.{IsLexicon};
+ghost use Rattle.lw_lexicon.specs.Known.{IsKnownLexicon};
 ghost use Rattle.lw_recipes.specs.Drafted.{IsContentOf, IsSingle};
 ghost use Rattle.lw_recipes.specs.Making.{IsNameForm, text_form};
 ghost use Rattle.lw_recipes.specs.declared.recipe.TextForm.{TextForm};
@@ -26,7 +26,7 @@ pub(crate) fn content_of(
     op: Op,
     value: &Value0,
 ) -> Result<Content, NoMemory>
-    requires known { IsLexicon lexicon }
+    requires known { IsKnownLexicon lexicon }
     requires single { IsSingle value.now }
     ensures { IfOk result (IsContentOf lexicon.entry.g.now op value.now) }
 {
@@ -43,7 +43,7 @@ pub(crate) fn content_of(
 
 /// What a call of this name becomes. A name that means nothing is a text like any other.
 fn called(lexicon: Lexicon<'_>, name: &Name) -> Content
-    requires known { IsLexicon lexicon }
+    requires known { IsKnownLexicon lexicon }
     ensures { (op : Op) (c : Value0) (s : Span) → op ≢ Flag → out-Value0 c ≡ value.Call name.now s → IsContentOf lexicon.entry.g.now op c result }
 {
     match lexicon.numbers.called(lexicon.g, name) {
@@ -68,7 +68,7 @@ fn of_terminal(terminal: &Terminal) -> Content
 /// What a cross-reference to this type becomes, where this rule is written for it or none. One that no rule reads, or whose type is
 /// unknown, is a text like any other.
 fn referred(lexicon: Lexicon<'_>, wanted: &Name, written: &Option<Name>) -> Content
-    requires known { IsLexicon lexicon }
+    requires known { IsKnownLexicon lexicon }
     ensures { (op : Op) (c : Value0) (s : Span) → op ≢ Flag → out-Value0 c ≡ value.Cross wanted.now written.now s →
         IsContentOf lexicon.entry.g.now op c result }
 {
@@ -83,7 +83,7 @@ fn referred(lexicon: Lexicon<'_>, wanted: &Name, written: &Option<Name>) -> Cont
 
 /// In which form a reference looks up what the terminal or the rule of this name reads.
 fn name_form(lexicon: Lexicon<'_>, name: &Name) -> TextForm
-    requires known { IsLexicon lexicon }
+    requires known { IsKnownLexicon lexicon }
     ensures { (form : TextForm) → IsNameForm lexicon.entry.g.now name.now form → result ≡ form }
 {
     match lexicon.numbers.called(lexicon.g, name) {

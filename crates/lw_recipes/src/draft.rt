@@ -2,7 +2,7 @@
 ghost use Rattle.std.specs.Prelude.{ℕ, ◌≡◌, List, Contains, OnOk, map};
 ghost use Rattle.lw_look.specs.Choices.{inside};
 ghost use Rattle.lw_look.specs.Sites.{PartSite, Body, IsPartAt};
-ghost use Rattle.lw_lexicon.specs.Known.{IsLexicon};
+ghost use Rattle.lw_lexicon.specs.Known.{IsKnownLexicon};
 ghost use Rattle.lw_marks.specs.Numbers.{IsTypeNumber};
 ghost use Rattle.lw_numbers.specs.Numbering.{type_names, property_names, put_property};
 ghost use Rattle.lw_program.specs.Numbered.{element_puts, element_acts};
@@ -33,7 +33,7 @@ impl Draft {
         lexicon: Lexicon<'_>,
         element: &Element,
     ) -> Result<(), NoMemory>
-        requires known { IsLexicon lexicon }
+        requires known { IsKnownLexicon lexicon }
         requires stands { StandsSomewhere lexicon.g.now (Body element.now) }
         ensures { (s : PartSite) → IsPartAt lexicon.entry.g.now s (Body element.now) →
             OnOk result (IsDrafted lexicon.entry.g.now (element_puts element.now s) (element_acts element.now s) self.old self.new) }
@@ -65,7 +65,7 @@ impl Draft {
         lexicon: Lexicon<'_>,
         elements: &[Element],
     ) -> Result<(), NoMemory>
-        requires known { IsLexicon lexicon }
+        requires known { IsKnownLexicon lexicon }
         requires stand { (s : PartSite) × ArePartsAt lexicon.g.now s (map Body elements.now) }
         ensures { (s : PartSite) → ArePartsAt lexicon.entry.g.now s (map Body elements.now) →
             OnOk result (IsDrafted lexicon.entry.g.now (inside s 0 (map element_puts elements.now)) (inside s 0 (map element_acts elements.now)) self.old self.new) }
@@ -79,7 +79,7 @@ impl Draft {
 
 /// What an action of the grammar does.
 fn action_recipe(lexicon: Lexicon<'_>, action: &Action) -> ActionRecipe
-    requires known { IsLexicon lexicon }
+    requires known { IsKnownLexicon lexicon }
     requires type_named { Contains (type_names lexicon.g.now) action.now.type_name }
     requires put_named { (name : List ℕ) → Contains (put_property action.now.put) name → Contains (property_names lexicon.g.now) name }
     ensures { IsRecipeOf lexicon.entry.g.now action.now result }
@@ -92,7 +92,7 @@ fn action_recipe(lexicon: Lexicon<'_>, action: &Action) -> ActionRecipe
 
 /// The number of the property that an action puts the current node into, if it does.
 fn put_number(lexicon: Lexicon<'_>, put: &Option<(Name, bool)>) -> Option<PropId>
-    requires known { IsLexicon lexicon }
+    requires known { IsKnownLexicon lexicon }
     requires named { (name : List ℕ) → Contains (put_property put.now) name → Contains (property_names lexicon.g.now) name }
     ensures { IsPutNumber lexicon.entry.g.now put.now result }
 {

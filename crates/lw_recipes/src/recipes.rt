@@ -1,7 +1,7 @@
 // The recipes of a grammar.
 ghost use Rattle.std.specs.Prelude.{◌≡◌, ◌<◌, Some, IfOk, MatchOption, length, slice_get};
 ghost use Rattle.lw_base.specs.declared.numbers.TypeId.{TypeId};
-ghost use Rattle.lw_lexicon.specs.Known.{IsLexicon};
+ghost use Rattle.lw_lexicon.specs.Known.{IsKnownLexicon};
 ghost use Rattle.lw_recipes.specs.Making.{AreRecipesOf};
 
 use crate::draft::Draft;
@@ -32,7 +32,7 @@ impl Model for Recipes {
 impl Recipes {
     /// Those of a grammar.
     pub fn of(alloc: Global, lexicon: Lexicon<'_>) -> Result<Recipes, NoMemory>
-        requires known { IsLexicon lexicon }
+        requires known { IsKnownLexicon lexicon }
         ensures { IfOk result (AreRecipesOf lexicon.entry.g.now) }
     {
         let mut draft = Draft {

@@ -2,7 +2,7 @@
 ghost use Rattle.std.specs.Prelude.{ℕ, ◌∷◌, [], OnOk, map};
 ghost use Rattle.lw_look.specs.Choices.{inside};
 ghost use Rattle.lw_look.specs.Sites.{PartSite, ◌▸◌, Value, IsPartAt};
-ghost use Rattle.lw_lexicon.specs.Known.{IsLexicon};
+ghost use Rattle.lw_lexicon.specs.Known.{IsKnownLexicon};
 ghost use Rattle.lw_program.specs.Numbered.{value_puts};
 ghost use Rattle.lw_recipes.specs.Drafted.{AddsFor, ArePartsAt, GoesTo, IsSingle, IsValueRecipe};
 
@@ -29,7 +29,7 @@ pub(crate) fn put_value(
     value: &Value0,
     recipes: &mut Vec<ValueRecipe>,
 ) -> Result<(), NoMemory>
-    requires known { IsLexicon lexicon }
+    requires known { IsKnownLexicon lexicon }
     ensures { (s : PartSite) → GoesTo lexicon.entry.g.now target s → IsPartAt lexicon.entry.g.now s (Value value.now) →
         OnOk result (AddsFor (IsValueRecipe lexicon.entry.g.now) (value_puts value.now s) recipes.old.items recipes.new.items) }
 {
@@ -49,7 +49,7 @@ fn put_ways(
     ways: &[Value0],
     recipes: &mut Vec<ValueRecipe>,
 ) -> Result<(), NoMemory>
-    requires known { IsLexicon lexicon }
+    requires known { IsKnownLexicon lexicon }
     ensures { (s : PartSite) → ((i : ℕ) → GoesTo lexicon.entry.g.now target (s ▸ i)) → ArePartsAt lexicon.entry.g.now s (map Value ways.now) →
         OnOk result (AddsFor (IsValueRecipe lexicon.entry.g.now) (inside s 0 (map value_puts ways.now)) recipes.old.items recipes.new.items) }
 {
@@ -67,7 +67,7 @@ fn put_single(
     value: &Value0,
     recipes: &mut Vec<ValueRecipe>,
 ) -> Result<(), NoMemory>
-    requires known { IsLexicon lexicon }
+    requires known { IsKnownLexicon lexicon }
     requires single { IsSingle value.now }
     ensures { (s : PartSite) → GoesTo lexicon.entry.g.now target s → IsPartAt lexicon.entry.g.now s (Value value.now) →
         OnOk result (AddsFor (IsValueRecipe lexicon.entry.g.now) (s ∷ []) recipes.old.items recipes.new.items) }

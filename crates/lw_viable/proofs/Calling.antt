@@ -25,7 +25,7 @@ use Rattle.lw_look.proofs.Standing.{same_value, one_stands}
 use Rattle.lw_look.proofs.Reaching.{calls_reach}
 use Rattle.lw_program.specs.declared.instr.Instr.{Instr}
 use Rattle.lw_program.specs.declared.instr.Instr.TheVariants.{Token, Call}
-use Rattle.lw_program.specs.Says.{Task, Does, Reads, thing_of, CallsBy, Says}
+use Rattle.lw_program.specs.Says.{Task, Does, Reads, thing_of, CallsBy, SaysTask}
 use Rattle.lw_program.specs.Says as say
 use Rattle.lw_begins.specs.Gives.{OpensNode, TaskGives, PlacesGive}
 use Rattle.lw_begins.specs.Gives as gives
@@ -118,7 +118,7 @@ module _ (g : Grammar) (kinds : Kinds) where
     call_given : {name : List ℕ} {span : Span} {m : List Mark} → Gives g kinds (layer.Call name span) m → Calls g kinds name m
     call_given (y.called c) = c
 
-    pub token_said : {t : Task} {k : KindId} → Says g kinds tasks t (Token k) → ReadsToken t k.0
+    pub token_said : {t : Task} {k : KindId} → SaysTask g kinds tasks t (Token k) → ReadsToken t k.0
     token_said (say.keyword at is) = record { given = form_given g kinds at (y.keyword is); only = λ p. keyword_given is (form_gives g kinds at p) }
     token_said (say.called at by) = by_call by (λ m c. form_given g kinds at (y.called c)) (λ m p. call_given (form_gives g kinds at p))
     token_said (say.reads_keyword at is) = record {
@@ -131,7 +131,7 @@ module _ (g : Grammar) (kinds : Kinds) where
     token_said (say.reads_call at by) =
         by_call by (λ m c. value_called at c) (λ m p. (value_calls at (reads_gives g kinds (value_stands at) p).1).1)
 
-    pub call_said : {t : Task} {r : ℕ} → Says g kinds tasks t (Call r) → IsPlaced g t → (rule : Rule) × CallsRule t r rule
+    pub call_said : {t : Task} {r : ℕ} → SaysTask g kinds tasks t (Call r) → IsPlaced g t → (rule : Rule) × CallsRule t r rule
     call_said (say.called at by) (place.element stands reached) =
         by_rule by (λ rule is. calls_reach g (site.calls at is) reached) (λ m c. form_given g kinds at (y.called c)) (λ m p. call_given (form_gives g kinds at p))
     call_said (say.reads_call at by) (place.reads stands reached) =
@@ -139,7 +139,7 @@ module _ (g : Grammar) (kinds : Kinds) where
         (λ m p. (value_calls at (reads_gives g kinds (value_stands at) p).1).1)
 
     -- the text of a value that has a place is read as the value itself
-    pub read_itself : {s : PartSite} {v c : Value0} {i : Instr} {m : List Mark} → Says g kinds tasks (Reads s) i → IsPartAt g s (Value v) →
+    pub read_itself : {s : PartSite} {v c : Value0} {i : Instr} {m : List Mark} → SaysTask g kinds tasks (Reads s) i → IsPartAt g s (Value v) →
         ValueYields g kinds v c m → c ≡ v
     read_itself {s} {v} {c} {m} (say.reads_keyword {v = w} at is) stands r =
         let same : w ≡ v = same_value (one_stands g (value_form g at).0 stands) in

@@ -14,7 +14,7 @@ use Rattle.lw_look.specs.Sites.{body, Body, IsPartAt}
 use Rattle.lw_look.specs.Sites as site
 use Rattle.lw_look.specs.Things as t
 use Rattle.lw_look.proofs.OneStep.{leave_gives}
-use Rattle.lw_program.specs.ProgramOf.{ProgramParts, IsProgramOf, StartsAt}
+use Rattle.lw_program.specs.ProgramOf.{ProgramParts, IsProgramOf, StartsRuleAt}
 use Rattle.lw_program.specs.Says.{thing_of}
 use Rattle.lw_begins.specs.Gives.{OpensNode, PlacesGive}
 use Rattle.lw_begins.specs.Gives as gives
@@ -26,10 +26,10 @@ use Rattle.lw_viable.proofs.Giving.{first_given, one_place_gives, of_one_place}
 module _ (g : Grammar) (kinds : Kinds) (program : ProgramParts) (is : IsProgramOf g kinds program) where
   module _ {r start : ℕ} {rule : Rule} (reached : IsReached g r) (there : slice_get g.rules r ≡ Some rule)
       (at : slice_get program.starts r ≡ Some (Some start)) where
-    starts : StartsAt g kinds is.tasks r rule start
+    starts : StartsRuleAt g kinds is.tasks r rule start
     starts =
         let (other, at', starts) = is.reached r rule reached there in
-        subst (StartsAt g kinds is.tasks r rule) (same_Some other start (same_Some (Some other) (Some start) (sym at' ∙ at))) starts
+        subst (StartsRuleAt g kinds is.tasks r rule) (same_Some other start (same_Some (Some other) (Some start) (sym at' ∙ at))) starts
 
     stands : IsPartAt g (body r) (Body rule.body)
     stands = site.whole there

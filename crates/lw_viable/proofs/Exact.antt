@@ -20,7 +20,7 @@ use Rattle.lw_look.proofs.Standing.{among, row_part_stands, way_stands, option_s
 use Rattle.lw_look.proofs.OneStep.{again_gives, part_reads, leave_gives}
 use Rattle.lw_program.specs.declared.instr.Instr.TheVariants.{Token, End, Shut, Act, Row, Choice, Maybe, Loop, Once, Put, Call}
 use Rattle.lw_program.specs.ProgramOf.{ProgramParts, IsProgramOf}
-use Rattle.lw_program.specs.Says.{Task, Does, Reads, thing_of, Says}
+use Rattle.lw_program.specs.Says.{Task, Does, Reads, thing_of, SaysTask}
 use Rattle.lw_program.specs.Says as say
 use Rattle.lw_recipes.specs.declared.mark.TreeMark.{TreeMark}
 use Rattle.lw_recipes.specs.declared.mark.TreeMark.TheVariants as numbered
@@ -79,26 +79,26 @@ module _ (g : Grammar) (kinds : Kinds) where
     passed : {t : Task} → TaskGives g kinds t [] → IsExact is.tasks t None []
     passed {t} given = silent (All-nil (HasPlace g kinds is.tasks)) (λ o p. subst (TaskGives g kinds t) (sym (nothing_given g kinds is.tasks p)) given)
 
-    token_exact : {t : Task} {k : KindId} → Says g kinds is.tasks t (Token k) → IsExact is.tasks t (Some (numbered.Token k)) []
+    token_exact : {t : Task} {k : KindId} → SaysTask g kinds is.tasks t (Token k) → IsExact is.tasks t (Some (numbered.Token k)) []
     token_exact {k} says = alone (meant.more (meant.token k) meant.none) (λ n p. token_meant g p) (token_said g kinds are is.tasks says).given
 
-    end_exact : {t : Task} → Says g kinds is.tasks t End → IsExact is.tasks t (Some numbered.End) []
+    end_exact : {t : Task} → SaysTask g kinds is.tasks t End → IsExact is.tasks t (Some numbered.End) []
     end_exact say.ends = alone (meant.more meant.ends meant.none) (λ n p. end_meant g p) (gives.does t.leaves)
     end_exact (say.called at by) = absurd (is_calling g kinds by)
     end_exact (say.reads_call at by) = absurd (is_calling g kinds by)
 
-    shut_exact : {t : Task} → Says g kinds is.tasks t Shut → IsExact is.tasks t (Some numbered.Shut) []
+    shut_exact : {t : Task} → SaysTask g kinds is.tasks t Shut → IsExact is.tasks t (Some numbered.Shut) []
     shut_exact say.shuts = alone (meant.more meant.shuts meant.none) (λ n p. shut_meant g p) (gives.does t.leaves)
     shut_exact (say.called at by) = absurd (is_calling g kinds by)
     shut_exact (say.reads_call at by) = absurd (is_calling g kinds by)
 
-    act_exact : {t : Task} {n : ℕ} → Says g kinds is.tasks t (Act n) → IsExact is.tasks t (Some (numbered.Act n)) []
+    act_exact : {t : Task} {n : ℕ} → SaysTask g kinds is.tasks t (Act n) → IsExact is.tasks t (Some (numbered.Act n)) []
     act_exact (say.acted at numbers) =
         alone (meant.more (meant.acts numbers at) meant.none) (λ n p. act_meant g numbers at p) (form_given g kinds at y.acted)
     act_exact (say.called at by) = absurd (is_calling g kinds by)
     act_exact (say.reads_call at by) = absurd (is_calling g kinds by)
 
-    row_exact : {t : Task} {first end : ℕ} → Says g kinds is.tasks t (Row first end) → IsPlaced g t → IsExact is.tasks t None (side_by_side first (end - first))
+    row_exact : {t : Task} {first end : ℕ} → SaysTask g kinds is.tasks t (Row first end) → IsPlaced g t → IsExact is.tasks t None (side_by_side first (end - first))
     row_exact {first} {end} (say.row {s} {es} (site.row at) stand) (place.element stands reached) =
         silent
         (all_beside (HasPlace g kinds is.tasks) first (end - first)
@@ -109,7 +109,7 @@ module _ (g : Grammar) (kinds : Kinds) where
     row_exact (say.called at by) placed = absurd (is_calling g kinds by)
     row_exact (say.reads_call at by) placed = absurd (is_calling g kinds by)
 
-    way_exact : {t : Task} {point : PointId} {first end : ℕ} (w : ℕ) → Says g kinds is.tasks t (Choice point first end) → IsPlaced g t → first ≤ w → w < end →
+    way_exact : {t : Task} {point : PointId} {first end : ℕ} (w : ℕ) → SaysTask g kinds is.tasks t (Choice point first end) → IsPlaced g t → first ≤ w → w < end →
         IsExact is.tasks t None (w ∷ [])
     way_exact {first} {end} w (say.choice {s} {es} at numbers stand) (place.element stands reached) from below =
         let it = item_at is.tasks (λ i e. thing_of (s ▸ i) e) es first end stand w from below in
@@ -131,7 +131,7 @@ module _ (g : Grammar) (kinds : Kinds) where
     way_exact w (say.called at by) placed from below = absurd (is_calling g kinds by)
     way_exact w (say.reads_call at by) placed from below = absurd (is_calling g kinds by)
 
-    enter_exact : {t : Task} {point : PointId} {inner : ℕ} → Says g kinds is.tasks t (Maybe point inner) → IsPlaced g t → IsExact is.tasks t None (inner ∷ [])
+    enter_exact : {t : Task} {point : PointId} {inner : ℕ} → SaysTask g kinds is.tasks t (Maybe point inner) → IsPlaced g t → IsExact is.tasks t None (inner ∷ [])
     enter_exact (say.maybe {s} {e} (site.optional at) numbers has) (place.element stands reached) =
         let there = option_stands g (site.optional at) in
         silent (one_placed _ (thing_of (s ▸ 0) e, has, thing_placed g there reached))
@@ -139,13 +139,13 @@ module _ (g : Grammar) (kinds : Kinds) where
     enter_exact (say.called at by) placed = absurd (is_calling g kinds by)
     enter_exact (say.reads_call at by) placed = absurd (is_calling g kinds by)
 
-    pass_exact : {t : Task} {point : PointId} {inner : ℕ} → Says g kinds is.tasks t (Maybe point inner) → IsExact is.tasks t None []
+    pass_exact : {t : Task} {point : PointId} {inner : ℕ} → SaysTask g kinds is.tasks t (Maybe point inner) → IsExact is.tasks t None []
     pass_exact (say.maybe (site.optional at) numbers has) = passed (form_given g kinds at y.skipped)
     pass_exact (say.called at by) = absurd (is_calling g kinds by)
     pass_exact (say.reads_call at by) = absurd (is_calling g kinds by)
 
     -- the body and then the loop, of `*` as of `+`
-    again_exact : {t : Task} {point : PointId} {inner p : ℕ} → Says g kinds is.tasks t (Loop point inner) → slice_get is.tasks p ≡ Some t → IsPlaced g t →
+    again_exact : {t : Task} {point : PointId} {inner p : ℕ} → SaysTask g kinds is.tasks t (Loop point inner) → slice_get is.tasks p ≡ Some t → IsPlaced g t →
         IsExact is.tasks t None (inner ∷ p ∷ [])
     again_exact (say.loop {s} {e} at numbers has) here (place.again other reached) =
         silent (two_placed _ _ (thing_of (s ▸ 0) e, has, thing_placed g (repeated_stands g at) reached) (_, here, place.again other reached))
@@ -158,12 +158,12 @@ module _ (g : Grammar) (kinds : Kinds) where
     again_exact (say.called at by) here placed = absurd (is_calling g kinds by)
     again_exact (say.reads_call at by) here placed = absurd (is_calling g kinds by)
 
-    leave_exact : {t : Task} {point : PointId} {inner : ℕ} → Says g kinds is.tasks t (Loop point inner) → IsExact is.tasks t None []
+    leave_exact : {t : Task} {point : PointId} {inner : ℕ} → SaysTask g kinds is.tasks t (Loop point inner) → IsExact is.tasks t None []
     leave_exact (say.loop at numbers has) = passed (gives.does (t.repeats at y.stop))
     leave_exact (say.called at by) = absurd (is_calling g kinds by)
     leave_exact (say.reads_call at by) = absurd (is_calling g kinds by)
 
-    once_exact : {t : Task} {point : PointId} {rest inner : ℕ} → Says g kinds is.tasks t (Once rest) → slice_get program.code rest ≡ Some (Loop point inner) →
+    once_exact : {t : Task} {point : PointId} {rest inner : ℕ} → SaysTask g kinds is.tasks t (Once rest) → slice_get program.code rest ≡ Some (Loop point inner) →
         IsPlaced g t → IsExact is.tasks t None (inner ∷ rest ∷ [])
     once_exact (say.once {s} {e} at behind) loop (place.element stands reached) =
         let there = repeated_stands g (site.some at) in
@@ -177,7 +177,7 @@ module _ (g : Grammar) (kinds : Kinds) where
     once_exact (say.called at by) loop placed = absurd (is_calling g kinds by)
     once_exact (say.reads_call at by) loop placed = absurd (is_calling g kinds by)
 
-    put_exact : {t : Task} {n first : ℕ} → Says g kinds is.tasks t (Put n first) → IsPlaced g t →
+    put_exact : {t : Task} {n first : ℕ} → SaysTask g kinds is.tasks t (Put n first) → IsPlaced g t →
         IsExact is.tasks t (Some (numbered.Put n)) (first ∷ (first + 1) ∷ [])
     put_exact {first} (say.put {p} {op} {s} {v} stands numbers reads_at ends_at) (place.assigned other assigned reached) = record {
       placed = two_placed _ _ (Reads s, reads_at, place.reads stands reached) (Does (t.Leave mark.End), ends_at, place.leaves);
@@ -200,7 +200,7 @@ module _ (g : Grammar) (kinds : Kinds) where
     put_exact (say.reads_call at by) placed = absurd (is_calling g kinds by)
 
     module _ (nodes : List Bool) (told : (r : ℕ) (rule : Rule) → slice_get g.rules r ≡ Some rule → OpensNode g rule ↔ (slice_get nodes r ≡ Some true)) where
-      open_exact : {t : Task} {r start : ℕ} → Says g kinds is.tasks t (Call r) → IsPlaced g t → slice_get program.starts r ≡ Some (Some start) →
+      open_exact : {t : Task} {r start : ℕ} → SaysTask g kinds is.tasks t (Call r) → IsPlaced g t → slice_get program.starts r ≡ Some (Some start) →
           slice_get nodes r ≡ Some true → IsExact is.tasks t (Some (numbered.Open (record { 0 = r }))) (start ∷ (start + 1) ∷ [])
       open_exact {r} says placed at flag =
           let (rule, call) = call_said g kinds are is.tasks says placed in
@@ -213,7 +213,7 @@ module _ (g : Grammar) (kinds : Kinds) where
             give = λ p. call.given (node_given g kinds program is call.reached call.there at opens p);
           }
 
-      call_exact : {t : Task} {r start : ℕ} → Says g kinds is.tasks t (Call r) → IsPlaced g t → slice_get program.starts r ≡ Some (Some start) →
+      call_exact : {t : Task} {r start : ℕ} → SaysTask g kinds is.tasks t (Call r) → IsPlaced g t → slice_get program.starts r ≡ Some (Some start) →
           ¬ (slice_get nodes r ≡ Some true) → IsExact is.tasks t None (start ∷ [])
       call_exact {r} says placed at no_flag =
           let (rule, call) = call_said g kinds are is.tasks says placed in

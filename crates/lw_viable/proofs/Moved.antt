@@ -25,7 +25,7 @@ use Rattle.lw_look.proofs.OneStep.{again_gives, part_reads, ReadAs, leave_gives}
 use Rattle.lw_program.specs.declared.instr.Instr.{Instr}
 use Rattle.lw_program.specs.declared.instr.Instr.TheVariants.{Token, Choice, Maybe, Loop, Once, Call}
 use Rattle.lw_program.specs.ProgramOf.{ProgramParts, IsProgramOf}
-use Rattle.lw_program.specs.Says.{Task, Does, thing_of, StandFrom, Says}
+use Rattle.lw_program.specs.Says.{Task, Does, thing_of, StandFrom, SaysTask}
 use Rattle.lw_program.specs.Says as say
 use Rattle.lw_recipes.specs.declared.mark.TreeMark.{TreeMark}
 use Rattle.lw_recipes.specs.Meant.{AreMeant}
@@ -57,7 +57,7 @@ module _ (g : Grammar) (kinds : Kinds) where
       (w : Value0) × Contains vs w × ValueYields g kinds w c m
   way_reads (y.chosen_value {w} has r) = (w, has, r)
 
-  is_loop : {tasks : List Task} {s : PartSite} {i : Instr} → Says g kinds tasks (Does (t.Again s)) i → (point : PointId) × (inner : ℕ) × (i ≡ Loop point inner)
+  is_loop : {tasks : List Task} {s : PartSite} {i : Instr} → SaysTask g kinds tasks (Does (t.Again s)) i → (point : PointId) × (inner : ℕ) × (i ≡ Loop point inner)
   is_loop (say.loop {point} {inner} at numbers has) = (point, inner, refl)
 
 module _ (g : Grammar) (kinds : Kinds) (program : ProgramParts) (is : IsProgramOf g kinds program) (nodes : List Bool) where
@@ -96,7 +96,7 @@ module _ (g : Grammar) (kinds : Kinds) (program : ProgramParts) (is : IsProgramO
     unmarked : {p : ℕ} {n : List Mark} {ps : List ℕ} → Moves program nodes p None ps → PlacesGive g kinds is.tasks ps n → MovesTo p n
     unmarked move give = by_move move meant.none give refl
 
-    token_moves : {p : ℕ} {t : Task} {k : KindId} {n : List Mark} → slice_get program.code p ≡ Some (Token k) → Says g kinds is.tasks t (Token k) →
+    token_moves : {p : ℕ} {t : Task} {k : KindId} {n : List Mark} → slice_get program.code p ≡ Some (Token k) → SaysTask g kinds is.tasks t (Token k) →
         TaskGives g kinds t n → MovesTo p n
     token_moves {k} here says given = marked (move.token here) (meant.more (meant.token k) meant.none) ((token_said g kinds known is.tasks says).only given)
 
@@ -168,7 +168,7 @@ module _ (g : Grammar) (kinds : Kinds) (program : ProgramParts) (is : IsProgramO
           by (y.data_type is_none makes_none p) = body_moves (λ opens. makes_none opens.1)
           by (y.node is_none makes p) = node_moves (is_none, makes)
 
-      call_moves : {p r : ℕ} {t : Task} {n : List Mark} → slice_get program.code p ≡ Some (Call r) → Says g kinds is.tasks t (Call r) → IsPlaced g t →
+      call_moves : {p r : ℕ} {t : Task} {n : List Mark} → slice_get program.code p ≡ Some (Call r) → SaysTask g kinds is.tasks t (Call r) → IsPlaced g t →
           TaskGives g kinds t n → MovesTo p n
       call_moves {r} here says placed given =
           let (rule, call) = call_said g kinds known is.tasks says placed in
@@ -176,7 +176,7 @@ module _ (g : Grammar) (kinds : Kinds) (program : ProgramParts) (is : IsProgramO
           rule_moves here at call.reached call.there (call.gives given)
 
       -- whatever the instruction says, what the task gives begins with a move
-      pub says_moves : {p : ℕ} {t : Task} {i : Instr} {n : List Mark} → slice_get program.code p ≡ Some i → Says g kinds is.tasks t i → slice_get is.tasks p ≡ Some t →
+      pub says_moves : {p : ℕ} {t : Task} {i : Instr} {n : List Mark} → slice_get program.code p ≡ Some i → SaysTask g kinds is.tasks t i → slice_get is.tasks p ≡ Some t →
           IsPlaced g t → TaskGives g kinds t n → MovesTo p n
       says_moves here (say.keyword at kind) stands placed given = token_moves here (say.keyword at kind) given
       says_moves here (say.called at (say.terminal kind)) stands placed given = token_moves here (say.called at (say.terminal kind)) given

@@ -11,7 +11,7 @@ use Rattle.lw_look.proofs.Standing.{same_body, one_stands, repeated_stands}
 use Rattle.lw_program.specs.declared.instr.Instr.{Instr}
 use Rattle.lw_program.specs.declared.instr.Instr.TheVariants.{Token, Loop, Call}
 use Rattle.lw_program.specs.ProgramOf.{ProgramParts, IsProgramOf}
-use Rattle.lw_program.specs.Says.{Task, Does, thing_of, CallsBy, Says, SaidAt}
+use Rattle.lw_program.specs.Says.{Task, Does, thing_of, CallsBy, SaysTask, SaidAt}
 use Rattle.lw_program.specs.Says as say
 
 abbrev pub IsCalling : Instr → Type 0
@@ -26,7 +26,7 @@ module _ (g : Grammar) (kinds : Kinds) where
   is_calling (say.rule_ is) = tt
 
   -- the body of a repetition has its task where its loop says
-  pub loop_said : {tasks : List Task} {s : PartSite} {e : Element} {point : PointId} {inner : ℕ} → Says g kinds tasks (Does (Again s)) (Loop point inner) →
+  pub loop_said : {tasks : List Task} {s : PartSite} {e : Element} {point : PointId} {inner : ℕ} → SaysTask g kinds tasks (Does (Again s)) (Loop point inner) →
       RepeatedAt g s e → slice_get tasks inner ≡ Some (thing_of (s ▸ 0) e)
   loop_said {tasks} {s} {inner} (say.loop at numbered has) other =
       subst (λ e. slice_get tasks inner ≡ Some (thing_of (s ▸ 0) e)) (same_body (one_stands g (repeated_stands g at) (repeated_stands g other))) has
@@ -35,11 +35,11 @@ module _ (g : Grammar) (kinds : Kinds) where
     said_at : {p : ℕ} {t : Task} → slice_get is.tasks p ≡ Some t → SaidAt g kinds is.tasks program.code p
     said_at {p} {t} stands = is.said p (subst (λ n. p < n) is.sized (slice_get_within is.tasks p t stands))
 
-    pub said : (p : ℕ) {t : Task} {i : Instr} → slice_get is.tasks p ≡ Some t → slice_get program.code p ≡ Some i → Says g kinds is.tasks t i
+    pub said : (p : ℕ) {t : Task} {i : Instr} → slice_get is.tasks p ≡ Some t → slice_get program.code p ≡ Some i → SaysTask g kinds is.tasks t i
     said p {t} {i} stands here =
         let s = said_at stands in
-        subst₂ (Says g kinds is.tasks) (same_Some s.task t (sym s.stands ∙ stands)) (same_Some s.instr i (sym s.is ∙ here)) s.says
+        subst₂ (SaysTask g kinds is.tasks) (same_Some s.task t (sym s.stands ∙ stands)) (same_Some s.instr i (sym s.is ∙ here)) s.says
 
     -- at each place with a task stands an instruction
-    pub instr_at : (p : ℕ) {t : Task} → slice_get is.tasks p ≡ Some t → (i : Instr) × (slice_get program.code p ≡ Some i) × Says g kinds is.tasks t i
+    pub instr_at : (p : ℕ) {t : Task} → slice_get is.tasks p ≡ Some t → (i : Instr) × (slice_get program.code p ≡ Some i) × SaysTask g kinds is.tasks t i
     instr_at p stands = let s = said_at stands in (s.instr, s.is, said p stands s.is)
