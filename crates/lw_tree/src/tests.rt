@@ -10,9 +10,13 @@ use std::test::Fail;
 
 // `Model: 'model' name=ID states+=State* 'end'; State: 'state' name=ID 'to' next=[State];`, and tokens of kind 5 are blanks.
 const MODEL: TypeId = TypeId(0);
+
 const STATE: TypeId = TypeId(1);
+
 const NAME: PropId = PropId(0);
+
 const STATES: PropId = PropId(1);
+
 const NEXT: PropId = PropId(2);
 
 const ROOT: Node = Node {
@@ -21,6 +25,7 @@ const ROOT: Node = Node {
     prop: None,
     span: Span { start: 0, end: 24 },
 };
+
 const CHILD: Node = Node {
     type_id: STATE,
     container: Some(NodeId(0)),
@@ -146,7 +151,10 @@ fn expect_node(rt: &impl Abort, alloc: Global, tree: &Tree, row: &NodeRow) -> Re
     assert_eq!(rt; *tree.node(n), row.node);
     assert_eq!(rt; tree.children(n), row.children);
     let (name, states, next) = (tree.name(n), tree.values(n, STATES), tree.values(n, NEXT));
-    assert_eq!(rt; format!(in alloc; "{name:?} {states:?} {next:?}")?.as_str(), row.values);
+    assert_eq!(rt;
+        format!(in alloc; "{name:?} {states:?} {next:?}")?.as_str(),
+        row.values
+    );
     Ok(())
 }
 
@@ -174,4 +182,144 @@ fn a_text_has_a_tree(rt: HostRuntime) -> Result<(), Fail> {
         expect_token(&rt, &tree, offset, start);
     }
     expect_lists(&rt, alloc, &tree)
+}
+
+fn inside(container: Option<u32>) -> Node {
+    Node {
+        type_id: MODEL,
+        container: container.map(NodeId),
+        prop: None,
+        span: Span { start: 0, end: 0 },
+    }
+}
+
+/// Node and property of values in the order in which they are given.
+const GIVEN: [(u32, u16); 11] = [
+    (1, 0),
+    (0, 1),
+    (0, 0),
+    (1, 1),
+    (0, 1),
+    (1, 0),
+    (0, 0),
+    (3, 1),
+    (3, 1),
+    (1, 0),
+    (9, 0),
+];
+
+/// A value that begins at its place among those given: of three in a row, the second is a text.
+fn value(alloc: Global, place: u32) -> Result<Value, NoMemory> {
+    if place % 3 == 1 {
+        text(alloc, "a", place, u32::MAX)
+    } else {
+        let span = Span {
+            start: place,
+            end: u32::MAX,
+        };
+        Ok(Value::Number(-7, span))
+    }
+}
+
+fn given(alloc: Global) -> Result<Vec<Entry>, NoMemory> {
+    let mut values = Vec::new(alloc);
+    let mut place = 0u32;
+    for (node, prop) in GIVEN {
+        values.push((NodeId(node), PropId(prop), value(alloc, place)?))?;
+        place = place.saturating_add(1);
+    }
+    Ok(values)
+}
+
+/// The last two stand in nodes that there are not.
+fn scattered_nodes(alloc: Global) -> Result<Vec<Node>, NoMemory>
+    ensures { IfOk result (λ nodes. length nodes.items ≡ 6) }
+{
+    let containers = [None, Some(0u32), Some(1), Some(0), Some(6), Some(9)];
+    Ok(Vec::from_array(alloc, containers.map(inside))?)
+}
+
+/// A tree of these six nodes, without tokens.
+fn scattered(alloc: Global) -> Result<Tree, NoMemory>
+    ensures { IfOk result (λ tree. length tree.nodes ≡ 6) }
+{
+    let nodes = scattered_nodes(alloc)?;
+    let refs = Vec::new(alloc);
+    let tokens = Vec::new(alloc);
+    Tree::new(alloc, nodes, given(alloc)?, refs, tokens, Some(PropId(1)))
+}
+
+fn start(value: &Value) -> u32 {
+    match value {
+        Value::Text(_, span) | Value::Number(_, span) => span.start,
+        _ => u32::MAX,
+    }
+}
+
+fn begin_at(values: &[Value], starts: &[u32]) -> bool {
+    values.iter().map(start).eq(starts.iter().copied())
+}
+
+struct ScatteredRow {
+    children: &'static [NodeId],
+    first: &'static [u32],
+    second: &'static [u32],
+    name: Option<u32>,
+}
+
+const ALONE: ScatteredRow = ScatteredRow {
+    children: &[],
+    first: &[],
+    second: &[],
+    name: None,
+};
+
+const SCATTERED_ROWS: [ScatteredRow; 6] = [
+    ScatteredRow {
+        children: &[NodeId(1), NodeId(3)],
+        first: &[2, 6],
+        second: &[1, 4],
+        name: Some(4),
+    },
+    ScatteredRow {
+        children: &[NodeId(2)],
+        first: &[0, 5, 9],
+        second: &[3],
+        name: None,
+    },
+    ALONE,
+    ScatteredRow {
+        children: &[],
+        first: &[],
+        second: &[7, 8],
+        name: None,
+    },
+    ALONE,
+    ALONE,
+];
+
+fn expect_values(rt: &impl Abort, tree: &Tree, n: NodeId, row: &ScatteredRow) {
+    assert!(rt; n.0 < tree.len());
+    let children = tree.children(n) == row.children;
+    let first = begin_at(tree.values(n, PropId(0)), row.first);
+    let second = begin_at(tree.values(n, PropId(1)), row.second);
+    let name = tree.name(n).map(|named| named.1.start) == row.name;
+    assert_eq!(rt;
+        (children, first, second, name),
+        (true, true, true, true),
+        "node {}",
+        n.0
+    );
+}
+
+#[test]
+fn values_of_a_property_keep_their_order(rt: HostRuntime) -> Result<(), Fail> {
+    let alloc = rt.alloc();
+    let tree = scattered(alloc)?;
+    assert_eq!(rt; tree.len(), 6);
+    for (number, row) in SCATTERED_ROWS.iter().enumerate() {
+        expect_values(&rt, &tree, NodeId(number as u32), row);
+    }
+    assert!(rt; tree.token_at(0).is_none());
+    Ok(())
 }
