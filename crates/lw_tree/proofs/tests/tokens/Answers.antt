@@ -4,7 +4,8 @@ use Rattle.lw_tree.specs.Parts.{Tile, more, none}
 use Rattle.lw_tree.proofs.tests.tokens.Goals as goal
 
 -- one more token before others
-next : {from end : ℕ} {t : Token} {ts : List Token} (start : ℕ) → from ≡ start → t.span.start ≡ start → t.span.end ≡ end → start < end → Tile t.span.end ts → Tile from (t ∷ ts)
+next : {from end : ℕ} {t : Token} {ts : List Token} (start : ℕ) → from ≡ start → t.span.start ≡ start → t.span.end ≡ end → start < end →
+    Tile t.span.end ts → Tile from (t ∷ ts)
 next start at first last some rest = more (first ∙ sym at) (omega (arith, at, some, last)) rest
 
 pub returns : goal.returns
