@@ -1,14 +1,14 @@
 -- What has each finished node of a tree at its number is the list of its nodes in preorder.
-use Rattle.std.proofs.Common.{ℕ, zero, suc, ◌≡◌, ◌+◌, ◌-◌, ◌≤◌, ◌<◌, Option, Some, None, List, [], ◌∷◌, length, refl, sym, subst, arith, length-append}
+use Rattle.std.proofs.Common.{ℕ, zero, suc, ◌≡◌, ◌+◌, Option, Some, None, List, [], ◌∷◌, length, refl, sym, subst, arith}
 use Rattle.std.specs.Prelude.{slice_get, slice_index}
 use Rattle.lw_base.specs.declared.numbers.NodeId.{NodeId}
 use Rattle.lw_base.specs.declared.numbers.PropId.{PropId}
 use Rattle.lw_tree.specs.declared.node.Node.{Node}
 use Rattle.lw_preorder.specs.declared.finished.Finished.{Finished}
 use Rattle.lw_marks.specs.Grown.{Grown, Grow, Held, Nothing, Puts, Takes, Points, size, size_of, nodes, nodes_of}
-use Rattle.lw_preorder.specs.Finishing.{under, finished, finished_in, StandsIn, IsNested, AreNested, AreNumbered, numbers, numbers_of, renumbered, with_number, HasEach}
+use Rattle.lw_preorder.specs.Finishing.{finished, finished_in, AreNumbered, numbers, numbers_of, renumbered, with_number, HasEach}
 use Rattle.lw_preorder.proofs.Each.{Each, each-append, each-front, each-back, each-at, each-from}
-use Rattle.lw_preorder.proofs.Lengths.{length-finished, length-finished_in, length-numbers, length-numbers_of, length-nodes, length-nodes_of, size_positive}
+use Rattle.lw_preorder.proofs.Lengths.{length-finished_in, length-numbers_of, length-nodes, length-nodes_of}
 use Rattle.lw_preorder.proofs.Each.{At, itself}
 use Rattle.lw_preorder.proofs.TreeNumbers.{Reads, root, numbered}
 

@@ -1,5 +1,5 @@
 -- Lists and tables that are put together of two.
-use Rattle.std.proofs.Common.{◌≡◌, List, [], ◌∷◌, ◌++◌, map}
+use Rattle.std.proofs.Common.{◌≡◌, List, [], ◌∷◌, ◌++◌}
 use Rattle.std.proofs.lemmas.List.{map-append}
 use Rattle.lw_base.specs.declared.numbers.NodeId.{NodeId}
 use Rattle.lw_base.specs.declared.numbers.PropId.{PropId}
@@ -7,11 +7,8 @@ use Rattle.lw_tree.specs.declared.node.Value.{Value}
 use Rattle.lw_preorder.specs.Tables.{owned}
 
 -- both lists joined
-pub joined : {X : Type 0} (a b c d : List X) → a ≡ c → b ≡ d → a ++ b ≡ c ++ d
-joined a b c d e f = cc
-
-pub map-push : {X Y : Type 0} (f : X → Y) (xs : List X) (x : X) → map f (xs ++ x ∷ []) ≡ map f xs ++ f x ∷ []
-map-push f xs x = map-append f xs (x ∷ [])
+pub joined : {X : Type 0} {a b c d : List X} → a ≡ c → b ≡ d → a ++ b ≡ c ++ d
+joined e f = cc
 
 -- a value with its property and the node that holds it
 abbrev pub Entry : Type 0

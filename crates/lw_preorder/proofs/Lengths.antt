@@ -1,13 +1,11 @@
 -- How many there are of a tree's nodes, finished and numbered.
-use Rattle.std.proofs.Common.{ℕ, zero, suc, ◌≡◌, ◌+◌, ◌-◌, ◌≤◌, ◌<◌, Option, Some, None, List, [], ◌∷◌, length, refl, sym, subst, arith, length-append}
-use Rattle.std.specs.Prelude.{slice_get, slice_index}
+use Rattle.std.proofs.Common.{ℕ, ◌≡◌, ◌+◌, ◌≤◌, Option, Some, length, refl, arith, length-append}
 use Rattle.lw_base.specs.declared.numbers.NodeId.{NodeId}
 use Rattle.lw_base.specs.declared.numbers.PropId.{PropId}
 use Rattle.lw_tree.specs.declared.node.Node.{Node}
 use Rattle.lw_preorder.specs.declared.finished.Finished.{Finished}
 use Rattle.lw_marks.specs.Grown.{Grown, Grow, Held, Nothing, Puts, Takes, Points, size, size_of, nodes, nodes_of}
-use Rattle.lw_preorder.specs.Finishing.{under, finished, finished_in, StandsIn, IsNested, AreNested, AreNumbered, numbers, numbers_of, renumbered, with_number, HasEach}
-use Rattle.lw_preorder.proofs.Each.{Each, each-append, each-front, each-back, each-at, each-from}
+use Rattle.lw_preorder.specs.Finishing.{under, finished, finished_in, numbers, numbers_of}
 
 pub size_positive : (g : Grown) → 1 ≤ size g
 size_positive (Grow t s held) = omega arith

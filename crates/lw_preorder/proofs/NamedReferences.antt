@@ -11,7 +11,7 @@ use Rattle.lw_preorder.specs.Renaming.{reference_by_number}
 use Rattle.lw_preorder.proofs.Each.{Each}
 use Rattle.lw_preorder.proofs.TreeNumbers.{Reads}
 use Rattle.lw_preorder.proofs.PartNumbers.{front_reads, back_reads, inside_reads, own_reads}
-use Rattle.lw_preorder.proofs.Joining.{joined, map-push}
+use Rattle.lw_preorder.proofs.Joining.{joined}
 
 -- the references
 mutual
@@ -25,14 +25,12 @@ mutual
   refs_held ns b o number n (Points held p want name s) value reads =
       let before : List Reference = pointed_in (record { 0 = o }) b held in
       let it : ℕ → Reference = λ k. record { owner = record { 0 = k }; prop = record { 0 = p }; want = record { 0 = want }; name = name; span = s } in
-      map-push (reference_by_number ns) before (it o)
-      ∙ joined (map (reference_by_number ns) before) (it (slice_index ns o) ∷ []) (refs_of number n held) (it number ∷ [])
-      (refs_held ns b o number n held value reads) (ap (λ k. it k ∷ []) value)
+      map-append (reference_by_number ns) before (it o ∷ []) ∙ joined (refs_held ns b o number n held value reads) (ap (λ k. it k ∷ []) value)
   refs_held ns b o number n (Takes held p x) value reads =
       let before : List Reference = pointed_in (record { 0 = o }) b held in
       let these : List Reference = pointed (b + size_of held) x in
       map-append (reference_by_number ns) before these
-      ∙ joined (map (reference_by_number ns) before) (map (reference_by_number ns) these) (refs_of number n held) (refs (n + size_of held) x)
+      ∙ joined
       (refs_held ns b o number n held value (front_reads ns b n held x reads))
       (refs_grown ns (b + size_of held) (n + size_of held) x (back_reads ns b n held x reads))
 

@@ -18,7 +18,7 @@ use Rattle.lw_preorder.proofs.Each.{Each}
 use Rattle.lw_preorder.proofs.TreeNumbers.{Reads}
 use Rattle.lw_preorder.proofs.Lengths.{size_positive}
 use Rattle.lw_preorder.proofs.PartNumbers.{last_reads, front_reads, back_reads, inside_reads, own_reads}
-use Rattle.lw_preorder.proofs.Joining.{joined, map-push, Entry, owned-push}
+use Rattle.lw_preorder.proofs.Joining.{joined, Entry, owned-push}
 
 plain_stays : (ns : List ℕ) (v : Plain) → value_by_number ns (as_value v) ≡ as_value v
 plain_stays ns (Text text s) = refl
@@ -31,8 +31,8 @@ pushed : (ns : List ℕ) (o : NodeId) (xs : List (PropId × Value)) (e : PropId 
     map (entry_by_number ns) (owned o xs) ≡ these → entry_by_number ns (o, e.0, e.1) ≡ new →
     map (entry_by_number ns) (owned o (xs ++ e ∷ [])) ≡ these ++ new ∷ []
 pushed ns o xs e these new before is =
-    ap (map (entry_by_number ns)) (owned-push o xs e) ∙ map-push (entry_by_number ns) (owned o xs) (o, e.0, e.1)
-    ∙ joined (map (entry_by_number ns) (owned o xs)) (entry_by_number ns (o, e.0, e.1) ∷ []) these (new ∷ []) before (ap (λ y. y ∷ []) is)
+    ap (map (entry_by_number ns)) (owned-push o xs e) ∙ map-append (entry_by_number ns) (owned o xs) ((o, e.0, e.1) ∷ [])
+    ∙ joined before (ap (λ y. y ∷ []) is)
 
 named_entry : (ns : List ℕ) (o n p : ℕ) (v w : Value) → slice_index ns o ≡ n → value_by_number ns v ≡ w →
     entry_by_number ns (record { 0 = o }, record { 0 = p }, v) ≡ (record { 0 = n }, record { 0 = p }, w)
@@ -71,7 +71,7 @@ values_at-append k q (x ∷ xs) ys =
     picked ((x.0.0 == k) && (x.1.0 == q)) x.2 (values_at k q (xs ++ ys)) (values_at k q xs) (values_at k q ys) (values_at-append k q xs ys)
 
 neither : (k q : ℕ) (xs ys : List Entry) → values_at k q xs ≡ [] → values_at k q ys ≡ [] → values_at k q (xs ++ ys) ≡ []
-neither k q xs ys e f = values_at-append k q xs ys ∙ joined (values_at k q xs) (values_at k q ys) [] [] e f
+neither k q xs ys e f = values_at-append k q xs ys ∙ joined e f
 
 other_node : (n k p q : ℕ) → n ≢ k → ((n == k) && (p == q)) ≡ false
 other_node n k p q ne = grind (arith, nat_tests)
@@ -135,7 +135,7 @@ mutual
       let before : List Entry = stored_in b r held in
       let those : List Entry = stored (b + size_of held) (r + points_of held) x in
       ap (values_at k q) (map-append f before those) ∙ values_at-append k q (map f before) (map f those)
-      ∙ joined (values_at k q (map f before)) (values_at k q (map f those)) (values_at k q (values_of n r held)) (values_at k q (values (n + size_of held) (r + points_of held) x))
+      ∙ joined
       (values_held k q ns b n r held (front_reads ns b n held x reads))
       (values_grown k q ns (b + size_of held) (n + size_of held) (r + points_of held) x (back_reads ns b n held x reads))
       ∙ sym (values_at-append k q (values_of n r held) (values (n + size_of held) (r + points_of held) x))

@@ -6,8 +6,9 @@ use crate::Finished;
 use lw_base::NoMemory;
 use std::alloc::Global;
 
-/// The number of each node, by its place. One pass from the last place to the first, so that a container has its number before
-/// what stands in it: the number after the container's, and after those of what was finished inside the container before.
+/// The number of each node, by its place: the number after its container's, and after those of what was
+/// finished inside the container before it. One pass from the last place to the first, so that a
+/// container has its number before what stands in it.
 pub fn numbers(alloc: Global, finished: &[Finished]) -> Result<Vec<u32>, NoMemory>
     requires room { length finished.now < 2 ^ 32 }
     requires nested { AreNested finished.now }

@@ -14,12 +14,14 @@ use lw_base::{NoMemory, NodeId, PropId, Token};
 use lw_tree::{Reference, Tree, Value};
 use std::alloc::Global;
 
-/// The tree whose tables, in the order of finishing, are these: `finished` has the nodes, `values` each value with the place of the node
-/// that holds it and its property, where a `Child` is a place too, and `refs` the references in text order with the places of the nodes
-/// that they stand in. `name` is the number of the property `name`, where the grammar has one. In the tree each place has become a number:
+/// The tree whose tables, in the order of finishing, are these: `finished` has the nodes, `values` each
+/// value with its property and the place of the node that holds it, where a `Child` is a place too, and
+/// `refs` the references in text order with the places of the nodes that they stand in. `name` is the
+/// number of the property `name`, where the grammar has one. In the tree each place has become a number:
 /// each container comes before what is inside it, and what is inside in its order.
 ///
-/// The only error is that memory is refused; what was given is then gone. Linear but for the sort of the values.
+/// The only error is that memory is refused; what was given is then gone. Linear but for the sort of the
+/// values.
 pub fn in_preorder(
     alloc: Global,
     finished: Vec<Finished>,

@@ -1,5 +1,5 @@
 // What no clause says: that trees are made where there is memory, and what is in two of them, told by hand.
-ghost use Rattle.std.specs.Prelude.{◌≡◌, None, Some, IfOk};
+ghost use Rattle.std.specs.Prelude.{◌≡◌, ◌<◌, None, Some, IfOk, length};
 ghost use Rattle.lw_marks.specs.Grown.{Grown};
 ghost use Rattle.lw_preorder.specs.Tables.{AreTablesOf};
 
@@ -111,26 +111,42 @@ fn value_text(alloc: Global, value: &Value) -> Result<String, NoMemory> {
     })
 }
 
-/// Each node's type and container, and the values of its first three properties.
+fn put_values(alloc: Global, shown: &mut String, values: &[Value]) -> Result<(), NoMemory> {
+    for value in values {
+        shown.push_str(" ")?;
+        shown.push_str(value_text(alloc, value)?.as_str())?;
+    }
+    shown.push_str(";")?;
+    Ok(())
+}
+
+fn put_node(alloc: Global, shown: &mut String, tree: &Tree, number: u32) -> Result<(), NoMemory>
+    requires { number < length tree.now.nodes }
+{
+    let node = tree.node(NodeId(number));
+    let head = format!(in alloc; "{} in {:?}:", node.type_id.0, node.container)?;
+    shown.push_str(head.as_str())?;
+    for prop in 0..3 {
+        put_values(alloc, shown, tree.values(NodeId(number), PropId(prop)))?;
+    }
+    shown.push_str("\n")?;
+    Ok(())
+}
+
+fn put_references(alloc: Global, shown: &mut String, refs: &[Reference]) -> Result<(), NoMemory> {
+    for reference in refs {
+        let text = format!(in alloc; "{} in {}, ", reference.name, reference.owner.0)?;
+        shown.push_str(text.as_str())?;
+    }
+    Ok(())
+}
+
 fn tree_text(alloc: Global, tree: &Tree) -> Result<String, NoMemory> {
     let mut shown = String::new(alloc);
     for number in 0..tree.len() {
-        let node = tree.node(NodeId(number));
-        let head = format!(in alloc; "{} in {:?}:", node.type_id.0, node.container)?;
-        shown.push_str(head.as_str())?;
-        for prop in 0..3 {
-            for value in tree.values(NodeId(number), PropId(prop)) {
-                shown.push_str(" ")?;
-                shown.push_str(value_text(alloc, value)?.as_str())?;
-            }
-            shown.push_str(";")?;
-        }
-        shown.push_str("\n")?;
+        put_node(alloc, &mut shown, tree, number)?;
     }
-    for reference in tree.refs() {
-        let line = format!(in alloc; "{} in {}, ", reference.name, reference.owner.0)?;
-        shown.push_str(line.as_str())?;
-    }
+    put_references(alloc, &mut shown, tree.refs())?;
     Ok(shown)
 }
 

@@ -1,4 +1,4 @@
-use Rattle.std.proofs.Common.{◌≡◌, ◌∙◌, ap, ◌∷◌, []}
+use Rattle.std.proofs.Common.{◌∙◌, ap, ◌∷◌, []}
 use Rattle.lw_preorder.specs.declared.finished.Finished.{Finished}
 use Rattle.lw_marks.specs.Grown.{Grow, Nothing}
 use Rattle.lw_preorder.proofs.tests.root_alone.Goals as goal

@@ -1,4 +1,4 @@
-use Rattle.std.proofs.Common.{◌≡◌, ◌∙◌, ap, ap₂, [], ◌∷◌}
+use Rattle.std.proofs.Common.{◌∙◌, ap₂, [], ◌∷◌}
 use lib.IntN.{pos}
 use Rattle.lw_base.specs.declared.token.Span.{Span}
 use Rattle.lw_tree.specs.declared.node.Reference.{Reference}
