@@ -11,7 +11,7 @@ use Rattle.lw_grammar.specs.declared.rule.Op.{Op}
 use Rattle.lw_grammar.specs.declared.rule.Value0.{Value0, out-Value0}
 use Rattle.lw_grammar.specs.declared.rule.Value0.TheOpen as value
 use Rattle.lw_grammar.specs.declared.rule.Value0.TheOpen.{Value0-F}
-use Rattle.lw_look.specs.Sites.{PartSite, ◌▸◌, Part, Body, Value, inner_parts, element_parts, value_parts, IsPartAt, ElementAt, ValueAt}
+use Rattle.lw_look.specs.Sites.{PartSite, ◌▸◌, Part, Body, Value, element_parts, value_parts, IsPartAt, ElementAt, ValueAt}
 use Rattle.lw_look.specs.Sites as site
 use Rattle.lw_look.proofs.Standing.{one_stands, same_body, same_value, no_body_is_value}
 use Rattle.lw_marks.specs.Numbers.{IsPropertyNumber}
@@ -51,8 +51,12 @@ module _ (g : Grammar) where
 
   -- ---- where parts stand
 
-  pub parts_stand : (s : PartSite) (x : Part) (xs : List Part) → IsPartAt g s x → inner_parts x ≡ xs → ArePartsAt g s xs
-  parts_stand s x xs stands same i y at = site.part stands (ap (λ xs. slice_get xs i) same ∙ at)
+  -- behind an element or a value of this form
+  pub layer_stands : (s : PartSite) (e : Element) (f : Element-F Element) → out-Element e ≡ f → IsPartAt g s (Body e) → ArePartsAt g s (element_parts f)
+  layer_stands s e f is stands i y at = site.part stands (ap (λ f. slice_get (element_parts f) i) is ∙ at)
+
+  pub value_layer_stands : (s : PartSite) (v : Value0) (f : Value0-F Value0) → out-Value0 v ≡ f → IsPartAt g s (Value v) → ArePartsAt g s (value_parts f)
+  value_layer_stands s v f is stands i y at = site.part stands (ap (λ f. slice_get (value_parts f) i) is ∙ at)
 
   pub part_stands : {X : Type 0} (part : X → Part) (s : PartSite) (xs : List X) (i : ℕ) (x : X) → ArePartsAt g s (map part xs) → slice_get xs i ≡ Some x →
       IsPartAt g (s ▸ i) (part x)

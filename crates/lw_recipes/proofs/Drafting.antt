@@ -1,8 +1,10 @@
 -- What is put behind where an element of each form is gone past, part after part and rule after rule.
-use Rattle.std.proofs.Common.{◌≡◌, ℕ, ◌+◌, ◌++◌, List, [], ◌∷◌, Option, Some, None, map, take, slice_get, refl, sym, ap, ◌∙◌, subst}
+use Rattle.std.proofs.Common.{◌≡◌, ℕ, ◌+◌, ◌<◌, ◌++◌, List, [], ◌∷◌, Option, Some, Result, OnOk, length, get_or, map, take, slice_get, refl, sym, ap, ◌∙◌, subst}
 use Rattle.std.specs.List.{AllZip}
 use Rattle.std.proofs.lemmas.List.{take_more}
-use Rattle.std.proofs.lemmas.Option.{slice_get_within, get_or_from_slice_get}
+use Rattle.std.proofs.lemmas.Option.{slice_get_within, slice_get_read, get_or_from_slice_get}
+use Rattle.std.proofs.lemmas.Result.{on_ok_weaker}
+use Rattle.lw_base.specs.declared.memory.NoMemory.{NoMemory}
 use Rattle.lw_base.specs.declared.numbers.PropId.{PropId}
 use Rattle.lw_base.specs.declared.numbers.TypeId.{TypeId}
 use Rattle.lw_grammar.specs.declared.grammar.Grammar.{Grammar}
@@ -11,27 +13,79 @@ use Rattle.lw_grammar.specs.declared.rule.Element.TheFolds.{map-Element}
 use Rattle.lw_grammar.specs.declared.rule.Element.TheOpen.{Element-F}
 use Rattle.lw_grammar.specs.declared.rule.Rule.{Rule}
 use Rattle.lw_look.specs.Choices.{inside}
-use Rattle.lw_look.specs.Sites.{PartSite, body, ◌▸◌, Part, Body, inner_parts, IsPartAt}
+use Rattle.lw_look.specs.Sites.{PartSite, body, ◌▸◌, Body, element_parts, IsPartAt}
 use Rattle.lw_marks.specs.Numbers.{IsNamingProperty}
 use Rattle.lw_program.specs.Numbered.{element_puts, layer_puts, element_acts, layer_acts, rule_puts, rule_acts}
-use Rattle.lw_recipes.specs.Drafted.{AddsFor, IsValueRecipe, IsActionRecipe, IsOpened, IsDrafted, AreDrafted}
-use Rattle.lw_recipes.specs.Making.{RecipeLists, AreRecipesOf}
+use Rattle.lw_recipes.specs.Drafted.{AddsFor, ArePartsAt, StandsSomewhere, IsValueRecipe, IsActionRecipe, IsOpened, IsDrafted, AreDrafted}
+use Rattle.lw_recipes.specs.Making.{AreRecipesOf}
 use Rattle.lw_recipes.specs.declared.draft.Draft.{Draft}
 use Rattle.lw_recipes.proofs.Adding.{zip_at, zip_one, zip_more, adds_none, adds_both}
-use Rattle.lw_recipes.proofs.Assigned.{parts_stand}
+use Rattle.lw_recipes.proofs.Assigned.{layer_stands}
 use Rattle.lw_recipes.proofs.Listed.{puts_by, acts_by, inside_next, rule_puts_next, rule_acts_next}
 
 take_next : {X : Type 0} (xs : List X) (i : ℕ) (x : X) → slice_get xs i ≡ Some x → take (i + 1) xs ≡ take i xs ++ x ∷ []
 take_next xs i x is =
     take_more xs i x (slice_get_within xs i x is) ∙ ap (λ y. take i xs ++ y ∷ []) (get_or_from_slice_get xs i x x is)
 
+-- what stands at a place among the rules
+pub rule_at : (all rules : List Rule) (i : ℕ) (rule : Rule) → rules ≡ all → i < length rules → rule ≡ get_or rules i rule → slice_get all i ≡ Some rule
+rule_at all rules i rule same inside is = ap (λ rules. slice_get rules i) (sym same) ∙ slice_get_read rules (length rules) i rule refl inside is
+
 module _ (g : Grammar) where
+  row_stands_in : (s : PartSite) (e : Element) (f : Element-F Element) (es passed : List Element) → out-Element e ≡ f → element_parts f ≡ map Body es → passed ≡ es →
+      IsPartAt g s (Body e) → ArePartsAt g s (map Body passed)
+  row_stands_in s e f es passed is parts same stands =
+      subst (λ es. ArePartsAt g s (map Body es)) (sym same) (subst (ArePartsAt g s) parts (layer_stands g s e f is stands))
+
+  pub row_somewhere : (e : Element) (f : Element-F Element) (es passed : List Element) → out-Element e ≡ f → element_parts f ≡ map Body es → passed ≡ es →
+      StandsSomewhere g (Body e) → (s : PartSite) × ArePartsAt g s (map Body passed)
+  row_somewhere e f es passed is parts same (s, stands) = (s, row_stands_in s e f es passed is parts same stands)
+
+  part_stands_in : (s : PartSite) (e : Element) (f : Element-F Element) (x passed : Element) → out-Element e ≡ f → element_parts f ≡ Body x ∷ [] → passed ≡ x →
+      IsPartAt g s (Body e) → IsPartAt g (s ▸ 0) (Body passed)
+  part_stands_in s e f x passed is parts same stands =
+      subst (λ x. IsPartAt g (s ▸ 0) (Body x)) (sym same) (layer_stands g s e f is stands 0 (Body x) (ap (λ xs. slice_get xs 0) parts))
+
+  pub part_somewhere : (e : Element) (f : Element-F Element) (x passed : Element) → out-Element e ≡ f → element_parts f ≡ Body x ∷ [] → passed ≡ x →
+      StandsSomewhere g (Body e) → StandsSomewhere g (Body passed)
+  part_somewhere e f x passed is parts same (s, stands) = (s ▸ 0, part_stands_in s e f x passed is parts same stands)
+
   pub drafts_form : (s : PartSite) (e : Element) (f : Element-F Element) {old new : Draft} → out-Element e ≡ f →
       IsDrafted g (layer_puts (map-Element Element (PartSite → List PartSite) element_puts f) s) (layer_acts (map-Element Element (PartSite → List PartSite) element_acts f) s) old new →
       IsDrafted g (element_puts e s) (element_acts e s) old new
   drafts_form s e f {old} {new} is drafted =
       subst (λ puts. IsDrafted g puts (element_acts e s) old new) (sym (ap (λ h. h s) (puts_by e f is)))
       (subst (λ acts. IsDrafted g (layer_puts (map-Element Element (PartSite → List PartSite) element_puts f) s) acts old new) (sym (ap (λ h. h s) (acts_by e f is))) drafted)
+
+  -- an element whose parts are in a row, as they are gone past
+  pub drafts_row : (s : PartSite) (e : Element) (f : Element-F Element) (es passed : List Element) (old new : Draft) (result : Result (Unit {0}) NoMemory) → out-Element e ≡ f →
+      layer_puts (map-Element Element (PartSite → List PartSite) element_puts f) s ≡ inside s 0 (map element_puts es) →
+      layer_acts (map-Element Element (PartSite → List PartSite) element_acts f) s ≡ inside s 0 (map element_acts es) → element_parts f ≡ map Body es → passed ≡ es →
+      IsPartAt g s (Body e) →
+      (ArePartsAt g s (map Body passed) → OnOk result (IsDrafted g (inside s 0 (map element_puts passed)) (inside s 0 (map element_acts passed)) old new)) →
+      OnOk result (IsDrafted g (element_puts e s) (element_acts e s) old new)
+  drafts_row s e f es passed old new result is puts acts parts same stands drafts =
+      on_ok_weaker result
+      (λ drafted. drafts_form s e f is
+      (subst (λ sites. IsDrafted g sites (layer_acts (map-Element Element (PartSite → List PartSite) element_acts f) s) old new) (sym puts)
+      (subst (λ sites. IsDrafted g (inside s 0 (map element_puts es)) sites old new) (sym acts)
+      (subst (λ es. IsDrafted g (inside s 0 (map element_puts es)) (inside s 0 (map element_acts es)) old new) same drafted))))
+      (drafts (row_stands_in s e f es passed is parts same stands))
+
+  -- an element with one part
+  pub drafts_part : (s : PartSite) (e : Element) (f : Element-F Element) (x passed : Element) (old new : Draft) (result : Result (Unit {0}) NoMemory) → out-Element e ≡ f →
+      layer_puts (map-Element Element (PartSite → List PartSite) element_puts f) s ≡ element_puts x (s ▸ 0) →
+      layer_acts (map-Element Element (PartSite → List PartSite) element_acts f) s ≡ element_acts x (s ▸ 0) → element_parts f ≡ Body x ∷ [] → passed ≡ x →
+      IsPartAt g s (Body e) →
+      (IsPartAt g (s ▸ 0) (Body passed) → OnOk result (IsDrafted g (element_puts passed (s ▸ 0)) (element_acts passed (s ▸ 0)) old new)) →
+      OnOk result (IsDrafted g (element_puts e s) (element_acts e s) old new)
+  drafts_part s e f x passed old new result is puts acts parts same stands drafts =
+      on_ok_weaker result
+      (λ drafted. drafts_form s e f is
+      (subst (λ sites. IsDrafted g sites (layer_acts (map-Element Element (PartSite → List PartSite) element_acts f) s) old new) (sym puts)
+      (subst (λ sites. IsDrafted g (element_puts x (s ▸ 0)) sites old new) (sym acts)
+      (subst (λ x. IsDrafted g (element_puts x (s ▸ 0)) (element_acts x (s ▸ 0)) old new) same drafted))))
+      (drafts (part_stands_in s e f x passed is parts same stands))
 
   pub drafts_none : (draft : Draft) → IsDrafted g [] [] draft draft
   drafts_none draft = record {

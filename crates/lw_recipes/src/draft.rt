@@ -58,6 +58,7 @@ impl Draft {
         }
     }
 
+    /// Goes past elements, one after the other.
     #[cycle(elements)]
     fn pass_all(
         &mut self,

@@ -8,7 +8,7 @@ pub enum TextForm {
     Plain,
     /// Itself without one `^` at its start.
     Identifier,
-    /// What stands between its first and its last character, with its escapes read.
+    /// What stands between its first and its last character, with its escapes read. A text of fewer than two characters is itself.
     Quoted,
 }
 
@@ -21,9 +21,9 @@ pub enum Content {
     Keyword(Name),
     /// The tokens' texts, one behind the other, as a text.
     Text(TextForm),
-    /// The token's text as a number.
+    /// The token's text as a number. A text that says none is kept.
     Number,
-    /// A reference that wants this type, by what the tokens' texts say.
+    /// A reference that wants a node of this type, by the name that the tokens' texts say.
     Reference(TypeId, TextForm),
 }
 
@@ -31,6 +31,7 @@ pub enum Content {
 #[derive(Debug, Drop)]
 pub struct ValueRecipe {
     pub prop: PropId,
+    /// What it is where no node was finished in it. One that was is the value itself.
     pub content: Content,
 }
 
@@ -38,5 +39,6 @@ pub struct ValueRecipe {
 #[derive(Clone, Copy, Debug, PartialEq, Eq)]
 pub struct ActionRecipe {
     pub type_id: TypeId,
+    /// The property that takes the current node, where one does.
     pub put: Option<PropId>,
 }

@@ -12,7 +12,7 @@ use lw_lexicon::Lexicon;
 use std::alloc::Global;
 use std::marker::Model;
 
-/// What becomes of what is read by a grammar.
+/// What becomes of what is read by a grammar, by the numbers of its values, its actions and its rules.
 #[derive(Drop)]
 pub struct Recipes {
     pub(crate) values: Vec<ValueRecipe>,
@@ -30,7 +30,8 @@ impl Model for Recipes {
 }
 
 impl Recipes {
-    /// Those of a grammar.
+    /// Those of a grammar, in one walk over its rules, also those that nothing reaches. Time and memory are linear in the size of the
+    /// grammar, but for the expected constant time in which a name is looked up. Only want of memory is an error.
     pub fn of(alloc: Global, lexicon: Lexicon<'_>) -> Result<Recipes, NoMemory>
         requires known { IsKnownLexicon lexicon }
         ensures { IfOk result (AreRecipesOf lexicon.entry.g.now) }

@@ -41,6 +41,7 @@ pub(crate) fn put_value(
     }
 }
 
+/// The same of each way of a choice.
 #[cycle(values)]
 fn put_ways(
     alloc: Global,

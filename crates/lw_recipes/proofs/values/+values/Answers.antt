@@ -10,12 +10,12 @@ use Rattle.lw_grammar.specs.declared.rule.Value0.TheViews.{outs-Keyword, outs-Ca
 use Rattle.lw_grammar.specs.declared.rule.Value0.TheOpen as value
 use Rattle.lw_grammar.specs.declared.rule.Value0.TheOpen.{Value0-F}
 use Rattle.lw_look.specs.Choices.{inside}
-use Rattle.lw_look.specs.Sites.{PartSite, ◌▸◌, Value, value_parts}
+use Rattle.lw_look.specs.Sites.{PartSite, ◌▸◌, Value}
 use Rattle.lw_program.specs.Numbered.{value_puts, value_layer_puts}
 use Rattle.lw_recipes.specs.Drafted.{AddsFor, ArePartsAt, IsValueRecipe}
 use Rattle.lw_recipes.specs.declared.recipe.ValueRecipe.{ValueRecipe}
-use Rattle.lw_recipes.proofs.Adding.{adds_none, adds_both}
-use Rattle.lw_recipes.proofs.Assigned.{parts_stand, part_stands, ways_go}
+use Rattle.lw_recipes.proofs.Adding.{adds_both}
+use Rattle.lw_recipes.proofs.Assigned.{part_stands, value_layer_stands, ways_go}
 use Rattle.lw_recipes.proofs.Listed.{value_puts_by, inside_next}
 use Rattle.lw_recipes.proofs.values.+values.Goals as goal
 
@@ -57,7 +57,7 @@ put_value-returns-in-Choice t c s goes stands =
     (subst (λ ways. OnOk c.put_ways.result (AddsFor (IsValueRecipe g) (inside s 0 (map value_puts ways)) c.args.recipes.now.items c.put_ways.new.recipes.items))
     c.as_slice.ensures
     (c.put_ways.ensures s (ways_go g c.args.target s v at.ways at.field-1 is goes stands)
-    (subst (λ ways. ArePartsAt g s (map Value ways)) same (parts_stand g s (Value v) (map Value at.ways) stands (ap value_parts is)))))
+    (subst (λ ways. ArePartsAt g s (map Value ways)) same (value_layer_stands g s v (value.Choice at.ways at.field-1) is stands))))
 
 pub put_ways-loop-way-preserved : goal.put_ways-loop-way-preserved
 put_ways-loop-way-preserved t c s go stand =

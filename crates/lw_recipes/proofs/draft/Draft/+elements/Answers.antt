@@ -1,4 +1,4 @@
-use Rattle.std.proofs.Common.{rules, ◌≡◌, ◌∷◌, [], Some, length, slice_get, map, refl, sym, ap, ◌∙◌, subst}
+use Rattle.std.proofs.Common.{rules, ◌≡◌, Some, length, slice_get, map, refl, ap, ◌∙◌, subst}
 use Rattle.std.proofs.lemmas.List.{take_all}
 use Rattle.std.proofs.lemmas.Option.{slice_get_read}
 use Rattle.std.proofs.lemmas.Result.{on_ok_weaker}
@@ -6,12 +6,12 @@ use Rattle.lw_grammar.specs.declared.rule.Element.{out-Element, the_lemmas}
 use Rattle.lw_grammar.specs.declared.rule.Element.TheOpen as layer
 use Rattle.lw_grammar.specs.declared.rule.Element.TheViews.{outs-Keyword, outs-Call, outs-Assign, outs-Act, outs-Group, outs-Choice, outs-Maybe, outs-Many, outs-Some1}
 use Rattle.lw_look.specs.Choices.{inside}
-use Rattle.lw_look.specs.Sites.{◌▸◌, Body, Value, element_parts, IsPartAt}
+use Rattle.lw_look.specs.Sites.{◌▸◌, Body, Value}
 use Rattle.lw_program.specs.Numbered.{element_puts, element_acts}
-use Rattle.lw_recipes.specs.Drafted.{ArePartsAt, IsActionRecipe, IsDrafted, IsValueRecipe}
+use Rattle.lw_recipes.specs.Drafted.{IsActionRecipe, IsDrafted, IsValueRecipe}
 use Rattle.lw_recipes.proofs.Adding.{adds_none, adds_one}
-use Rattle.lw_recipes.proofs.Assigned.{element_stands, is_action_recipe, part_stands, parts_stand, value_goes}
-use Rattle.lw_recipes.proofs.Drafting.{drafts_form, drafts_next, drafts_none}
+use Rattle.lw_recipes.proofs.Assigned.{element_stands, is_action_recipe, layer_stands, part_stands, value_goes}
+use Rattle.lw_recipes.proofs.Drafting.{drafts_form, drafts_next, drafts_none, drafts_part, drafts_row, part_somewhere, row_somewhere}
 use Rattle.lw_recipes.proofs.NamedIn.{property_of_action, property_of_assignment, type_of_action}
 use Rattle.lw_recipes.proofs.draft.Draft.+elements.Goals as goal
 
@@ -37,7 +37,7 @@ pass-returns-in-Assign t c s stands =
     on_ok_weaker c.put_value.result
     (λ added. drafts_form g s e form is record { values = added; actions = adds_none (IsActionRecipe g) c.args.self.now.actions.items })
     (c.put_value.ensures (s ▸ 0) (value_goes g (record { prop = c.named_property-prop.result; op = at.op }) s e at.name at.value at.field-3 is c.named_property-prop.ensures stands)
-    (parts_stand g s (Body e) (Value at.value ∷ []) stands (ap element_parts is) 0 (Value at.value) refl))
+    (layer_stands g s e form is stands 0 (Value at.value) refl))
 
 pub pass-returns-in_ok-push-in-Act : goal.pass-returns-in_ok-push-in-Act
 pass-returns-in_ok-push-in-Act t c s stands =
@@ -56,79 +56,33 @@ pass-returns-in_ok-push-in-Act t c s stands =
 
 pub pass-returns-in-Group : goal.pass-returns-in-Group
 pass-returns-in-Group t c s stands =
-    let g = c.args.lexicon.g.now in
-    let e = c.args.element.now in
     let at = c.in-Group in
-    let is = ap out-Element at.is ∙ outs-Group at.parts at.field-1 in
-    let old = c.args.self.now in
-    let new = c.pass_all.new.self in
-    on_ok_weaker c.pass_all.result
-    (λ drafted.
-    drafts_form g s e (layer.Group at.parts at.field-1) is
-    (subst (λ parts. IsDrafted g (inside s 0 (map element_puts parts)) (inside s 0 (map element_acts parts)) old new) c.as_slice.ensures drafted))
-    (c.pass_all.ensures s (subst (λ parts. ArePartsAt g s (map Body parts)) (sym c.as_slice.ensures) (parts_stand g s (Body e) (map Body at.parts) stands (ap element_parts is))))
+    drafts_row c.args.lexicon.g.now s c.args.element.now (layer.Group at.parts at.field-1) at.parts c.as_slice.result.now _ _ c.pass_all.result
+    (ap out-Element at.is ∙ outs-Group at.parts at.field-1) refl refl refl c.as_slice.ensures stands (c.pass_all.ensures s)
 
 pub pass-returns-in-Choice : goal.pass-returns-in-Choice
 pass-returns-in-Choice t c s stands =
-    let g = c.args.lexicon.g.now in
-    let e = c.args.element.now in
     let at = c.in-Choice in
-    let is = ap out-Element at.is ∙ outs-Choice at.parts at.field-1 in
-    let old = c.args.self.now in
-    let new = c.pass_all-in-Choice.new.self in
-    on_ok_weaker c.pass_all-in-Choice.result
-    (λ drafted.
-    drafts_form g s e (layer.Choice at.parts at.field-1) is
-    (subst (λ parts. IsDrafted g (inside s 0 (map element_puts parts)) (inside s 0 (map element_acts parts)) old new) c.as_slice-in-Choice.ensures drafted))
-    (c.pass_all-in-Choice.ensures s
-    (subst (λ parts. ArePartsAt g s (map Body parts)) (sym c.as_slice-in-Choice.ensures) (parts_stand g s (Body e) (map Body at.parts) stands (ap element_parts is))))
+    drafts_row c.args.lexicon.g.now s c.args.element.now (layer.Choice at.parts at.field-1) at.parts c.as_slice-in-Choice.result.now _ _ c.pass_all-in-Choice.result
+    (ap out-Element at.is ∙ outs-Choice at.parts at.field-1) refl refl refl c.as_slice-in-Choice.ensures stands (c.pass_all-in-Choice.ensures s)
 
 pub pass-returns-in-Maybe : goal.pass-returns-in-Maybe
 pass-returns-in-Maybe t c s stands =
-    let g = c.args.lexicon.g.now in
-    let e = c.args.element.now in
     let at = c.in-Maybe in
-    let is = ap out-Element at.is ∙ outs-Maybe at.part at.field-1 in
-    let old = c.args.self.now in
-    let new = c.pass.new.self in
-    on_ok_weaker c.pass.result
-    (λ drafted.
-    drafts_form g s e (layer.Maybe at.part at.field-1) is
-    (subst (λ part. IsDrafted g (element_puts part (s ▸ 0)) (element_acts part (s ▸ 0)) old new) c.get.ensures drafted))
-    (c.pass.ensures (s ▸ 0)
-    (subst (λ part. IsPartAt g (s ▸ 0) (Body part)) (sym c.get.ensures) (parts_stand g s (Body e) (Body at.part ∷ []) stands (ap element_parts is) 0 (Body at.part) refl)))
+    drafts_part c.args.lexicon.g.now s c.args.element.now (layer.Maybe at.part at.field-1) at.part c.get.result.now _ _ c.pass.result
+    (ap out-Element at.is ∙ outs-Maybe at.part at.field-1) refl refl refl c.get.ensures stands (c.pass.ensures (s ▸ 0))
 
 pub pass-returns-in-Many : goal.pass-returns-in-Many
 pass-returns-in-Many t c s stands =
-    let g = c.args.lexicon.g.now in
-    let e = c.args.element.now in
     let at = c.in-Many in
-    let is = ap out-Element at.is ∙ outs-Many at.part at.field-1 in
-    let old = c.args.self.now in
-    let new = c.pass-in-Many.new.self in
-    on_ok_weaker c.pass-in-Many.result
-    (λ drafted.
-    drafts_form g s e (layer.Many at.part at.field-1) is
-    (subst (λ part. IsDrafted g (element_puts part (s ▸ 0)) (element_acts part (s ▸ 0)) old new) c.get-in-Many.ensures drafted))
-    (c.pass-in-Many.ensures (s ▸ 0)
-    (subst (λ part. IsPartAt g (s ▸ 0) (Body part)) (sym c.get-in-Many.ensures)
-    (parts_stand g s (Body e) (Body at.part ∷ []) stands (ap element_parts is) 0 (Body at.part) refl)))
+    drafts_part c.args.lexicon.g.now s c.args.element.now (layer.Many at.part at.field-1) at.part c.get-in-Many.result.now _ _ c.pass-in-Many.result
+    (ap out-Element at.is ∙ outs-Many at.part at.field-1) refl refl refl c.get-in-Many.ensures stands (c.pass-in-Many.ensures (s ▸ 0))
 
 pub pass-returns-in-Some1 : goal.pass-returns-in-Some1
 pass-returns-in-Some1 t c s stands =
-    let g = c.args.lexicon.g.now in
-    let e = c.args.element.now in
     let at = c.in-Some1 in
-    let is = ap out-Element at.is ∙ outs-Some1 at.part at.field-1 in
-    let old = c.args.self.now in
-    let new = c.pass-in-Some1.new.self in
-    on_ok_weaker c.pass-in-Some1.result
-    (λ drafted.
-    drafts_form g s e (layer.Some1 at.part at.field-1) is
-    (subst (λ part. IsDrafted g (element_puts part (s ▸ 0)) (element_acts part (s ▸ 0)) old new) c.get-in-Some1.ensures drafted))
-    (c.pass-in-Some1.ensures (s ▸ 0)
-    (subst (λ part. IsPartAt g (s ▸ 0) (Body part)) (sym c.get-in-Some1.ensures)
-    (parts_stand g s (Body e) (Body at.part ∷ []) stands (ap element_parts is) 0 (Body at.part) refl)))
+    drafts_part c.args.lexicon.g.now s c.args.element.now (layer.Some1 at.part at.field-1) at.part c.get-in-Some1.result.now _ _ c.pass-in-Some1.result
+    (ap out-Element at.is ∙ outs-Some1 at.part at.field-1) refl refl refl c.get-in-Some1.ensures stands (c.pass-in-Some1.ensures (s ▸ 0))
 
 pub pass_all-loop-element-preserved : goal.pass_all-loop-element-preserved
 pass_all-loop-element-preserved t c s stand =
@@ -163,38 +117,58 @@ pass-action_recipe-requires-clause-put_named t c =
 
 pub pass-pass_all-requires : goal.pass-pass_all-requires
 pass-pass_all-requires t c =
-    let at = c.in-Group in
-    let (s, stands) = c.requires.stands in
-    let parts = parts_stand c.args.lexicon.g.now s (Body c.args.element.now) (map Body at.parts) stands (ap element_parts (ap out-Element at.is ∙ outs-Group at.parts at.field-1)) in
-    (search (rules, the_lemmas), (c.requires.known, (s, subst (λ parts. ArePartsAt c.args.lexicon.g.now s (map Body parts)) (sym c.as_slice.ensures) parts)))
+    let at = c.in-Group in (
+      search (rules, the_lemmas),
+      (
+        c.requires.known,
+        row_somewhere c.args.lexicon.g.now c.args.element.now (layer.Group at.parts at.field-1) at.parts c.as_slice.result.now
+            (ap out-Element at.is ∙ outs-Group at.parts at.field-1) refl c.as_slice.ensures c.requires.stands,
+      ),
+    )
 
 pub pass-pass_all-requires-in-Choice : goal.pass-pass_all-requires-in-Choice
 pass-pass_all-requires-in-Choice t c =
-    let at = c.in-Choice in
-    let (s, stands) = c.requires.stands in
-    let parts = parts_stand c.args.lexicon.g.now s (Body c.args.element.now) (map Body at.parts) stands (ap element_parts (ap out-Element at.is ∙ outs-Choice at.parts at.field-1)) in
-    (search (rules, the_lemmas), (c.requires.known, (s, subst (λ parts. ArePartsAt c.args.lexicon.g.now s (map Body parts)) (sym c.as_slice-in-Choice.ensures) parts)))
+    let at = c.in-Choice in (
+      search (rules, the_lemmas),
+      (
+        c.requires.known,
+        row_somewhere c.args.lexicon.g.now c.args.element.now (layer.Choice at.parts at.field-1) at.parts c.as_slice-in-Choice.result.now
+            (ap out-Element at.is ∙ outs-Choice at.parts at.field-1) refl c.as_slice-in-Choice.ensures c.requires.stands,
+      ),
+    )
 
 pub pass-pass-requires : goal.pass-pass-requires
 pass-pass-requires t c =
-    let at = c.in-Maybe in
-    let (s, stands) = c.requires.stands in
-    let part = parts_stand c.args.lexicon.g.now s (Body c.args.element.now) (Body at.part ∷ []) stands (ap element_parts (ap out-Element at.is ∙ outs-Maybe at.part at.field-1)) 0 (Body at.part) refl in
-    (search (rules, the_lemmas), (c.requires.known, (s ▸ 0, subst (λ part. IsPartAt c.args.lexicon.g.now (s ▸ 0) (Body part)) (sym c.get.ensures) part)))
+    let at = c.in-Maybe in (
+      search (rules, the_lemmas),
+      (
+        c.requires.known,
+        part_somewhere c.args.lexicon.g.now c.args.element.now (layer.Maybe at.part at.field-1) at.part c.get.result.now
+            (ap out-Element at.is ∙ outs-Maybe at.part at.field-1) refl c.get.ensures c.requires.stands,
+      ),
+    )
 
 pub pass-pass-requires-in-Many : goal.pass-pass-requires-in-Many
 pass-pass-requires-in-Many t c =
-    let at = c.in-Many in
-    let (s, stands) = c.requires.stands in
-    let part = parts_stand c.args.lexicon.g.now s (Body c.args.element.now) (Body at.part ∷ []) stands (ap element_parts (ap out-Element at.is ∙ outs-Many at.part at.field-1)) 0 (Body at.part) refl in
-    (search (rules, the_lemmas), (c.requires.known, (s ▸ 0, subst (λ part. IsPartAt c.args.lexicon.g.now (s ▸ 0) (Body part)) (sym c.get-in-Many.ensures) part)))
+    let at = c.in-Many in (
+      search (rules, the_lemmas),
+      (
+        c.requires.known,
+        part_somewhere c.args.lexicon.g.now c.args.element.now (layer.Many at.part at.field-1) at.part c.get-in-Many.result.now
+            (ap out-Element at.is ∙ outs-Many at.part at.field-1) refl c.get-in-Many.ensures c.requires.stands,
+      ),
+    )
 
 pub pass-pass-requires-in-Some1 : goal.pass-pass-requires-in-Some1
 pass-pass-requires-in-Some1 t c =
-    let at = c.in-Some1 in
-    let (s, stands) = c.requires.stands in
-    let part = parts_stand c.args.lexicon.g.now s (Body c.args.element.now) (Body at.part ∷ []) stands (ap element_parts (ap out-Element at.is ∙ outs-Some1 at.part at.field-1)) 0 (Body at.part) refl in
-    (search (rules, the_lemmas), (c.requires.known, (s ▸ 0, subst (λ part. IsPartAt c.args.lexicon.g.now (s ▸ 0) (Body part)) (sym c.get-in-Some1.ensures) part)))
+    let at = c.in-Some1 in (
+      search (rules, the_lemmas),
+      (
+        c.requires.known,
+        part_somewhere c.args.lexicon.g.now c.args.element.now (layer.Some1 at.part at.field-1) at.part c.get-in-Some1.result.now
+            (ap out-Element at.is ∙ outs-Some1 at.part at.field-1) refl c.get-in-Some1.ensures c.requires.stands,
+      ),
+    )
 
 pub pass_all-pass-requires : goal.pass_all-pass-requires
 pass_all-pass-requires t c =

@@ -1,10 +1,9 @@
-use Rattle.std.proofs.Common.{◌≡◌, ◌≤◌, Some, length, slice_get, refl, sym, ap, ◌∙◌, subst}
+use Rattle.std.proofs.Common.{◌≤◌, length, subst}
 use Rattle.std.proofs.lemmas.List.{take_all}
-use Rattle.std.proofs.lemmas.Option.{slice_get_read}
 use Rattle.lw_look.specs.Sites.{body}
 use Rattle.lw_look.specs.Sites as site
 use Rattle.lw_recipes.specs.Drafted.{AreDrafted}
-use Rattle.lw_recipes.proofs.Drafting.{none_drafted, rule_drafted, all_drafted}
+use Rattle.lw_recipes.proofs.Drafting.{rule_at, none_drafted, rule_drafted, all_drafted}
 use Rattle.lw_recipes.proofs.recipes.Recipes.of.Goals as goal
 
 pub loop-rule-init : goal.loop-rule-init
@@ -18,8 +17,7 @@ loop-rule-preserved c =
     let rules = c.as_slice-rule-items in
     let i = c.loop-rule.rule-index in
     let rule = c.rule-item.result in
-    let at : slice_get g.rules i ≡ Some rule =
-    ap (λ rules. slice_get rules i) (sym rules.ensures) ∙ slice_get_read rules.result.now (length rules.result.now) i rule refl c.loop-rule-test.true c.rule-item.is in
+    let at = rule_at g.rules rules.result.now i rule rules.ensures c.loop-rule-test.true c.rule-item.is in
     rule_drafted g i rule c.opened_type.result c.loop-rule.draft c.pass.new.self c.loop-rule.types.items c.push.new.self.items at c.loop-rule.invariant
     (c.in_ok-pass.ensures (body i) (site.whole at)) c.opened_type.ensures c.in_ok-push.ensures.items
 
@@ -36,7 +34,4 @@ pub pass-requires-clause-stands : goal.pass-requires-clause-stands
 pass-requires-clause-stands c =
     let rules = c.as_slice-rule-items in
     let i = c.loop-rule.rule-index in
-    let rule = c.rule-item.result in
-    let at : slice_get c.args.lexicon.g.now.rules i ≡ Some rule =
-    ap (λ rules. slice_get rules i) (sym rules.ensures) ∙ slice_get_read rules.result.now (length rules.result.now) i rule refl c.loop-rule-test.true c.rule-item.is in
-    (body i, site.whole at)
+    (body i, site.whole (rule_at c.args.lexicon.g.now.rules rules.result.now i c.rule-item.result rules.ensures c.loop-rule-test.true c.rule-item.is))
