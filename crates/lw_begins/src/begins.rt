@@ -1,4 +1,4 @@
-// What is told of the places of a program.
+// What is told of the places of a program and of its rules.
 ghost use Rattle.std.specs.Prelude.{◌≡◌, ◌↔◌, Some, IsTrue, IfOk, true, slice_get};
 ghost use Rattle.lw_grammar.specs.Kinds.{Kinds, AreKinds};
 ghost use Rattle.lw_begins.specs.Told.{BeginsParts, IsMet, TellsBegins};
@@ -33,7 +33,7 @@ impl Model for Begins {
 }
 
 impl Begins {
-    /// That of a program of the grammar. A flag for each rule says whether it makes nodes.
+    /// What is told of a program of the grammar. A flag for each rule says whether it makes nodes. An error is want of memory.
     pub fn of(
         alloc: Global,
         lexicon: Lexicon<'_>,

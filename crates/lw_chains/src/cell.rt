@@ -6,6 +6,8 @@ pub struct Link(pub u32);
 /// An item, and the list below it.
 #[derive(Clone, Copy, Debug)]
 pub struct Cell<T> {
+    /// The first item of the cell's list.
     pub item: T,
+    /// The list of the other items.
     pub below: Link,
 }

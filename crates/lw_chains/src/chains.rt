@@ -7,7 +7,7 @@ use lw_base::NoMemory;
 use std::alloc::Global;
 use std::marker::Model;
 
-/// Lists that share their ends.
+/// Lists that share their ends, by their cells.
 #[derive(Drop)]
 pub struct Chains<T: Copy> {
     cells: Vec<Cell<T>>,
@@ -25,7 +25,7 @@ impl<T: Copy> Model for Chains<T> {
 }
 
 impl<T: Copy> Chains<T> {
-    /// No lists but the empty one.
+    /// No list but the empty one. It takes no memory.
     pub fn new(alloc: Global) -> Chains<T>
         ensures { result ≡ [] }
     {
@@ -34,7 +34,7 @@ impl<T: Copy> Chains<T> {
         }
     }
 
-    /// How many lists there are beside the empty one.
+    /// How many lists there are beside the empty one, in constant time. Their links are the numbers from 1 to this.
     pub fn len(&self) -> usize
         ensures all { result ≡ length self.now }
         ensures most { result < 2 ^ 32 }
@@ -42,7 +42,8 @@ impl<T: Copy> Chains<T> {
         self.cells.len()
     }
 
-    /// Puts an item before a list. Where 2^32 lists would be there, memory is wanting.
+    /// Puts an item before a list and answers the new list, in constant time on average. All lists that were there stay. Where memory is
+    /// refused, and where there would be 2^32 lists, nothing changes.
     pub fn put(&mut self, item: T, below: Link) -> Result<Link, NoMemory>
         requires { below.0 ≤ length self.old }
         ensures put { IfOk result (λ link. (self.new ≡ (item, below.0) ∷ self.old) × (link.0 ≡ length self.old + 1)) }
@@ -58,7 +59,7 @@ impl<T: Copy> Chains<T> {
         Ok(Link(number))
     }
 
-    /// The first item of a list and the list below it, whose number is less.
+    /// The first item of a list and the list below it, whose number is less, in constant time. There is none in the empty list.
     pub fn first(&self, link: Link) -> Option<(T, Link)>
         ensures { MatchOption result (chain self.now link.0 ≡ [])
             (λ first. (chain self.now link.0 ≡ first.0 ∷ chain self.now first.1.0) × (first.1.0 < link.0) × (link.0 ≤ length self.now)) }
