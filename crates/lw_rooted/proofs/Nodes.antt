@@ -29,7 +29,7 @@ module _ (g : Grammar) (text : List ℕ) where
   pub node_holds : {type from : ℕ} {bs : List Bracket} → HoldsNode g text bs → HoldsNode g text (InNode type from Nothing ∷ bs)
   node_holds {from} holds type at held ts = let (x, more) = holds type from held ts in (x, f.shut in_node more)
 
-  root_closes : (x : Grown) → CanClose g text (Root x ∷ [])
+  pub root_closes : (x : Grown) → CanClose g text (Root x ∷ [])
   root_closes x ts = (x, f.root)
 
   pub nothing_holds : HoldsNode g text []
