@@ -1,2 +1,14 @@
 pub mod Once
 pub mod OneTree
+pub mod GoesOn
+pub mod Listed
+pub mod Quiet
+pub mod Numbered
+pub mod Meant
+pub mod Rootable
+pub mod Climbs
+pub mod Nodes
+pub mod Acting
+pub mod Valued
+pub mod Climbing
+pub mod Sentence

@@ -88,10 +88,10 @@ no_word_calls h = cc
 same_word : {word other : List ℕ} {s t : Span} → ◌≡◌ {A = Value0-F Value0} (Keyword word s) (Keyword other t) → word ≡ other
 same_word h = cc
 
-no_word_crosses : {word wanted : List ℕ} {rule : Option (List ℕ)} {s t : Span} → ◌≡◌ {A = Value0-F Value0} (Keyword word s) (Cross wanted rule t) → ⊥
+pub no_word_crosses : {word wanted : List ℕ} {rule : Option (List ℕ)} {s t : Span} → ◌≡◌ {A = Value0-F Value0} (Keyword word s) (Cross wanted rule t) → ⊥
 no_word_crosses h = cc
 
-no_call_crosses : {name wanted : List ℕ} {rule : Option (List ℕ)} {s t : Span} → ◌≡◌ {A = Value0-F Value0} (Call name s) (Cross wanted rule t) → ⊥
+pub no_call_crosses : {name wanted : List ℕ} {rule : Option (List ℕ)} {s t : Span} → ◌≡◌ {A = Value0-F Value0} (Call name s) (Cross wanted rule t) → ⊥
 no_call_crosses h = cc
 
 same_wanted : {wanted other : List ℕ} {rule by : Option (List ℕ)} {s t : Span} → ◌≡◌ {A = Value0-F Value0} (Cross wanted rule s) (Cross other by t) → wanted ≡ other
