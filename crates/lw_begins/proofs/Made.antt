@@ -11,9 +11,6 @@ module _ {X Y : Type 0} (Fits : ℕ → X → Y → Type 0) (xs : List X) where
     pub sized : length ys ≡ n
     pub made : (i : ℕ) (x : X) → i < n → slice_get xs i ≡ Some x → (y : Y) × (slice_get ys i ≡ Some y) × Fits i x y
 
-  pub none_made : (ys : List Y) (n : ℕ) → ys ≡ [] → n ≡ 0 → MadeUpTo ys n
-  none_made ys n empty none = record { sized = ap length empty ∙ sym none; made = λ i x below at. absurd (omega arith) }
-
   pub one_more : (ys : List Y) (n : ℕ) (x : X) (y : Y) → MadeUpTo ys n → slice_get xs n ≡ Some x → Fits n x y → MadeUpTo (ys ++ y ∷ []) (n + 1)
   one_more ys n x y made at fits = record { sized = omega (arith, made.sized, length-append ys (y ∷ [])); made = each }
     where

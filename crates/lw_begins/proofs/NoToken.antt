@@ -85,9 +85,6 @@ module _ (g : Grammar) (kinds : Kinds) where
   pub call_of : {name : List ℕ} {s : Span} → LayerNone (layer.Call name s) → CallNone name
   call_of (m, y.called c, none) = (m, c, none)
 
-  pub assigned_none : {p : List ℕ} {op : Op} {v : Value0} {s : Span} → LayerNone (layer.Assign p op v s) → ValueNone v
-  assigned_none (m, y.assigned {c} {m = n} r, none) = (c, n, r, front_none n (mark.End ∷ []) none)
-
   pub each_none : {es : List Element} {m : List Mark} → YieldsAll g kinds es m → kinds_of m ≡ [] → (i : ℕ) (e : Element) → slice_get es i ≡ Some e → ElementNone e
   each_none y.none none i e at = absurd (cc)
   each_none (y.more {m} {n} p ps) none zero e at = subst ElementNone (cc) (m, p, front_none m n none)

@@ -6,10 +6,10 @@ use Rattle.lw_gramread.specs.Places.{IsPlace}
 use Rattle.lw_sentences.specs.Marks.{Mark}
 use Rattle.lw_sentences.specs.Marks as mark
 use Rattle.lw_marks.specs.Brackets.{Bracket}
-use Rattle.lw_marks.specs.Follows.{Changes, Follows}
+use Rattle.lw_marks.specs.Follows.{ChangesOpen, FollowsMarks}
 use Rattle.lw_recipes.specs.Making.{AreRecipesOf}
 use Rattle.lw_builder.specs.declared.builder.Builder.{Builder}
-use Rattle.lw_builder.specs.Standing.{Stands}
+use Rattle.lw_builder.specs.Standing.{StandsOpen}
 
 -- the tokens that are not hidden
 abbrev pub visible_of : List Token → List Token
@@ -25,13 +25,13 @@ module _ (g : Grammar) where
     pub recipes : AreRecipesOf g builder.recipes.now
     pub parts : ArePartsOf builder.text.now builder.visible.now
     pub within : builder.read ≤ length builder.visible.now
-    pub follows : Follows g builder.text.now m (take builder.read builder.visible.now) bs
-    pub stands : Stands g builder bs
+    pub follows : FollowsMarks g builder.text.now m (take builder.read builder.visible.now) bs
+    pub stands : StandsOpen g builder bs
 
   -- the next mark, and what is open behind it
   pub data GoesOnBy (builder : Builder) : Mark → List Bracket → List Bracket → Type 0 where
     token : {t : Token} {bs : List Bracket} → slice_get builder.visible.now builder.read ≡ Some t → GoesOnBy builder (mark.Token t.kind.0) bs bs
-    other : {m : Mark} {bs after : List Bracket} → Changes g builder.text.now (take builder.read builder.visible.now) m bs after →
+    other : {m : Mark} {bs after : List Bracket} → ChangesOpen g builder.text.now (take builder.read builder.visible.now) m bs after →
         GoesOnBy builder m bs after
 
 -- the text, its visible tokens and the recipes are those of before

@@ -10,7 +10,7 @@ use Rattle.lw_tree.specs.declared.node.Reference.{Reference}
 use Rattle.lw_tree.specs.declared.node.Value.{Value}
 use Rattle.lw_marks.specs.Grown.{Grown, Held, Nothing, size, size_of}
 use Rattle.lw_marks.specs.Trees.{points, points_of}
-use Rattle.lw_marks.specs.Numbers.{IsPropertyNumber}
+use Rattle.lw_marks.specs.Numbers.{IsNumberOfProperty}
 use Rattle.lw_marks.specs.Brackets.{Bracket, InNode, InValue, Root}
 use Rattle.lw_preorder.specs.declared.finished.Finished.{Finished}
 use Rattle.lw_preorder.specs.Finishing.{finished, finished_in}
@@ -81,7 +81,7 @@ module _ (g : Grammar) where
     node : {type from : ℕ} {held : Held} {open_node : OpenNode} → open_node.type_id.0 ≡ type → open_node.first ≡ from → open_node.start ≡ nodes_in bs →
         open_node.values ≡ length (all_loose bs) → IsOpen bs (InNode type from held) (variant.InNode open_node)
     value_ : {p at : ℕ} {op : Op} {c : Value0} {name : List ℕ} {inside : Option Grown} {open_value : OpenValue} →
-        MeansMark g (numbered.Put open_value.put) (mark.Put name op c) → IsPropertyNumber g name p → open_value.first ≡ at →
+        MeansMark g (numbered.Put open_value.put) (mark.Put name op c) → IsNumberOfProperty g name p → open_value.first ≡ at →
         open_value.node ≡ place_in (nodes_in bs) inside → IsOpen bs (InValue p op c at inside) (variant.InValue open_value)
     whole : {x : Grown} → IsOpen bs (Root x) variant.Whole
 
@@ -91,7 +91,7 @@ module _ (g : Grammar) where
     more : {b : Bracket} {bs : List Bracket} {one : Open} {others : List Open} → AreOpen bs others → IsOpen bs b one → AreOpen (b ∷ bs) (others ++ one ∷ [])
 
   -- the builder has these brackets open
-  pub record Stands (builder : Builder) (bs : List Bracket) : Type 0 where
+  pub record StandsOpen (builder : Builder) (bs : List Bracket) : Type 0 where
     pub finished : builder.finished.items ≡ all_finished bs
     pub stored : builder.kept.items ≡ all_stored bs
     pub loose : builder.loose.items ≡ all_loose bs

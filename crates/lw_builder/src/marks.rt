@@ -3,9 +3,9 @@ ghost use Rattle.std.specs.Prelude.{ℕ, ◌≡◌, List, [], ◌∷◌, ◌++�
 ghost use Rattle.lw_grammar.specs.declared.grammar.Grammar.{Grammar};
 ghost use Rattle.lw_sentences.specs.Marks.{Mark};
 ghost use Rattle.lw_marks.specs.Brackets.{Bracket};
-ghost use Rattle.lw_marks.specs.Follows.{Closes, Follows};
+ghost use Rattle.lw_marks.specs.Follows.{Closes, FollowsMarks};
 ghost use Rattle.lw_marks.specs.Grown.{Grown};
-ghost use Rattle.lw_marks.specs.Trees.{IsOpened, parts_of};
+ghost use Rattle.lw_marks.specs.Trees.{IsOpenedTree, parts_of_tree};
 ghost use Rattle.lw_recipes.specs.Making.{AreRecipesOf};
 ghost use Rattle.lw_recipes.specs.Meant.{AreMeant, MeansMark};
 ghost use Rattle.lw_tree.specs.Parts.{SameTables, Tile};
@@ -36,7 +36,7 @@ impl<'a> Builder<'a> {
         }
     }
 
-    /// Follows one more mark.
+    /// FollowsMarks one more mark.
     pub fn mark(&mut self, mark: TreeMark) -> Result<(), NoMemory>
         requires goes_on { (g : Grammar) × (m : List Mark) × (x : Mark) × (bs : List Bracket) × (after : List Bracket) ×
             HasFollowed g m bs self.old × MeansMark g mark x × GoesOnBy g self.old x bs after }
@@ -54,7 +54,7 @@ impl<'a> Builder<'a> {
         requires tokens { Tile 0 tokens.items }
         ensures { (g : Grammar) (m : List Mark) (bs : List Bracket) (x : Grown) → HasFollowed g m bs self.entry →
             Closes g self.entry.text.now (take self.entry.read self.entry.visible.now) bs x →
-            IfOk result (λ tree. SameTables tree (parts_of x tokens.items self.entry.recipes.now.naming)) }
+            IfOk result (λ tree. SameTables tree (parts_of_tree x tokens.items self.entry.recipes.now.naming)) }
     {
         Err(NoMemory)
     }
@@ -69,12 +69,12 @@ pub fn tree_of(
     text: &Name,
 ) -> Result<Tree, NoMemory>
     requires follows { (g : Grammar) × (m : List Mark) × (bs : List Bracket) × (x : Grown) × AreRecipesOf g recipes.now × AreMeant g marks.now m ×
-        Follows g text.now m (visible_of tokens.items) bs × Closes g text.now (visible_of tokens.items) bs x }
+        FollowsMarks g text.now m (visible_of tokens.items) bs × Closes g text.now (visible_of tokens.items) bs x }
     requires tokens { Tile 0 tokens.items }
     requires parts { ArePartsOf text.now tokens.items }
     ensures { (g : Grammar) (m : List Mark) (bs : List Bracket) (x : Grown) → AreRecipesOf g recipes.now → AreMeant g marks.now m →
-        Follows g text.now m (visible_of tokens.items) bs → Closes g text.now (visible_of tokens.items) bs x →
-        IfOk result (IsOpened g text.now m (visible_of tokens.items) tokens.items) }
+        FollowsMarks g text.now m (visible_of tokens.items) bs → Closes g text.now (visible_of tokens.items) bs x →
+        IfOk result (IsOpenedTree g text.now m (visible_of tokens.items) tokens.items) }
 {
     Err(NoMemory)
 }

@@ -21,14 +21,14 @@ use Rattle.lw_sentences.specs.Marks.{Mark, Token as AToken, Open, Shut, Put, End
 use Rattle.lw_sentences.specs.Worked.{nowhere, id_call, by_id, id_terminal, model_rule, state_rule, states_by_id}
 use Rattle.lw_sentences.proofs.StatesWorked.{id_named}
 use Rattle.lw_marks.specs.Grown.{Grown, Grow, Held, Nothing, Puts, Takes, Points, Plain, Text}
-use Rattle.lw_marks.specs.Numbers.{IsTypeNumber, IsPropertyNumber}
+use Rattle.lw_marks.specs.Numbers.{IsNumberOfType, IsNumberOfProperty}
 use Rattle.lw_marks.specs.Values as values
 use Rattle.lw_marks.specs.Values.{text_said}
-use Rattle.lw_marks.specs.Brackets.{Root, Shuts, in_value, at_root, Bracket, joined, InNode, InValue}
-use Rattle.lw_marks.specs.Follows.{Follows, nothing, token, next, opens, puts, shuts, ends, left_out, ended, shut, root, MakesReference, plain, a_node, a_reference, written, Changes, PutsIn}
+use Rattle.lw_marks.specs.Brackets.{Root, Shuts, in_value, at_root, Bracket, joined_texts, InNode, InValue}
+use Rattle.lw_marks.specs.Follows.{FollowsMarks, nothing, token, next, opens, puts, shuts, ends, left_out, ended, shut, root, MakesReference, plain, a_node, a_reference, written, ChangesOpen, PutsInto}
 use Rattle.lw_marks.specs.Follows as follows
-use Rattle.lw_marks.specs.Trees.{IsTree, IsOpened}
-use Rattle.lw_marks.specs.Worked.{from_to, token_at, state_text, state_tokens, state_marks, state_tree, begun_marks, begun_tokens, begun_tree, id_put}
+use Rattle.lw_marks.specs.Trees.{IsTree, IsOpenedTree}
+use Rattle.lw_marks.specs.Worked.{from_to, word_token, state_text, state_tokens, state_marks, state_tree, begun_marks, begun_tokens, begun_tree, id_put}
 
 abbrev model_leaves : List Leaf
 model_leaves =
@@ -58,10 +58,10 @@ properties_by a b = first_uses [] (flat_map leaf_properties a ++ (flat_map leaf_
 its_properties : property_names states_by_id ≡ codes "name" ∷ codes "states" ∷ codes "next" ∷ []
 its_properties = ap (λ a. properties_by a (leaves (state_rule by_id).body)) of_model ∙ ap (λ b. properties_by model_leaves b) of_state
 
-type_is : (n : ℕ) (name : List ℕ) → slice_get (codes "Model" ∷ codes "State" ∷ []) n ≡ Some name → IsTypeNumber states_by_id name n
+type_is : (n : ℕ) (name : List ℕ) → slice_get (codes "Model" ∷ codes "State" ∷ []) n ≡ Some name → IsNumberOfType states_by_id name n
 type_is n name is = ap (λ names. slice_get names n) its_types ∙ is
 
-property_is : (n : ℕ) (name : List ℕ) → slice_get (codes "name" ∷ codes "states" ∷ codes "next" ∷ []) n ≡ Some name → IsPropertyNumber states_by_id name n
+property_is : (n : ℕ) (name : List ℕ) → slice_get (codes "name" ∷ codes "states" ∷ codes "next" ∷ []) n ≡ Some name → IsNumberOfProperty states_by_id name n
 property_is n name is = ap (λ names. slice_get names n) its_properties ∙ is
 
 one_flag : One ≢ Flag
@@ -77,38 +77,38 @@ call_cross : (name : List ℕ) (s : Span) (wanted : List ℕ) (rule : Option (Li
 call_cross name s wanted rule t h = cc
 
 -- what one token of an identifier says
-says : (p from to : ℕ) (held : Held) (looked : List ℕ) → text_said (codes "ID") (joined state_text (token_at 5 from to ∷ [])) ≡ looked →
-    PutsIn states_by_id state_text One id_call (token_at 5 from to ∷ []) None held p (Puts held p (Text looked (from_to from to)))
+says : (p from to : ℕ) (held : Held) (looked : List ℕ) → text_said (codes "ID") (joined_texts state_text (word_token 5 from to ∷ [])) ≡ looked →
+    PutsInto states_by_id state_text One id_call (word_token 5 from to ∷ []) None held p (Puts held p (Text looked (from_to from to)))
 says p from to held looked is =
-    subst (λ t. PutsIn states_by_id state_text One id_call (token_at 5 from to ∷ []) None held p (Puts held p (Text t (from_to from to)))) is
+    subst (λ t. PutsInto states_by_id state_text One id_call (word_token 5 from to ∷ []) None held p (Puts held p (Text t (from_to from to)))) is
     (plain (follows.terminal 1 id_terminal one_flag (value0.outs-Call (codes "ID") nowhere) (id_named by_id) (values.words text_number)))
 
-looks_up : (p from to : ℕ) (held : Held) (looked : List ℕ) → text_said (codes "ID") (joined state_text (token_at 5 from to ∷ [])) ≡ looked →
-    PutsIn states_by_id state_text Add by_id (token_at 5 from to ∷ []) None held p (Points held p 1 looked (from_to from to))
+looks_up : (p from to : ℕ) (held : Held) (looked : List ℕ) → text_said (codes "ID") (joined_texts state_text (word_token 5 from to ∷ [])) ≡ looked →
+    PutsInto states_by_id state_text Add by_id (word_token 5 from to ∷ []) None held p (Points held p 1 looked (from_to from to))
 looks_up p from to held looked is =
-    subst (λ t. PutsIn states_by_id state_text Add by_id (token_at 5 from to ∷ []) None held p (Points held p 1 t (from_to from to))) is
+    subst (λ t. PutsInto states_by_id state_text Add by_id (word_token 5 from to ∷ []) None held p (Points held p 1 t (from_to from to))) is
     (a_reference add_flag (written (value0.outs-Cross (codes "State") (Some (codes "ID")) nowhere)) (type_is 1 (codes "State") refl)
     (follows.terminal 1 id_terminal (id_named by_id) (values.words text_number)))
 
 abbrev t0 : Token
-t0 = token_at 0 0 5
+t0 = word_token 0 0 5
 abbrev t1 : Token
-t1 = token_at 5 6 7
+t1 = word_token 5 6 7
 abbrev t2 : Token
-t2 = token_at 1 8 13
+t2 = word_token 1 8 13
 abbrev t3 : Token
-t3 = token_at 5 14 15
+t3 = word_token 5 14 15
 abbrev t4 : Token
-t4 = token_at 2 16 18
+t4 = word_token 2 16 18
 abbrev t5 : Token
-t5 = token_at 5 19 20
+t5 = word_token 5 19 20
 abbrev t6 : Token
-t6 = token_at 3 21 24
+t6 = word_token 3 21 24
 
 abbrev state_put : Mark
 state_put = Put (codes "states") Add (value0.Call (codes "State") nowhere)
 
-model_begins : Follows states_by_id state_text (Open 0 ∷ AToken 0 ∷ id_put (codes "name") ∷ AToken 5 ∷ End ∷ []) (t0 ∷ t1 ∷ [])
+model_begins : FollowsMarks states_by_id state_text (Open 0 ∷ AToken 0 ∷ id_put (codes "name") ∷ AToken 5 ∷ End ∷ []) (t0 ∷ t1 ∷ [])
     (InNode 0 0 (Puts Nothing 0 (Text (codes "m") (from_to 6 7))) ∷ [])
 model_begins =
     next (token t1 (next (token t0 (next nothing (opens {rule = model_rule} refl (refl, refl) (type_is 0 (codes "Model") refl)))) (puts (property_is 0 (codes "name") refl))))
@@ -126,7 +126,7 @@ to_x = Points named_x 2 1 (codes "x") (from_to 19 20)
 abbrev whole_state : Grown
 whole_state = Grow 1 (from_to 8 24) to_x
 
-state_begins : Follows states_by_id state_text
+state_begins : FollowsMarks states_by_id state_text
     (Open 0 ∷ AToken 0 ∷ id_put (codes "name") ∷ AToken 5 ∷ End ∷ state_put ∷ Open 1 ∷ AToken 1 ∷ id_put (codes "name") ∷ AToken 5 ∷ End ∷ [])
     (t0 ∷ t1 ∷ t2 ∷ t3 ∷ []) (InNode 1 2 named_x ∷ InValue 1 Add (value0.Call (codes "State") nowhere) 2 None ∷ InNode 0 0 named_m ∷ [])
 state_begins =
@@ -134,7 +134,7 @@ state_begins =
     (opens {rule = state_rule by_id} refl (refl, refl) (type_is 1 (codes "State") refl)))) (puts (property_is 0 (codes "name") refl))))
     (ends (says 0 14 15 Nothing (codes "x") refl))
 
-state_ends : Follows states_by_id state_text state_marks state_tokens (Root (Grow 0 (from_to 0 24) (Takes named_m 1 whole_state)) ∷ [])
+state_ends : FollowsMarks states_by_id state_text state_marks state_tokens (Root (Grow 0 (from_to 0 24) (Takes named_m 1 whole_state)) ∷ [])
 state_ends =
     next (next (next (token t6 (next (token t5 (next (token t4 state_begins) (puts (property_is 2 (codes "next") refl))))
     (ends (looks_up 2 19 20 named_x (codes "x") refl)))) (shuts in_value)) (ends a_node)) (shuts at_root)
@@ -152,11 +152,11 @@ states_tree = record {
 not_cross : ¬ MakesReference Add (value0.Call (codes "State") nowhere)
 not_cross (added, (wanted, rule, s, is)) = call_cross (codes "State") nowhere wanted rule s (sym (value0.outs-Call (codes "State") nowhere) ∙ is)
 
-state_open : Follows states_by_id state_text begun_marks begun_tokens
+state_open : FollowsMarks states_by_id state_text begun_marks begun_tokens
     (InValue 2 Add by_id 5 None ∷ InNode 1 2 named_x ∷ InValue 1 Add (value0.Call (codes "State") nowhere) 2 None ∷ InNode 0 0 named_m ∷ [])
 state_open = token t5 (next (token t4 state_begins) (puts (property_is 2 (codes "next") refl)))
 
-pub begun_state : IsOpened states_by_id state_text begun_marks begun_tokens begun_tokens begun_tree
+pub begun_state : IsOpenedTree states_by_id state_text begun_marks begun_tokens begun_tokens begun_tree
 begun_state = record {
   brackets = InValue 2 Add by_id 5 None ∷ InNode 1 2 named_x ∷ InValue 1 Add (value0.Call (codes "State") nowhere) 2 None ∷ InNode 0 0 named_m ∷ [];
   grown = Grow 0 (from_to 0 20) (Takes named_m 1 (Grow 1 (from_to 8 20) named_x));

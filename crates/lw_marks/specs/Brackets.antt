@@ -12,14 +12,14 @@ abbrev pub end_of : Token → List Token → ℕ
 end_of t [] = t.span.end
 end_of t (u ∷ us) = end_of u us
 
-abbrev pub span_of : List Token → Span
-span_of [] = record { start = 0; end = 0 }
-span_of (t ∷ ts) = record { start = t.span.start; end = end_of t ts }
+abbrev pub span_of_tokens : List Token → Span
+span_of_tokens [] = record { start = 0; end = 0 }
+span_of_tokens (t ∷ ts) = record { start = t.span.start; end = end_of t ts }
 
 -- the texts of these tokens, with nothing between
-abbrev pub joined : List ℕ → List Token → List ℕ
-joined text [] = []
-joined text (t ∷ ts) = slice_range text t.span.start t.span.end ++ joined text ts
+abbrev pub joined_texts : List ℕ → List Token → List ℕ
+joined_texts text [] = []
+joined_texts text (t ∷ ts) = slice_range text t.span.start t.span.end ++ joined_texts text ts
 
 -- What is open: a node, with its type, how many tokens were read before it, and what it holds; or a value, with its property, how it is put
 -- in, what is read, how many tokens were read before it, and the node that was finished inside it. At the end the root is left.
@@ -30,7 +30,7 @@ pub data Bracket : Type 0 where
 
 -- the node that is open with this type behind so many tokens, as it is finished
 abbrev pub grown : List Token → ℕ → ℕ → Held → Grown
-grown ts type from held = Grow type (span_of (drop from ts)) held
+grown ts type from held = Grow type (span_of_tokens (drop from ts)) held
 
 -- `Shuts ts bs after`: the node that is open innermost is finished. Directly inside a value it is that value; inside a node that holds
 -- nothing yet it takes its place, and begins where that one begins; else it is the root.

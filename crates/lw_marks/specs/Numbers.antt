@@ -4,13 +4,13 @@ use Rattle.lw_base.specs.declared.numbers.PropId.{PropId}
 use Rattle.lw_grammar.specs.declared.grammar.Grammar.{Grammar}
 use Rattle.lw_numbers.specs.Numbering.{type_names, property_names}
 
-abbrev pub IsTypeNumber : Grammar → List ℕ → ℕ → Type 0
-IsTypeNumber g name n = slice_get (type_names g) n ≡ Some name
+abbrev pub IsNumberOfType : Grammar → List ℕ → ℕ → Type 0
+IsNumberOfType g name n = slice_get (type_names g) n ≡ Some name
 
-abbrev pub IsPropertyNumber : Grammar → List ℕ → ℕ → Type 0
-IsPropertyNumber g name n = slice_get (property_names g) n ≡ Some name
+abbrev pub IsNumberOfProperty : Grammar → List ℕ → ℕ → Type 0
+IsNumberOfProperty g name n = slice_get (property_names g) n ≡ Some name
 
 -- the number of the property `name`, by whose value a node is named, where the grammar has one
 abbrev pub IsNamingProperty : Grammar → Option PropId → Type 0
-IsNamingProperty g None = (n : ℕ) → ¬ IsPropertyNumber g (codes "name") n
-IsNamingProperty g (Some p) = IsPropertyNumber g (codes "name") p.0
+IsNamingProperty g None = (n : ℕ) → ¬ IsNumberOfProperty g (codes "name") n
+IsNamingProperty g (Some p) = IsNumberOfProperty g (codes "name") p.0

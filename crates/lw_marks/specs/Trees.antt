@@ -13,7 +13,7 @@ use Rattle.lw_tree.specs.Parts.{Parts, SameTables}
 use Rattle.lw_marks.specs.Grown.{Plain, as_value, Grown, Grow, Held, Nothing, Puts, Takes, Points, size_of, nodes}
 use Rattle.lw_marks.specs.Numbers.{IsNamingProperty}
 use Rattle.lw_marks.specs.Brackets.{Bracket, Root}
-use Rattle.lw_marks.specs.Follows.{Follows, Closes}
+use Rattle.lw_marks.specs.Follows.{FollowsMarks, Closes}
 
 -- how many references
 abbrev mutual
@@ -58,23 +58,23 @@ abbrev mutual
   values_of n r (Takes held p x) = values_of n r held ++ values (n + size_of held) (r + points_of held) x
 
 -- the parts of a tree that has grown so
-abbrev pub parts_of : Grown → List Token → Option PropId → Parts
-parts_of x tokens name = record { nodes = nodes None None 0 x; values = values 0 0 x; refs = refs 0 x; tokens = tokens; name = name }
+abbrev pub parts_of_tree : Grown → List Token → Option PropId → Parts
+parts_of_tree x tokens name = record { nodes = nodes None None 0 x; values = values 0 0 x; refs = refs 0 x; tokens = tokens; name = name }
 
 -- `visible` are those of `tokens` that the marks were read with, and these are all tokens of the text
 module _ (g : Grammar) (text : List ℕ) where
   -- the tree of a sentence's marks
   pub record IsTree (m : List Mark) (visible tokens : List Token) (tree : Parts) : Type 0 where
     pub grown : Grown
-    pub follows : Follows g text m visible (Root grown ∷ [])
+    pub follows : FollowsMarks g text m visible (Root grown ∷ [])
     pub named : IsNamingProperty g tree.name
-    pub parts : SameTables tree (parts_of grown tokens tree.name)
+    pub parts : SameTables tree (parts_of_tree grown tokens tree.name)
 
   -- the tree of marks that a sentence begins with: what is still open is closed, and a reference that is not finished is left out
-  pub record IsOpened (m : List Mark) (visible tokens : List Token) (tree : Parts) : Type 0 where
+  pub record IsOpenedTree (m : List Mark) (visible tokens : List Token) (tree : Parts) : Type 0 where
     pub brackets : List Bracket
     pub grown : Grown
-    pub follows : Follows g text m visible brackets
+    pub follows : FollowsMarks g text m visible brackets
     pub closes : Closes g text visible brackets grown
     pub named : IsNamingProperty g tree.name
-    pub parts : SameTables tree (parts_of grown tokens tree.name)
+    pub parts : SameTables tree (parts_of_tree grown tokens tree.name)

@@ -24,8 +24,8 @@ use Rattle.lw_tree.specs.Parts.{Parts}
 abbrev pub from_to : ℕ → ℕ → Span
 from_to start end = record { start = start; end = end }
 
-abbrev pub token_at : ℕ → ℕ → ℕ → Token
-token_at kind start end = record { kind = record { 0 = kind }; span = from_to start end; hidden = false }
+abbrev pub word_token : ℕ → ℕ → ℕ → Token
+word_token kind start end = record { kind = record { 0 = kind }; span = from_to start end; hidden = false }
 
 -- the root, and a node inside another
 abbrev pub root_node : ℕ → Span → Node
@@ -45,7 +45,7 @@ state_text = codes "model m state x to x end"
 
 abbrev pub state_tokens : List Token
 state_tokens =
-    token_at 0 0 5 ∷ token_at 5 6 7 ∷ token_at 1 8 13 ∷ token_at 5 14 15 ∷ token_at 2 16 18 ∷ token_at 5 19 20 ∷ token_at 3 21 24 ∷ []
+    word_token 0 0 5 ∷ word_token 5 6 7 ∷ word_token 1 8 13 ∷ word_token 5 14 15 ∷ word_token 2 16 18 ∷ word_token 5 19 20 ∷ word_token 3 21 24 ∷ []
 
 abbrev pub id_put : List ℕ → Mark
 id_put p = Put p One id_call
@@ -73,7 +73,7 @@ begun_marks =
     ∷ Open 1 ∷ AToken 1 ∷ id_put (codes "name") ∷ AToken 5 ∷ End ∷ AToken 2 ∷ Put (codes "next") Add by_id ∷ AToken 5 ∷ []
 
 abbrev pub begun_tokens : List Token
-begun_tokens = token_at 0 0 5 ∷ token_at 5 6 7 ∷ token_at 1 8 13 ∷ token_at 5 14 15 ∷ token_at 2 16 18 ∷ token_at 5 19 20 ∷ []
+begun_tokens = word_token 0 0 5 ∷ word_token 5 6 7 ∷ word_token 1 8 13 ∷ word_token 5 14 15 ∷ word_token 2 16 18 ∷ word_token 5 19 20 ∷ []
 
 abbrev pub begun_tree : Parts
 begun_tree = record {
@@ -91,7 +91,7 @@ abbrev pub marked_text : List ℕ
 marked_text = codes "x a"
 
 abbrev pub marked_tokens : List Token
-marked_tokens = token_at 1 0 1 ∷ token_at 2 2 3 ∷ []
+marked_tokens = word_token 1 0 1 ∷ word_token 2 2 3 ∷ []
 
 abbrev pub marked_marks : List Mark
 marked_marks = Open 0 ∷ Open 2 ∷ AToken 1 ∷ Act other_action ∷ id_put (codes "y") ∷ AToken 2 ∷ End ∷ Shut ∷ Shut ∷ []
@@ -111,7 +111,7 @@ abbrev pub dotted_text : List ℕ
 dotted_text = codes "a . b"
 
 abbrev pub dotted_tokens : List Token
-dotted_tokens = token_at 2 0 1 ∷ token_at 0 2 3 ∷ token_at 2 4 5 ∷ []
+dotted_tokens = word_token 2 0 1 ∷ word_token 0 2 3 ∷ word_token 2 4 5 ∷ []
 
 abbrev pub dotted_marks : List Mark
 dotted_marks = Open 0 ∷ Put (codes "name") One (value0.Call (codes "QName") nowhere) ∷ AToken 2 ∷ AToken 0 ∷ AToken 2 ∷ End ∷ Shut ∷ []
@@ -152,7 +152,7 @@ abbrev pub sum_text : List ℕ
 sum_text = codes "a + b"
 
 abbrev pub sum_tokens : List Token
-sum_tokens = token_at 1 0 1 ∷ token_at 0 2 3 ∷ token_at 1 4 5 ∷ []
+sum_tokens = word_token 1 0 1 ∷ word_token 0 2 3 ∷ word_token 1 4 5 ∷ []
 
 abbrev pub sum_marks : List Mark
 sum_marks =
@@ -185,7 +185,7 @@ abbrev pub flag_text : List ℕ
 flag_text = codes "a"
 
 abbrev pub flag_tokens : List Token
-flag_tokens = token_at 0 0 1 ∷ []
+flag_tokens = word_token 0 0 1 ∷ []
 
 abbrev pub flag_marks : List Mark
 flag_marks = Open 0 ∷ Put (codes "known") Flag a_cross ∷ AToken 0 ∷ End ∷ Shut ∷ []

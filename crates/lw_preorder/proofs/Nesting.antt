@@ -5,21 +5,21 @@ use Rattle.lw_base.specs.declared.numbers.NodeId.{NodeId}
 use Rattle.lw_base.specs.declared.numbers.PropId.{PropId}
 use Rattle.lw_preorder.specs.declared.finished.Finished.{Finished}
 use Rattle.lw_marks.specs.Grown.{Grown, Grow, Held, Nothing, Puts, Takes, Points, size, size_of}
-use Rattle.lw_preorder.specs.Finishing.{finished, finished_in, StandsIn, IsNested, AreNested}
+use Rattle.lw_preorder.specs.Finishing.{finished, finished_in, StandsInNode, IsNested, AreNested}
 use Rattle.lw_preorder.proofs.Each.{Each, each-append, each-front, each-back, each-at, each-from}
 use Rattle.lw_preorder.proofs.Lengths.{length-finished, length-finished_in, size_positive}
 use Rattle.lw_preorder.proofs.Each.{At, itself}
 
 mutual
   nested_grown : (all : List Finished) (above : Option NodeId) (p : Option PropId) (b : ℕ) (g : Grown) (i : ℕ) → i + 1 ≡ b + size g →
-      StandsIn all i b above → Each (At all) b (finished above p b g) → Each (IsNested all) b (finished above p b g)
+      StandsInNode all i b above → Each (At all) b (finished above p b g) → Each (IsNested all) b (finished above p b g)
   nested_grown all above p b (Grow t s held) i e stands at =
       let own : ℕ = b + size_of held in
       let inside : List Finished = finished_in (Some (record { 0 = own })) b held in
       let root : Finished = record { node = record { type_id = record { 0 = t }; container = above; prop = p; span = s }; start = b } in
       let long : own ≡ b + length inside = omega (arith, length-finished_in (Some (record { 0 = own })) b held) in
       let back : Each (At all) own (root ∷ []) = each-back (At all) b own inside (root ∷ []) long at in
-      let P : ℕ → Type 0 = λ j. StandsIn all j b above in
+      let P : ℕ → Type 0 = λ j. StandsInNode all j b above in
       let there : i ≡ own = omega (arith, e) in
       each-append (IsNested all) b own inside (root ∷ []) long
       (nested_held all own b root held back.0 refl (omega arith) (each-front (At all) b inside (root ∷ []) at))
@@ -49,6 +49,6 @@ nested g =
     let all : List Finished = finished None None 0 g in
     let last : ℕ = size g - 1 in
     let e : last + 1 ≡ 0 + size g = omega (arith, size_positive g) in
-    let stands : StandsIn all last 0 None = omega (arith, e, length-finished None None 0 g) in
+    let stands : StandsInNode all last 0 None = omega (arith, e, length-finished None None 0 g) in
     let each : Each (IsNested all) 0 all = nested_grown all None None 0 g last e stands (each-from (At all) 0 all (itself all)) in
     λ i x at. each-at (IsNested all) 0 i all i x (omega arith) each at

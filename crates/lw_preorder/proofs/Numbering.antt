@@ -7,17 +7,17 @@ use Rattle.std.proofs.lemmas.Bool.{cases_lt}
 use Rattle.std.specs.Prelude.{slice_get, slice_index}
 use Rattle.lw_base.specs.declared.numbers.NodeId.{NodeId}
 use Rattle.lw_preorder.specs.declared.finished.Finished.{Finished}
-use Rattle.lw_preorder.specs.Finishing.{AreNested, StandsIn, NumberedIn, AreNumberedFrom}
+use Rattle.lw_preorder.specs.Finishing.{AreNested, StandsInNode, NumberedIn, AreNumberedFrom}
 
 -- a write at a place before the container changes nothing of what a node's number says
-kept : (all : List Finished) (numbers : List ℕ) (k m i n : ℕ) (x : Finished) (o : Option NodeId) → k < i → StandsIn all i x.start o →
+kept : (all : List Finished) (numbers : List ℕ) (k m i n : ℕ) (x : Finished) (o : Option NodeId) → k < i → StandsInNode all i x.start o →
     NumberedIn all numbers x n o → NumberedIn all (set numbers k m) x n o
 kept all numbers k m i n x None lt stands h = h
 kept all numbers k m i n x (Some above) lt stands h = λ container at.
     let ne : above.0 ≢ k = omega (arith, stands.0) in
     rw (get_or-set_other numbers k above.0 m 0 ne) (h container at)
 
-own : (all : List Finished) (numbers : List ℕ) (k m n : ℕ) (x : Finished) (o : Option NodeId) → StandsIn all k x.start o → NumberedIn all numbers x n o →
+own : (all : List Finished) (numbers : List ℕ) (k m n : ℕ) (x : Finished) (o : Option NodeId) → StandsInNode all k x.start o → NumberedIn all numbers x n o →
     NumberedIn all (set numbers k m) x n o
 own all numbers k m n x None stands h = h
 own all numbers k m n x (Some above) stands h = λ container at.
@@ -67,8 +67,8 @@ pub child_more : (all : List Finished) (numbers : List ℕ) (k n m : ℕ) (above
 child_more all numbers k n m above d e nested is value within sum before =
     let x : Finished = get_or all k d in
     let at : slice_get all k ≡ Some x = slice_get-get_or all k d within in
-    let P : Option NodeId → Type 0 = λ o. StandsIn all k x.start o in
-    let stands : StandsIn all k x.start (Some above) = subst P is (nested k x at).stands in
+    let P : Option NodeId → Type 0 = λ o. StandsInNode all k x.start o in
+    let stands : StandsInNode all k x.start (Some above) = subst P is (nested k x at).stands in
     let container : Finished = stands.1 in
     let there : slice_get all above.0 ≡ Some container = stands.2 in
     let same : get_or all above.0 e ≡ container = get_or_from_slice_get all above.0 container e there in

@@ -8,20 +8,20 @@ use Rattle.lw_tree.specs.declared.node.Value.{Value}
 use Rattle.lw_tree.specs.declared.node.Value.TheVariants.{Child, Refers}
 use Rattle.lw_marks.specs.Grown.{Plain, Text, Number, Huge, Raw, Truth, as_value, Grown, Grow, Held, Nothing, Puts, Takes, Points, size, size_of}
 use Rattle.lw_marks.specs.Trees.{points_of}
-use Rattle.lw_preorder.specs.Finishing.{IsWithin}
+use Rattle.lw_preorder.specs.Finishing.{IsPlaceWithin}
 use Rattle.lw_preorder.specs.Tables.{put_in, owned, stored, stored_in, pointed, pointed_in}
 use Rattle.lw_preorder.specs.Renaming.{HasPlaces}
 use Rattle.lw_preorder.proofs.Lengths.{size_positive}
 use Rattle.lw_preorder.proofs.Joining.{owned-push}
 
-plain_within : (m : ℕ) (v : Plain) → IsWithin m (as_value v)
+plain_within : (m : ℕ) (v : Plain) → IsPlaceWithin m (as_value v)
 plain_within m (Text text s) = tt
 plain_within m (Number n s) = tt
 plain_within m (Huge s) = tt
 plain_within m (Raw text s) = tt
 plain_within m (Truth s) = tt
 
-one_more_within : (m : ℕ) (o : NodeId) (xs : List (PropId × Value)) (e : PropId × Value) → o.0 < m → IsWithin m e.1 → All (HasPlaces m) (owned o xs) →
+one_more_within : (m : ℕ) (o : NodeId) (xs : List (PropId × Value)) (e : PropId × Value) → o.0 < m → IsPlaceWithin m e.1 → All (HasPlaces m) (owned o xs) →
     All (HasPlaces m) (owned o (xs ++ e ∷ []))
 one_more_within m o xs e lt within before =
     All-same (HasPlaces m) (owned o (xs ++ e ∷ [])) (owned o xs ++ (o, e.0, e.1) ∷ []) (owned-push o xs e)

@@ -9,7 +9,7 @@ use Rattle.lw_base.specs.declared.numbers.NodeId.{NodeId}
 use Rattle.lw_tree.specs.declared.node.Node.{Node}
 use Rattle.lw_preorder.specs.declared.finished.Finished.{Finished}
 use Rattle.lw_marks.specs.Grown.{Grown, nodes}
-use Rattle.lw_preorder.specs.Finishing.{finished, IsFinishedTree, AreNested, StandsIn, AreNumbered, HasEach, renumbered, with_number}
+use Rattle.lw_preorder.specs.Finishing.{finished, IsFinishedTree, AreNested, StandsInNode, AreNumbered, HasEach, renumbered, with_number}
 use Rattle.lw_preorder.proofs.Lengths.{length-finished}
 use Rattle.lw_preorder.proofs.Nesting.{nested}
 use Rattle.lw_preorder.proofs.ByNumber.{has, only}
@@ -19,7 +19,7 @@ nested_tree all tree =
     let P : List Finished → Type 0 = λ xs. AreNested xs in
     subst P (sym tree.1) (nested tree.0)
 
-within : (all : List Finished) (i start m : ℕ) (o : Option NodeId) → m ≡ length all → StandsIn all i start o → IfSome o (λ above. above.0 < m)
+within : (all : List Finished) (i start m : ℕ) (o : Option NodeId) → m ≡ length all → StandsInNode all i start o → IfSome o (λ above. above.0 < m)
 within all i start m None e stands = tt
 within all i start m (Some above) e stands = omega (arith, e, slice_get_within all above.0 stands.1 stands.2)
 

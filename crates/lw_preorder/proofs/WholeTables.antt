@@ -7,7 +7,7 @@ use Rattle.lw_tree.specs.declared.node.Node.{Node}
 use Rattle.lw_tree.specs.declared.node.Reference.{Reference}
 use Rattle.lw_tree.specs.Parts.{Parts, SameTables, values_at}
 use Rattle.lw_marks.specs.Grown.{Grown, size, nodes}
-use Rattle.lw_marks.specs.Trees.{parts_of}
+use Rattle.lw_marks.specs.Trees.{parts_of_tree}
 use Rattle.lw_preorder.specs.declared.finished.Finished.{Finished}
 use Rattle.lw_preorder.specs.Finishing.{finished, AreNumbered, numbers}
 use Rattle.lw_preorder.specs.Tables.{AreTablesOf, stored, pointed}
@@ -41,7 +41,7 @@ pub same_tree : (x : Grown) (all : List Finished) (kept : List Entry) (points : 
     (pointing : List Reference) (tokens : List Token) (name : Option PropId) (tree : Parts) →
     AreTablesOf x all kept points → AreNumbered seen ns → seen ≡ all → made ≡ nodes None None 0 x → put ≡ map (entry_by_number ns) kept →
     pointing ≡ map (reference_by_number ns) points →
-    SameTables tree (record { nodes = made; values = put; refs = pointing; tokens = tokens; name = name }) → SameTables tree (parts_of x tokens name)
+    SameTables tree (record { nodes = made; values = put; refs = pointing; tokens = tokens; name = name }) → SameTables tree (parts_of_tree x tokens name)
 same_tree x all kept points seen ns made put pointing tokens name tree tables law is placed named pointed same =
     let law' : AreNumbered (finished None None 0 x) ns = (let P : List Finished → Type 0 = λ l. AreNumbered l ns in subst P (is ∙ tables.nodes) law) in
     let reads : Each (Reads ns) 0 (numbers 0 x) = numbered x ns law' in

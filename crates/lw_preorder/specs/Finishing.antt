@@ -27,13 +27,13 @@ abbrev mutual
   finished_in own base (Takes held p g) = finished_in own base held ++ finished own (under own p) (base + size_of held) g
 
 -- Each but the last stands in one that was finished later, and began no later.
-abbrev pub StandsIn : List Finished → ℕ → ℕ → Option NodeId → Type 0
-StandsIn all i start None = i + 1 ≡ length all
-StandsIn all i start (Some above) = (i < above.0) × (container : Finished) × (slice_get all above.0 ≡ Some container) × (container.start ≤ start)
+abbrev pub StandsInNode : List Finished → ℕ → ℕ → Option NodeId → Type 0
+StandsInNode all i start None = i + 1 ≡ length all
+StandsInNode all i start (Some above) = (i < above.0) × (container : Finished) × (slice_get all above.0 ≡ Some container) × (container.start ≤ start)
 
 pub record IsNested (all : List Finished) (i : ℕ) (x : Finished) : Type 0 where
   pub starts : x.start ≤ i
-  pub stands : StandsIn all i x.start x.node.container
+  pub stands : StandsInNode all i x.start x.node.container
 
 abbrev pub AreNested : List Finished → Type 0
 AreNested all = (i : ℕ) (x : Finished) → slice_get all i ≡ Some x → IsNested all i x
@@ -87,11 +87,11 @@ IsFinishedTree all = (g : Grown) × is_finished_tree_of g all
 abbrev pub taken : NodeId → PropId → Finished → Finished
 taken own p x = record x { node = record x.node { container = Some own; prop = Some p } }
 
-abbrev pub nowhere : Finished
-nowhere = record { node = record { type_id = record { 0 = 0 }; container = None; prop = None; span = record { start = 0; end = 0 } }; start = 0 }
+abbrev pub blank_finished : Finished
+blank_finished = record { node = record { type_id = record { 0 = 0 }; container = None; prop = None; span = record { start = 0; end = 0 } }; start = 0 }
 
 unfoldable pub adopted : NodeId → PropId → ℕ → List Finished → List Finished
-adopted own p k xs = slice_set xs k (taken own p (slice_index_or xs k nowhere))
+adopted own p k xs = slice_set xs k (taken own p (slice_index_or xs k blank_finished))
 
 -- the nodes among these values put into `own`, one after the other
 abbrev pub adopts : NodeId → PropId → Value → List Finished → List Finished
@@ -103,10 +103,10 @@ adopts_all own [] xs = xs
 adopts_all own (v ∷ vs) xs = adopts_all own vs (adopts own v.0 v.1 xs)
 
 -- the nodes among these values are of the first n
-abbrev pub IsWithin : ℕ → Value → Type 0
-IsWithin n (Child place) = place.0 < n
-IsWithin n _ = Unit {0}
+abbrev pub IsPlaceWithin : ℕ → Value → Type 0
+IsPlaceWithin n (Child place) = place.0 < n
+IsPlaceWithin n _ = Unit {0}
 
 abbrev pub AreWithin : ℕ → List (PropId × Value) → Type 0
 AreWithin n [] = Unit {0}
-AreWithin n (v ∷ vs) = IsWithin n v.1 × AreWithin n vs
+AreWithin n (v ∷ vs) = IsPlaceWithin n v.1 × AreWithin n vs

@@ -5,7 +5,7 @@ use Rattle.lw_base.specs.declared.numbers.PropId.{PropId}
 use Rattle.lw_tree.specs.declared.node.Reference.{Reference}
 use Rattle.lw_tree.specs.declared.node.Value.{Value}
 use Rattle.lw_tree.specs.declared.node.Value.TheVariants.{Child}
-use Rattle.lw_preorder.specs.Finishing.{IsWithin}
+use Rattle.lw_preorder.specs.Finishing.{IsPlaceWithin}
 
 abbrev pub value_by_number : List ℕ → Value → Value
 value_by_number numbers (Child place) = Child (record { 0 = slice_index numbers place.0 })
@@ -19,4 +19,4 @@ reference_by_number numbers r = record r { owner = record { 0 = slice_index numb
 
 -- the node that holds a value, and the value where it is a node, are of the first n
 abbrev pub HasPlaces : ℕ → NodeId × PropId × Value → Type 0
-HasPlaces n e = (e.0.0 < n) × IsWithin n e.2
+HasPlaces n e = (e.0.0 < n) × IsPlaceWithin n e.2

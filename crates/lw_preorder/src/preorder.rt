@@ -1,7 +1,7 @@
 // A tree with its nodes in preorder.
 ghost use Rattle.std.specs.Prelude.{◌<◌, ◌^◌, length, IfOk};
 ghost use Rattle.lw_marks.specs.Grown.{Grown};
-ghost use Rattle.lw_marks.specs.Trees.{parts_of};
+ghost use Rattle.lw_marks.specs.Trees.{parts_of_tree};
 ghost use Rattle.lw_tree.specs.Parts.{SameTables, Tile};
 ghost use Rattle.lw_preorder.specs.Tables.{AreTablesOf};
 
@@ -33,7 +33,7 @@ pub fn in_preorder(
     requires tables { (x : Grown) × AreTablesOf x finished.items values.items refs.items }
     requires room { length finished.items < 2 ^ 32 }
     requires tokens { Tile 0 tokens.items }
-    ensures { (x : Grown) → AreTablesOf x finished.items values.items refs.items → IfOk result (λ tree. SameTables tree (parts_of x tokens.items name)) }
+    ensures { (x : Grown) → AreTablesOf x finished.items values.items refs.items → IfOk result (λ tree. SameTables tree (parts_of_tree x tokens.items name)) }
 {
     let numbers = numbers(alloc, finished.as_slice())?;
     let nodes = nodes_by_number(alloc, finished.as_slice(), numbers.as_slice())?;

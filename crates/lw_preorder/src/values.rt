@@ -1,6 +1,6 @@
 // Values whose nodes are named by number.
 ghost use Rattle.std.specs.Prelude.{◌≡◌, ◌<◌, length, map, All};
-ghost use Rattle.lw_preorder.specs.Finishing.{IsWithin};
+ghost use Rattle.lw_preorder.specs.Finishing.{IsPlaceWithin};
 ghost use Rattle.lw_preorder.specs.Renaming.{HasPlaces, value_by_number as value_with_number, entry_by_number};
 
 use lw_base::{NodeId, PropId};
@@ -8,7 +8,7 @@ use lw_tree::Value;
 
 /// A node's number in place of its place. Every other value stays.
 fn name_by_number(numbers: &[u32], value: &mut Value)
-    requires { IsWithin (length numbers.now) value.old }
+    requires { IsPlaceWithin (length numbers.now) value.old }
     ensures { value.new ≡ value_with_number numbers.now value.old }
 {
     if let Value::Child(place) = value {

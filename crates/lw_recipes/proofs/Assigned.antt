@@ -14,7 +14,7 @@ use Rattle.lw_grammar.specs.declared.rule.Value0.TheOpen.{Value0-F}
 use Rattle.lw_look.specs.Sites.{PartSite, ◌▸◌, Part, Body, Value, element_parts, value_parts, IsPartAt, ElementAt, ValueAt}
 use Rattle.lw_look.specs.Sites as site
 use Rattle.lw_look.proofs.Standing.{one_stands, same_body, same_value, no_body_is_value}
-use Rattle.lw_marks.specs.Numbers.{IsPropertyNumber}
+use Rattle.lw_marks.specs.Numbers.{IsNumberOfProperty}
 use Rattle.lw_recipes.specs.Meant.{AssignedAt}
 use Rattle.lw_recipes.specs.Meant as meant
 use Rattle.lw_recipes.specs.Drafted.{ArePartsAt, GoesTo, IsContentOf, IsValueRecipe, IsRecipeOf, IsActionRecipe}
@@ -41,7 +41,7 @@ module _ (g : Grammar) where
   is_value_recipe target s v recipe (name, goes, numbered) stands same content p op c assigned there =
       let (same_name, same_op) = one_assigned goes assigned in
       let same_v : v ≡ c = same_value (one_stands g stands there) in (
-        subst (λ id. IsPropertyNumber g p id.0) (sym same) (subst (λ name. IsPropertyNumber g name target.prop.0) same_name numbered),
+        subst (λ id. IsNumberOfProperty g p id.0) (sym same) (subst (λ name. IsNumberOfProperty g name target.prop.0) same_name numbered),
         subst (λ op. IsContentOf g op c recipe.content) same_op (subst (λ v. IsContentOf g target.op v recipe.content) same_v content),
       )
 
@@ -73,5 +73,5 @@ module _ (g : Grammar) where
 
   -- the value of an assignment goes into its property
   pub value_goes : (target : Target) (s : PartSite) (e : Element) (p : List ℕ) (v : Value0) (span : Span) → out-Element e ≡ layer.Assign p target.op v span →
-      IsPropertyNumber g p target.prop.0 → IsPartAt g s (Body e) → GoesTo g target (s ▸ 0)
+      IsNumberOfProperty g p target.prop.0 → IsPartAt g s (Body e) → GoesTo g target (s ▸ 0)
   value_goes target s e p v span is numbered stands = (p, meant.whole (element_stands s e (layer.Assign p target.op v span) is stands), numbered)

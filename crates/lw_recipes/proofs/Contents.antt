@@ -17,7 +17,7 @@ use Rattle.lw_grammar.proofs.FirstLemmas.{first_item}
 use Rattle.lw_sentences.proofs.Meaning.{one_of_two}
 use Rattle.lw_look.proofs.Naming.{one_name_rule}
 use Rattle.lw_derivations.specs.Crossing.{IsReadBy}
-use Rattle.lw_marks.specs.Numbers.{IsTypeNumber}
+use Rattle.lw_marks.specs.Numbers.{IsNumberOfType}
 use Rattle.lw_marks.specs.Follows.{RefersBy}
 use Rattle.lw_marks.specs.Follows as refers
 use Rattle.lw_numbers.specs.Numbering.{IsNumbered}
@@ -122,7 +122,7 @@ module _ (g : Grammar) where
       (typed, subst (λ written. IsReadBy g type_name written name) same (subst (λ wanted. IsNameRule g wanted name) typed reads))
 
   pub cross_content : (type_name : List ℕ) (written : Option (List ℕ)) (found : Content) →
-      ((want : TypeId) (name : List ℕ) (form : TextForm) → IsReadBy g type_name written name → IsTypeNumber g type_name want.0 → IsNameForm g name form →
+      ((want : TypeId) (name : List ℕ) (form : TextForm) → IsReadBy g type_name written name → IsNumberOfType g type_name want.0 → IsNameForm g name form →
       found ≡ content.Reference want form) →
       (op : Op) (c : Value0) (s : Span) → op ≢ Flag → out-Value0 c ≡ value.Cross type_name written s → IsContentOf g op c found
   cross_content type_name written found told op c s not at other (make.truth is) = absurd (not is)
@@ -132,4 +132,4 @@ module _ (g : Grammar) where
   cross_content type_name written found told op c s not at other (make.called r rule proper is of) = absurd cc
   cross_content type_name written found told op c s not at other (make.reference {name} {want} {form} proper refers_by typed formed) =
       let (same, reads) = reader_of type_name written s at refers_by in
-      told want name form reads (subst (λ wanted. IsTypeNumber g wanted want.0) same typed) formed
+      told want name form reads (subst (λ wanted. IsNumberOfType g wanted want.0) same typed) formed

@@ -11,7 +11,7 @@ use Rattle.lw_grammar.specs.Subtypes.{HasType, ResultNames}
 use Rattle.lw_grammar.specs.Kinds.{first_uses}
 use Rattle.lw_grammar.proofs.FirstUses.{stands_in}
 use Rattle.lw_derivations.proofs.TokenCalls.{got_there}
-use Rattle.lw_marks.specs.Numbers.{IsTypeNumber}
+use Rattle.lw_marks.specs.Numbers.{IsNumberOfType}
 use Rattle.lw_subtypes.proofs.Reaching.{has_place, at_place}
 
 neither : (a b : Bool) → (a || b) ≡ false → (a ≡ false) × (b ≡ false)
@@ -49,7 +49,7 @@ one_place seen (y ∷ ys) i j x is was = by (λ i j. one_place seen ys i j x) (�
     by old new false (suc i) zero is was = absurd (later i was is)
     by old new false (suc i) (suc j) is was = ap suc (new i j is was)
 
-pub one_type_number : (g : Grammar) (name : List ℕ) (m n : ℕ) → IsTypeNumber g name m → IsTypeNumber g name n → m ≡ n
+pub one_type_number : (g : Grammar) (name : List ℕ) (m n : ℕ) → IsNumberOfType g name m → IsNumberOfType g name n → m ≡ n
 one_type_number g name m n is was = one_place [] _ m n name is was
 
 pub number_told : {Id : Type 0} (number : Id → ℕ) (names : List (List ℕ)) (name : List ℕ) (found : Option Id) → option_map number found ≡ position (bytes_eq name) names →
@@ -59,8 +59,8 @@ number_told number names name None is =
 number_told number names name (Some id) is = at_place names name (number id) (sym is)
 
 -- the number that is found is any number that the name has
-pub found_number : (g : Grammar) (name : List ℕ) (n : ℕ) (found : Option TypeId) → MatchOption found ((n : ℕ) → ¬ IsTypeNumber g name n) (λ id. IsTypeNumber g name id.0) →
-    IsTypeNumber g name n → found ≡ Some (record { 0 = n })
+pub found_number : (g : Grammar) (name : List ℕ) (n : ℕ) (found : Option TypeId) → MatchOption found ((n : ℕ) → ¬ IsNumberOfType g name n) (λ id. IsNumberOfType g name id.0) →
+    IsNumberOfType g name n → found ≡ Some (record { 0 = n })
 found_number g name n None none is = absurd (none n is)
 found_number g name n (Some id) was is = ap (λ (n : ℕ). Some (record { 0 = n })) (one_type_number g name id.0 n was is)
 

@@ -16,7 +16,7 @@ use Rattle.lw_grammar.specs.declared.terminal.Primitive.TheVariants as primitive
 use Rattle.lw_grammar.specs.Named.{IsRule, IsTerminal}
 use Rattle.lw_grammar.specs.Subtypes.{HasType}
 use Rattle.lw_look.specs.Sites.{PartSite, Value, IsPartAt, ElementAt}
-use Rattle.lw_marks.specs.Numbers.{IsTypeNumber, IsPropertyNumber, IsNamingProperty}
+use Rattle.lw_marks.specs.Numbers.{IsNumberOfType, IsNumberOfProperty, IsNamingProperty}
 use Rattle.lw_marks.specs.Follows.{RefersBy}
 use Rattle.lw_program.specs.Numbered.{put_sites, act_sites}
 use Rattle.lw_recipes.specs.Meant.{AssignedAt}
@@ -58,22 +58,22 @@ module _ (g : Grammar) where
     called : {name : List ℕ} {s : Span} (r : ℕ) (rule : Rule) → op ≢ Flag → out-Value0 c ≡ value.Call name s → IsRule g name r rule →
         IsMadeBy op c (Text Plain)
     reference : {wanted name : List ℕ} {want : TypeId} {form : TextForm} → op ≢ Flag → RefersBy g c wanted name →
-        IsTypeNumber g wanted want.0 → IsNameForm name form → IsMadeBy op c (Reference want form)
+        IsNumberOfType g wanted want.0 → IsNameForm name form → IsMadeBy op c (Reference want form)
 
   -- the property that an action puts the current node into, if it does
   abbrev pub IsPutNumber : Option (List ℕ × Bool) → Option PropId → Type 0
   IsPutNumber None None = Unit {0}
-  IsPutNumber (Some put) (Some p) = IsPropertyNumber g put.0 p.0
+  IsPutNumber (Some put) (Some p) = IsNumberOfProperty g put.0 p.0
   IsPutNumber _ _ = ⊥
 
   -- these are what becomes of what is read by the grammar
   pub record AreRecipesOf (recipes : RecipeLists) : Type 0 where
     pub values : (n : ℕ) (s : PartSite) (p : List ℕ) (op : Op) (c : Value0) → slice_get (put_sites g) n ≡ Some s → AssignedAt g s p op →
-        IsPartAt g s (Value c) → (recipe : ValueRecipe) × (slice_get recipes.made n ≡ Some recipe) × IsPropertyNumber g p recipe.prop.0
+        IsPartAt g s (Value c) → (recipe : ValueRecipe) × (slice_get recipes.made n ≡ Some recipe) × IsNumberOfProperty g p recipe.prop.0
         × ((content : Content) → IsMadeBy op c content → recipe.content ≡ content)
     pub actions : (n : ℕ) (s : PartSite) (a : Action) → slice_get (act_sites g) n ≡ Some s → ElementAt g s (layer.Act a) →
-        (recipe : ActionRecipe) × (slice_get recipes.done n ≡ Some recipe) × IsTypeNumber g a.type_name recipe.type_id.0
+        (recipe : ActionRecipe) × (slice_get recipes.done n ≡ Some recipe) × IsNumberOfType g a.type_name recipe.type_id.0
         × IsPutNumber a.put recipe.put
     pub types : (r type : ℕ) (rule : Rule) (type_name : List ℕ) → slice_get g.rules r ≡ Some rule → HasType g rule type_name →
-        IsTypeNumber g type_name type → slice_get recipes.opened r ≡ Some (Some (record { 0 = type }))
+        IsNumberOfType g type_name type → slice_get recipes.opened r ≡ Some (Some (record { 0 = type }))
     pub name : IsNamingProperty g recipes.naming

@@ -3,7 +3,7 @@ ghost use Rattle.std.specs.Prelude.{ℕ, ◌≡◌, List, Contains, OnOk, map};
 ghost use Rattle.lw_look.specs.Choices.{inside};
 ghost use Rattle.lw_look.specs.Sites.{PartSite, Body, IsPartAt};
 ghost use Rattle.lw_lexicon.specs.Known.{IsKnownLexicon};
-ghost use Rattle.lw_marks.specs.Numbers.{IsTypeNumber};
+ghost use Rattle.lw_marks.specs.Numbers.{IsNumberOfType};
 ghost use Rattle.lw_numbers.specs.Numbering.{type_names, property_names, put_property};
 ghost use Rattle.lw_program.specs.Numbered.{element_puts, element_acts};
 ghost use Rattle.lw_recipes.specs.Drafted.{ArePartsAt, IsDrafted, IsRecipeOf, StandsSomewhere};

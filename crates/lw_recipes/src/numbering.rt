@@ -3,9 +3,9 @@ ghost use Rattle.std.specs.Prelude.{ℕ, ◌≡◌, List, Some, IfOk, MatchOptio
 ghost use Rattle.lw_grammar.specs.declared.grammar.Grammar.{Grammar};
 ghost use Rattle.lw_grammar.specs.Subtypes.{HasType};
 ghost use Rattle.lw_lexicon.specs.Known.{IsKnownLexicon};
-ghost use Rattle.lw_marks.specs.Numbers.{IsTypeNumber, IsPropertyNumber, IsNamingProperty};
+ghost use Rattle.lw_marks.specs.Numbers.{IsNumberOfType, IsNumberOfProperty, IsNamingProperty};
 ghost use Rattle.lw_numbers.specs.Numbering.{type_names, property_names};
-ghost use Rattle.lw_recipes.specs.Drafted.{IsOpened};
+ghost use Rattle.lw_recipes.specs.Drafted.{IsOpenedType};
 
 use lw_base::{Name, NoMemory, PropId, TypeId};
 use lw_grammar::{Rule, RuleResult};
@@ -15,7 +15,7 @@ use std::alloc::Global;
 /// The number of the type of this name.
 pub(crate) fn type_number(lexicon: Lexicon<'_>, name: &Name) -> Option<TypeId>
     requires known { IsKnownLexicon lexicon }
-    ensures { MatchOption result ((n : ℕ) → ¬ IsTypeNumber lexicon.entry.g.now name.now n) (λ id. IsTypeNumber lexicon.entry.g.now name.now id.0) }
+    ensures { MatchOption result ((n : ℕ) → ¬ IsNumberOfType lexicon.entry.g.now name.now n) (λ id. IsNumberOfType lexicon.entry.g.now name.now id.0) }
 {
     lexicon.numbers.type_of(name)
 }
@@ -24,7 +24,7 @@ pub(crate) fn type_number(lexicon: Lexicon<'_>, name: &Name) -> Option<TypeId>
 pub(crate) fn named_type(lexicon: Lexicon<'_>, name: &Name) -> TypeId
     requires known { IsKnownLexicon lexicon }
     requires named { Contains (type_names lexicon.g.now) name.now }
-    ensures { IsTypeNumber lexicon.entry.g.now name.now result.0 }
+    ensures { IsNumberOfType lexicon.entry.g.now name.now result.0 }
 {
     match type_number(lexicon, name) {
         Some(id) => id,
@@ -35,8 +35,8 @@ pub(crate) fn named_type(lexicon: Lexicon<'_>, name: &Name) -> TypeId
 /// The number of the property of this name.
 fn property_number(lexicon: Lexicon<'_>, name: &Name) -> Option<PropId>
     requires known { IsKnownLexicon lexicon }
-    ensures { MatchOption result ((n : ℕ) → ¬ IsPropertyNumber lexicon.entry.g.now name.now n)
-        (λ id. IsPropertyNumber lexicon.entry.g.now name.now id.0) }
+    ensures { MatchOption result ((n : ℕ) → ¬ IsNumberOfProperty lexicon.entry.g.now name.now n)
+        (λ id. IsNumberOfProperty lexicon.entry.g.now name.now id.0) }
 {
     lexicon.numbers.prop(name)
 }
@@ -45,7 +45,7 @@ fn property_number(lexicon: Lexicon<'_>, name: &Name) -> Option<PropId>
 pub(crate) fn named_property(lexicon: Lexicon<'_>, name: &Name) -> PropId
     requires known { IsKnownLexicon lexicon }
     requires named { Contains (property_names lexicon.g.now) name.now }
-    ensures { IsPropertyNumber lexicon.entry.g.now name.now result.0 }
+    ensures { IsNumberOfProperty lexicon.entry.g.now name.now result.0 }
 {
     match property_number(lexicon, name) {
         Some(id) => id,
@@ -68,7 +68,7 @@ pub(crate) fn naming_property(
 /// The number of the rule's type, where it has a type.
 pub(crate) fn opened_type(lexicon: Lexicon<'_>, rule: &Rule) -> Option<TypeId>
     requires known { IsKnownLexicon lexicon }
-    ensures { IsOpened lexicon.entry.g.now rule.now result }
+    ensures { IsOpenedType lexicon.entry.g.now rule.now result }
 {
     match type_of(rule) {
         Some(name) => type_number(lexicon, name),

@@ -15,7 +15,7 @@ use Rattle.lw_faults.specs.Misplaced as fills
 use Rattle.lw_faults.specs.Steps.{Step, step, PutsInFragment}
 use Rattle.lw_marks.specs.Grown.{Held, Nothing, Takes}
 use Rattle.lw_marks.specs.Brackets.{Bracket, InNode, grown}
-use Rattle.lw_marks.specs.Follows.{Changes}
+use Rattle.lw_marks.specs.Follows.{ChangesOpen}
 use Rattle.lw_marks.specs.Follows as f
 use Rattle.lw_rooted.specs.Growing.{ReadMarks}
 use Rattle.lw_rooted.proofs.GoesOn.{HoldsNode, GoesOn, tokens_alone}
@@ -36,7 +36,7 @@ module _ (g : Grammar) where
     record Acted (ts : List Token) (a : Action) (bs : List Bracket) (type from : ℕ) (held : Held) : Type 0 where
       type_ : ℕ
       held_ : Held
-      change : Changes g text ts (mark.Act a) (InNode type from held ∷ bs) (InNode type_ from held_ ∷ bs)
+      change : ChangesOpen g text ts (mark.Act a) (InNode type from held ∷ bs) (InNode type_ from held_ ∷ bs)
 
     acted : (rule : Rule) (a : Action) → Contains g.rules rule → Contains (leaves rule.body) (Act a) → (ts : List Token)
         (bs : List Bracket) (type from : ℕ) (held : Held) → Acted ts a bs type from held

@@ -15,7 +15,7 @@ use Rattle.lw_faults.specs.Steps as steps
 use Rattle.lw_faults.proofs.StepLemmas.{written, inside_rule}
 use Rattle.lw_marks.specs.Grown.{Grown, Held, Nothing}
 use Rattle.lw_marks.specs.Brackets.{Bracket, InNode}
-use Rattle.lw_marks.specs.Follows.{Changes}
+use Rattle.lw_marks.specs.Follows.{ChangesOpen}
 use Rattle.lw_rooted.specs.Growing.{ReadMarks}
 use Rattle.lw_rooted.proofs.GoesOn.{CanClose, HoldsNode, GoesOn, join, split, AllTokens, tokens_alone}
 use Rattle.lw_rooted.proofs.GoesOn as on
@@ -118,7 +118,7 @@ read_before (Act a ∷ m) x is = read_before m x is
 
 module _ (g : Grammar) (text : List ℕ) where
   -- marks that end with one that is no token
-  pub join_last : {ts us : List Token} {bs mid after : List Bracket} {m : List Mark} {x : Mark} → GoesOn g text ts bs m us mid → Changes g text (ts ++ us) x mid after →
+  pub join_last : {ts us : List Token} {bs mid after : List Bracket} {m : List Mark} {x : Mark} → GoesOn g text ts bs m us mid → ChangesOpen g text (ts ++ us) x mid after →
       CanClose g text after → GoesOn g text ts bs (m ++ x ∷ []) us after
   join_last {ts} {us} {bs} {after} {m} {x} goes change closes =
       subst (λ us. GoesOn g text ts bs (m ++ x ∷ []) us after) (append-nil us) (join g text goes (on.next change closes on.done))

@@ -6,9 +6,10 @@ use Rattle.lw_grammar.specs.declared.grammar.Grammar.{Grammar}
 use Rattle.lw_sentences.specs.Marks.{Mark, Token as AToken, Open, Shut, Put, End, Act, kinds_of}
 use Rattle.lw_marks.specs.Grown.{Grown, Held}
 use Rattle.lw_marks.specs.Brackets.{Bracket, InNode}
-use Rattle.lw_marks.specs.Follows.{Changes, Follows, Closes}
+use Rattle.lw_marks.specs.Follows.{ChangesOpen, FollowsMarks, Closes}
 use Rattle.lw_marks.specs.Follows as f
 use Rattle.lw_rooted.specs.Growing.{ReadMarks}
+use Rattle.lw_rooted.proofs.Lists.{same_head, same_tail}
 
 module _ (g : Grammar) (text : List ℕ) where
   -- whatever was read, the brackets can be closed
@@ -24,7 +25,7 @@ module _ (g : Grammar) (text : List ℕ) where
     done : {ts : List Token} {bs : List Bracket} → GoesOn ts bs [] [] bs
     token : {ts us : List Token} {bs after : List Bracket} {m : List Mark} (t : Token) → GoesOn (ts ++ t ∷ []) bs m us after →
         GoesOn ts bs (AToken t.kind.0 ∷ m) (t ∷ us) after
-    next : {ts us : List Token} {bs mid after : List Bracket} {mark : Mark} {m : List Mark} → Changes g text ts mark bs mid → CanClose mid →
+    next : {ts us : List Token} {bs mid after : List Bracket} {mark : Mark} {m : List Mark} → ChangesOpen g text ts mark bs mid → CanClose mid →
         GoesOn ts mid m us after → GoesOn ts bs (mark ∷ m) us after
 
   pub join : {ts us vs : List Token} {bs mid after : List Bracket} {m n : List Mark} → GoesOn ts bs m us mid → GoesOn (ts ++ us) mid n vs after →
@@ -34,14 +35,14 @@ module _ (g : Grammar) (text : List ℕ) where
       token t (join rest (subst (λ ts. GoesOn ts mid n vs after) (sym (append_assoc ts (t ∷ []) us)) more))
   join (next change closes rest) more = next change closes (join rest more)
 
-  pub followed : {ts us : List Token} {bs after : List Bracket} {m n : List Mark} → Follows g text m ts bs → GoesOn ts bs n us after →
-      Follows g text (m ++ n) (ts ++ us) after
-  followed {ts} {bs} {m} so done = subst (λ m. Follows g text m (ts ++ []) bs) (sym (append-nil m)) (subst (λ ts. Follows g text m ts bs) (sym (append-nil ts)) so)
+  pub followed : {ts us : List Token} {bs after : List Bracket} {m n : List Mark} → FollowsMarks g text m ts bs → GoesOn ts bs n us after →
+      FollowsMarks g text (m ++ n) (ts ++ us) after
+  followed {ts} {bs} {m} so done = subst (λ m. FollowsMarks g text m (ts ++ []) bs) (sym (append-nil m)) (subst (λ ts. FollowsMarks g text m ts bs) (sym (append-nil ts)) so)
   followed {ts} {after} {m} so (token {us} {m = n} t rest) =
-      subst (λ m. Follows g text m (ts ++ t ∷ us) after) (append_assoc m (AToken t.kind.0 ∷ []) n)
-      (subst (λ ts. Follows g text ((m ++ AToken t.kind.0 ∷ []) ++ n) ts after) (append_assoc ts (t ∷ []) us) (followed (f.token t so) rest))
+      subst (λ m. FollowsMarks g text m (ts ++ t ∷ us) after) (append_assoc m (AToken t.kind.0 ∷ []) n)
+      (subst (λ ts. FollowsMarks g text ((m ++ AToken t.kind.0 ∷ []) ++ n) ts after) (append_assoc ts (t ∷ []) us) (followed (f.token t so) rest))
   followed {ts} {us} {after} {m} so (next {mark} {m = n} change closes rest) =
-      subst (λ m. Follows g text m (ts ++ us) after) (append_assoc m (mark ∷ []) n) (followed (f.next so change) rest)
+      subst (λ m. FollowsMarks g text m (ts ++ us) after) (append_assoc m (mark ∷ []) n) (followed (f.next so change) rest)
 
   -- marks that are tokens alone leave brackets as they are
   pub data AllTokens : List Mark → Type 0 where
@@ -51,12 +52,6 @@ module _ (g : Grammar) (text : List ℕ) where
   pub AllTokens-append : {m n : List Mark} → AllTokens m → AllTokens n → AllTokens (m ++ n)
   AllTokens-append none others = others
   AllTokens-append (more rest) others = more (AllTokens-append rest others)
-
-same_head : {X : Type 0} {x y : X} {xs ys : List X} → x ∷ xs ≡ y ∷ ys → x ≡ y
-same_head e = cc
-
-same_tail : {X : Type 0} {x y : X} {xs ys : List X} → x ∷ xs ≡ y ∷ ys → xs ≡ ys
-same_tail e = cc
 
 -- the tokens of two rows of marks
 pub record Split (m n : List Mark) (ts : List Token) : Type 0 where

@@ -12,3 +12,4 @@ pub mod Acting
 pub mod Valued
 pub mod Climbing
 pub mod Sentence
+pub mod Lists

@@ -25,7 +25,7 @@ use Rattle.lw_faults.specs.Written.{NamesType, InfersHere, IsKnownType}
 use Rattle.lw_faults.specs.Written as written
 use Rattle.lw_look.proofs.Standing.{place_of}
 use Rattle.lw_numbers.specs.Numbering.{if_whole, put_property, result_types, leaf_types, rule_types, type_names, leaf_properties, property_names}
-use Rattle.lw_marks.specs.Numbers.{IsTypeNumber, IsPropertyNumber}
+use Rattle.lw_marks.specs.Numbers.{IsNumberOfType, IsNumberOfProperty}
 use Rattle.lw_rooted.proofs.Listed.{alone, in_flat, mapped}
 
 module _ (g : Grammar) where
@@ -37,7 +37,7 @@ module _ (g : Grammar) where
   abbrev written_types : List (List ℕ)
   written_types = declared_types ++ flat_map rule_types g.rules
 
-  pub type_number : (name : List ℕ) → Contains written_types name → (n : ℕ) × IsTypeNumber g name n
+  pub type_number : (name : List ℕ) → Contains written_types name → (n : ℕ) × IsNumberOfType g name n
   type_number name has = place_of (type_names g) name (Contains-first_uses written_types name has)
 
   in_rule : (rule : Rule) (name : List ℕ) → Contains g.rules rule → Contains (rule_types rule) name → Contains written_types name
@@ -65,7 +65,7 @@ module _ (g : Grammar) where
       by (result.Gives p) is = absurd is
       by (result.Infers other s) is = subst (λ n. Contains (other ∷ []) n) (sym is) (alone other)
 
-  pub action_number : (rule : Rule) (a : Action) → Contains g.rules rule → Contains (leaves rule.body) (Act a) → (n : ℕ) × IsTypeNumber g a.type_name n
+  pub action_number : (rule : Rule) (a : Action) → Contains g.rules rule → Contains (leaves rule.body) (Act a) → (n : ℕ) × IsNumberOfType g a.type_name n
   action_number rule a has within = type_number a.type_name (act_type rule a has within)
 
   inferred : {file : ℕ} {s : Span} {name : List ℕ} → InfersHere g file s name → Contains written_types name
@@ -88,10 +88,10 @@ module _ (g : Grammar) where
 
   -- a type that is named has a number, where none is unknown
   pub named_number : {file : ℕ} {s : Span} (name : List ℕ) → ((file : ℕ) (s : Span) (name : List ℕ) → ¬ UnknownType g file s name) → NamesType g file s name →
-      (n : ℕ) × IsTypeNumber g name n
+      (n : ℕ) × IsNumberOfType g name n
   named_number {file} {s} name none names = by (stands_in name written_types) refl
     where
-      by : (b : Bool) → stands_in name written_types ≡ b → (n : ℕ) × IsTypeNumber g name n
+      by : (b : Bool) → stands_in name written_types ≡ b → (n : ℕ) × IsNumberOfType g name n
       by true is = type_number name (Contains-from_any same_text name written_types is)
       by false is =
           absurd (none file s name (fault.unknown names (λ has. true≢false (sym (list_any-from_Contains nat_list_eq_equiv name written_types (known name has)) ∙ is))))
@@ -105,7 +105,7 @@ module _ (g : Grammar) where
   properties_of rule = flat_map leaf_properties (leaves rule.body)
 
   property_number : (rule : Rule) (l : Leaf) (name : List ℕ) → Contains g.rules rule → Contains (leaves rule.body) l → Contains (leaf_properties l) name →
-      (n : ℕ) × IsPropertyNumber g name n
+      (n : ℕ) × IsNumberOfProperty g name n
   property_number rule l name has within is =
       place_of (property_names g) name
       (Contains-first_uses (attribute_names ++ flat_map properties_of g.rules) name
@@ -113,10 +113,10 @@ module _ (g : Grammar) where
       (in_flat properties_of g.rules rule name has (in_flat leaf_properties (leaves rule.body) l name within is))))
 
   pub assigned_number : (rule : Rule) (p : List ℕ) (op : Op) (v : Value0) (s : Span) → Contains g.rules rule → Contains (leaves rule.body) (Assign p op v s) →
-      (n : ℕ) × IsPropertyNumber g p n
+      (n : ℕ) × IsNumberOfProperty g p n
   assigned_number rule p op v s has within = property_number rule (Assign p op v s) p has within (alone p)
 
   pub taken_number : (rule : Rule) (a : Action) (name : List ℕ) (is_list : Bool) → Contains g.rules rule → Contains (leaves rule.body) (Act a) →
-      a.put ≡ Some (name, is_list) → (n : ℕ) × IsPropertyNumber g name n
+      a.put ≡ Some (name, is_list) → (n : ℕ) × IsNumberOfProperty g name n
   taken_number rule a name is_list has within is =
       property_number rule (Act a) name has within (subst (λ put. Contains (put_property put) name) (sym is) (alone name))

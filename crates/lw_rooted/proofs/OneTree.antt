@@ -22,13 +22,14 @@ use Rattle.lw_sentences.specs.Marks.{Mark, Token as AToken, Open, Shut, Put, End
 use Rattle.lw_sentences.proofs.Meaning.{one_of_two}
 use Rattle.lw_look.proofs.Naming.{one_name_rule}
 use Rattle.lw_marks.specs.Grown.{Plain, Text, Grown, Grow, Held, Nothing, Puts, Takes, Points}
-use Rattle.lw_marks.specs.Numbers.{IsTypeNumber, IsPropertyNumber}
+use Rattle.lw_marks.specs.Numbers.{IsNumberOfType, IsNumberOfProperty}
 use Rattle.lw_marks.specs.Values.{NumberMeans, TokenMeans, TokenNames}
 use Rattle.lw_marks.specs.Values as means
-use Rattle.lw_marks.specs.Brackets.{span_of, joined, Bracket, InNode, InValue, Root, grown, Shuts, in_value, in_node, at_root}
-use Rattle.lw_marks.specs.Follows.{MakesReference, RefersBy, LooksUp, IsPlain, PutsIn, Changes, Follows, Closes}
+use Rattle.lw_marks.specs.Brackets.{span_of_tokens, joined_texts, Bracket, InNode, InValue, Root, grown, Shuts, in_value, in_node, at_root}
+use Rattle.lw_marks.specs.Follows.{MakesReference, RefersBy, LooksUp, IsPlain, PutsInto, ChangesOpen, FollowsMarks, Closes}
 use Rattle.lw_marks.specs.Follows as f
 use Rattle.lw_rooted.proofs.Once.{one_place}
+use Rattle.lw_rooted.proofs.Lists.{same_head, same_tail}
 
 -- ---- shutting is a function of what is open
 
@@ -101,12 +102,6 @@ same_written : {wanted other : List ℕ} {rule by : Option (List ℕ)} {s t : Sp
 same_written h = cc
 
 -- lists that end alike
-same_head : {X : Type 0} {x y : X} {xs ys : List X} → x ∷ xs ≡ y ∷ ys → x ≡ y
-same_head e = cc
-
-same_tail : {X : Type 0} {x y : X} {xs ys : List X} → x ∷ xs ≡ y ∷ ys → xs ≡ ys
-same_tail e = cc
-
 no_end_is_empty : {X : Type 0} (xs : List X) (x : X) → xs ++ x ∷ [] ≡ [] → ⊥
 no_end_is_empty xs x e = omega (arith, ap length e, length-append xs (x ∷ []))
 
@@ -140,10 +135,10 @@ module _ (g : Grammar) where
       by (result.Gives p) is was = absurd is
       by (result.Infers name s) is was = is ∙ sym was
 
-  one_number_of_type : (name : List ℕ) (n k : ℕ) → IsTypeNumber g name n → IsTypeNumber g name k → n ≡ k
+  one_number_of_type : (name : List ℕ) (n k : ℕ) → IsNumberOfType g name n → IsNumberOfType g name k → n ≡ k
   one_number_of_type name n k is was = one_place [] _ n k name is was
 
-  one_number_of_property : (name : List ℕ) (n k : ℕ) → IsPropertyNumber g name n → IsPropertyNumber g name k → n ≡ k
+  one_number_of_property : (name : List ℕ) (n k : ℕ) → IsNumberOfProperty g name n → IsNumberOfProperty g name k → n ≡ k
   one_number_of_property name n k is was = one_place [] _ n k name is was
 
   one_terminal : {name : List ℕ} {n k : ℕ} {one other : Terminal} → IsTerminal g name n one → IsTerminal g name k other → one ≡ other
@@ -155,7 +150,7 @@ module _ (g : Grammar) where
   module _ (text : List ℕ) where
     one_look : {name : List ℕ} {ts : List Token} {a b : List ℕ} → LooksUp g text name ts a → LooksUp g text name ts b → a ≡ b
     one_look {ts} {a} (f.terminal n terminal is names) (f.terminal k other was named) =
-        one_named (subst (λ t. TokenNames t (joined text ts) a) (one_terminal is was) names) named
+        one_named (subst (λ t. TokenNames t (joined_texts text ts) a) (one_terminal is was) names) named
     one_look (f.terminal n terminal is names) (f.data_type r rule was) = absurd (no_both is was)
     one_look (f.data_type r rule is) (f.terminal n terminal was named) = absurd (no_both was is)
     one_look (f.data_type r rule is) (f.data_type q other was) = refl
@@ -166,13 +161,13 @@ module _ (g : Grammar) where
     one_plain f.truth (f.terminal k other not was named means) = absurd (not refl)
     one_plain f.truth (f.data_type q other not was named) = absurd (not refl)
     one_plain (f.keyword not is) f.truth = absurd (not refl)
-    one_plain {ts} (f.keyword not is) (f.keyword too was) = ap (λ w. Text w (span_of ts)) (same_word (sym is ∙ was))
+    one_plain {ts} (f.keyword not is) (f.keyword too was) = ap (λ w. Text w (span_of_tokens ts)) (same_word (sym is ∙ was))
     one_plain (f.keyword not is) (f.terminal k other too was named means) = absurd (no_word_calls (sym is ∙ was))
     one_plain (f.keyword not is) (f.data_type q other too was named) = absurd (no_word_calls (sym is ∙ was))
     one_plain (f.terminal n one not is names one_means) f.truth = absurd (not refl)
     one_plain (f.terminal n one not is names one_means) (f.keyword too was) = absurd (no_word_calls (sym was ∙ is))
     one_plain {ts} {a} (f.terminal {name} n one not is names one_means) (f.terminal k other too was named means) =
-        one_meaning (subst (λ t. TokenMeans t (joined text ts) (span_of ts) a) (one_terminal names (subst (λ x. IsTerminal g x k other) (same_call (sym was ∙ is)) named)) one_means) means
+        one_meaning (subst (λ t. TokenMeans t (joined_texts text ts) (span_of_tokens ts) a) (one_terminal names (subst (λ x. IsTerminal g x k other) (same_call (sym was ∙ is)) named)) one_means) means
     one_plain (f.terminal n one not is names one_means) (f.data_type q other too was named) =
         absurd (no_both names (subst (λ x. IsRule g x q other) (same_call (sym was ∙ is)) named))
     one_plain (f.data_type r rule not is names) f.truth = absurd (not refl)
@@ -192,13 +187,13 @@ module _ (g : Grammar) where
     no_plain_reference flag (f.written is) (f.data_type q other not was named) = no_call_crosses (sym was ∙ is)
     no_plain_reference flag (f.by_type is names) (f.data_type q other not was named) = no_call_crosses (sym was ∙ is)
 
-    one_put : {op : Op} {c : Value0} {ts : List Token} {node : Option Grown} {held a b : Held} {p : ℕ} → PutsIn g text op c ts node held p a →
-        PutsIn g text op c ts node held p b → a ≡ b
+    one_put : {op : Op} {c : Value0} {ts : List Token} {node : Option Grown} {held a b : Held} {p : ℕ} → PutsInto g text op c ts node held p a →
+        PutsInto g text op c ts node held p b → a ≡ b
     one_put f.a_node f.a_node = refl
     one_put {ts} {held} {p} (f.a_reference {want = n} {looked = a} flag refers is looks) (f.a_reference {want = k} {looked = b} other_flag other was looked) =
         let same = one_reader refers other in
-        ap (λ want. Points held p want a (span_of ts)) (one_number_of_type _ n k (subst (λ w. IsTypeNumber g w n) same.0 is) was)
-        ∙ ap (λ l. Points held p k l (span_of ts)) (one_look (subst (λ x. LooksUp g text x ts a) same.1 looks) looked)
+        ap (λ want. Points held p want a (span_of_tokens ts)) (one_number_of_type _ n k (subst (λ w. IsNumberOfType g w n) same.0 is) was)
+        ∙ ap (λ l. Points held p k l (span_of_tokens ts)) (one_look (subst (λ x. LooksUp g text x ts a) same.1 looks) looked)
     one_put (f.a_reference flag refers is looks) (f.plain v) = absurd (no_plain_reference flag refers v)
     one_put (f.plain v) (f.a_reference flag refers is looks) = absurd (no_plain_reference flag refers v)
     one_put {held} {p} (f.plain v) (f.plain w) = ap (Puts held p) (one_plain v w)
@@ -221,14 +216,14 @@ module _ (g : Grammar) where
     same_act h = cc
 
     opened : {r q type other : ℕ} {rule by : Rule} {name named : List ℕ} → r ≡ q → slice_get g.rules r ≡ Some rule → slice_get g.rules q ≡ Some by →
-        HasType g rule name → HasType g by named → IsTypeNumber g name type → IsTypeNumber g named other → type ≡ other
+        HasType g rule name → HasType g by named → IsNumberOfType g name type → IsNumberOfType g named other → type ≡ other
     opened {r} {q} {type} {other} {rule} {by} {name} {named} same at was has had is number =
         let rules : rule ≡ by = same_Some _ _ (sym at ∙ ap (slice_get g.rules) same ∙ was) in
         let names : name ≡ named = one_type rule has (subst (λ x. HasType g x named) (sym rules) had) in
-        one_number_of_type name type other is (subst (λ n. IsTypeNumber g n other) (sym names) number)
+        one_number_of_type name type other is (subst (λ n. IsNumberOfType g n other) (sym names) number)
 
     module _ {ts : List Token} where
-      one_change : {x y : Mark} {bs a b : List Bracket} → Changes g text ts x bs a → Changes g text ts y bs b → x ≡ y → a ≡ b
+      one_change : {x y : Mark} {bs a b : List Bracket} → ChangesOpen g text ts x bs a → ChangesOpen g text ts y bs b → x ≡ y → a ≡ b
       one_change {bs} (f.opens {r} {type} at has is) (f.opens {r = q} {type = other} was had number) e =
           ap (λ t. InNode t (length ts) Nothing ∷ bs) (opened (same_open e) at was has had is number)
       one_change (f.opens at has is) (f.puts other) e = absurd (omega (arith, ap form e))
@@ -238,7 +233,7 @@ module _ (g : Grammar) where
       one_change (f.opens at has is) (f.ends other) e = absurd (omega (arith, ap form e))
       one_change {bs} (f.puts {name} {p} {op} {c} is) (f.puts {name = other} {p = q} {op = by} {c = d} was) e =
           let (names, ops, values) = same_put e in
-          ap (λ n. InValue n op c (length ts) None ∷ bs) (one_number_of_property name p q is (subst (λ n. IsPropertyNumber g n q) (sym names) was))
+          ap (λ n. InValue n op c (length ts) None ∷ bs) (one_number_of_property name p q is (subst (λ n. IsNumberOfProperty g n q) (sym names) was))
           ∙ ap (λ o. InValue q o c (length ts) None ∷ bs) ops ∙ ap (λ v. InValue q by v (length ts) None ∷ bs) values
       one_change (f.puts is) (f.opens at has was) e = absurd (omega (arith, ap form e))
       one_change (f.puts is) (f.shuts other) e = absurd (omega (arith, ap form e))
@@ -252,7 +247,7 @@ module _ (g : Grammar) where
       one_change (f.shuts one) (f.wraps some other p) e = absurd (omega (arith, ap form e))
       one_change (f.shuts one) (f.ends other) e = absurd (omega (arith, ap form e))
       one_change (f.renames {from} {new = n} {held} {a} {bs} none is) (f.renames {new = k} {a = b} too was) e =
-          ap (λ t. InNode t from held ∷ bs) (one_number_of_type _ n k is (subst (λ x. IsTypeNumber g x.type_name k) (sym (same_act e)) was))
+          ap (λ t. InNode t from held ∷ bs) (one_number_of_type _ n k is (subst (λ x. IsNumberOfType g x.type_name k) (sym (same_act e)) was))
       one_change (f.renames {a} none is) (f.wraps {a = b} some was p) e = absurd (none-some _ (sym none ∙ ap (λ x. x.put) (same_act e) ∙ some))
       one_change (f.renames none is) (f.opens at has was) e = absurd (omega (arith, ap form e))
       one_change (f.renames none is) (f.puts was) e = absurd (omega (arith, ap form e))
@@ -261,9 +256,9 @@ module _ (g : Grammar) where
       one_change (f.wraps {type} {from} {new = n} {p} {held} {a} {name} {is_list} {bs} some is property) (f.wraps {new = k} {p = q} {a = b} {name = other} too was own) e =
           let puts : name ≡ other = ap (λ x. x.0) (same_Some _ _ (sym some ∙ ap (λ x. x.put) (same_act e) ∙ too)) in
           ap (λ t. InNode t from (Takes Nothing p (grown ts type from held)) ∷ bs)
-          (one_number_of_type _ n k is (subst (λ x. IsTypeNumber g x.type_name k) (sym (same_act e)) was))
+          (one_number_of_type _ n k is (subst (λ x. IsNumberOfType g x.type_name k) (sym (same_act e)) was))
           ∙ ap (λ r. InNode k from (Takes Nothing r (grown ts type from held)) ∷ bs)
-          (one_number_of_property name p q property (subst (λ x. IsPropertyNumber g x q) (sym puts) own))
+          (one_number_of_property name p q property (subst (λ x. IsNumberOfProperty g x q) (sym puts) own))
       one_change (f.wraps some is p) (f.opens at has was) e = absurd (omega (arith, ap form e))
       one_change (f.wraps some is p) (f.puts was) e = absurd (omega (arith, ap form e))
       one_change (f.wraps some is p) (f.shuts was) e = absurd (omega (arith, ap form e))
@@ -272,7 +267,7 @@ module _ (g : Grammar) where
       one_change (f.ends one) (f.puts was) e = absurd (omega (arith, ap form e))
       one_change (f.ends one) (f.shuts was) e = absurd (omega (arith, ap form e))
 
-      no_token_changes : {x : Mark} {k : ℕ} {bs after : List Bracket} → Changes g text ts x bs after → x ≡ AToken k → ⊥
+      no_token_changes : {x : Mark} {k : ℕ} {bs after : List Bracket} → ChangesOpen g text ts x bs after → x ≡ AToken k → ⊥
       no_token_changes (f.opens at has is) e = absurd (omega (arith, ap form e))
       no_token_changes (f.puts is) e = absurd (omega (arith, ap form e))
       no_token_changes (f.shuts is) e = absurd (omega (arith, ap form e))
@@ -280,7 +275,7 @@ module _ (g : Grammar) where
       no_token_changes (f.wraps some is p) e = absurd (omega (arith, ap form e))
       no_token_changes (f.ends is) e = absurd (omega (arith, ap form e))
 
-    pub one_follows : {m n : List Mark} {ts us : List Token} {bs other : List Bracket} → Follows g text m ts bs → Follows g text n us other → m ≡ n → ts ≡ us → bs ≡ other
+    pub one_follows : {m n : List Mark} {ts us : List Token} {bs other : List Bracket} → FollowsMarks g text m ts bs → FollowsMarks g text n us other → m ≡ n → ts ≡ us → bs ≡ other
     one_follows f.nothing f.nothing e t = refl
     one_follows f.nothing (f.token {m} u was) e t = absurd (no_end_is_empty m _ (sym e))
     one_follows f.nothing (f.next {m} was change) e t = absurd (no_end_is_empty m _ (sym e))
@@ -291,7 +286,7 @@ module _ (g : Grammar) where
     one_follows (f.next {m} is change) (f.token {m = n} u was) e t = absurd (no_token_changes change (same_last m n _ _ e))
     one_follows (f.next {m} {mark} {ts} {bs} {after} is change) (f.next {m = n} {mark = other} {ts = us} {bs = bt} {after = behind} was changed) e t =
         let before : bs ≡ bt = one_follows is was (same_front m n mark other e) t in
-        one_change change (subst (λ us. Changes g text us other bs behind) (sym t) (subst (λ b. Changes g text us other b behind) (sym before) changed))
+        one_change change (subst (λ us. ChangesOpen g text us other bs behind) (sym t) (subst (λ b. ChangesOpen g text us other b behind) (sym before) changed))
         (same_last m n mark other e)
 
     pub one_close : {ts : List Token} {bs : List Bracket} {x y : Grown} → Closes g text ts bs x → Closes g text ts bs y → x ≡ y

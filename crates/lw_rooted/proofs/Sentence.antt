@@ -12,7 +12,7 @@ use Rattle.lw_sentences.specs.Yields.{RuleGives}
 use Rattle.lw_sentences.specs.Yields as y
 use Rattle.lw_marks.specs.Grown.{Grown}
 use Rattle.lw_marks.specs.Brackets.{Bracket, Root, grown, at_root}
-use Rattle.lw_marks.specs.Follows.{Changes}
+use Rattle.lw_marks.specs.Follows.{ChangesOpen}
 use Rattle.lw_marks.specs.Follows as f
 use Rattle.lw_rooted.specs.Growing.{GrowsOpen, GrowsRoot, ReadMarks}
 use Rattle.lw_rooted.proofs.GoesOn.{CanClose, GoesOn, followed, Split, split}
@@ -20,6 +20,7 @@ use Rattle.lw_rooted.proofs.GoesOn as on
 use Rattle.lw_rooted.proofs.Rootable.{IsRootable}
 use Rattle.lw_rooted.proofs.Nodes.{nothing_holds, root_closes, opened, shut}
 use Rattle.lw_rooted.proofs.Climbing.{climb_root}
+use Rattle.lw_rooted.proofs.Lists.{same_head, same_tail}
 
 -- tokens of these kinds
 abbrev some_tokens : List ℕ → List Token
@@ -45,12 +46,6 @@ all_read m n ts reads =
     map-append (λ (t : Token). t.kind.0) ts (some_tokens (kinds_of n)) ∙ ap (λ ks. ks ++ map (λ (t : Token). t.kind.0) (some_tokens (kinds_of n))) reads
     ∙ ap (λ ks. kinds_of m ++ ks) (some_kinds (kinds_of n)) ∙ sym (kinds_append m n)
 
-same_head : {X : Type 0} {x y : X} {xs ys : List X} → x ∷ xs ≡ y ∷ ys → x ≡ y
-same_head e = cc
-
-same_tail : {X : Type 0} {x y : X} {xs ys : List X} → x ∷ xs ≡ y ∷ ys → xs ≡ ys
-same_tail e = cc
-
 module _ (g : Grammar) (text : List ℕ) where
   -- ---- a beginning of marks that can be followed
 
@@ -72,7 +67,7 @@ module _ (g : Grammar) (text : List ℕ) where
   no_reads m x t is reads = omega (arith, ap length (subst (λ x. ReadMarks [] (x ∷ m)) is reads))
 
   -- what changes brackets reads no token
-  reads_none : {ts : List Token} {mark : Mark} {bs mid : List Bracket} (m : List Mark) → Changes g text ts mark bs mid → kinds_of (mark ∷ m) ≡ kinds_of m
+  reads_none : {ts : List Token} {mark : Mark} {bs mid : List Bracket} (m : List Mark) → ChangesOpen g text ts mark bs mid → kinds_of (mark ∷ m) ≡ kinds_of m
   reads_none m (f.opens at has is) = refl
   reads_none m (f.puts is) = refl
   reads_none m (f.shuts is) = refl
@@ -80,7 +75,7 @@ module _ (g : Grammar) (text : List ℕ) where
   reads_none m (f.wraps is number property) = refl
   reads_none m (f.ends put) = refl
 
-  began_next : {ts us : List Token} {bs mid : List Bracket} {m : List Mark} {mark x : Mark} → Changes g text ts mark bs mid → CanClose g text mid → x ≡ mark →
+  began_next : {ts us : List Token} {bs mid : List Bracket} {m : List Mark} {mark x : Mark} → ChangesOpen g text ts mark bs mid → CanClose g text mid → x ≡ mark →
       Begins ts mid m us → Begins ts bs (x ∷ m) us
   began_next {ts} {us} {bs} {m} change closing is (after, goes, closes) =
       (after, subst (λ x. GoesOn g text ts bs (x ∷ m) us after) (sym is) (on.next change closing goes), closes)

@@ -4,7 +4,7 @@ use Rattle.lw_base.specs.declared.token.Token.{Token}
 use Rattle.lw_grammar.specs.declared.grammar.Grammar.{Grammar}
 use Rattle.lw_sentences.specs.Marks.{Mark, kinds_of}
 use Rattle.lw_marks.specs.Brackets.{Bracket, Root}
-use Rattle.lw_marks.specs.Follows.{Closes, Follows}
+use Rattle.lw_marks.specs.Follows.{Closes, FollowsMarks}
 use Rattle.lw_marks.specs.Grown.{Grown}
 
 -- the tokens have the kinds of the marks
@@ -14,8 +14,8 @@ ReadMarks ts m = map (λ t. t.kind.0) ts ≡ kinds_of m
 module _ (g : Grammar) (text : List ℕ) where
   -- the marks of a sentence, read with these tokens, leave a root
   abbrev pub GrowsRoot : List Mark → List Token → Type 0
-  GrowsRoot m ts = (x : Grown) × Follows g text m ts (Root x ∷ [])
+  GrowsRoot m ts = (x : Grown) × FollowsMarks g text m ts (Root x ∷ [])
 
   -- marks, read with these tokens, leave brackets that can be closed
   abbrev pub GrowsOpen : List Mark → List Token → Type 0
-  GrowsOpen m ts = (bs : List Bracket) × (x : Grown) × Follows g text m ts bs × Closes g text ts bs x
+  GrowsOpen m ts = (bs : List Bracket) × (x : Grown) × FollowsMarks g text m ts bs × Closes g text ts bs x

@@ -8,14 +8,14 @@ ghost use Rattle.lw_faults.specs.Faults.{IsCheckFault, IsTypeFault};
 ghost use Rattle.lw_sentences.specs.Marks.{Mark};
 ghost use Rattle.lw_sentences.specs.Sentences.{IsSentence};
 ghost use Rattle.lw_marks.specs.Brackets.{Bracket};
-ghost use Rattle.lw_marks.specs.Follows.{Closes, Follows};
+ghost use Rattle.lw_marks.specs.Follows.{Closes, FollowsMarks};
 ghost use Rattle.lw_marks.specs.Grown.{Grown};
 ghost use Rattle.lw_rooted.specs.Growing.{GrowsOpen, GrowsRoot, ReadMarks};
 
 /// Marks that are followed leave one list of open brackets, and that is closed in one way: there is at most one tree of them.
 pub fn marks_have_one_tree()
-    ensures follows { (g : Grammar) (text : List ℕ) (m : List Mark) (ts : List Token) (bs other : List Bracket) → Follows g text m ts bs →
-        Follows g text m ts other → bs ≡ other }
+    ensures follows { (g : Grammar) (text : List ℕ) (m : List Mark) (ts : List Token) (bs other : List Bracket) → FollowsMarks g text m ts bs →
+        FollowsMarks g text m ts other → bs ≡ other }
     ensures closes { (g : Grammar) (text : List ℕ) (ts : List Token) (bs : List Bracket) (x y : Grown) → Closes g text ts bs x →
         Closes g text ts bs y → x ≡ y }
 {}

@@ -29,7 +29,7 @@ use Rattle.lw_program.specs.Says.{Task, Does, Reads, thing_of, CallsBy, SaysTask
 use Rattle.lw_program.specs.Says as say
 use Rattle.lw_begins.specs.Gives.{OpensNode, TaskGives, PlacesGive}
 use Rattle.lw_begins.specs.Gives as gives
-use Rattle.lw_viable.specs.Readings.{IsPlaced, HasPlace}
+use Rattle.lw_viable.specs.Readings.{IsPlacedTask, HasTask}
 use Rattle.lw_viable.specs.Readings as place
 use Rattle.lw_viable.proofs.Doing.{value_form, reads_gives, form_given, form_gives, unlayered_value}
 
@@ -131,7 +131,7 @@ module _ (g : Grammar) (kinds : Kinds) where
     token_said (say.reads_call at by) =
         by_call by (λ m c. value_called at c) (λ m p. (value_calls at (reads_gives g kinds (value_stands at) p).1).1)
 
-    pub call_said : {t : Task} {r : ℕ} → SaysTask g kinds tasks t (Call r) → IsPlaced g t → (rule : Rule) × CallsRule t r rule
+    pub call_said : {t : Task} {r : ℕ} → SaysTask g kinds tasks t (Call r) → IsPlacedTask g t → (rule : Rule) × CallsRule t r rule
     call_said (say.called at by) (place.element stands reached) =
         by_rule by (λ rule is. calls_reach g (site.calls at is) reached) (λ m c. form_given g kinds at (y.called c)) (λ m p. call_given (form_gives g kinds at p))
     call_said (say.reads_call at by) (place.reads stands reached) =

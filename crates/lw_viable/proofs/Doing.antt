@@ -23,7 +23,7 @@ use Rattle.lw_program.specs.Says.{Does, Reads, layer_thing, thing_of}
 use Rattle.lw_recipes.specs.Meant as meant
 use Rattle.lw_begins.specs.Gives.{TaskGives}
 use Rattle.lw_begins.specs.Gives as gives
-use Rattle.lw_viable.specs.Readings.{IsPlaced}
+use Rattle.lw_viable.specs.Readings.{IsPlacedTask}
 use Rattle.lw_viable.specs.Readings as place
 
 module _ (g : Grammar) where
@@ -38,10 +38,10 @@ module _ (g : Grammar) where
   element_stands {s} is stands = subst (ElementAt g s) is (site.element_at stands)
 
   -- a part of a rule that can be reached has a task there
-  pub thing_placed : {s : PartSite} {e : Element} → IsPartAt g s (Body e) → IsReached g (rule_of s) → IsPlaced g (thing_of s e)
+  pub thing_placed : {s : PartSite} {e : Element} → IsPartAt g s (Body e) → IsReached g (rule_of s) → IsPlacedTask g (thing_of s e)
   thing_placed {s} {e} stands reached = by (out-Element e) refl
     where
-      by : (f : Element-F Element) → out-Element e ≡ f → IsPlaced g (layer_thing s f)
+      by : (f : Element-F Element) → out-Element e ≡ f → IsPlacedTask g (layer_thing s f)
       by (layer.Many inner span) is = place.again (site.any (element_stands is stands)) reached
       by (layer.Assign p op v span) is =
           place.assigned (site.part stands (ap (λ f. slice_get (element_parts f) 0) is)) (meant.whole (element_stands is stands)) reached

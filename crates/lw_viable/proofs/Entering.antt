@@ -18,7 +18,7 @@ use Rattle.lw_program.specs.ProgramOf.{ProgramParts, IsProgramOf, StartsRuleAt}
 use Rattle.lw_program.specs.Says.{thing_of}
 use Rattle.lw_begins.specs.Gives.{OpensNode, PlacesGive}
 use Rattle.lw_begins.specs.Gives as gives
-use Rattle.lw_viable.specs.Readings.{HasPlace}
+use Rattle.lw_viable.specs.Readings.{HasTask}
 use Rattle.lw_viable.specs.Readings as place
 use Rattle.lw_viable.proofs.Doing.{thing_placed, does_gives, thing_yields, thing_given}
 use Rattle.lw_viable.proofs.Giving.{first_given, one_place_gives, of_one_place}
@@ -34,17 +34,17 @@ module _ (g : Grammar) (kinds : Kinds) (program : ProgramParts) (is : IsProgramO
     stands : IsPartAt g (body r) (Body rule.body)
     stands = site.whole there
 
-    first_placed : HasPlace g kinds is.tasks start
+    first_placed : HasTask g kinds is.tasks start
     first_placed = (thing_of (body r) rule.body, starts.whole, thing_placed g stands reached)
 
     -- the places of a node, and that of a body alone
-    pub node_placed : OpensNode g rule → All (HasPlace g kinds is.tasks) (start ∷ (start + 1) ∷ [])
+    pub node_placed : OpensNode g rule → All (HasTask g kinds is.tasks) (start ∷ (start + 1) ∷ [])
     node_placed opens =
-        All-cons (HasPlace g kinds is.tasks) start ((start + 1) ∷ []) first_placed
-        (All-cons (HasPlace g kinds is.tasks) (start + 1) [] (_, starts.shut opens.0 opens.1, place.leaves) (All-nil (HasPlace g kinds is.tasks)))
+        All-cons (HasTask g kinds is.tasks) start ((start + 1) ∷ []) first_placed
+        (All-cons (HasTask g kinds is.tasks) (start + 1) [] (_, starts.shut opens.0 opens.1, place.leaves) (All-nil (HasTask g kinds is.tasks)))
 
-    pub body_placed : All (HasPlace g kinds is.tasks) (start ∷ [])
-    body_placed = All-cons (HasPlace g kinds is.tasks) start [] first_placed (All-nil (HasPlace g kinds is.tasks))
+    pub body_placed : All (HasTask g kinds is.tasks) (start ∷ [])
+    body_placed = All-cons (HasTask g kinds is.tasks) start [] first_placed (All-nil (HasTask g kinds is.tasks))
 
     -- a node
     pub node_given : {n : List Mark} → OpensNode g rule → PlacesGive g kinds is.tasks (start ∷ (start + 1) ∷ []) n → RuleGives g kinds r rule (mark.Open r ∷ n)

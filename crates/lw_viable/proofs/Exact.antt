@@ -28,9 +28,9 @@ use Rattle.lw_recipes.specs.Meant.{AreMeant}
 use Rattle.lw_recipes.specs.Meant as meant
 use Rattle.lw_begins.specs.Gives.{OpensNode, TaskGives, PlacesGive}
 use Rattle.lw_begins.specs.Gives as gives
-use Rattle.lw_viable.specs.Readings.{IsPlaced, HasPlace}
+use Rattle.lw_viable.specs.Readings.{IsPlacedTask, HasTask}
 use Rattle.lw_viable.specs.Readings as place
-use Rattle.lw_viable.specs.Moves.{side_by_side, left, Moves}
+use Rattle.lw_viable.specs.Moves.{side_by_side, left, MovesBy}
 use Rattle.lw_viable.specs.Moves as move
 use Rattle.lw_viable.proofs.Beside.{all_beside, each_item, item_at, beside_yield}
 use Rattle.lw_viable.proofs.Calling.{token_said, call_said, read_itself}
@@ -43,7 +43,7 @@ use Rattle.lw_viable.proofs.Saying.{is_calling, loop_said, said, instr_at}
 module _ (g : Grammar) (kinds : Kinds) where
   -- a task that leaves this mark and goes on at these places
   pub record IsExact (tasks : List Task) (t : Task) (l : Option TreeMark) (ps : List ℕ) : Type 0 where
-    pub placed : All (HasPlace g kinds tasks) ps
+    pub placed : All (HasTask g kinds tasks) ps
     pub marks : List Mark
     pub means : AreMeant g (left l) marks
     pub only : {m : List Mark} → AreMeant g (left l) m → m ≡ marks
@@ -53,17 +53,17 @@ module _ (g : Grammar) (kinds : Kinds) where
   value_formed (site.value_at stands) r = y.reads r
 
   module _ (are : AreKinds g kinds) (program : ProgramParts) (is : IsProgramOf g kinds program) where
-    one_placed : (p : ℕ) → HasPlace g kinds is.tasks p → All (HasPlace g kinds is.tasks) (p ∷ [])
-    one_placed p has = All-cons (HasPlace g kinds is.tasks) p [] has (All-nil (HasPlace g kinds is.tasks))
+    one_placed : (p : ℕ) → HasTask g kinds is.tasks p → All (HasTask g kinds is.tasks) (p ∷ [])
+    one_placed p has = All-cons (HasTask g kinds is.tasks) p [] has (All-nil (HasTask g kinds is.tasks))
 
-    two_placed : (p q : ℕ) → HasPlace g kinds is.tasks p → HasPlace g kinds is.tasks q → All (HasPlace g kinds is.tasks) (p ∷ q ∷ [])
-    two_placed p q has other = All-cons (HasPlace g kinds is.tasks) p (q ∷ []) has (one_placed q other)
+    two_placed : (p q : ℕ) → HasTask g kinds is.tasks p → HasTask g kinds is.tasks q → All (HasTask g kinds is.tasks) (p ∷ q ∷ [])
+    two_placed p q has other = All-cons (HasTask g kinds is.tasks) p (q ∷ []) has (one_placed q other)
 
     -- a mark alone is left
     alone : {t : Task} {l : TreeMark} {m : Mark} → AreMeant g (l ∷ []) (m ∷ []) → ((n : List Mark) → AreMeant g (l ∷ []) n → n ≡ m ∷ []) →
         TaskGives g kinds t (m ∷ []) → IsExact is.tasks t (Some l) []
     alone {t} {m} means only given = record {
-      placed = All-nil (HasPlace g kinds is.tasks);
+      placed = All-nil (HasTask g kinds is.tasks);
       marks = m ∷ [];
       means = means;
       only = λ p. only _ p;
@@ -71,13 +71,13 @@ module _ (g : Grammar) (kinds : Kinds) where
     }
 
     -- no mark is left
-    silent : {t : Task} {ps : List ℕ} → All (HasPlace g kinds is.tasks) ps → ((o : List Mark) → PlacesGive g kinds is.tasks ps o → TaskGives g kinds t o) →
+    silent : {t : Task} {ps : List ℕ} → All (HasTask g kinds is.tasks) ps → ((o : List Mark) → PlacesGive g kinds is.tasks ps o → TaskGives g kinds t o) →
         IsExact is.tasks t None ps
     silent placed give = record { placed = placed; marks = []; means = meant.none; only = λ p. none_meant g p; give = λ p. give _ p }
 
     -- nothing is left to be done
     passed : {t : Task} → TaskGives g kinds t [] → IsExact is.tasks t None []
-    passed {t} given = silent (All-nil (HasPlace g kinds is.tasks)) (λ o p. subst (TaskGives g kinds t) (sym (nothing_given g kinds is.tasks p)) given)
+    passed {t} given = silent (All-nil (HasTask g kinds is.tasks)) (λ o p. subst (TaskGives g kinds t) (sym (nothing_given g kinds is.tasks p)) given)
 
     token_exact : {t : Task} {k : KindId} → SaysTask g kinds is.tasks t (Token k) → IsExact is.tasks t (Some (numbered.Token k)) []
     token_exact {k} says = alone (meant.more (meant.token k) meant.none) (λ n p. token_meant g p) (token_said g kinds are is.tasks says).given
@@ -98,10 +98,10 @@ module _ (g : Grammar) (kinds : Kinds) where
     act_exact (say.called at by) = absurd (is_calling g kinds by)
     act_exact (say.reads_call at by) = absurd (is_calling g kinds by)
 
-    row_exact : {t : Task} {first end : ℕ} → SaysTask g kinds is.tasks t (Row first end) → IsPlaced g t → IsExact is.tasks t None (side_by_side first (end - first))
+    row_exact : {t : Task} {first end : ℕ} → SaysTask g kinds is.tasks t (Row first end) → IsPlacedTask g t → IsExact is.tasks t None (side_by_side first (end - first))
     row_exact {first} {end} (say.row {s} {es} (site.row at) stand) (place.element stands reached) =
         silent
-        (all_beside (HasPlace g kinds is.tasks) first (end - first)
+        (all_beside (HasTask g kinds is.tasks) first (end - first)
         (λ i below.
         let it = each_item is.tasks (λ i e. thing_of (s ▸ i) e) es first end stand i below in
         (thing_of (s ▸ it.number) it.item, it.has, thing_placed g (row_part_stands g at it.at) reached)))
@@ -109,7 +109,7 @@ module _ (g : Grammar) (kinds : Kinds) where
     row_exact (say.called at by) placed = absurd (is_calling g kinds by)
     row_exact (say.reads_call at by) placed = absurd (is_calling g kinds by)
 
-    way_exact : {t : Task} {point : PointId} {first end : ℕ} (w : ℕ) → SaysTask g kinds is.tasks t (Choice point first end) → IsPlaced g t → first ≤ w → w < end →
+    way_exact : {t : Task} {point : PointId} {first end : ℕ} (w : ℕ) → SaysTask g kinds is.tasks t (Choice point first end) → IsPlacedTask g t → first ≤ w → w < end →
         IsExact is.tasks t None (w ∷ [])
     way_exact {first} {end} w (say.choice {s} {es} at numbers stand) (place.element stands reached) from below =
         let it = item_at is.tasks (λ i e. thing_of (s ▸ i) e) es first end stand w from below in
@@ -131,7 +131,7 @@ module _ (g : Grammar) (kinds : Kinds) where
     way_exact w (say.called at by) placed from below = absurd (is_calling g kinds by)
     way_exact w (say.reads_call at by) placed from below = absurd (is_calling g kinds by)
 
-    enter_exact : {t : Task} {point : PointId} {inner : ℕ} → SaysTask g kinds is.tasks t (Maybe point inner) → IsPlaced g t → IsExact is.tasks t None (inner ∷ [])
+    enter_exact : {t : Task} {point : PointId} {inner : ℕ} → SaysTask g kinds is.tasks t (Maybe point inner) → IsPlacedTask g t → IsExact is.tasks t None (inner ∷ [])
     enter_exact (say.maybe {s} {e} (site.optional at) numbers has) (place.element stands reached) =
         let there = option_stands g (site.optional at) in
         silent (one_placed _ (thing_of (s ▸ 0) e, has, thing_placed g there reached))
@@ -145,7 +145,7 @@ module _ (g : Grammar) (kinds : Kinds) where
     pass_exact (say.reads_call at by) = absurd (is_calling g kinds by)
 
     -- the body and then the loop, of `*` as of `+`
-    again_exact : {t : Task} {point : PointId} {inner p : ℕ} → SaysTask g kinds is.tasks t (Loop point inner) → slice_get is.tasks p ≡ Some t → IsPlaced g t →
+    again_exact : {t : Task} {point : PointId} {inner p : ℕ} → SaysTask g kinds is.tasks t (Loop point inner) → slice_get is.tasks p ≡ Some t → IsPlacedTask g t →
         IsExact is.tasks t None (inner ∷ p ∷ [])
     again_exact (say.loop {s} {e} at numbers has) here (place.again other reached) =
         silent (two_placed _ _ (thing_of (s ▸ 0) e, has, thing_placed g (repeated_stands g at) reached) (_, here, place.again other reached))
@@ -164,7 +164,7 @@ module _ (g : Grammar) (kinds : Kinds) where
     leave_exact (say.reads_call at by) = absurd (is_calling g kinds by)
 
     once_exact : {t : Task} {point : PointId} {rest inner : ℕ} → SaysTask g kinds is.tasks t (Once rest) → slice_get program.code rest ≡ Some (Loop point inner) →
-        IsPlaced g t → IsExact is.tasks t None (inner ∷ rest ∷ [])
+        IsPlacedTask g t → IsExact is.tasks t None (inner ∷ rest ∷ [])
     once_exact (say.once {s} {e} at behind) loop (place.element stands reached) =
         let there = repeated_stands g (site.some at) in
         let has = loop_said g kinds (said g kinds program is _ behind loop) (site.some at) in
@@ -177,7 +177,7 @@ module _ (g : Grammar) (kinds : Kinds) where
     once_exact (say.called at by) loop placed = absurd (is_calling g kinds by)
     once_exact (say.reads_call at by) loop placed = absurd (is_calling g kinds by)
 
-    put_exact : {t : Task} {n first : ℕ} → SaysTask g kinds is.tasks t (Put n first) → IsPlaced g t →
+    put_exact : {t : Task} {n first : ℕ} → SaysTask g kinds is.tasks t (Put n first) → IsPlacedTask g t →
         IsExact is.tasks t (Some (numbered.Put n)) (first ∷ (first + 1) ∷ [])
     put_exact {first} (say.put {p} {op} {s} {v} stands numbers reads_at ends_at) (place.assigned other assigned reached) = record {
       placed = two_placed _ _ (Reads s, reads_at, place.reads stands reached) (Does (t.Leave mark.End), ends_at, place.leaves);
@@ -200,7 +200,7 @@ module _ (g : Grammar) (kinds : Kinds) where
     put_exact (say.reads_call at by) placed = absurd (is_calling g kinds by)
 
     module _ (nodes : List Bool) (told : (r : ℕ) (rule : Rule) → slice_get g.rules r ≡ Some rule → OpensNode g rule ↔ (slice_get nodes r ≡ Some true)) where
-      open_exact : {t : Task} {r start : ℕ} → SaysTask g kinds is.tasks t (Call r) → IsPlaced g t → slice_get program.starts r ≡ Some (Some start) →
+      open_exact : {t : Task} {r start : ℕ} → SaysTask g kinds is.tasks t (Call r) → IsPlacedTask g t → slice_get program.starts r ≡ Some (Some start) →
           slice_get nodes r ≡ Some true → IsExact is.tasks t (Some (numbered.Open (record { 0 = r }))) (start ∷ (start + 1) ∷ [])
       open_exact {r} says placed at flag =
           let (rule, call) = call_said g kinds are is.tasks says placed in
@@ -213,7 +213,7 @@ module _ (g : Grammar) (kinds : Kinds) where
             give = λ p. call.given (node_given g kinds program is call.reached call.there at opens p);
           }
 
-      call_exact : {t : Task} {r start : ℕ} → SaysTask g kinds is.tasks t (Call r) → IsPlaced g t → slice_get program.starts r ≡ Some (Some start) →
+      call_exact : {t : Task} {r start : ℕ} → SaysTask g kinds is.tasks t (Call r) → IsPlacedTask g t → slice_get program.starts r ≡ Some (Some start) →
           ¬ (slice_get nodes r ≡ Some true) → IsExact is.tasks t None (start ∷ [])
       call_exact {r} says placed at no_flag =
           let (rule, call) = call_said g kinds are is.tasks says placed in
@@ -221,7 +221,7 @@ module _ (g : Grammar) (kinds : Kinds) where
           (λ o p. call.given (body_given g kinds program is call.reached call.there at (λ opens. no_flag ((told r rule call.there).0 opens)) p))
 
       -- each move is so
-      pub moves_exact : {p : ℕ} {l : Option TreeMark} {ps : List ℕ} {t : Task} → slice_get is.tasks p ≡ Some t → IsPlaced g t → Moves program nodes p l ps →
+      pub moves_exact : {p : ℕ} {l : Option TreeMark} {ps : List ℕ} {t : Task} → slice_get is.tasks p ≡ Some t → IsPlacedTask g t → MovesBy program nodes p l ps →
           IsExact is.tasks t l ps
       moves_exact stands placed (move.token here) = token_exact (said g kinds program is _ stands here)
       moves_exact stands placed (move.ends here) = end_exact (said g kinds program is _ stands here)

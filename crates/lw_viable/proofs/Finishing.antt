@@ -17,7 +17,7 @@ use Rattle.lw_look.proofs.Productive.{productive}
 use Rattle.lw_program.specs.Says.{Task}
 use Rattle.lw_begins.specs.Gives.{TaskGives, PlacesGive}
 use Rattle.lw_begins.specs.Gives as gives
-use Rattle.lw_viable.specs.Readings.{IsPlaced, HasPlace}
+use Rattle.lw_viable.specs.Readings.{IsPlacedTask, HasTask}
 use Rattle.lw_viable.specs.Readings as place
 
 module _ (g : Grammar) (kinds : Kinds) where
@@ -27,7 +27,7 @@ module _ (g : Grammar) (kinds : Kinds) where
   value_reads : {v : Value0} {m : List Mark} → PartYields g kinds (Value v) m → (c : Value0) × ValueYields g kinds v c m
   value_reads (look.assigned {c} r) = (c, r)
 
-  task_gives : {t : Task} → IsSupplied g kinds → IsPlaced g t → (m : List Mark) × TaskGives g kinds t m
+  task_gives : {t : Task} → IsSupplied g kinds → IsPlacedTask g t → (m : List Mark) × TaskGives g kinds t m
   task_gives supplied (place.element {s} {e} stands reached) =
       let some = productive g kinds supplied s (Body e) reached stands in (some.marks, gives.does (t.element stands (element_yields some.yields)))
   task_gives supplied (place.assigned {s} {v} stands assigned reached) =
@@ -42,10 +42,10 @@ module _ (g : Grammar) (kinds : Kinds) where
       (some.marks, gives.reads stands r)
 
   module _ (tasks : List Task) (supplied : IsSupplied g kinds) where
-    pub places_give : (ps : List ℕ) → All (HasPlace g kinds tasks) ps → (n : List Mark) × PlacesGive g kinds tasks ps n
+    pub places_give : (ps : List ℕ) → All (HasTask g kinds tasks) ps → (n : List Mark) × PlacesGive g kinds tasks ps n
     places_give [] placed = ([], gives.nothing)
     places_give (p ∷ ps) placed =
-        let (t, stands, has) = All-head (HasPlace g kinds tasks) p ps placed in
+        let (t, stands, has) = All-head (HasTask g kinds tasks) p ps placed in
         let (m, own) = task_gives supplied has in
-        let (n, give) = places_give ps (All-tail (HasPlace g kinds tasks) p ps placed) in
+        let (n, give) = places_give ps (All-tail (HasTask g kinds tasks) p ps placed) in
         (m ++ n, gives.more stands own give)

@@ -32,9 +32,9 @@ use Rattle.lw_recipes.specs.Meant.{AreMeant}
 use Rattle.lw_recipes.specs.Meant as meant
 use Rattle.lw_begins.specs.Gives.{OpensNode, TaskGives, PlacesGive}
 use Rattle.lw_begins.specs.Gives as gives
-use Rattle.lw_viable.specs.Readings.{IsPlaced, HasPlace}
+use Rattle.lw_viable.specs.Readings.{IsPlacedTask, HasTask}
 use Rattle.lw_viable.specs.Readings as place
-use Rattle.lw_viable.specs.Moves.{left, Moves}
+use Rattle.lw_viable.specs.Moves.{left, MovesBy}
 use Rattle.lw_viable.specs.Moves as move
 use Rattle.lw_viable.proofs.Beside.{beside_given, place_at}
 use Rattle.lw_viable.proofs.Calling.{formed, token_said, call_said, read_itself}
@@ -67,7 +67,7 @@ module _ (g : Grammar) (kinds : Kinds) (program : ProgramParts) (is : IsProgramO
     pub places : List ℕ
     pub own : List Mark
     pub others : List Mark
-    pub move : Moves program nodes p mark places
+    pub move : MovesBy program nodes p mark places
     pub means : AreMeant g (left mark) own
     pub give : PlacesGive g kinds is.tasks (places ++ rest) others
     pub are : n ≡ own ++ others
@@ -77,7 +77,7 @@ module _ (g : Grammar) (kinds : Kinds) (program : ProgramParts) (is : IsProgramO
     abbrev MovesTo : ℕ → List Mark → Type 0
     MovesTo p n = Moved p rest (n ++ behind_give)
 
-    by_move : {p : ℕ} {l : Option TreeMark} {ps : List ℕ} {own others n : List Mark} → Moves program nodes p l ps → AreMeant g (left l) own →
+    by_move : {p : ℕ} {l : Option TreeMark} {ps : List ℕ} {own others n : List Mark} → MovesBy program nodes p l ps → AreMeant g (left l) own →
         PlacesGive g kinds is.tasks ps others → n ≡ own ++ others → MovesTo p n
     by_move {own} {others} move means give same = record {
       mark = _;
@@ -90,10 +90,10 @@ module _ (g : Grammar) (kinds : Kinds) (program : ProgramParts) (is : IsProgramO
       are = ap (λ n. n ++ behind_give) same ∙ append_assoc own others behind_give;
     }
 
-    marked : {p : ℕ} {n : List Mark} {l : TreeMark} {m : Mark} → Moves program nodes p (Some l) [] → AreMeant g (l ∷ []) (m ∷ []) → n ≡ m ∷ [] → MovesTo p n
+    marked : {p : ℕ} {n : List Mark} {l : TreeMark} {m : Mark} → MovesBy program nodes p (Some l) [] → AreMeant g (l ∷ []) (m ∷ []) → n ≡ m ∷ [] → MovesTo p n
     marked move means same = by_move move means gives.nothing same
 
-    unmarked : {p : ℕ} {n : List Mark} {ps : List ℕ} → Moves program nodes p None ps → PlacesGive g kinds is.tasks ps n → MovesTo p n
+    unmarked : {p : ℕ} {n : List Mark} {ps : List ℕ} → MovesBy program nodes p None ps → PlacesGive g kinds is.tasks ps n → MovesTo p n
     unmarked move give = by_move move meant.none give refl
 
     token_moves : {p : ℕ} {t : Task} {k : KindId} {n : List Mark} → slice_get program.code p ≡ Some (Token k) → SaysTask g kinds is.tasks t (Token k) →
@@ -168,7 +168,7 @@ module _ (g : Grammar) (kinds : Kinds) (program : ProgramParts) (is : IsProgramO
           by (y.data_type is_none makes_none p) = body_moves (λ opens. makes_none opens.1)
           by (y.node is_none makes p) = node_moves (is_none, makes)
 
-      call_moves : {p r : ℕ} {t : Task} {n : List Mark} → slice_get program.code p ≡ Some (Call r) → SaysTask g kinds is.tasks t (Call r) → IsPlaced g t →
+      call_moves : {p r : ℕ} {t : Task} {n : List Mark} → slice_get program.code p ≡ Some (Call r) → SaysTask g kinds is.tasks t (Call r) → IsPlacedTask g t →
           TaskGives g kinds t n → MovesTo p n
       call_moves {r} here says placed given =
           let (rule, call) = call_said g kinds known is.tasks says placed in
@@ -177,7 +177,7 @@ module _ (g : Grammar) (kinds : Kinds) (program : ProgramParts) (is : IsProgramO
 
       -- whatever the instruction says, what the task gives begins with a move
       pub says_moves : {p : ℕ} {t : Task} {i : Instr} {n : List Mark} → slice_get program.code p ≡ Some i → SaysTask g kinds is.tasks t i → slice_get is.tasks p ≡ Some t →
-          IsPlaced g t → TaskGives g kinds t n → MovesTo p n
+          IsPlacedTask g t → TaskGives g kinds t n → MovesTo p n
       says_moves here (say.keyword at kind) stands placed given = token_moves here (say.keyword at kind) given
       says_moves here (say.called at (say.terminal kind)) stands placed given = token_moves here (say.called at (say.terminal kind)) given
       says_moves here (say.called at (say.rule_ rule)) stands placed given = call_moves here (say.called at (say.rule_ rule)) placed given

@@ -1,4 +1,4 @@
--- Moves are exact: what the places after a move give behind its mark is given by the place before it, and nothing else is.
+-- MovesBy are exact: what the places after a move give behind its mark is given by the place before it, and nothing else is.
 use Rattle.std.proofs.Common.{◌≡◌, ◌↔◌, ℕ, List, ◌∷◌, ◌++◌, Option, Some, All, Bool, true, slice_get, sym, ap, ◌∙◌, subst, append_assoc}
 use Rattle.lw_grammar.specs.declared.grammar.Grammar.{Grammar}
 use Rattle.lw_grammar.specs.declared.rule.Rule.{Rule}
@@ -9,8 +9,8 @@ use Rattle.lw_recipes.specs.declared.mark.TreeMark.{TreeMark}
 use Rattle.lw_recipes.specs.Meant.{AreMeant}
 use Rattle.lw_begins.specs.Gives.{OpensNode, PlacesGive}
 use Rattle.lw_begins.specs.Gives as gives
-use Rattle.lw_viable.specs.Readings.{HasPlace}
-use Rattle.lw_viable.specs.Moves.{left, Moves}
+use Rattle.lw_viable.specs.Readings.{HasTask}
+use Rattle.lw_viable.specs.Moves.{left, MovesBy}
 use Rattle.lw_viable.proofs.Exact.{moves_exact}
 use Rattle.lw_viable.proofs.Giving.{first_given, places_cut}
 use Rattle.lw_viable.proofs.Moved.{Moved, says_moves}
@@ -19,15 +19,15 @@ use Rattle.lw_viable.proofs.Saying.{instr_at}
 module _ (g : Grammar) (kinds : Kinds) (are : AreKinds g kinds) (program : ProgramParts) (is : IsProgramOf g kinds program) (nodes : List Bool)
     (told : (r : ℕ) (rule : Rule) → slice_get g.rules r ≡ Some rule → OpensNode g rule ↔ (slice_get nodes r ≡ Some true)) where
   -- the places that are then to be done are places of the program
-  pub moves_placed : {p : ℕ} {l : Option TreeMark} {ps : List ℕ} → HasPlace g kinds is.tasks p → Moves program nodes p l ps → All (HasPlace g kinds is.tasks) ps
+  pub moves_placed : {p : ℕ} {l : Option TreeMark} {ps : List ℕ} → HasTask g kinds is.tasks p → MovesBy program nodes p l ps → All (HasTask g kinds is.tasks) ps
   moves_placed (t, stands, placed) move = (moves_exact g kinds are program is nodes told stands placed move).placed
 
   -- the mark that is left means one
-  pub moves_mean : {p : ℕ} {l : Option TreeMark} {ps : List ℕ} → HasPlace g kinds is.tasks p → Moves program nodes p l ps →
+  pub moves_mean : {p : ℕ} {l : Option TreeMark} {ps : List ℕ} → HasTask g kinds is.tasks p → MovesBy program nodes p l ps →
       (m : List Mark) × AreMeant g (left l) m
   moves_mean (t, stands, placed) move = let exact = moves_exact g kinds are program is nodes told stands placed move in (exact.marks, exact.means)
 
-  pub moves_give : {p : ℕ} {l : Option TreeMark} {ps rest : List ℕ} {m o : List Mark} → HasPlace g kinds is.tasks p → Moves program nodes p l ps →
+  pub moves_give : {p : ℕ} {l : Option TreeMark} {ps rest : List ℕ} {m o : List Mark} → HasTask g kinds is.tasks p → MovesBy program nodes p l ps →
       AreMeant g (left l) m → PlacesGive g kinds is.tasks (ps ++ rest) o → PlacesGive g kinds is.tasks (p ∷ rest) (m ++ o)
   moves_give {p} {ps} {rest} {m} {o} (t, stands, placed) move means give =
       let exact = moves_exact g kinds are program is nodes told stands placed move in
@@ -37,7 +37,7 @@ module _ (g : Grammar) (kinds : Kinds) (are : AreKinds g kinds) (program : Progr
       (gives.more stands (exact.give cut.before) cut.behind)
 
   -- and nothing else is given: what places give begins with a move at the first
-  pub moves_all : {p : ℕ} {rest : List ℕ} {n : List Mark} → HasPlace g kinds is.tasks p → PlacesGive g kinds is.tasks (p ∷ rest) n →
+  pub moves_all : {p : ℕ} {rest : List ℕ} {n : List Mark} → HasTask g kinds is.tasks p → PlacesGive g kinds is.tasks (p ∷ rest) n →
       Moved g kinds program is nodes p rest n
   moves_all {p} {rest} (t, stands, placed) give =
       let first = first_given g kinds is.tasks stands give in

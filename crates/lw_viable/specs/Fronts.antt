@@ -7,17 +7,17 @@ use Rattle.lw_chains.specs.Chains.{chain}
 use Rattle.lw_program.specs.ProgramOf.{ProgramParts, IsProgramOf}
 use Rattle.lw_recipes.specs.declared.mark.TreeMark.{TreeMark}
 use Rattle.lw_begins.specs.Told.{BeginsParts, TellsBegins}
-use Rattle.lw_viable.specs.Readings.{Reading, Keeps}
+use Rattle.lw_viable.specs.Readings.{KeptReading, Keeps}
 use Rattle.lw_viable.specs.declared.front.Front.{Front}
 
 -- a program, what is told of its places, and the readings that are kept
 pub record FrontsParts : Type 0 where
   pub program : ProgramParts
   pub begins : BeginsParts
-  pub kept : List Reading
+  pub kept : List KeptReading
 
 -- the reading of two lists: its marks, the latest of which stands first there, and its places
-abbrev pub reading_of : List (TreeMark × ℕ) → List (ℕ × ℕ) → Front → Reading
+abbrev pub reading_of : List (TreeMark × ℕ) → List (ℕ × ℕ) → Front → KeptReading
 reading_of marks rests front = record { marks = reverse (chain marks front.marks.0); rest = chain rests front.rest.0 }
 
 -- the kinds of the visible tokens, once one more token was read

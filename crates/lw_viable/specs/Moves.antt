@@ -20,22 +20,22 @@ left (Some m) = m ∷ []
 
 -- `nodes`: a flag for each rule, whether a call of it is a node
 module _ (program : ProgramParts) (nodes : List Bool) where
-  pub data Moves (p : ℕ) : Option TreeMark → List ℕ → Type 0 where
-    token : {k : KindId} → slice_get program.code p ≡ Some (Token k) → Moves p (Some (mark.Token k)) []
-    ends : slice_get program.code p ≡ Some End → Moves p (Some mark.End) []
-    shuts : slice_get program.code p ≡ Some Shut → Moves p (Some mark.Shut) []
-    acts : {n : ℕ} → slice_get program.code p ≡ Some (Act n) → Moves p (Some (mark.Act n)) []
-    row : {first end : ℕ} → slice_get program.code p ≡ Some (Row first end) → Moves p None (side_by_side first (end - first))
+  pub data MovesBy (p : ℕ) : Option TreeMark → List ℕ → Type 0 where
+    token : {k : KindId} → slice_get program.code p ≡ Some (Token k) → MovesBy p (Some (mark.Token k)) []
+    ends : slice_get program.code p ≡ Some End → MovesBy p (Some mark.End) []
+    shuts : slice_get program.code p ≡ Some Shut → MovesBy p (Some mark.Shut) []
+    acts : {n : ℕ} → slice_get program.code p ≡ Some (Act n) → MovesBy p (Some (mark.Act n)) []
+    row : {first end : ℕ} → slice_get program.code p ≡ Some (Row first end) → MovesBy p None (side_by_side first (end - first))
     way : {point : PointId} {first end : ℕ} (w : ℕ) → slice_get program.code p ≡ Some (Choice point first end) → first ≤ w → w < end →
-        Moves p None (w ∷ [])
-    enters : {point : PointId} {inner : ℕ} → slice_get program.code p ≡ Some (Maybe point inner) → Moves p None (inner ∷ [])
-    passes : {point : PointId} {inner : ℕ} → slice_get program.code p ≡ Some (Maybe point inner) → Moves p None []
-    again : {point : PointId} {inner : ℕ} → slice_get program.code p ≡ Some (Loop point inner) → Moves p None (inner ∷ p ∷ [])
-    leaves : {point : PointId} {inner : ℕ} → slice_get program.code p ≡ Some (Loop point inner) → Moves p None []
+        MovesBy p None (w ∷ [])
+    enters : {point : PointId} {inner : ℕ} → slice_get program.code p ≡ Some (Maybe point inner) → MovesBy p None (inner ∷ [])
+    passes : {point : PointId} {inner : ℕ} → slice_get program.code p ≡ Some (Maybe point inner) → MovesBy p None []
+    again : {point : PointId} {inner : ℕ} → slice_get program.code p ≡ Some (Loop point inner) → MovesBy p None (inner ∷ p ∷ [])
+    leaves : {point : PointId} {inner : ℕ} → slice_get program.code p ≡ Some (Loop point inner) → MovesBy p None []
     once : {point : PointId} {rest inner : ℕ} → slice_get program.code p ≡ Some (Once rest) → slice_get program.code rest ≡ Some (Loop point inner) →
-        Moves p None (inner ∷ rest ∷ [])
-    puts : {n first : ℕ} → slice_get program.code p ≡ Some (Put n first) → Moves p (Some (mark.Put n)) (first ∷ (first + 1) ∷ [])
+        MovesBy p None (inner ∷ rest ∷ [])
+    puts : {n first : ℕ} → slice_get program.code p ≡ Some (Put n first) → MovesBy p (Some (mark.Put n)) (first ∷ (first + 1) ∷ [])
     opens : {r start : ℕ} → slice_get program.code p ≡ Some (Call r) → slice_get program.starts r ≡ Some (Some start) →
-        slice_get nodes r ≡ Some true → Moves p (Some (mark.Open (record { 0 = r }))) (start ∷ (start + 1) ∷ [])
+        slice_get nodes r ≡ Some true → MovesBy p (Some (mark.Open (record { 0 = r }))) (start ∷ (start + 1) ∷ [])
     calls : {r start : ℕ} → slice_get program.code p ≡ Some (Call r) → slice_get program.starts r ≡ Some (Some start) →
-        ¬ (slice_get nodes r ≡ Some true) → Moves p None (start ∷ [])
+        ¬ (slice_get nodes r ≡ Some true) → MovesBy p None (start ∷ [])

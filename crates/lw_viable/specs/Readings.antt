@@ -21,23 +21,23 @@ use Rattle.lw_recipes.specs.Meant.{AssignedAt, AreMeant}
 use Rattle.lw_begins.specs.Gives.{PlacesGive}
 
 -- the marks that were left, and the places that are still to be done, one after another
-pub record Reading : Type 0 where
+pub record KeptReading : Type 0 where
   pub marks : List TreeMark
   pub rest : List ℕ
 
 module _ (g : Grammar) where
   -- the task is at a part of a rule that can be reached; a value is assigned there by what the task says
-  pub data IsPlaced : Task → Type 0 where
-    element : {s : PartSite} {e : Element} → IsPartAt g s (Body e) → IsReached g (rule_of s) → IsPlaced (Does (Do s))
+  pub data IsPlacedTask : Task → Type 0 where
+    element : {s : PartSite} {e : Element} → IsPartAt g s (Body e) → IsReached g (rule_of s) → IsPlacedTask (Does (Do s))
     assigned : {p : List ℕ} {op : Op} {s : PartSite} {v : Value0} → IsPartAt g s (Value v) → AssignedAt g s p op → IsReached g (rule_of s) →
-        IsPlaced (Does (Assigned p op s))
-    again : {s : PartSite} {e : Element} → RepeatedAt g s e → IsReached g (rule_of s) → IsPlaced (Does (Again s))
-    leaves : {l : Mark} → IsPlaced (Does (Leave l))
-    reads : {s : PartSite} {v : Value0} → IsPartAt g s (Value v) → IsReached g (rule_of s) → IsPlaced (Reads s)
+        IsPlacedTask (Does (Assigned p op s))
+    again : {s : PartSite} {e : Element} → RepeatedAt g s e → IsReached g (rule_of s) → IsPlacedTask (Does (Again s))
+    leaves : {l : Mark} → IsPlacedTask (Does (Leave l))
+    reads : {s : PartSite} {v : Value0} → IsPartAt g s (Value v) → IsReached g (rule_of s) → IsPlacedTask (Reads s)
 
 module _ (g : Grammar) (kinds : Kinds) (tasks : List Task) where
   -- m begins with the marks of the reading, and goes on with what its places give
-  pub record GoesOn (m : List Mark) (reading : Reading) : Type 0 where
+  pub record GoesOnFrom (m : List Mark) (reading : KeptReading) : Type 0 where
     pub front : List Mark
     pub others : List Mark
     pub meant : AreMeant g reading.marks front
@@ -45,24 +45,24 @@ module _ (g : Grammar) (kinds : Kinds) (tasks : List Task) where
     pub are : m ≡ front ++ others
 
   -- the marks are those of the start, where nothing was read, or end with a token
-  pub data IsCut : List ℕ → List TreeMark → Type 0 where
-    nothing_read : {marks : List TreeMark} → IsCut [] marks
-    token : {k : ℕ} {ks : List ℕ} (marks : List TreeMark) (kind : KindId) → IsCut (k ∷ ks) (marks ++ numbered.Token kind ∷ [])
+  pub data IsCutReading : List ℕ → List TreeMark → Type 0 where
+    nothing_read : {marks : List TreeMark} → IsCutReading [] marks
+    token : {k : ℕ} {ks : List ℕ} (marks : List TreeMark) (kind : KindId) → IsCutReading (k ∷ ks) (marks ++ numbered.Token kind ∷ [])
 
   -- the place has a task of a rule that can be reached
-  abbrev pub HasPlace : ℕ → Type 0
-  HasPlace p = (t : Task) × (slice_get tasks p ≡ Some t) × IsPlaced g t
+  abbrev pub HasTask : ℕ → Type 0
+  HasTask p = (t : Task) × (slice_get tasks p ≡ Some t) × IsPlacedTask g t
 
   -- what is kept of one reading of these kinds: it goes on to sentences alone, it has the kinds, and it is cut behind its last token
-  pub record IsKept (ks : List ℕ) (reading : Reading) : Type 0 where
-    pub sound : (m : List Mark) → GoesOn m reading → IsSentence g kinds m
+  pub record IsKeptReading (ks : List ℕ) (reading : KeptReading) : Type 0 where
+    pub sound : (m : List Mark) → GoesOnFrom m reading → IsSentence g kinds m
     pub front : List Mark
     pub meant : AreMeant g reading.marks front
     pub kinds_are : kinds_of front ≡ ks
-    pub cut : IsCut ks reading.marks
-    pub placed : All HasPlace reading.rest
+    pub cut : IsCutReading ks reading.marks
+    pub placed : All HasTask reading.rest
 
   -- these are the readings of the kinds: each is one, and every sentence that begins with the kinds goes on from one of them
-  pub record Keeps (ks : List ℕ) (readings : List Reading) : Type 0 where
-    pub each : All (IsKept ks) readings
-    pub all : (m : List Mark) (ls : List ℕ) → IsSentence g kinds m → kinds_of m ≡ ks ++ ls → Any (GoesOn m) readings
+  pub record Keeps (ks : List ℕ) (readings : List KeptReading) : Type 0 where
+    pub each : All (IsKeptReading ks) readings
+    pub all : (m : List Mark) (ls : List ℕ) → IsSentence g kinds m → kinds_of m ≡ ks ++ ls → Any (GoesOnFrom m) readings
