@@ -92,16 +92,22 @@ looks_up p from to held looked is =
 
 abbrev t0 : Token
 t0 = word_token 0 0 5
+
 abbrev t1 : Token
 t1 = word_token 5 6 7
+
 abbrev t2 : Token
 t2 = word_token 1 8 13
+
 abbrev t3 : Token
 t3 = word_token 5 14 15
+
 abbrev t4 : Token
 t4 = word_token 2 16 18
+
 abbrev t5 : Token
 t5 = word_token 5 19 20
+
 abbrev t6 : Token
 t6 = word_token 3 21 24
 
