@@ -63,8 +63,8 @@ module _ (g : Grammar) where
   IsActionRecipe s recipe = (a : Action) → ElementAt g s (layer.Act a) → IsRecipeOf a recipe
 
   -- the number of the rule's type, where it has a type
-  abbrev pub IsOpened : Rule → Option TypeId → Type 0
-  IsOpened rule found = (name : List ℕ) (n : ℕ) → HasType g rule name → IsTypeNumber g name n → found ≡ Some (record { 0 = n })
+  abbrev pub IsRuleType : Rule → Option TypeId → Type 0
+  IsRuleType rule found = (name : List ℕ) (n : ℕ) → HasType g rule name → IsTypeNumber g name n → found ≡ Some (record { 0 = n })
 
   -- the recipes of the values and actions at these sites are put behind
   pub record IsDrafted (puts acts : List PartSite) (old new : Draft) : Type 0 where
@@ -75,4 +75,4 @@ module _ (g : Grammar) where
   pub record AreDrafted (rules : List Rule) (draft : Draft) (opened : List (Option TypeId)) : Type 0 where
     pub values : AllZip IsValueRecipe (rule_puts 0 rules) draft.values.items
     pub actions : AllZip IsActionRecipe (rule_acts 0 rules) draft.actions.items
-    pub types : AllZip IsOpened rules opened
+    pub types : AllZip IsRuleType rules opened

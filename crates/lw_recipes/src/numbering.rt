@@ -1,11 +1,11 @@
 // The numbers of types and properties.
-ghost use Rattle.std.specs.Prelude.{ℕ, ◌≡◌, List, Some, IfOk, MatchOption, Contains};
+ghost use Rattle.std.specs.Prelude.{ℕ, ◌≡◌, List, Some, IfOk, IsSomeAnd, MatchOption, Contains};
 ghost use Rattle.lw_grammar.specs.declared.grammar.Grammar.{Grammar};
 ghost use Rattle.lw_grammar.specs.Subtypes.{HasType};
 ghost use Rattle.lw_lexicon.specs.Known.{IsLexicon};
 ghost use Rattle.lw_marks.specs.Numbers.{IsTypeNumber, IsPropertyNumber, IsNamingProperty};
 ghost use Rattle.lw_numbers.specs.Numbering.{type_names, property_names};
-ghost use Rattle.lw_recipes.specs.Drafted.{IsOpened};
+ghost use Rattle.lw_recipes.specs.Drafted.{IsRuleType};
 
 use lw_base::{Name, NoMemory, PropId, TypeId};
 use lw_grammar::{Rule, RuleResult};
@@ -68,7 +68,7 @@ pub(crate) fn naming_property(
 /// The number of the rule's type, where it has a type.
 pub(crate) fn opened_type(lexicon: Lexicon<'_>, rule: &Rule) -> Option<TypeId>
     requires known { IsLexicon lexicon }
-    ensures { IsOpened lexicon.entry.g.now rule.now result }
+    ensures { IsRuleType lexicon.entry.g.now rule.now result }
 {
     match type_of(rule) {
         Some(name) => type_number(lexicon, name),
@@ -78,7 +78,7 @@ pub(crate) fn opened_type(lexicon: Lexicon<'_>, rule: &Rule) -> Option<TypeId>
 
 /// The type of a rule: the one after `returns` or `infers`, else the rule's own name.
 fn type_of(rule: &Rule) -> Option<&Name>
-    ensures { (g : Grammar) → MatchOption result ((own : List ℕ) → ¬ HasType g rule.now own) (λ own. HasType g rule.now own.now) }
+    ensures { (g : Grammar) (name : List ℕ) → HasType g rule.now name → IsSomeAnd result (λ own. own.now ≡ name) }
 {
     if rule.is_fragment {
         return None;
