@@ -16,16 +16,12 @@ use Rattle.lw_look.specs.Choices.{inside}
 use Rattle.lw_look.specs.Sites.{PartSite, body, ◌▸◌, Body, element_parts, IsPartAt}
 use Rattle.lw_marks.specs.Numbers.{IsNamingProperty}
 use Rattle.lw_program.specs.Numbered.{element_puts, layer_puts, element_acts, layer_acts, rule_puts, rule_acts}
-use Rattle.lw_recipes.specs.Drafted.{AddsFor, ArePartsAt, StandsSomewhere, IsValueRecipe, IsActionRecipe, IsOpenedType, IsDrafted, AreDrafted}
+use Rattle.lw_recipes.specs.Drafted.{AddsFor, ArePartsAt, StandsSomewhere, IsValueRecipe, IsActionRecipe, IsRuleType, IsDrafted, AreDrafted}
 use Rattle.lw_recipes.specs.Making.{AreRecipesOf}
 use Rattle.lw_recipes.specs.declared.draft.Draft.{Draft}
 use Rattle.lw_recipes.proofs.Adding.{zip_at, zip_one, zip_more, adds_none, adds_both}
 use Rattle.lw_recipes.proofs.Assigned.{layer_stands}
 use Rattle.lw_recipes.proofs.Listed.{puts_by, acts_by, inside_next, rule_puts_next, rule_acts_next}
-
-take_next : {X : Type 0} (xs : List X) (i : ℕ) (x : X) → slice_get xs i ≡ Some x → take (i + 1) xs ≡ take i xs ++ x ∷ []
-take_next xs i x is =
-    take_more xs i x (slice_get_within xs i x is) ∙ ap (λ y. take i xs ++ y ∷ []) (get_or_from_slice_get xs i x x is)
 
 -- what stands at a place among the rules
 pub rule_at : (all rules : List Rule) (i : ℕ) (rule : Rule) → rules ≡ all → i < length rules → rule ≡ get_or rules i rule → slice_get all i ≡ Some rule
@@ -111,12 +107,12 @@ module _ (g : Grammar) where
   none_drafted draft opened values actions types = record {
     values = subst (AllZip (IsValueRecipe g) []) (sym values) tt;
     actions = subst (AllZip (IsActionRecipe g) []) (sym actions) tt;
-    types = subst (AllZip (IsOpenedType g) []) (sym types) tt;
+    types = subst (AllZip (IsRuleType g) []) (sym types) tt;
   }
 
   -- one rule more
   pub rule_drafted : (i : ℕ) (rule : Rule) (type : Option TypeId) (old new : Draft) (opened more : List (Option TypeId)) → slice_get g.rules i ≡ Some rule →
-      AreDrafted g (take i g.rules) old opened → IsDrafted g (element_puts rule.body (body i)) (element_acts rule.body (body i)) old new → IsOpenedType g rule type →
+      AreDrafted g (take i g.rules) old opened → IsDrafted g (element_puts rule.body (body i)) (element_acts rule.body (body i)) old new → IsRuleType g rule type →
       more ≡ opened ++ type ∷ [] → AreDrafted g (take (i + 1) g.rules) new more
   rule_drafted i rule type old new opened more at are drafted is behind = record {
     values =
@@ -126,8 +122,10 @@ module _ (g : Grammar) where
         subst (λ acts. AllZip (IsActionRecipe g) acts new.actions.items) (sym (rule_acts_next g.rules i rule at))
         (zip_more (IsActionRecipe g) (rule_acts 0 (take i g.rules)) (element_acts rule.body (body i)) old.actions.items new.actions.items are.actions drafted.actions);
     types =
-        subst (λ rules. AllZip (IsOpenedType g) rules more) (sym (take_next g.rules i rule at))
-        (zip_one (IsOpenedType g) (take i g.rules) opened more rule type are.types is behind);
+        let next =
+        take_more g.rules i rule (slice_get_within g.rules i rule at) ∙ ap (λ y. take i g.rules ++ y ∷ []) (get_or_from_slice_get g.rules i rule rule at) in
+        subst (λ rules. AllZip (IsRuleType g) rules more) (sym next)
+        (zip_one (IsRuleType g) (take i g.rules) opened more rule type are.types is behind);
   }
 
   -- those of all rules are those of the grammar
@@ -141,6 +139,6 @@ module _ (g : Grammar) where
         let (recipe, there, is) = zip_at (IsActionRecipe g) (rule_acts 0 g.rules) draft.actions.items are.actions n s at in
         let (typed, puts) = is a stands in (recipe, there, typed, puts);
     types = λ r type rule type_name at has typed.
-        let (found, there, is) = zip_at (IsOpenedType g) g.rules opened are.types r rule at in there ∙ ap Some (is type_name type has typed);
+        let (found, there, is) = zip_at (IsRuleType g) g.rules opened are.types r rule at in there ∙ ap Some (is type_name type has typed);
     name = named;
   }

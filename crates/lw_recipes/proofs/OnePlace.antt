@@ -4,10 +4,6 @@ use Rattle.std.proofs.lemmas.Option.{none-some, same_Some}
 use Rattle.std.proofs.lemmas.Slice.Eq.{bytes_eq-Decides}
 use Rattle.lw_base.specs.declared.numbers.TypeId.{TypeId}
 use Rattle.lw_grammar.specs.declared.grammar.Grammar.{Grammar}
-use Rattle.lw_grammar.specs.declared.rule.Rule.{Rule}
-use Rattle.lw_grammar.specs.declared.rule.RuleResult.{RuleResult}
-use Rattle.lw_grammar.specs.declared.rule.RuleResult.TheVariants.{Own, Returns, Gives, Infers}
-use Rattle.lw_grammar.specs.Subtypes.{HasType, ResultNames}
 use Rattle.lw_grammar.specs.Kinds.{first_uses}
 use Rattle.lw_grammar.proofs.FirstUses.{stands_in}
 use Rattle.lw_derivations.proofs.TokenCalls.{got_there}
@@ -63,13 +59,3 @@ pub found_number : (g : Grammar) (name : List ℕ) (n : ℕ) (found : Option Typ
     IsNumberOfType g name n → found ≡ Some (record { 0 = n })
 found_number g name n None none is = absurd (none n is)
 found_number g name n (Some id) was is = ap (λ (n : ℕ). Some (record { 0 = n })) (one_type_number g name id.0 n was is)
-
-one_result : (g : Grammar) (result : RuleResult) (own a b : List ℕ) → ResultNames g result own a → ResultNames g result own b → a ≡ b
-one_result g Own own a b is was = is ∙ sym was
-one_result g (Returns _ _) own a b is was = is ∙ sym was
-one_result g (Gives _) own a b is was = absurd is
-one_result g (Infers _ _) own a b is was = is ∙ sym was
-
--- a rule has one type
-pub one_type : (g : Grammar) (rule : Rule) (a b : List ℕ) → HasType g rule a → HasType g rule b → a ≡ b
-one_type g rule a b (whole, is) (whole', was) = one_result g rule.result rule.name a b is was

@@ -1,11 +1,11 @@
 // The numbers of types and properties.
-ghost use Rattle.std.specs.Prelude.{ℕ, ◌≡◌, List, Some, IfOk, MatchOption, Contains};
+ghost use Rattle.std.specs.Prelude.{ℕ, ◌≡◌, List, Some, IfOk, IsSomeAnd, MatchOption, Contains};
 ghost use Rattle.lw_grammar.specs.declared.grammar.Grammar.{Grammar};
 ghost use Rattle.lw_grammar.specs.Subtypes.{HasType};
-ghost use Rattle.lw_lexicon.specs.Known.{IsKnownLexicon};
-ghost use Rattle.lw_marks.specs.Numbers.{IsNumberOfType, IsNumberOfProperty, IsNamingProperty};
+ghost use Rattle.lw_lexicon.specs.Known.{IsLexicon};
+ghost use Rattle.lw_marks.specs.Numbers.{IsTypeNumber, IsPropertyNumber, IsNamingProperty};
 ghost use Rattle.lw_numbers.specs.Numbering.{type_names, property_names};
-ghost use Rattle.lw_recipes.specs.Drafted.{IsOpenedType};
+ghost use Rattle.lw_recipes.specs.Drafted.{IsRuleType};
 
 use lw_base::{Name, NoMemory, PropId, TypeId};
 use lw_grammar::{Rule, RuleResult};
@@ -14,17 +14,17 @@ use std::alloc::Global;
 
 /// The number of the type of this name.
 pub(crate) fn type_number(lexicon: Lexicon<'_>, name: &Name) -> Option<TypeId>
-    requires known { IsKnownLexicon lexicon }
-    ensures { MatchOption result ((n : ℕ) → ¬ IsNumberOfType lexicon.entry.g.now name.now n) (λ id. IsNumberOfType lexicon.entry.g.now name.now id.0) }
+    requires known { IsLexicon lexicon }
+    ensures { MatchOption result ((n : ℕ) → ¬ IsTypeNumber lexicon.entry.g.now name.now n) (λ id. IsTypeNumber lexicon.entry.g.now name.now id.0) }
 {
     lexicon.numbers.type_of(name)
 }
 
 /// The same, of a type that the grammar names.
 pub(crate) fn named_type(lexicon: Lexicon<'_>, name: &Name) -> TypeId
-    requires known { IsKnownLexicon lexicon }
+    requires known { IsLexicon lexicon }
     requires named { Contains (type_names lexicon.g.now) name.now }
-    ensures { IsNumberOfType lexicon.entry.g.now name.now result.0 }
+    ensures { IsTypeNumber lexicon.entry.g.now name.now result.0 }
 {
     match type_number(lexicon, name) {
         Some(id) => id,
@@ -34,18 +34,18 @@ pub(crate) fn named_type(lexicon: Lexicon<'_>, name: &Name) -> TypeId
 
 /// The number of the property of this name.
 fn property_number(lexicon: Lexicon<'_>, name: &Name) -> Option<PropId>
-    requires known { IsKnownLexicon lexicon }
-    ensures { MatchOption result ((n : ℕ) → ¬ IsNumberOfProperty lexicon.entry.g.now name.now n)
-        (λ id. IsNumberOfProperty lexicon.entry.g.now name.now id.0) }
+    requires known { IsLexicon lexicon }
+    ensures { MatchOption result ((n : ℕ) → ¬ IsPropertyNumber lexicon.entry.g.now name.now n)
+        (λ id. IsPropertyNumber lexicon.entry.g.now name.now id.0) }
 {
     lexicon.numbers.prop(name)
 }
 
 /// The same, of a property that the grammar names.
 pub(crate) fn named_property(lexicon: Lexicon<'_>, name: &Name) -> PropId
-    requires known { IsKnownLexicon lexicon }
+    requires known { IsLexicon lexicon }
     requires named { Contains (property_names lexicon.g.now) name.now }
-    ensures { IsNumberOfProperty lexicon.entry.g.now name.now result.0 }
+    ensures { IsPropertyNumber lexicon.entry.g.now name.now result.0 }
 {
     match property_number(lexicon, name) {
         Some(id) => id,
@@ -58,7 +58,7 @@ pub(crate) fn naming_property(
     alloc: Global,
     lexicon: Lexicon<'_>,
 ) -> Result<Option<PropId>, NoMemory>
-    requires known { IsKnownLexicon lexicon }
+    requires known { IsLexicon lexicon }
     ensures { IfOk result (IsNamingProperty lexicon.entry.g.now) }
 {
     let name = Name::from_text(alloc, "name")?;
@@ -67,8 +67,8 @@ pub(crate) fn naming_property(
 
 /// The number of the rule's type, where it has a type.
 pub(crate) fn opened_type(lexicon: Lexicon<'_>, rule: &Rule) -> Option<TypeId>
-    requires known { IsKnownLexicon lexicon }
-    ensures { IsOpenedType lexicon.entry.g.now rule.now result }
+    requires known { IsLexicon lexicon }
+    ensures { IsRuleType lexicon.entry.g.now rule.now result }
 {
     match type_of(rule) {
         Some(name) => type_number(lexicon, name),
@@ -78,7 +78,7 @@ pub(crate) fn opened_type(lexicon: Lexicon<'_>, rule: &Rule) -> Option<TypeId>
 
 /// The type of a rule: the one after `returns` or `infers`, else the rule's own name.
 fn type_of(rule: &Rule) -> Option<&Name>
-    ensures { (g : Grammar) → MatchOption result ((own : List ℕ) → ¬ HasType g rule.now own) (λ own. HasType g rule.now own.now) }
+    ensures { (g : Grammar) (name : List ℕ) → HasType g rule.now name → IsSomeAnd result (λ own. own.now ≡ name) }
 {
     if rule.is_fragment {
         return None;

@@ -140,8 +140,7 @@ module _ (g : Grammar) (kinds : Kinds) (text : List ℕ) (root : IsRootable g) w
     )
     climb_rule {name} {r} {called} (y.node whole makes p) is rule before inside s reach =
         let (done, through, climbs) = climb p called [] called (rule_begins g called (among g.rules r called is.first.there) whole) in
-        let single = no_fragment_rule g s is whole in
-        (
+        let single = no_fragment_rule g s is whole in (
           step inside (leaf.Call name s) ∷ [],
           GoesLayer.called single,
           node_climbs r called done before reach single (steps.node r called is whole makes) is.first.there whole makes climbs,
