@@ -12,7 +12,7 @@ use Rattle.lw_grammar.specs.declared.rule.Value0.{Value0, out-Value0}
 use Rattle.lw_grammar.specs.declared.rule.Value0.TheOpen as value
 use Rattle.lw_grammar.specs.Subtypes.{HasType}
 use Rattle.lw_look.specs.Sites.{PartSite, ◌▸◌, Part, Value, IsPartAt, ElementAt}
-use Rattle.lw_marks.specs.Numbers.{IsTypeNumber, IsPropertyNumber}
+use Rattle.lw_marks.specs.Numbers.{IsNumberOfType, IsNumberOfProperty}
 use Rattle.lw_program.specs.Numbered.{rule_puts, rule_acts}
 use Rattle.lw_recipes.specs.Meant.{AssignedAt}
 use Rattle.lw_recipes.specs.Making.{IsMadeBy, IsPutNumber}
@@ -44,7 +44,7 @@ module _ (g : Grammar) where
 
   -- the value at the site goes into this property and in this way
   abbrev pub GoesTo : Target → PartSite → Type 0
-  GoesTo target s = (p : List ℕ) × AssignedAt g s p target.op × IsPropertyNumber g p target.prop.0
+  GoesTo target s = (p : List ℕ) × AssignedAt g s p target.op × IsNumberOfProperty g p target.prop.0
 
   -- ---- what is made
 
@@ -54,17 +54,17 @@ module _ (g : Grammar) where
 
   abbrev pub IsValueRecipe : PartSite → ValueRecipe → Type 0
   IsValueRecipe s recipe =
-      (p : List ℕ) (op : Op) (c : Value0) → AssignedAt g s p op → IsPartAt g s (Value c) → IsPropertyNumber g p recipe.prop.0 × IsContentOf op c recipe.content
+      (p : List ℕ) (op : Op) (c : Value0) → AssignedAt g s p op → IsPartAt g s (Value c) → IsNumberOfProperty g p recipe.prop.0 × IsContentOf op c recipe.content
 
   abbrev pub IsRecipeOf : Action → ActionRecipe → Type 0
-  IsRecipeOf a recipe = IsTypeNumber g a.type_name recipe.type_id.0 × IsPutNumber g a.put recipe.put
+  IsRecipeOf a recipe = IsNumberOfType g a.type_name recipe.type_id.0 × IsPutNumber g a.put recipe.put
 
   abbrev pub IsActionRecipe : PartSite → ActionRecipe → Type 0
   IsActionRecipe s recipe = (a : Action) → ElementAt g s (layer.Act a) → IsRecipeOf a recipe
 
   -- the number of the rule's type, where it has a type
   abbrev pub IsRuleType : Rule → Option TypeId → Type 0
-  IsRuleType rule found = (name : List ℕ) (n : ℕ) → HasType g rule name → IsTypeNumber g name n → found ≡ Some (record { 0 = n })
+  IsRuleType rule found = (name : List ℕ) (n : ℕ) → HasType g rule name → IsNumberOfType g name n → found ≡ Some (record { 0 = n })
 
   -- the recipes of the values and actions at these sites are put behind
   pub record IsDrafted (puts acts : List PartSite) (old new : Draft) : Type 0 where

@@ -2,8 +2,8 @@
 ghost use Rattle.std.specs.Prelude.{ℕ, ◌≡◌, List, Some, IfOk, IsSomeAnd, MatchOption, Contains};
 ghost use Rattle.lw_grammar.specs.declared.grammar.Grammar.{Grammar};
 ghost use Rattle.lw_grammar.specs.Subtypes.{HasType};
-ghost use Rattle.lw_lexicon.specs.Known.{IsLexicon};
-ghost use Rattle.lw_marks.specs.Numbers.{IsTypeNumber, IsPropertyNumber, IsNamingProperty};
+ghost use Rattle.lw_lexicon.specs.Known.{IsKnownLexicon};
+ghost use Rattle.lw_marks.specs.Numbers.{IsNumberOfType, IsNumberOfProperty, IsNamingProperty};
 ghost use Rattle.lw_numbers.specs.Numbering.{type_names, property_names};
 ghost use Rattle.lw_recipes.specs.Drafted.{IsRuleType};
 
@@ -14,17 +14,17 @@ use std::alloc::Global;
 
 /// The number of the type of this name.
 pub(crate) fn type_number(lexicon: Lexicon<'_>, name: &Name) -> Option<TypeId>
-    requires known { IsLexicon lexicon }
-    ensures { MatchOption result ((n : ℕ) → ¬ IsTypeNumber lexicon.entry.g.now name.now n) (λ id. IsTypeNumber lexicon.entry.g.now name.now id.0) }
+    requires known { IsKnownLexicon lexicon }
+    ensures { MatchOption result ((n : ℕ) → ¬ IsNumberOfType lexicon.entry.g.now name.now n) (λ id. IsNumberOfType lexicon.entry.g.now name.now id.0) }
 {
     lexicon.numbers.type_of(name)
 }
 
 /// The same, of a type that the grammar names.
 pub(crate) fn named_type(lexicon: Lexicon<'_>, name: &Name) -> TypeId
-    requires known { IsLexicon lexicon }
+    requires known { IsKnownLexicon lexicon }
     requires named { Contains (type_names lexicon.g.now) name.now }
-    ensures { IsTypeNumber lexicon.entry.g.now name.now result.0 }
+    ensures { IsNumberOfType lexicon.entry.g.now name.now result.0 }
 {
     match type_number(lexicon, name) {
         Some(id) => id,
@@ -34,18 +34,18 @@ pub(crate) fn named_type(lexicon: Lexicon<'_>, name: &Name) -> TypeId
 
 /// The number of the property of this name.
 fn property_number(lexicon: Lexicon<'_>, name: &Name) -> Option<PropId>
-    requires known { IsLexicon lexicon }
-    ensures { MatchOption result ((n : ℕ) → ¬ IsPropertyNumber lexicon.entry.g.now name.now n)
-        (λ id. IsPropertyNumber lexicon.entry.g.now name.now id.0) }
+    requires known { IsKnownLexicon lexicon }
+    ensures { MatchOption result ((n : ℕ) → ¬ IsNumberOfProperty lexicon.entry.g.now name.now n)
+        (λ id. IsNumberOfProperty lexicon.entry.g.now name.now id.0) }
 {
     lexicon.numbers.prop(name)
 }
 
 /// The same, of a property that the grammar names.
 pub(crate) fn named_property(lexicon: Lexicon<'_>, name: &Name) -> PropId
-    requires known { IsLexicon lexicon }
+    requires known { IsKnownLexicon lexicon }
     requires named { Contains (property_names lexicon.g.now) name.now }
-    ensures { IsPropertyNumber lexicon.entry.g.now name.now result.0 }
+    ensures { IsNumberOfProperty lexicon.entry.g.now name.now result.0 }
 {
     match property_number(lexicon, name) {
         Some(id) => id,
@@ -58,7 +58,7 @@ pub(crate) fn naming_property(
     alloc: Global,
     lexicon: Lexicon<'_>,
 ) -> Result<Option<PropId>, NoMemory>
-    requires known { IsLexicon lexicon }
+    requires known { IsKnownLexicon lexicon }
     ensures { IfOk result (IsNamingProperty lexicon.entry.g.now) }
 {
     let name = Name::from_text(alloc, "name")?;
@@ -67,7 +67,7 @@ pub(crate) fn naming_property(
 
 /// The number of the rule's type, where it has a type.
 pub(crate) fn opened_type(lexicon: Lexicon<'_>, rule: &Rule) -> Option<TypeId>
-    requires known { IsLexicon lexicon }
+    requires known { IsKnownLexicon lexicon }
     ensures { IsRuleType lexicon.entry.g.now rule.now result }
 {
     match type_of(rule) {
