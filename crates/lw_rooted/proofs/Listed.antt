@@ -1,5 +1,5 @@
 -- What stands in a list that is put together of others.
-use Rattle.std.proofs.Common.{◌≡◌, ◌<◌, ℕ, zero, suc, List, [], ◌∷◌, ◌++◌, map, Contains, refl, sym, ap, subst, arith}
+use Rattle.std.proofs.Common.{zero, suc, List, [], ◌∷◌, map, Contains, refl, sym, ap, subst, arith}
 use Rattle.std.specs.List.{flat_map}
 use Rattle.std.proofs.lemmas.List.Elements.{Contains-append_left, Contains-append_right}
 use Rattle.lw_grammar.proofs.KeptLemmas.{there}

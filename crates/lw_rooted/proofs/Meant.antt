@@ -1,6 +1,6 @@
 -- Whatever tokens were read for a value, it can be put in.
 use mir.Syntax.{w64}
-use Rattle.std.proofs.Common.{◌≡◌, ◌≢◌, ◌⊎◌, ◌<◌, ◌≤◌, ◌^◌, inl, inr, ℕ, ℤ, List, [], ◌∷◌, Option, Some, None, FitsSigned, drop, length, refl, sym, subst, ◌∙◌, arith}
+use Rattle.std.proofs.Common.{◌≡◌, ◌≢◌, ◌⊎◌, ◌<◌, ◌≤◌, ◌^◌, inl, inr, ℕ, ℤ, List, [], ◌∷◌, Option, Some, None, FitsSigned, drop, refl, sym, subst, ◌∙◌, arith}
 use Rattle.std.specs.Str.Parse.{IsNumeral, AllDigits, without_leading_sign, signed_digits_value}
 use Rattle.std.specs.Char.{digit_value}
 use Rattle.std.proofs.lemmas.Bool.{cases_lt}
@@ -14,12 +14,12 @@ use Rattle.lw_grammar.specs.declared.rule.Op.TheVariants as op
 use Rattle.lw_grammar.specs.declared.rule.Op.TheVariants.{Flag}
 use Rattle.lw_grammar.specs.declared.rule.Rule.{Rule}
 use Rattle.lw_grammar.specs.declared.rule.Value0.{Value0, out-Value0}
-use Rattle.lw_grammar.specs.declared.rule.Value0.TheOpen.{Keyword, Call, Cross}
+use Rattle.lw_grammar.specs.declared.rule.Value0.TheOpen.{Keyword, Call}
 use Rattle.lw_grammar.specs.declared.terminal.Terminal.{Terminal}
 use Rattle.lw_grammar.specs.declared.terminal.Primitive.{Primitive}
 use Rattle.lw_grammar.specs.declared.terminal.Primitive.TheVariants as primitive
 use Rattle.lw_grammar.specs.Named.{IsRule, IsTerminal}
-use Rattle.lw_marks.specs.Grown.{Plain, Text, Truth, Grown, Held, Puts, Takes, Points}
+use Rattle.lw_marks.specs.Grown.{Plain, Truth, Grown, Held, Puts}
 use Rattle.lw_marks.specs.Numbers.{IsTypeNumber}
 use Rattle.lw_marks.specs.Values.{NumberMeans, TokenMeans, TokenNames}
 use Rattle.lw_marks.specs.Values as means

@@ -1,5 +1,5 @@
 -- Marks that are followed leave one list of open brackets, which is closed in one way.
-use Rattle.std.proofs.Common.{◌≡◌, ◌≢◌, ℕ, zero, suc, List, [], ◌∷◌, ◌++◌, Option, Some, None, slice_get, drop, length, refl, sym, ap, subst, ◌∙◌, Bool, arith}
+use Rattle.std.proofs.Common.{◌≡◌, ◌≢◌, ℕ, List, [], ◌∷◌, ◌++◌, Option, Some, None, slice_get, length, refl, sym, ap, subst, ◌∙◌, arith}
 use Rattle.std.proofs.lemmas.List.{length-append}
 use Rattle.std.proofs.lemmas.Option.{none-some, same_Some}
 use Rattle.lw_base.specs.declared.token.Span.{Span}
@@ -11,7 +11,7 @@ use Rattle.lw_grammar.specs.declared.rule.Rule.{Rule}
 use Rattle.lw_grammar.specs.declared.rule.RuleResult.{RuleResult}
 use Rattle.lw_grammar.specs.declared.rule.RuleResult.TheVariants as result
 use Rattle.lw_grammar.specs.declared.rule.Action.{Action}
-use Rattle.lw_grammar.specs.declared.rule.Value0.{Value0, out-Value0}
+use Rattle.lw_grammar.specs.declared.rule.Value0.{Value0}
 use Rattle.lw_grammar.specs.declared.rule.Value0.TheOpen.{Value0-F, Keyword, Call, Cross}
 use Rattle.lw_grammar.specs.declared.terminal.Terminal.{Terminal}
 use Rattle.lw_grammar.specs.Named.{IsRule, IsTerminal, declared_rule, declared_terminal}
@@ -21,7 +21,7 @@ use Rattle.lw_grammar.proofs.FirstLemmas.{first_item}
 use Rattle.lw_sentences.specs.Marks.{Mark, Token as AToken, Open, Shut, Put, End, Act}
 use Rattle.lw_sentences.proofs.Meaning.{one_of_two}
 use Rattle.lw_look.proofs.Naming.{one_name_rule}
-use Rattle.lw_marks.specs.Grown.{Plain, Text, Grown, Grow, Held, Nothing, Puts, Takes, Points}
+use Rattle.lw_marks.specs.Grown.{Plain, Text, Grown, Held, Nothing, Puts, Takes, Points}
 use Rattle.lw_marks.specs.Numbers.{IsTypeNumber, IsPropertyNumber}
 use Rattle.lw_marks.specs.Values.{NumberMeans, TokenMeans, TokenNames}
 use Rattle.lw_marks.specs.Values as means
