@@ -8,6 +8,7 @@ use Rattle.lw_marks.specs.Grown.{Grown, Held}
 use Rattle.lw_marks.specs.Brackets.{Bracket, InNode}
 use Rattle.lw_marks.specs.Follows.{Changes, Follows, Closes}
 use Rattle.lw_marks.specs.Follows as f
+use Rattle.lw_rooted.proofs.Listed.{same_head, same_tail}
 use Rattle.lw_rooted.specs.Growing.{ReadMarks}
 
 module _ (g : Grammar) (text : List ℕ) where
@@ -51,12 +52,6 @@ module _ (g : Grammar) (text : List ℕ) where
   pub AllTokens-append : {m n : List Mark} → AllTokens m → AllTokens n → AllTokens (m ++ n)
   AllTokens-append none others = others
   AllTokens-append (more rest) others = more (AllTokens-append rest others)
-
-same_head : {X : Type 0} {x y : X} {xs ys : List X} → x ∷ xs ≡ y ∷ ys → x ≡ y
-same_head e = cc
-
-same_tail : {X : Type 0} {x y : X} {xs ys : List X} → x ∷ xs ≡ y ∷ ys → xs ≡ ys
-same_tail e = cc
 
 -- the tokens of two rows of marks
 pub record Split (m n : List Mark) (ts : List Token) : Type 0 where

@@ -27,7 +27,7 @@ use Rattle.lw_marks.specs.Brackets.{span_of, joined, Bracket, InNode, InValue}
 use Rattle.lw_marks.specs.Follows.{IsCross, MakesReference, RefersBy, LooksUp, IsPlain, PutsIn, Changes, Closes}
 use Rattle.lw_marks.specs.Follows as f
 use Rattle.lw_rooted.proofs.GoesOn.{CanClose, HoldsNode}
-use Rattle.lw_rooted.proofs.OneTree.{no_word_crosses, no_call_crosses}
+use Rattle.lw_rooted.proofs.OneValue.{no_word_crosses, no_call_crosses}
 
 -- ---- what tokens mean
 

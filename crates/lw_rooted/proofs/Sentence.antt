@@ -14,6 +14,7 @@ use Rattle.lw_marks.specs.Grown.{Grown}
 use Rattle.lw_marks.specs.Brackets.{Bracket, Root, grown, at_root}
 use Rattle.lw_marks.specs.Follows.{Changes}
 use Rattle.lw_marks.specs.Follows as f
+use Rattle.lw_rooted.proofs.Listed.{same_head, same_tail}
 use Rattle.lw_rooted.specs.Growing.{GrowsOpen, GrowsRoot, ReadMarks}
 use Rattle.lw_rooted.proofs.GoesOn.{CanClose, GoesOn, followed, Split, split}
 use Rattle.lw_rooted.proofs.GoesOn as on
@@ -44,12 +45,6 @@ all_read : (m n : List Mark) (ts : List Token) → ReadMarks ts m → ReadMarks 
 all_read m n ts reads =
     map-append (λ (t : Token). t.kind.0) ts (some_tokens (kinds_of n)) ∙ ap (λ ks. ks ++ map (λ (t : Token). t.kind.0) (some_tokens (kinds_of n))) reads
     ∙ ap (λ ks. kinds_of m ++ ks) (some_kinds (kinds_of n)) ∙ sym (kinds_append m n)
-
-same_head : {X : Type 0} {x y : X} {xs ys : List X} → x ∷ xs ≡ y ∷ ys → x ≡ y
-same_head e = cc
-
-same_tail : {X : Type 0} {x y : X} {xs ys : List X} → x ∷ xs ≡ y ∷ ys → xs ≡ ys
-same_tail e = cc
 
 module _ (g : Grammar) (text : List ℕ) where
   -- ---- a beginning of marks that can be followed
