@@ -1,5 +1,5 @@
 -- A call that is no fragment's, and an action, in their places.
-use Rattle.std.proofs.Common.{◌≡◌, ℕ, Bool, true, false, List, [], ◌∷◌, Option, Some, None, Contains, refl, sym, ap, subst, ◌∙◌, true≢false}
+use Rattle.std.proofs.Common.{◌≡◌, ℕ, Bool, false, List, [], ◌∷◌, Option, Some, None, Contains, refl, sym, ap, ◌∙◌, true≢false}
 use Rattle.lw_base.specs.declared.token.Span.{Span}
 use Rattle.lw_base.specs.declared.token.Token.{Token}
 use Rattle.lw_grammar.specs.declared.grammar.Grammar.{Grammar}
@@ -17,7 +17,6 @@ use Rattle.lw_marks.specs.Grown.{Held, Nothing, Takes}
 use Rattle.lw_marks.specs.Brackets.{Bracket, InNode, grown}
 use Rattle.lw_marks.specs.Follows.{ChangesOpen}
 use Rattle.lw_marks.specs.Follows as f
-use Rattle.lw_rooted.specs.Growing.{ReadMarks}
 use Rattle.lw_rooted.proofs.GoesOn.{HoldsNode, GoesOn, tokens_alone}
 use Rattle.lw_rooted.proofs.GoesOn as on
 use Rattle.lw_rooted.proofs.Numbered.{action_number, taken_number}

@@ -1,26 +1,20 @@
 -- Each element of a rule can be read in its place.
-use Rattle.std.proofs.Common.{◌≡◌, ◌≢◌, ◌⊎◌, inl, inr, ℕ, true, false, List, [], ◌∷◌, ◌++◌, Option, Some, None, map, length, Any, Contains, slice_get, drop, refl, sym, ap, subst, ◌∙◌, true≢false}
-use Rattle.std.proofs.lemmas.List.{append-nil}
+use Rattle.std.proofs.Common.{◌≡◌, ℕ, false, List, [], ◌∷◌, ◌++◌, Some, None, slice_get, refl, sym, subst, ◌∙◌, true≢false}
 use Rattle.lw_base.specs.declared.token.Span.{Span}
-use Rattle.lw_base.specs.declared.token.Token.{Token}
 use Rattle.lw_grammar.specs.declared.grammar.Grammar.{Grammar}
-use Rattle.lw_grammar.specs.declared.rule.Action.{Action}
-use Rattle.lw_grammar.specs.declared.rule.Element.{Element, out-Element}
+use Rattle.lw_grammar.specs.declared.rule.Element.{Element}
 use Rattle.lw_grammar.specs.declared.rule.Element.TheOpen as layer
 use Rattle.lw_grammar.specs.declared.rule.Element.TheOpen.{Element-F}
-use Rattle.lw_grammar.specs.declared.rule.Op.{Op}
 use Rattle.lw_grammar.specs.declared.rule.Rule.{Rule}
 use Rattle.lw_grammar.specs.declared.rule.Value0.{Value0, out-Value0}
-use Rattle.lw_grammar.specs.declared.rule.Value0.TheOpen as value
 use Rattle.lw_grammar.specs.declared.rule.Value0.TheOpen.{Value0-F}
 use Rattle.lw_grammar.specs.Kinds.{Kinds}
 use Rattle.lw_grammar.specs.Leaves as leaf
 use Rattle.lw_grammar.specs.Leaves.{Leaf, leaves}
-use Rattle.lw_grammar.specs.Named.{IsRule, IsTerminal}
+use Rattle.lw_grammar.specs.Named.{IsRule}
 use Rattle.lw_grammar.specs.Nodes.{MakesNodes}
 use Rattle.lw_grammar.specs.Reached as reached
-use Rattle.lw_grammar.proofs.FirstLemmas.{first_item}
-use Rattle.lw_sentences.specs.Marks.{Mark, Open, Shut, Put, End, Act}
+use Rattle.lw_sentences.specs.Marks.{Mark, Open, Shut}
 use Rattle.lw_sentences.specs.Yields.{Yields, Gives, YieldsAll, Repeats, Calls, RuleGives, ValueYields, ValueGives}
 use Rattle.lw_sentences.specs.Yields as y
 use Rattle.lw_faults.specs.Misplaced.{FillsNode}
@@ -28,10 +22,9 @@ use Rattle.lw_faults.specs.Misplaced as fills
 use Rattle.lw_faults.specs.Steps.{Step, step, PutsInFragment, GoesThrough, GoesLayer, GoesAll, GoesAgain, ComesLayer, ComesAlong, CallsNode}
 use Rattle.lw_faults.specs.Steps as steps
 use Rattle.lw_look.proofs.Standing.{among}
-use Rattle.lw_marks.specs.Grown.{Grown, Held, Nothing}
-use Rattle.lw_marks.specs.Brackets.{Bracket, InNode, InValue, Root, grown, in_value, in_node}
+use Rattle.lw_marks.specs.Grown.{Nothing}
+use Rattle.lw_marks.specs.Brackets.{InNode, in_node}
 use Rattle.lw_marks.specs.Follows as f
-use Rattle.lw_rooted.specs.Growing.{ReadMarks}
 use Rattle.lw_rooted.proofs.GoesOn.{CanClose, HoldsNode, GoesOn, AllTokens, tokens_alone}
 use Rattle.lw_rooted.proofs.GoesOn as on
 use Rattle.lw_rooted.proofs.Quiet.{makes_none_quiet, tokens_of}
@@ -39,8 +32,8 @@ use Rattle.lw_rooted.proofs.Acting.{no_fragment_rule, no_fragment_terminal, acts
 use Rattle.lw_rooted.proofs.Meant.{IsRead}
 use Rattle.lw_rooted.proofs.Meant as read
 use Rattle.lw_rooted.proofs.Rootable.{IsRootable}
-use Rattle.lw_rooted.proofs.Climbs.{Reaches, Stands, StandsLayer, StandsRow, StandsAgain, there, stands_in, is_behind, put_in, rule_begins, at_once, row_behind, turn_next, turns_behind, Fills, fills_last, Climbs, in_turn, alone_climbs}
-use Rattle.lw_rooted.proofs.Nodes.{value_holds, node_holds, opened, shut}
+use Rattle.lw_rooted.proofs.Climbs.{Reaches, Stands, StandsLayer, StandsRow, StandsAgain, is_behind, put_in, rule_begins, at_once, row_behind, turn_next, turns_behind, fills_last, Climbs, in_turn, alone_climbs}
+use Rattle.lw_rooted.proofs.Nodes.{node_holds, opened, shut}
 use Rattle.lw_rooted.proofs.Valued.{IsFit, ValueGoes, ReadsValue, fit_part, fit_at, calls_here, crosses_here, token_goes, node_goes, put_climbs}
 
 module _ (g : Grammar) (kinds : Kinds) (text : List ℕ) (root : IsRootable g) where

@@ -1,5 +1,5 @@
 -- What is known where an element of a rule is read, and what its marks do to the node that is open there.
-use Rattle.std.proofs.Common.{◌≡◌, ◌<◌, ℕ, false, List, [], ◌∷◌, ◌++◌, map, length, Any, Contains, refl, sym, ap, subst, ◌∙◌, arith}
+use Rattle.std.proofs.Common.{◌≡◌, ℕ, false, List, [], ◌∷◌, ◌++◌, Any, Contains, refl, sym, ap, subst, arith}
 use Rattle.std.proofs.lemmas.List.{append-nil, append_assoc}
 use Rattle.std.proofs.lemmas.List.Elements.{Contains-append_left, Contains-append_right}
 use Rattle.lw_base.specs.declared.token.Token.{Token}
@@ -13,7 +13,7 @@ use Rattle.lw_faults.specs.Misplaced.{FillsNode}
 use Rattle.lw_faults.specs.Steps.{Step, step, PutsInFragment, GoesThrough, GoesAgain, GetsTo, ComesLayer, ComesAlong, BodyBegins, IsBehind}
 use Rattle.lw_faults.specs.Steps as steps
 use Rattle.lw_faults.proofs.StepLemmas.{written, inside_rule}
-use Rattle.lw_marks.specs.Grown.{Grown, Held, Nothing}
+use Rattle.lw_marks.specs.Grown.{Held, Nothing}
 use Rattle.lw_marks.specs.Brackets.{Bracket, InNode}
 use Rattle.lw_marks.specs.Follows.{ChangesOpen}
 use Rattle.lw_rooted.specs.Growing.{ReadMarks}

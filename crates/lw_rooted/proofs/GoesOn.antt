@@ -8,6 +8,7 @@ use Rattle.lw_marks.specs.Grown.{Grown, Held}
 use Rattle.lw_marks.specs.Brackets.{Bracket, InNode}
 use Rattle.lw_marks.specs.Follows.{ChangesOpen, FollowsMarks, Closes}
 use Rattle.lw_marks.specs.Follows as f
+use Rattle.lw_rooted.proofs.Listed.{same_head, same_tail}
 use Rattle.lw_rooted.specs.Growing.{ReadMarks}
 use Rattle.lw_rooted.proofs.Lists.{same_head, same_tail}
 

@@ -1,7 +1,8 @@
 pub mod Once
+pub mod Listed
+pub mod OneValue
 pub mod OneTree
 pub mod GoesOn
-pub mod Listed
 pub mod Quiet
 pub mod Numbered
 pub mod Meant

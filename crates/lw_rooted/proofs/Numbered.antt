@@ -1,5 +1,5 @@
 -- The types and properties that are written in a grammar have numbers, and so has each type that is known.
-use Rattle.std.proofs.Common.{◌≡◌, ◌<◌, ℕ, List, [], ◌∷◌, ◌++◌, map, Option, Some, None, Bool, true, false, Contains, inl, inr, refl, sym, ap, ◌∙◌, subst, true≢false, arith}
+use Rattle.std.proofs.Common.{◌≡◌, ℕ, List, [], ◌∷◌, ◌++◌, map, Some, Bool, true, false, Contains, inl, inr, refl, sym, ◌∙◌, subst, true≢false}
 use Rattle.std.specs.List.{flat_map}
 use Rattle.std.specs.Cmp.Lexicographic.{nat_list_eq_equiv}
 use Rattle.std.proofs.lemmas.Map.Views.{list_any-from_Contains, Contains-from_any}
@@ -15,7 +15,6 @@ use Rattle.lw_grammar.specs.declared.rule.Value0.{Value0}
 use Rattle.lw_grammar.specs.declared.declared_types.Interface.{Interface}
 use Rattle.lw_grammar.specs.declared.declared_types.UnionDef.{UnionDef}
 use Rattle.lw_grammar.specs.declared.declared_types.Attribute.{Attribute}
-use Rattle.lw_grammar.specs.Kinds.{first_uses}
 use Rattle.lw_grammar.specs.Leaves.{Leaf, Assign, Act, leaves}
 use Rattle.lw_grammar.specs.Subtypes.{HasType, ResultNames}
 use Rattle.lw_grammar.proofs.FirstUses.{stands_in, same_text, Contains-first_uses}

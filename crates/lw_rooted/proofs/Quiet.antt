@@ -1,5 +1,5 @@
 -- A rule that makes no nodes gives tokens alone.
-use Rattle.std.proofs.Common.{◌≡◌, ℕ, List, [], ◌∷◌, ◌++◌, map, Contains, refl, sym, subst}
+use Rattle.std.proofs.Common.{ℕ, List, map, Contains, refl, sym, subst}
 use Rattle.std.specs.List.{flat_map}
 use Rattle.std.proofs.lemmas.List.Elements.{Contains-append_left, Contains-append_right}
 use Rattle.lw_grammar.specs.declared.grammar.Grammar.{Grammar}

@@ -1,5 +1,5 @@
 -- What a grammar without faults has, so that its sentences have trees.
-use Rattle.std.proofs.Common.{◌≡◌, ◌≢◌, ℕ, List, Option, Some, None, Bool, true, false, Any, Contains, slice_get, refl, sym, subst, ◌∙◌, true≢false}
+use Rattle.std.proofs.Common.{◌≡◌, ◌≢◌, ℕ, List, Option, Some, None, Bool, true, false, Any, Contains, refl, sym, ◌∙◌, true≢false}
 use Rattle.lw_base.specs.declared.token.Span.{Span}
 use Rattle.lw_grammar.specs.declared.fault.GrammarFault.{GrammarFault}
 use Rattle.lw_grammar.specs.declared.grammar.Grammar.{Grammar}
@@ -8,7 +8,7 @@ use Rattle.lw_grammar.specs.declared.rule.Rule.{Rule}
 use Rattle.lw_grammar.specs.declared.rule.RuleResult.{RuleResult}
 use Rattle.lw_grammar.specs.declared.rule.RuleResult.TheVariants as result
 use Rattle.lw_grammar.specs.declared.rule.Value0.{Value0}
-use Rattle.lw_grammar.specs.Leaves.{Leaf, Assign, Call, leaves, ValueLeaf, Calls, Cross, value_leaves}
+use Rattle.lw_grammar.specs.Leaves.{Assign, Call, leaves, Cross, value_leaves}
 use Rattle.lw_grammar.specs.Named.{IsRule, IsEntry}
 use Rattle.lw_grammar.specs.Nodes.{MakesNodes, IsDataType}
 use Rattle.lw_grammar.specs.Reached.{ValueCalls}
@@ -26,16 +26,15 @@ use Rattle.lw_faults.specs.Names.{UnknownType}
 use Rattle.lw_faults.specs.Steps.{Step, step, IsBehind, CallsNode}
 use Rattle.lw_faults.specs.Written.{NamesType}
 use Rattle.lw_faults.specs.Written as written
-use Rattle.lw_look.proofs.Standing.{among}
-use Rattle.lw_marks.specs.Numbers.{IsNumberOfType}
-use Rattle.lw_rooted.proofs.Numbered.{type_number, rule_type, named_number}
+use Rattle.lw_marks.specs.Numbers.{IsTypeNumber}
+use Rattle.lw_rooted.proofs.Numbered.{named_number}
 
 -- a rule that makes nodes has a type; the type that a cross-reference wants has a number; a call of a rule that makes nodes comes where
 -- nothing is in the node yet; no value is a fragment; the entry rule makes nodes
 pub record IsRootable (g : Grammar) : Type 0 where
   pub type_of : (rule : Rule) → Contains g.rules rule → rule.is_fragment ≡ false → MakesNodes g rule → (name : List ℕ) × HasType g rule name
   pub wanted : (rule : Rule) (p : List ℕ) (op : Op) (v : Value0) (t : Span) (wanted : List ℕ) (by : Option (List ℕ)) (s : Span) → Contains g.rules rule →
-      Contains (leaves rule.body) (Assign p op v t) → Contains (value_leaves v) (Cross wanted by s) → (n : ℕ) × IsNumberOfType g wanted n
+      Contains (leaves rule.body) (Assign p op v t) → Contains (value_leaves v) (Cross wanted by s) → (n : ℕ) × IsTypeNumber g wanted n
   pub behind : (rule written called : Rule) (before : List Step) (name : List ℕ) (s : Span) → IsBehind g rule before (step written (Call name s)) →
       CallsNode g (Call name s) called → ¬ Any (λ x. FillsNode g x.leaf) before
   pub whole : (rule : Rule) (p : List ℕ) (op : Op) (v : Value0) (t : Span) (name : List ℕ) (r : ℕ) (called : Rule) → Contains g.rules rule →
@@ -66,7 +65,7 @@ module _ (g : Grammar) (no_type_fault : (f : GrammarFault) → ¬ IsTypeFault g 
       by (result.Infers name s) same = (name, refl)
 
   wanted_number : (rule : Rule) (p : List ℕ) (op : Op) (v : Value0) (t : Span) (wanted : List ℕ) (by : Option (List ℕ)) (s : Span) → Contains g.rules rule →
-      Contains (leaves rule.body) (Assign p op v t) → Contains (value_leaves v) (Cross wanted by s) → (n : ℕ) × IsNumberOfType g wanted n
+      Contains (leaves rule.body) (Assign p op v t) → Contains (value_leaves v) (Cross wanted by s) → (n : ℕ) × IsTypeNumber g wanted n
   wanted_number rule p op v t wanted None s has within is = named_number g wanted no_unknown (written.crossed rule p op v t has within is)
   wanted_number rule p op v t wanted (Some by) s has within is = named_number g wanted no_unknown (written.crossed_by rule p op v t by has within is)
 

@@ -1,6 +1,6 @@
 -- Each sentence of a grammar without faults leaves a root, and each beginning of its marks leaves brackets that can be closed.
-use Rattle.std.proofs.Common.{◌≡◌, ◌≢◌, ℕ, false, List, [], ◌∷◌, ◌++◌, Some, map, length, slice_get, refl, sym, ap, subst, ◌∙◌, true≢false, arith}
-use Rattle.std.proofs.lemmas.List.{append-nil, map-append, length-append}
+use Rattle.std.proofs.Common.{◌≡◌, ◌≢◌, ℕ, false, List, [], ◌∷◌, ◌++◌, map, length, refl, sym, ap, subst, ◌∙◌, true≢false, arith}
+use Rattle.std.proofs.lemmas.List.{map-append}
 use Rattle.lw_base.specs.declared.token.Token.{Token}
 use Rattle.lw_grammar.specs.declared.grammar.Grammar.{Grammar}
 use Rattle.lw_grammar.specs.declared.rule.Rule.{Rule}
@@ -14,6 +14,7 @@ use Rattle.lw_marks.specs.Grown.{Grown}
 use Rattle.lw_marks.specs.Brackets.{Bracket, Root, grown, at_root}
 use Rattle.lw_marks.specs.Follows.{ChangesOpen}
 use Rattle.lw_marks.specs.Follows as f
+use Rattle.lw_rooted.proofs.Listed.{same_head, same_tail}
 use Rattle.lw_rooted.specs.Growing.{GrowsOpen, GrowsRoot, ReadMarks}
 use Rattle.lw_rooted.proofs.GoesOn.{CanClose, GoesOn, followed, Split, split}
 use Rattle.lw_rooted.proofs.GoesOn as on

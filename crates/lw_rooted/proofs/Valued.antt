@@ -1,6 +1,5 @@
 -- A value that is assigned, from its property's bracket to its end.
 use Rattle.std.proofs.Common.{◌≡◌, ℕ, false, List, [], ◌∷◌, ◌++◌, Option, Some, None, map, length, drop, slice_get, Contains, refl, sym, subst, ◌∙◌}
-use Rattle.std.specs.List.{flat_map}
 use Rattle.lw_base.specs.declared.token.Span.{Span}
 use Rattle.lw_base.specs.declared.token.Token.{Token}
 use Rattle.lw_grammar.specs.declared.grammar.Grammar.{Grammar}
@@ -8,8 +7,7 @@ use Rattle.lw_grammar.specs.declared.rule.Op.{Op}
 use Rattle.lw_grammar.specs.declared.rule.Rule.{Rule}
 use Rattle.lw_grammar.specs.declared.rule.Value0.{Value0, out-Value0}
 use Rattle.lw_grammar.specs.declared.rule.Value0.TheOpen as value
-use Rattle.lw_grammar.specs.Leaves.{Assign, leaves, ValueLeaf, Calls, Cross, value_leaves}
-use Rattle.lw_grammar.specs.NameRules.{IsNameRule}
+use Rattle.lw_grammar.specs.Leaves.{Assign, ValueLeaf, Calls, Cross, value_leaves}
 use Rattle.lw_grammar.specs.Named.{IsRule}
 use Rattle.lw_grammar.specs.Nodes.{MakesNodes}
 use Rattle.lw_grammar.specs.Reached.{ValueCalls}
@@ -18,8 +16,8 @@ use Rattle.lw_grammar.proofs.LeafLemmas.{values_by}
 use Rattle.lw_sentences.specs.Marks.{Mark, Open, Shut, Put, End}
 use Rattle.lw_faults.specs.Misplaced as fills
 use Rattle.lw_faults.specs.Steps.{Step, step}
-use Rattle.lw_marks.specs.Grown.{Grown, Held}
-use Rattle.lw_marks.specs.Numbers.{IsNumberOfType}
+use Rattle.lw_marks.specs.Grown.{Grown}
+use Rattle.lw_marks.specs.Numbers.{IsTypeNumber}
 use Rattle.lw_marks.specs.Brackets.{Bracket, InNode, InValue, grown, in_value}
 use Rattle.lw_marks.specs.Follows as f
 use Rattle.lw_rooted.specs.Growing.{ReadMarks}
@@ -35,7 +33,7 @@ use Rattle.lw_rooted.proofs.Nodes.{value_holds, opened, shut}
 module _ (g : Grammar) where
   -- the types that the value's cross-references want have numbers, and it is read by no fragment
   pub record IsFit (v : Value0) : Type 0 where
-    pub wanted : (wanted : List ℕ) (by : Option (List ℕ)) (s : Span) → Contains (value_leaves v) (Cross wanted by s) → (n : ℕ) × IsNumberOfType g wanted n
+    pub wanted : (wanted : List ℕ) (by : Option (List ℕ)) (s : Span) → Contains (value_leaves v) (Cross wanted by s) → (n : ℕ) × IsTypeNumber g wanted n
     pub whole : (name : List ℕ) (r : ℕ) (called : Rule) → ValueCalls g v name → IsRule g name r called → called.is_fragment ≡ false
 
   pub fit_at : IsRootable g → {rule inside : Rule} {before : List Step} {p : List ℕ} {op : Op} {v : Value0} {s : Span} →

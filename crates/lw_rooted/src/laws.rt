@@ -20,7 +20,8 @@ pub fn marks_have_one_tree()
         Closes g text ts bs y → x ≡ y }
 {}
 
-/// In a grammar without faults each sentence has a tree, and so has each beginning of its marks that is not empty.
+/// In a grammar without faults each sentence, read with tokens of its kinds, has a tree: its marks leave a root. Each beginning of its marks that
+/// is not empty, read so, leaves brackets that can be closed.
 pub fn each_sentence_has_a_tree()
     ensures whole { (g : Grammar) (kinds : Kinds) (text : List ℕ) (m : List Mark) (ts : List Token) →
         ((f : GrammarFault) → ¬ IsTypeFault g f) → ((f : GrammarFault) → ¬ IsCheckFault g f) → AreKinds g kinds → IsSentence g kinds m →

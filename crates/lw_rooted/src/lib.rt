@@ -1,4 +1,17 @@
 //! Each sentence of a grammar without faults has a tree, and one only.
+//!
+//! `lw_marks` says what marks build: which brackets are open once they are followed, and what is left once
+//! these are closed. `lw_sentences` says which marks are a sentence. The laws of this crate join the two.
+//! Whatever the grammar, marks that are followed leave one list of open brackets, and it is closed in one
+//! way ([`marks_have_one_tree`]). Where no fault is found in the grammar, the marks of each sentence, read
+//! with tokens of its kinds, leave a root, and each beginning of them that is not empty leaves brackets
+//! that can be closed ([`each_sentence_has_a_tree`]); `specs/Growing.antt` says both in one line each.
+//!
+//! Both need that there is no fault: a rule that makes nodes and returns a primitive type has no type for
+//! its node, a call in the midst of a node would take its place, a fragment that is assigned is no value,
+//! a type that is not known has no number, and an entry rule may make no node at all.
+//!
+//! There is no code here but laws.
 #![tactic(auto)]
 
 mod laws;
