@@ -10,7 +10,6 @@ use Rattle.lw_marks.specs.Follows.{ChangesOpen, FollowsMarks, Closes}
 use Rattle.lw_marks.specs.Follows as f
 use Rattle.lw_rooted.proofs.Listed.{same_head, same_tail}
 use Rattle.lw_rooted.specs.Growing.{ReadMarks}
-use Rattle.lw_rooted.proofs.Lists.{same_head, same_tail}
 
 module _ (g : Grammar) (text : List ℕ) where
   -- whatever was read, the brackets can be closed

@@ -20,11 +20,11 @@ use Rattle.lw_grammar.specs.declared.terminal.Primitive.{Primitive}
 use Rattle.lw_grammar.specs.declared.terminal.Primitive.TheVariants as primitive
 use Rattle.lw_grammar.specs.Named.{IsRule, IsTerminal}
 use Rattle.lw_marks.specs.Grown.{Plain, Truth, Grown, Held, Puts}
-use Rattle.lw_marks.specs.Numbers.{IsTypeNumber}
+use Rattle.lw_marks.specs.Numbers.{IsNumberOfType}
 use Rattle.lw_marks.specs.Values.{NumberMeans, TokenMeans, TokenNames}
 use Rattle.lw_marks.specs.Values as means
-use Rattle.lw_marks.specs.Brackets.{span_of, joined, Bracket, InNode, InValue}
-use Rattle.lw_marks.specs.Follows.{IsCross, MakesReference, RefersBy, LooksUp, IsPlain, PutsIn, Changes, Closes}
+use Rattle.lw_marks.specs.Brackets.{span_of_tokens, joined_texts, Bracket, InNode, InValue}
+use Rattle.lw_marks.specs.Follows.{IsCross, MakesReference, RefersBy, LooksUp, IsPlain, PutsInto, ChangesOpen, Closes}
 use Rattle.lw_marks.specs.Follows as f
 use Rattle.lw_rooted.proofs.GoesOn.{CanClose, HoldsNode}
 use Rattle.lw_rooted.proofs.OneValue.{no_word_crosses, no_call_crosses}
@@ -102,26 +102,26 @@ module _ (g : Grammar) (text : List ℕ) where
   pub data IsReadAs (c : Value0) : Type 0 where
     word : {word : List ℕ} {s : Span} → out-Value0 c ≡ Keyword word s → IsReadAs c
     call : {name : List ℕ} {s : Span} → out-Value0 c ≡ Call name s → IsRead name → IsReadAs c
-    refers : {wanted name : List ℕ} (want : ℕ) → RefersBy g c wanted name → IsTypeNumber g wanted want → IsRead name → IsReadAs c
+    refers : {wanted name : List ℕ} (want : ℕ) → RefersBy g c wanted name → IsNumberOfType g wanted want → IsRead name → IsReadAs c
 
   looks_up : {name : List ℕ} → IsRead name → (ts : List Token) → (looked : List ℕ) × LooksUp g text name ts looked
-  looks_up (by_terminal n terminal is) ts = let (looked, names) = token_names terminal (joined text ts) in (looked, f.terminal n terminal is names)
+  looks_up (by_terminal n terminal is) ts = let (looked, names) = token_names terminal (joined_texts text ts) in (looked, f.terminal n terminal is names)
   looks_up (by_rule r rule is) ts = (_, f.data_type r rule is)
 
   abbrev IsPut : Op → Value0 → List Token → Option Grown → Held → ℕ → Type 0
-  IsPut o c ts node held p = (after : Held) × PutsIn g text o c ts node held p after
+  IsPut o c ts node held p = (after : Held) × PutsInto g text o c ts node held p after
 
   put_plain : {o : Op} {c : Value0} → IsReadAs c → o ≢ Flag → (ts : List Token) (held : Held) (p : ℕ) → IsPut o c ts None held p
   put_plain (word is) not ts held p = (_, f.plain (f.keyword not is))
   put_plain (call is (by_terminal n terminal named)) not ts held p =
-      let (v, stands) = token_means terminal (joined text ts) (span_of ts) in (_, f.plain (f.terminal n terminal not is named stands))
+      let (v, stands) = token_means terminal (joined_texts text ts) (span_of_tokens ts) in (_, f.plain (f.terminal n terminal not is named stands))
   put_plain (call is (by_rule r rule named)) not ts held p = (_, f.plain (f.data_type r rule not is named))
   put_plain (refers want by number reads) not ts held p = let (looked, looks) = looks_up reads ts in (_, f.a_reference not by number looks)
 
   pub puts : {c : Value0} → IsReadAs c → (o : Op) (ts : List Token) (node : Option Grown) (held : Held) (p : ℕ) → IsPut o c ts node held p
   puts read o ts (Some x) held p = (_, f.a_node)
   puts {c} read o ts None held p = elim (is_flag o) [
-    | inl is ↦ (Puts held p (Truth (span_of ts)), subst (λ o. PutsIn g text o c ts None held p (Puts held p (Truth (span_of ts)))) (sym is) (f.plain f.truth))
+    | inl is ↦ (Puts held p (Truth (span_of_tokens ts)), subst (λ o. PutsInto g text o c ts None held p (Puts held p (Truth (span_of_tokens ts)))) (sym is) (f.plain f.truth))
     | inr not ↦ put_plain read not ts held p
   ]
 

@@ -10,9 +10,9 @@ use Rattle.lw_grammar.specs.declared.rule.Value0.{Value0}
 use Rattle.lw_grammar.specs.Subtypes.{HasType}
 use Rattle.lw_sentences.specs.Marks.{Mark, Token as AToken, Open, Shut, Put, End, Act}
 use Rattle.lw_marks.specs.Grown.{Grown, Nothing, Takes}
-use Rattle.lw_marks.specs.Numbers.{IsTypeNumber, IsPropertyNumber}
+use Rattle.lw_marks.specs.Numbers.{IsNumberOfType, IsNumberOfProperty}
 use Rattle.lw_marks.specs.Brackets.{Bracket, InNode, InValue, Root, grown, Shuts, in_value, in_node, at_root}
-use Rattle.lw_marks.specs.Follows.{MakesReference, RefersBy, LooksUp, IsPlain, PutsIn, Changes, Follows, Closes}
+use Rattle.lw_marks.specs.Follows.{MakesReference, RefersBy, LooksUp, IsPlain, PutsInto, ChangesOpen, FollowsMarks, Closes}
 use Rattle.lw_marks.specs.Follows as f
 use Rattle.lw_rooted.proofs.Listed.{no_end_is_empty, same_front, same_last}
 use Rattle.lw_rooted.proofs.OneValue.{one_type, one_number_of_type, one_number_of_property, one_put}
@@ -61,14 +61,14 @@ module _ (g : Grammar) (text : List ℕ) where
   same_act h = cc
 
   opened : {r q type other : ℕ} {rule by : Rule} {name named : List ℕ} → r ≡ q → slice_get g.rules r ≡ Some rule → slice_get g.rules q ≡ Some by →
-      HasType g rule name → HasType g by named → IsTypeNumber g name type → IsTypeNumber g named other → type ≡ other
+      HasType g rule name → HasType g by named → IsNumberOfType g name type → IsNumberOfType g named other → type ≡ other
   opened {r} {q} {type} {other} {rule} {by} {name} {named} same at was has had is number =
       let rules : rule ≡ by = same_Some _ _ (sym at ∙ ap (slice_get g.rules) same ∙ was) in
       let names : name ≡ named = one_type g rule has (subst (λ x. HasType g x named) (sym rules) had) in
-      one_number_of_type g name type other is (subst (λ n. IsTypeNumber g n other) (sym names) number)
+      one_number_of_type g name type other is (subst (λ n. IsNumberOfType g n other) (sym names) number)
 
   module _ {ts : List Token} where
-    one_change : {x y : Mark} {bs a b : List Bracket} → Changes g text ts x bs a → Changes g text ts y bs b → x ≡ y → a ≡ b
+    one_change : {x y : Mark} {bs a b : List Bracket} → ChangesOpen g text ts x bs a → ChangesOpen g text ts y bs b → x ≡ y → a ≡ b
     one_change {bs} (f.opens {r} {type} at has is) (f.opens {r = q} {type = other} was had number) e =
         ap (λ t. InNode t (length ts) Nothing ∷ bs) (opened (same_open e) at was has had is number)
     one_change (f.opens at has is) (f.puts other) e = absurd (omega (arith, ap form e))
@@ -78,7 +78,7 @@ module _ (g : Grammar) (text : List ℕ) where
     one_change (f.opens at has is) (f.ends other) e = absurd (omega (arith, ap form e))
     one_change {bs} (f.puts {name} {p} {op} {c} is) (f.puts {name = other} {p = q} {op = by} {c = d} was) e =
         let (names, ops, values) = same_put e in
-        ap (λ n. InValue n op c (length ts) None ∷ bs) (one_number_of_property g name p q is (subst (λ n. IsPropertyNumber g n q) (sym names) was))
+        ap (λ n. InValue n op c (length ts) None ∷ bs) (one_number_of_property g name p q is (subst (λ n. IsNumberOfProperty g n q) (sym names) was))
         ∙ ap (λ o. InValue q o c (length ts) None ∷ bs) ops ∙ ap (λ v. InValue q by v (length ts) None ∷ bs) values
     one_change (f.puts is) (f.opens at has was) e = absurd (omega (arith, ap form e))
     one_change (f.puts is) (f.shuts other) e = absurd (omega (arith, ap form e))
@@ -92,7 +92,7 @@ module _ (g : Grammar) (text : List ℕ) where
     one_change (f.shuts one) (f.wraps some other p) e = absurd (omega (arith, ap form e))
     one_change (f.shuts one) (f.ends other) e = absurd (omega (arith, ap form e))
     one_change (f.renames {from} {new = n} {held} {a} {bs} none is) (f.renames {new = k} {a = b} too was) e =
-        ap (λ t. InNode t from held ∷ bs) (one_number_of_type g _ n k is (subst (λ x. IsTypeNumber g x.type_name k) (sym (same_act e)) was))
+        ap (λ t. InNode t from held ∷ bs) (one_number_of_type g _ n k is (subst (λ x. IsNumberOfType g x.type_name k) (sym (same_act e)) was))
     one_change (f.renames {a} none is) (f.wraps {a = b} some was p) e = absurd (none-some _ (sym none ∙ ap (λ x. x.put) (same_act e) ∙ some))
     one_change (f.renames none is) (f.opens at has was) e = absurd (omega (arith, ap form e))
     one_change (f.renames none is) (f.puts was) e = absurd (omega (arith, ap form e))
@@ -101,9 +101,9 @@ module _ (g : Grammar) (text : List ℕ) where
     one_change (f.wraps {type} {from} {new = n} {p} {held} {a} {name} {is_list} {bs} some is property) (f.wraps {new = k} {p = q} {a = b} {name = other} too was own) e =
         let puts : name ≡ other = ap (λ x. x.0) (same_Some _ _ (sym some ∙ ap (λ x. x.put) (same_act e) ∙ too)) in
         ap (λ t. InNode t from (Takes Nothing p (grown ts type from held)) ∷ bs)
-        (one_number_of_type g _ n k is (subst (λ x. IsTypeNumber g x.type_name k) (sym (same_act e)) was))
+        (one_number_of_type g _ n k is (subst (λ x. IsNumberOfType g x.type_name k) (sym (same_act e)) was))
         ∙ ap (λ r. InNode k from (Takes Nothing r (grown ts type from held)) ∷ bs)
-        (one_number_of_property g name p q property (subst (λ x. IsPropertyNumber g x q) (sym puts) own))
+        (one_number_of_property g name p q property (subst (λ x. IsNumberOfProperty g x q) (sym puts) own))
     one_change (f.wraps some is p) (f.opens at has was) e = absurd (omega (arith, ap form e))
     one_change (f.wraps some is p) (f.puts was) e = absurd (omega (arith, ap form e))
     one_change (f.wraps some is p) (f.shuts was) e = absurd (omega (arith, ap form e))
@@ -112,7 +112,7 @@ module _ (g : Grammar) (text : List ℕ) where
     one_change (f.ends one) (f.puts was) e = absurd (omega (arith, ap form e))
     one_change (f.ends one) (f.shuts was) e = absurd (omega (arith, ap form e))
 
-    no_token_changes : {x : Mark} {k : ℕ} {bs after : List Bracket} → Changes g text ts x bs after → x ≡ AToken k → ⊥
+    no_token_changes : {x : Mark} {k : ℕ} {bs after : List Bracket} → ChangesOpen g text ts x bs after → x ≡ AToken k → ⊥
     no_token_changes (f.opens at has is) e = absurd (omega (arith, ap form e))
     no_token_changes (f.puts is) e = absurd (omega (arith, ap form e))
     no_token_changes (f.shuts is) e = absurd (omega (arith, ap form e))
@@ -120,7 +120,7 @@ module _ (g : Grammar) (text : List ℕ) where
     no_token_changes (f.wraps some is p) e = absurd (omega (arith, ap form e))
     no_token_changes (f.ends is) e = absurd (omega (arith, ap form e))
 
-  pub one_follows : {m n : List Mark} {ts us : List Token} {bs other : List Bracket} → Follows g text m ts bs → Follows g text n us other → m ≡ n → ts ≡ us → bs ≡ other
+  pub one_follows : {m n : List Mark} {ts us : List Token} {bs other : List Bracket} → FollowsMarks g text m ts bs → FollowsMarks g text n us other → m ≡ n → ts ≡ us → bs ≡ other
   one_follows f.nothing f.nothing e t = refl
   one_follows f.nothing (f.token {m} u was) e t = absurd (no_end_is_empty m _ (sym e))
   one_follows f.nothing (f.next {m} was change) e t = absurd (no_end_is_empty m _ (sym e))
@@ -131,7 +131,7 @@ module _ (g : Grammar) (text : List ℕ) where
   one_follows (f.next {m} is change) (f.token {m = n} u was) e t = absurd (no_token_changes change (same_last m n _ _ e))
   one_follows (f.next {m} {mark} {ts} {bs} {after} is change) (f.next {m = n} {mark = other} {ts = us} {bs = bt} {after = behind} was changed) e t =
       let before : bs ≡ bt = one_follows is was (same_front m n mark other e) t in
-      one_change change (subst (λ us. Changes g text us other bs behind) (sym t) (subst (λ b. Changes g text us other b behind) (sym before) changed))
+      one_change change (subst (λ us. ChangesOpen g text us other bs behind) (sym t) (subst (λ b. ChangesOpen g text us other b behind) (sym before) changed))
       (same_last m n mark other e)
 
   pub one_close : {ts : List Token} {bs : List Bracket} {x y : Grown} → Closes g text ts bs x → Closes g text ts bs y → x ≡ y

@@ -19,11 +19,11 @@ use Rattle.lw_grammar.proofs.FirstLemmas.{first_item}
 use Rattle.lw_sentences.proofs.Meaning.{one_of_two}
 use Rattle.lw_look.proofs.Naming.{one_name_rule}
 use Rattle.lw_marks.specs.Grown.{Plain, Text, Grown, Held, Puts, Points}
-use Rattle.lw_marks.specs.Numbers.{IsTypeNumber, IsPropertyNumber}
+use Rattle.lw_marks.specs.Numbers.{IsNumberOfType, IsNumberOfProperty}
 use Rattle.lw_marks.specs.Values.{NumberMeans, TokenMeans, TokenNames}
 use Rattle.lw_marks.specs.Values as means
-use Rattle.lw_marks.specs.Brackets.{span_of, joined}
-use Rattle.lw_marks.specs.Follows.{MakesReference, RefersBy, LooksUp, IsPlain, PutsIn, Changes, Follows, Closes}
+use Rattle.lw_marks.specs.Brackets.{span_of_tokens, joined_texts}
+use Rattle.lw_marks.specs.Follows.{MakesReference, RefersBy, LooksUp, IsPlain, PutsInto, ChangesOpen, FollowsMarks, Closes}
 use Rattle.lw_marks.specs.Follows as f
 use Rattle.lw_rooted.proofs.Once.{one_place}
 
@@ -90,10 +90,10 @@ module _ (g : Grammar) where
       by (result.Gives p) is was = absurd is
       by (result.Infers name s) is was = is ∙ sym was
 
-  pub one_number_of_type : (name : List ℕ) (n k : ℕ) → IsTypeNumber g name n → IsTypeNumber g name k → n ≡ k
+  pub one_number_of_type : (name : List ℕ) (n k : ℕ) → IsNumberOfType g name n → IsNumberOfType g name k → n ≡ k
   one_number_of_type name n k is was = one_place [] _ n k name is was
 
-  pub one_number_of_property : (name : List ℕ) (n k : ℕ) → IsPropertyNumber g name n → IsPropertyNumber g name k → n ≡ k
+  pub one_number_of_property : (name : List ℕ) (n k : ℕ) → IsNumberOfProperty g name n → IsNumberOfProperty g name k → n ≡ k
   one_number_of_property name n k is was = one_place [] _ n k name is was
 
   one_terminal : {name : List ℕ} {n k : ℕ} {one other : Terminal} → IsTerminal g name n one → IsTerminal g name k other → one ≡ other
@@ -105,7 +105,7 @@ module _ (g : Grammar) where
   module _ (text : List ℕ) where
     one_look : {name : List ℕ} {ts : List Token} {a b : List ℕ} → LooksUp g text name ts a → LooksUp g text name ts b → a ≡ b
     one_look {ts} {a} (f.terminal n terminal is names) (f.terminal k other was named) =
-        one_named (subst (λ t. TokenNames t (joined text ts) a) (one_terminal is was) names) named
+        one_named (subst (λ t. TokenNames t (joined_texts text ts) a) (one_terminal is was) names) named
     one_look (f.terminal n terminal is names) (f.data_type r rule was) = absurd (no_both is was)
     one_look (f.data_type r rule is) (f.terminal n terminal was named) = absurd (no_both was is)
     one_look (f.data_type r rule is) (f.data_type q other was) = refl
@@ -116,13 +116,13 @@ module _ (g : Grammar) where
     one_plain f.truth (f.terminal k other not was named means) = absurd (not refl)
     one_plain f.truth (f.data_type q other not was named) = absurd (not refl)
     one_plain (f.keyword not is) f.truth = absurd (not refl)
-    one_plain {ts} (f.keyword not is) (f.keyword too was) = ap (λ w. Text w (span_of ts)) (same_word (sym is ∙ was))
+    one_plain {ts} (f.keyword not is) (f.keyword too was) = ap (λ w. Text w (span_of_tokens ts)) (same_word (sym is ∙ was))
     one_plain (f.keyword not is) (f.terminal k other too was named means) = absurd (no_word_calls (sym is ∙ was))
     one_plain (f.keyword not is) (f.data_type q other too was named) = absurd (no_word_calls (sym is ∙ was))
     one_plain (f.terminal n one not is names one_means) f.truth = absurd (not refl)
     one_plain (f.terminal n one not is names one_means) (f.keyword too was) = absurd (no_word_calls (sym was ∙ is))
     one_plain {ts} {a} (f.terminal {name} n one not is names one_means) (f.terminal k other too was named means) =
-        one_meaning (subst (λ t. TokenMeans t (joined text ts) (span_of ts) a) (one_terminal names (subst (λ x. IsTerminal g x k other) (same_call (sym was ∙ is)) named)) one_means) means
+        one_meaning (subst (λ t. TokenMeans t (joined_texts text ts) (span_of_tokens ts) a) (one_terminal names (subst (λ x. IsTerminal g x k other) (same_call (sym was ∙ is)) named)) one_means) means
     one_plain (f.terminal n one not is names one_means) (f.data_type q other too was named) =
         absurd (no_both names (subst (λ x. IsRule g x q other) (same_call (sym was ∙ is)) named))
     one_plain (f.data_type r rule not is names) f.truth = absurd (not refl)
@@ -142,13 +142,13 @@ module _ (g : Grammar) where
     no_plain_reference flag (f.written is) (f.data_type q other not was named) = no_call_crosses (sym was ∙ is)
     no_plain_reference flag (f.by_type is names) (f.data_type q other not was named) = no_call_crosses (sym was ∙ is)
 
-    pub one_put : {op : Op} {c : Value0} {ts : List Token} {node : Option Grown} {held a b : Held} {p : ℕ} → PutsIn g text op c ts node held p a →
-        PutsIn g text op c ts node held p b → a ≡ b
+    pub one_put : {op : Op} {c : Value0} {ts : List Token} {node : Option Grown} {held a b : Held} {p : ℕ} → PutsInto g text op c ts node held p a →
+        PutsInto g text op c ts node held p b → a ≡ b
     one_put f.a_node f.a_node = refl
     one_put {ts} {held} {p} (f.a_reference {want = n} {looked = a} flag refers is looks) (f.a_reference {want = k} {looked = b} other_flag other was looked) =
         let same = one_reader refers other in
-        ap (λ want. Points held p want a (span_of ts)) (one_number_of_type _ n k (subst (λ w. IsTypeNumber g w n) same.0 is) was)
-        ∙ ap (λ l. Points held p k l (span_of ts)) (one_look (subst (λ x. LooksUp g text x ts a) same.1 looks) looked)
+        ap (λ want. Points held p want a (span_of_tokens ts)) (one_number_of_type _ n k (subst (λ w. IsNumberOfType g w n) same.0 is) was)
+        ∙ ap (λ l. Points held p k l (span_of_tokens ts)) (one_look (subst (λ x. LooksUp g text x ts a) same.1 looks) looked)
     one_put (f.a_reference flag refers is looks) (f.plain v) = absurd (no_plain_reference flag refers v)
     one_put (f.plain v) (f.a_reference flag refers is looks) = absurd (no_plain_reference flag refers v)
     one_put {held} {p} (f.plain v) (f.plain w) = ap (Puts held p) (one_plain v w)

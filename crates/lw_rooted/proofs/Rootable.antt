@@ -26,7 +26,7 @@ use Rattle.lw_faults.specs.Names.{UnknownType}
 use Rattle.lw_faults.specs.Steps.{Step, step, IsBehind, CallsNode}
 use Rattle.lw_faults.specs.Written.{NamesType}
 use Rattle.lw_faults.specs.Written as written
-use Rattle.lw_marks.specs.Numbers.{IsTypeNumber}
+use Rattle.lw_marks.specs.Numbers.{IsNumberOfType}
 use Rattle.lw_rooted.proofs.Numbered.{named_number}
 
 -- a rule that makes nodes has a type; the type that a cross-reference wants has a number; a call of a rule that makes nodes comes where
@@ -34,7 +34,7 @@ use Rattle.lw_rooted.proofs.Numbered.{named_number}
 pub record IsRootable (g : Grammar) : Type 0 where
   pub type_of : (rule : Rule) → Contains g.rules rule → rule.is_fragment ≡ false → MakesNodes g rule → (name : List ℕ) × HasType g rule name
   pub wanted : (rule : Rule) (p : List ℕ) (op : Op) (v : Value0) (t : Span) (wanted : List ℕ) (by : Option (List ℕ)) (s : Span) → Contains g.rules rule →
-      Contains (leaves rule.body) (Assign p op v t) → Contains (value_leaves v) (Cross wanted by s) → (n : ℕ) × IsTypeNumber g wanted n
+      Contains (leaves rule.body) (Assign p op v t) → Contains (value_leaves v) (Cross wanted by s) → (n : ℕ) × IsNumberOfType g wanted n
   pub behind : (rule written called : Rule) (before : List Step) (name : List ℕ) (s : Span) → IsBehind g rule before (step written (Call name s)) →
       CallsNode g (Call name s) called → ¬ Any (λ x. FillsNode g x.leaf) before
   pub whole : (rule : Rule) (p : List ℕ) (op : Op) (v : Value0) (t : Span) (name : List ℕ) (r : ℕ) (called : Rule) → Contains g.rules rule →
@@ -65,7 +65,7 @@ module _ (g : Grammar) (no_type_fault : (f : GrammarFault) → ¬ IsTypeFault g 
       by (result.Infers name s) same = (name, refl)
 
   wanted_number : (rule : Rule) (p : List ℕ) (op : Op) (v : Value0) (t : Span) (wanted : List ℕ) (by : Option (List ℕ)) (s : Span) → Contains g.rules rule →
-      Contains (leaves rule.body) (Assign p op v t) → Contains (value_leaves v) (Cross wanted by s) → (n : ℕ) × IsTypeNumber g wanted n
+      Contains (leaves rule.body) (Assign p op v t) → Contains (value_leaves v) (Cross wanted by s) → (n : ℕ) × IsNumberOfType g wanted n
   wanted_number rule p op v t wanted None s has within is = named_number g wanted no_unknown (written.crossed rule p op v t has within is)
   wanted_number rule p op v t wanted (Some by) s has within is = named_number g wanted no_unknown (written.crossed_by rule p op v t by has within is)
 

@@ -21,7 +21,6 @@ use Rattle.lw_rooted.proofs.GoesOn as on
 use Rattle.lw_rooted.proofs.Rootable.{IsRootable}
 use Rattle.lw_rooted.proofs.Nodes.{nothing_holds, root_closes, opened, shut}
 use Rattle.lw_rooted.proofs.Climbing.{climb_root}
-use Rattle.lw_rooted.proofs.Lists.{same_head, same_tail}
 
 -- tokens of these kinds
 abbrev some_tokens : List ℕ → List Token

@@ -17,7 +17,7 @@ use Rattle.lw_sentences.specs.Marks.{Mark, Open, Shut, Put, End}
 use Rattle.lw_faults.specs.Misplaced as fills
 use Rattle.lw_faults.specs.Steps.{Step, step}
 use Rattle.lw_marks.specs.Grown.{Grown}
-use Rattle.lw_marks.specs.Numbers.{IsTypeNumber}
+use Rattle.lw_marks.specs.Numbers.{IsNumberOfType}
 use Rattle.lw_marks.specs.Brackets.{Bracket, InNode, InValue, grown, in_value}
 use Rattle.lw_marks.specs.Follows as f
 use Rattle.lw_rooted.specs.Growing.{ReadMarks}
@@ -33,7 +33,7 @@ use Rattle.lw_rooted.proofs.Nodes.{value_holds, opened, shut}
 module _ (g : Grammar) where
   -- the types that the value's cross-references want have numbers, and it is read by no fragment
   pub record IsFit (v : Value0) : Type 0 where
-    pub wanted : (wanted : List ℕ) (by : Option (List ℕ)) (s : Span) → Contains (value_leaves v) (Cross wanted by s) → (n : ℕ) × IsTypeNumber g wanted n
+    pub wanted : (wanted : List ℕ) (by : Option (List ℕ)) (s : Span) → Contains (value_leaves v) (Cross wanted by s) → (n : ℕ) × IsNumberOfType g wanted n
     pub whole : (name : List ℕ) (r : ℕ) (called : Rule) → ValueCalls g v name → IsRule g name r called → called.is_fragment ≡ false
 
   pub fit_at : IsRootable g → {rule inside : Rule} {before : List Step} {p : List ℕ} {op : Op} {v : Value0} {s : Span} →
