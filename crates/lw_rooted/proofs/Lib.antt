@@ -13,4 +13,3 @@ pub mod Acting
 pub mod Valued
 pub mod Climbing
 pub mod Sentence
-pub mod Lists
