@@ -19,7 +19,7 @@ use Rattle.lw_marks.specs.Numbers.{IsNumberOfType, IsNumberOfProperty}
 use Rattle.lw_marks.specs.Values as values
 use Rattle.lw_marks.specs.Values.{text_said}
 use Rattle.lw_marks.specs.Brackets.{Root, in_value, in_node, at_root, joined_texts}
-use Rattle.lw_marks.specs.Follows.{FollowsMarks, nothing, token, next, opens, puts, shuts, ends, renames, wraps, plain, data_type, truth, a_node, PutsInto}
+use Rattle.lw_marks.specs.Follows.{FollowsMarks, nothing, token, next, opens, puts, shuts, ends, renames, wraps, plain, data_type, truth, a_node, PutsValueIn}
 use Rattle.lw_marks.specs.Follows as follows
 use Rattle.lw_marks.specs.Trees.{IsTree}
 use Rattle.lw_marks.specs.Worked.{from_to, word_token, marked_text, marked_tokens, marked_marks, marked_tree, dotted_text, dotted_tokens, dotted_marks, dotted_tree, wrap_action, item_call, sum_rule, item_rule, sums, sum_text, sum_tokens, sum_marks, sum_tree, a_cross, flag_rule, flags, flag_text, flag_tokens, flag_marks, flag_tree}
@@ -33,9 +33,9 @@ text_number h = cc
 -- what one token of an identifier says
 says : (g : Grammar) (text : List ℕ) (n kind p from to : ℕ) (held : Held) (looked : List ℕ) → IsTerminal g (codes "ID") n id_terminal →
     text_said (codes "ID") (joined_texts text (word_token kind from to ∷ [])) ≡ looked →
-    PutsInto g text One id_call (word_token kind from to ∷ []) None held p (Puts held p (Text looked (from_to from to)))
+    PutsValueIn g text One id_call (word_token kind from to ∷ []) None held p (Puts held p (Text looked (from_to from to)))
 says g text n kind p from to held looked named is =
-    subst (λ t. PutsInto g text One id_call (word_token kind from to ∷ []) None held p (Puts held p (Text t (from_to from to)))) is
+    subst (λ t. PutsValueIn g text One id_call (word_token kind from to ∷ []) None held p (Puts held p (Text t (from_to from to)))) is
     (plain (follows.terminal n id_terminal one_flag (value0.outs-Call (codes "ID") nowhere) named (values.words text_number)))
 
 -- ---- the dotted grammar

@@ -25,7 +25,7 @@ use Rattle.lw_marks.specs.Numbers.{IsNumberOfType, IsNumberOfProperty}
 use Rattle.lw_marks.specs.Values as values
 use Rattle.lw_marks.specs.Values.{text_said}
 use Rattle.lw_marks.specs.Brackets.{Root, Shuts, in_value, at_root, Bracket, joined_texts, InNode, InValue}
-use Rattle.lw_marks.specs.Follows.{FollowsMarks, nothing, token, next, opens, puts, shuts, ends, left_out, ended, shut, root, MakesReference, plain, a_node, a_reference, written, ChangesOpen, PutsInto}
+use Rattle.lw_marks.specs.Follows.{FollowsMarks, nothing, token, next, opens, puts, shuts, ends, left_out, ended, shut, root, MakesReference, plain, a_node, a_reference, written, ChangesOpen, PutsValueIn}
 use Rattle.lw_marks.specs.Follows as follows
 use Rattle.lw_marks.specs.Trees.{IsTree, IsOpenedTree}
 use Rattle.lw_marks.specs.Worked.{from_to, word_token, state_text, state_tokens, state_marks, state_tree, begun_marks, begun_tokens, begun_tree, id_put}
@@ -78,15 +78,15 @@ call_cross name s wanted rule t h = cc
 
 -- what one token of an identifier says
 says : (p from to : ℕ) (held : Held) (looked : List ℕ) → text_said (codes "ID") (joined_texts state_text (word_token 5 from to ∷ [])) ≡ looked →
-    PutsInto states_by_id state_text One id_call (word_token 5 from to ∷ []) None held p (Puts held p (Text looked (from_to from to)))
+    PutsValueIn states_by_id state_text One id_call (word_token 5 from to ∷ []) None held p (Puts held p (Text looked (from_to from to)))
 says p from to held looked is =
-    subst (λ t. PutsInto states_by_id state_text One id_call (word_token 5 from to ∷ []) None held p (Puts held p (Text t (from_to from to)))) is
+    subst (λ t. PutsValueIn states_by_id state_text One id_call (word_token 5 from to ∷ []) None held p (Puts held p (Text t (from_to from to)))) is
     (plain (follows.terminal 1 id_terminal one_flag (value0.outs-Call (codes "ID") nowhere) (id_named by_id) (values.words text_number)))
 
 looks_up : (p from to : ℕ) (held : Held) (looked : List ℕ) → text_said (codes "ID") (joined_texts state_text (word_token 5 from to ∷ [])) ≡ looked →
-    PutsInto states_by_id state_text Add by_id (word_token 5 from to ∷ []) None held p (Points held p 1 looked (from_to from to))
+    PutsValueIn states_by_id state_text Add by_id (word_token 5 from to ∷ []) None held p (Points held p 1 looked (from_to from to))
 looks_up p from to held looked is =
-    subst (λ t. PutsInto states_by_id state_text Add by_id (word_token 5 from to ∷ []) None held p (Points held p 1 t (from_to from to))) is
+    subst (λ t. PutsValueIn states_by_id state_text Add by_id (word_token 5 from to ∷ []) None held p (Points held p 1 t (from_to from to))) is
     (a_reference add_flag (written (value0.outs-Cross (codes "State") (Some (codes "ID")) nowhere)) (type_is 1 (codes "State") refl)
     (follows.terminal 1 id_terminal (id_named by_id) (values.words text_number)))
 

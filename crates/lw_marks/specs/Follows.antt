@@ -52,12 +52,12 @@ module _ (g : Grammar) (text : List ℕ) where
     data_type : {op : Op} {c : Value0} {name : List ℕ} {s : Span} {ts : List Token} (r : ℕ) (rule : Rule) → op ≢ Flag →
         out-Value0 c ≡ Call name s → IsRule g name r rule → IsPlain op c ts (Text (joined_texts text ts) (span_of_tokens ts))
 
-  -- `PutsInto op c ts node held p after`: what was read, the tokens ts or a node, is put into p of the node that holds `held`
-  pub data PutsInto (op : Op) (c : Value0) (ts : List Token) : Option Grown → Held → ℕ → Held → Type 0 where
-    a_node : {x : Grown} {held : Held} {p : ℕ} → PutsInto op c ts (Some x) held p (Takes held p x)
+  -- `PutsValueIn op c ts node held p after`: what was read, the tokens ts or a node, is put into p of the node that holds `held`
+  pub data PutsValueIn (op : Op) (c : Value0) (ts : List Token) : Option Grown → Held → ℕ → Held → Type 0 where
+    a_node : {x : Grown} {held : Held} {p : ℕ} → PutsValueIn op c ts (Some x) held p (Takes held p x)
     a_reference : {held : Held} {p want : ℕ} {wanted name looked : List ℕ} → op ≢ Flag → RefersBy g c wanted name → IsNumberOfType g wanted want →
-        LooksUp name ts looked → PutsInto op c ts None held p (Points held p want looked (span_of_tokens ts))
-    plain : {held : Held} {p : ℕ} {v : Plain} → IsPlain op c ts v → PutsInto op c ts None held p (Puts held p v)
+        LooksUp name ts looked → PutsValueIn op c ts None held p (Points held p want looked (span_of_tokens ts))
+    plain : {held : Held} {p : ℕ} {v : Plain} → IsPlain op c ts v → PutsValueIn op c ts None held p (Puts held p v)
 
   -- what a mark does to the open brackets, where the tokens ts were read before it
   pub data ChangesOpen (ts : List Token) : Mark → List Bracket → List Bracket → Type 0 where
@@ -72,7 +72,7 @@ module _ (g : Grammar) (text : List ℕ) where
         IsNumberOfType g a.type_name new → IsNumberOfProperty g name p →
         ChangesOpen ts (Act a) (InNode type from held ∷ bs) (InNode new from (Takes Nothing p (grown ts type from held)) ∷ bs)
     ends : {type from at p : ℕ} {held after : Held} {op : Op} {c : Value0} {node : Option Grown} {bs : List Bracket} →
-        PutsInto op c (drop at ts) node held p after →
+        PutsValueIn op c (drop at ts) node held p after →
         ChangesOpen ts End (InValue p op c at node ∷ InNode type from held ∷ bs) (InNode type from after ∷ bs)
 
   pub data FollowsMarks : List Mark → List Token → List Bracket → Type 0 where

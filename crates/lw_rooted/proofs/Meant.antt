@@ -24,7 +24,7 @@ use Rattle.lw_marks.specs.Numbers.{IsNumberOfType}
 use Rattle.lw_marks.specs.Values.{NumberMeans, TokenMeans, TokenNames}
 use Rattle.lw_marks.specs.Values as means
 use Rattle.lw_marks.specs.Brackets.{span_of_tokens, joined_texts, Bracket, InNode, InValue}
-use Rattle.lw_marks.specs.Follows.{IsCross, MakesReference, RefersBy, LooksUp, IsPlain, PutsInto, ChangesOpen, Closes}
+use Rattle.lw_marks.specs.Follows.{IsCross, MakesReference, RefersBy, LooksUp, IsPlain, PutsValueIn, ChangesOpen, Closes}
 use Rattle.lw_marks.specs.Follows as f
 use Rattle.lw_rooted.proofs.GoesOn.{CanClose, HoldsNode}
 use Rattle.lw_rooted.proofs.OneValue.{no_word_crosses, no_call_crosses}
@@ -109,7 +109,7 @@ module _ (g : Grammar) (text : List ℕ) where
   looks_up (by_rule r rule is) ts = (_, f.data_type r rule is)
 
   abbrev IsPut : Op → Value0 → List Token → Option Grown → Held → ℕ → Type 0
-  IsPut o c ts node held p = (after : Held) × PutsInto g text o c ts node held p after
+  IsPut o c ts node held p = (after : Held) × PutsValueIn g text o c ts node held p after
 
   put_plain : {o : Op} {c : Value0} → IsReadAs c → o ≢ Flag → (ts : List Token) (held : Held) (p : ℕ) → IsPut o c ts None held p
   put_plain (word is) not ts held p = (_, f.plain (f.keyword not is))
@@ -121,7 +121,7 @@ module _ (g : Grammar) (text : List ℕ) where
   pub puts : {c : Value0} → IsReadAs c → (o : Op) (ts : List Token) (node : Option Grown) (held : Held) (p : ℕ) → IsPut o c ts node held p
   puts read o ts (Some x) held p = (_, f.a_node)
   puts {c} read o ts None held p = elim (is_flag o) [
-    | inl is ↦ (Puts held p (Truth (span_of_tokens ts)), subst (λ o. PutsInto g text o c ts None held p (Puts held p (Truth (span_of_tokens ts)))) (sym is) (f.plain f.truth))
+    | inl is ↦ (Puts held p (Truth (span_of_tokens ts)), subst (λ o. PutsValueIn g text o c ts None held p (Puts held p (Truth (span_of_tokens ts)))) (sym is) (f.plain f.truth))
     | inr not ↦ put_plain read not ts held p
   ]
 

@@ -12,7 +12,7 @@ use Rattle.lw_sentences.specs.Marks.{Mark, Token as AToken, Open, Shut, Put, End
 use Rattle.lw_marks.specs.Grown.{Grown, Nothing, Takes}
 use Rattle.lw_marks.specs.Numbers.{IsNumberOfType, IsNumberOfProperty}
 use Rattle.lw_marks.specs.Brackets.{Bracket, InNode, InValue, Root, grown, Shuts, in_value, in_node, at_root}
-use Rattle.lw_marks.specs.Follows.{MakesReference, RefersBy, LooksUp, IsPlain, PutsInto, ChangesOpen, FollowsMarks, Closes}
+use Rattle.lw_marks.specs.Follows.{MakesReference, RefersBy, LooksUp, IsPlain, PutsValueIn, ChangesOpen, FollowsMarks, Closes}
 use Rattle.lw_marks.specs.Follows as f
 use Rattle.lw_rooted.proofs.Listed.{no_end_is_empty, same_front, same_last}
 use Rattle.lw_rooted.proofs.OneValue.{one_type, one_number_of_type, one_number_of_property, one_put}

@@ -23,7 +23,7 @@ use Rattle.lw_marks.specs.Numbers.{IsNumberOfType, IsNumberOfProperty}
 use Rattle.lw_marks.specs.Values.{NumberMeans, TokenMeans, TokenNames}
 use Rattle.lw_marks.specs.Values as means
 use Rattle.lw_marks.specs.Brackets.{span_of_tokens, joined_texts}
-use Rattle.lw_marks.specs.Follows.{MakesReference, RefersBy, LooksUp, IsPlain, PutsInto, ChangesOpen, FollowsMarks, Closes}
+use Rattle.lw_marks.specs.Follows.{MakesReference, RefersBy, LooksUp, IsPlain, PutsValueIn, ChangesOpen, FollowsMarks, Closes}
 use Rattle.lw_marks.specs.Follows as f
 use Rattle.lw_rooted.proofs.Once.{one_place}
 
@@ -142,8 +142,8 @@ module _ (g : Grammar) where
     no_plain_reference flag (f.written is) (f.data_type q other not was named) = no_call_crosses (sym was ∙ is)
     no_plain_reference flag (f.by_type is names) (f.data_type q other not was named) = no_call_crosses (sym was ∙ is)
 
-    pub one_put : {op : Op} {c : Value0} {ts : List Token} {node : Option Grown} {held a b : Held} {p : ℕ} → PutsInto g text op c ts node held p a →
-        PutsInto g text op c ts node held p b → a ≡ b
+    pub one_put : {op : Op} {c : Value0} {ts : List Token} {node : Option Grown} {held a b : Held} {p : ℕ} → PutsValueIn g text op c ts node held p a →
+        PutsValueIn g text op c ts node held p b → a ≡ b
     one_put f.a_node f.a_node = refl
     one_put {ts} {held} {p} (f.a_reference {want = n} {looked = a} flag refers is looks) (f.a_reference {want = k} {looked = b} other_flag other was looked) =
         let same = one_reader refers other in
