@@ -1,5 +1,5 @@
 -- What is known where an element of a rule is read, and what its marks do to the node that is open there.
-use Rattle.std.proofs.Common.{◌≡◌, ℕ, false, List, [], ◌∷◌, ◌++◌, Any, Contains, refl, sym, ap, subst, arith}
+use Rattle.std.proofs.Common.{◌≡◌, ℕ, false, List, [], ◌∷◌, ◌++◌, Any, Contains, refl, sym, ap, subst, ◌∙◌, arith}
 use Rattle.std.proofs.lemmas.List.{append-nil, append_assoc}
 use Rattle.std.proofs.lemmas.List.Elements.{Contains-append_left, Contains-append_right}
 use Rattle.lw_base.specs.declared.token.Token.{Token}
@@ -8,7 +8,8 @@ use Rattle.lw_grammar.specs.declared.rule.Element.{Element}
 use Rattle.lw_grammar.specs.declared.rule.Element.TheOpen.{Element-F}
 use Rattle.lw_grammar.specs.declared.rule.Rule.{Rule}
 use Rattle.lw_grammar.specs.Leaves.{Leaf, leaves, IsFragmentCall}
-use Rattle.lw_sentences.specs.Marks.{Mark, Token as AToken, Open, Shut, Put, End, Act, kinds_of}
+use Rattle.lw_sentences.specs.Marks.{Mark, kinds_of}
+use Rattle.lw_sentences.proofs.Joined.{kinds_join}
 use Rattle.lw_faults.specs.Misplaced.{FillsNode}
 use Rattle.lw_faults.specs.Steps.{Step, step, PutsInFragment, GoesThrough, GoesAgain, GetsTo, ComesLayer, ComesAlong, BodyBegins, IsBehind}
 use Rattle.lw_faults.specs.Steps as steps
@@ -108,13 +109,7 @@ module _ (g : Grammar) where
 
 -- a mark that is no token reads none
 pub read_before : (m : List Mark) (x : Mark) → kinds_of (x ∷ []) ≡ [] → kinds_of (m ++ x ∷ []) ≡ kinds_of m
-read_before [] x is = is
-read_before (AToken k ∷ m) x is = ap (λ ks. k ∷ ks) (read_before m x is)
-read_before (Open r ∷ m) x is = read_before m x is
-read_before (Shut ∷ m) x is = read_before m x is
-read_before (Put p op c ∷ m) x is = read_before m x is
-read_before (End ∷ m) x is = read_before m x is
-read_before (Act a ∷ m) x is = read_before m x is
+read_before m x is = kinds_join m (x ∷ []) ∙ ap (λ ks. kinds_of m ++ ks) is ∙ append-nil (kinds_of m)
 
 module _ (g : Grammar) (text : List ℕ) where
   -- marks that end with one that is no token

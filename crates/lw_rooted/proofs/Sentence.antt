@@ -6,7 +6,8 @@ use Rattle.lw_grammar.specs.declared.grammar.Grammar.{Grammar}
 use Rattle.lw_grammar.specs.declared.rule.Rule.{Rule}
 use Rattle.lw_grammar.specs.Kinds.{Kinds}
 use Rattle.lw_grammar.specs.Named.{IsEntry}
-use Rattle.lw_sentences.specs.Marks.{Mark, Token as AToken, Open, Shut, Put, End, Act, kinds_of}
+use Rattle.lw_sentences.specs.Marks.{Mark, Token as AToken, Open, Shut, kinds_of}
+use Rattle.lw_sentences.proofs.Joined.{kinds_join}
 use Rattle.lw_sentences.specs.Sentences.{IsSentence}
 use Rattle.lw_sentences.specs.Yields.{RuleGives}
 use Rattle.lw_sentences.specs.Yields as y
@@ -31,20 +32,11 @@ some_kinds : (ks : List ℕ) → map (λ (t : Token). t.kind.0) (some_tokens ks)
 some_kinds [] = refl
 some_kinds (k ∷ ks) = ap (λ ks. k ∷ ks) (some_kinds ks)
 
-kinds_append : (m n : List Mark) → kinds_of (m ++ n) ≡ kinds_of m ++ kinds_of n
-kinds_append [] n = refl
-kinds_append (AToken k ∷ m) n = ap (λ ks. k ∷ ks) (kinds_append m n)
-kinds_append (Open r ∷ m) n = kinds_append m n
-kinds_append (Shut ∷ m) n = kinds_append m n
-kinds_append (Put p op c ∷ m) n = kinds_append m n
-kinds_append (End ∷ m) n = kinds_append m n
-kinds_append (Act a ∷ m) n = kinds_append m n
-
 -- tokens with which marks begin are made tokens of all of them
 all_read : (m n : List Mark) (ts : List Token) → ReadMarks ts m → ReadMarks (ts ++ some_tokens (kinds_of n)) (m ++ n)
 all_read m n ts reads =
     map-append (λ (t : Token). t.kind.0) ts (some_tokens (kinds_of n)) ∙ ap (λ ks. ks ++ map (λ (t : Token). t.kind.0) (some_tokens (kinds_of n))) reads
-    ∙ ap (λ ks. kinds_of m ++ ks) (some_kinds (kinds_of n)) ∙ sym (kinds_append m n)
+    ∙ ap (λ ks. kinds_of m ++ ks) (some_kinds (kinds_of n)) ∙ sym (kinds_join m n)
 
 module _ (g : Grammar) (text : List ℕ) where
   -- ---- a beginning of marks that can be followed

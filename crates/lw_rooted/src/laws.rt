@@ -3,7 +3,7 @@ ghost use Rattle.std.specs.Prelude.{ℕ, ◌≡◌, ◌≢◌, List, [], ◌∷�
 ghost use Rattle.lw_base.specs.declared.token.Token.{Token};
 ghost use Rattle.lw_grammar.specs.declared.grammar.Grammar.{Grammar};
 ghost use Rattle.lw_grammar.specs.declared.fault.GrammarFault.{GrammarFault};
-ghost use Rattle.lw_grammar.specs.Kinds.{Kinds, AreKinds};
+ghost use Rattle.lw_grammar.specs.Kinds.{Kinds};
 ghost use Rattle.lw_faults.specs.Faults.{IsCheckFault, IsTypeFault};
 ghost use Rattle.lw_sentences.specs.Marks.{Mark};
 ghost use Rattle.lw_sentences.specs.Sentences.{IsSentence};
@@ -24,9 +24,9 @@ pub fn marks_have_one_tree()
 /// is not empty, read so, leaves brackets that can be closed.
 pub fn each_sentence_has_a_tree()
     ensures whole { (g : Grammar) (kinds : Kinds) (text : List ℕ) (m : List Mark) (ts : List Token) →
-        ((f : GrammarFault) → ¬ IsTypeFault g f) → ((f : GrammarFault) → ¬ IsCheckFault g f) → AreKinds g kinds → IsSentence g kinds m →
+        ((f : GrammarFault) → ¬ IsTypeFault g f) → ((f : GrammarFault) → ¬ IsCheckFault g f) → IsSentence g kinds m →
         ReadMarks ts m → GrowsRoot g text m ts }
     ensures begun { (g : Grammar) (kinds : Kinds) (text : List ℕ) (m others : List Mark) (ts : List Token) →
-        ((f : GrammarFault) → ¬ IsTypeFault g f) → ((f : GrammarFault) → ¬ IsCheckFault g f) → AreKinds g kinds → IsSentence g kinds (m ++ others) →
+        ((f : GrammarFault) → ¬ IsTypeFault g f) → ((f : GrammarFault) → ¬ IsCheckFault g f) → IsSentence g kinds (m ++ others) →
         m ≢ [] → ReadMarks ts m → GrowsOpen g text m ts }
 {}

@@ -7,9 +7,10 @@
 //! with tokens of its kinds, leave a root, and each beginning of them that is not empty leaves brackets
 //! that can be closed ([`each_sentence_has_a_tree`]); `specs/Growing.antt` says both in one line each.
 //!
-//! Both need that there is no fault: a rule that makes nodes and returns a primitive type has no type for
-//! its node, a call in the midst of a node would take its place, a fragment that is assigned is no value,
-//! a type that is not known has no number, and an entry rule may make no node at all.
+//! That there is a tree needs a grammar without faults: a rule that makes nodes and returns a primitive
+//! type has no type for its node, a node that is called where its container holds something already has
+//! no place, a fragment that is assigned leaves no value, a type that is not known has no number, and an
+//! entry rule that makes no node leaves no root.
 //!
 //! There is no code here but laws.
 #![tactic(auto)]

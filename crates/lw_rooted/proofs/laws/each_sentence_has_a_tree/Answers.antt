@@ -4,7 +4,7 @@ use Rattle.lw_rooted.proofs.laws.each_sentence_has_a_tree.Goals as goal
 
 pub returns : goal.returns
 returns c = record {
-  whole = λ g kinds text m ts no_type_fault no_check_fault are is reads. whole_tree g kinds text (is_rootable g no_type_fault no_check_fault) m ts is reads;
-  begun = λ g kinds text m others ts no_type_fault no_check_fault are is not reads.
+  whole = λ g kinds text m ts no_type_fault no_check_fault is reads. whole_tree g kinds text (is_rootable g no_type_fault no_check_fault) m ts is reads;
+  begun = λ g kinds text m others ts no_type_fault no_check_fault is not reads.
       begun_tree g kinds text (is_rootable g no_type_fault no_check_fault) m others ts is not reads;
 }
