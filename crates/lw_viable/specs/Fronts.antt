@@ -1,8 +1,8 @@
 -- What readings are kept over, and what they are asked for.
-use Rattle.std.specs.Prelude.{ℕ, ◌≡◌, ◌<◌, List, [], ◌∷◌, ◌++◌, if◌then◌else◌, reverse}
+use Rattle.std.specs.Prelude.{ℕ, List, [], ◌∷◌, ◌++◌, if◌then◌else◌, reverse}
 use Rattle.lw_base.specs.declared.token.Token.{Token}
 use Rattle.lw_grammar.specs.declared.grammar.Grammar.{Grammar}
-use Rattle.lw_grammar.specs.Kinds.{Kinds, AreKinds, kind_count}
+use Rattle.lw_grammar.specs.Kinds.{Kinds, AreKinds}
 use Rattle.lw_chains.specs.Chains.{chain}
 use Rattle.lw_program.specs.ProgramOf.{ProgramParts, IsProgramOf}
 use Rattle.lw_recipes.specs.declared.mark.TreeMark.{TreeMark}

@@ -1,3 +1,5 @@
 pub mod Readings
 pub mod Moves
 pub mod Fronts
+pub mod Growing
+pub mod Turning

@@ -1,19 +1,17 @@
 -- The readings of a list of kinds, as they are kept: the marks of each up to its last token, and the places that are still to be done.
 -- Held against the textbooks' viable prefixes: what is kept are all beginnings of sentences that have these kinds, and no others.
-use Rattle.std.specs.Prelude.{ℕ, ◌≡◌, List, [], ◌∷◌, ◌++◌, Any, All, Contains, Some, slice_get}
+use Rattle.std.specs.Prelude.{ℕ, ◌≡◌, List, [], ◌∷◌, ◌++◌, Any, All, Some, slice_get}
 use Rattle.lw_grammar.specs.declared.grammar.Grammar.{Grammar}
 use Rattle.lw_grammar.specs.declared.rule.Element.{Element}
-use Rattle.lw_grammar.specs.declared.rule.Rule.{Rule}
 use Rattle.lw_grammar.specs.declared.rule.Op.{Op}
 use Rattle.lw_grammar.specs.declared.rule.Value0.{Value0}
 use Rattle.lw_grammar.specs.Kinds.{Kinds}
-use Rattle.lw_grammar.specs.Named.{IsEntry}
 use Rattle.lw_grammar.specs.Reached.{IsReached}
 use Rattle.lw_base.specs.declared.numbers.KindId.{KindId}
 use Rattle.lw_sentences.specs.Marks.{Mark, kinds_of}
 use Rattle.lw_sentences.specs.Sentences.{IsSentence}
 use Rattle.lw_look.specs.Sites.{PartSite, rule_of, Body, Value, IsPartAt, RepeatedAt}
-use Rattle.lw_look.specs.Things.{Thing, Do, Assigned, Again, Leave}
+use Rattle.lw_look.specs.Things.{Do, Assigned, Again, Leave}
 use Rattle.lw_program.specs.Says.{Task, Does, Reads}
 use Rattle.lw_recipes.specs.declared.mark.TreeMark.{TreeMark}
 use Rattle.lw_recipes.specs.declared.mark.TreeMark.TheVariants as numbered

@@ -7,3 +7,11 @@ pub(crate) struct Front {
     pub(crate) marks: Link,
     pub(crate) rest: Link,
 }
+
+impl Front {
+    /// No marks, and nothing to be done.
+    pub(crate) const EMPTY: Front = Front {
+        marks: Link(0),
+        rest: Link(0),
+    };
+}

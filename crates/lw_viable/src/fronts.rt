@@ -9,11 +9,11 @@ ghost use Rattle.lw_look.specs.Supplied.{IsSupplied};
 ghost use Rattle.lw_viable.specs.Fronts.{HoldReadings, IsKnownProgram, seen};
 
 use crate::front::Front;
+use crate::lists::Lists;
+use crate::sought::{Sought, enter, start_of};
 use lw_base::{NoMemory, RuleId, Token};
 use lw_begins::Begins;
-use lw_chains::Chains;
 use lw_program::Program;
-use lw_recipes::TreeMark;
 use std::alloc::Global;
 use std::marker::Model;
 
@@ -22,20 +22,20 @@ use std::marker::Model;
 pub struct Fronts<'p> {
     program: &'p Program,
     begins: &'p Begins,
-    marks: Chains<TreeMark>,
-    rests: Chains<u32>,
+    lists: Lists,
     kept: Vec<Front>,
 }
 
-impl Model for Fronts<'_> {
-    ghost use Rattle.std.specs.Prelude.{◌≤◌, length, map, All};
-    ghost use Rattle.lw_viable.specs.Fronts.{FrontsParts, reading_of};
+impl<'p> Model for Fronts<'p> {
+    ghost use Rattle.std.specs.Prelude.{map, All};
+    ghost use Rattle.lw_viable.specs.Fronts.{FrontsParts};
+    ghost use Rattle.lw_viable.specs.Growing.{IsWithin, read};
 
     ghost Value = { FrontsParts };
 
-    ghost view = { λ a. record { program = a.program.now; begins = a.begins.now; kept = map (reading_of a.marks a.rests) a.kept.items } };
+    ghost view = { λ a. record { program = a.program.now; begins = a.begins.now; kept = map (read a.lists) a.kept.items } };
 
-    ghost invariant = { λ a. All (λ front. (front.marks.0 ≤ length a.marks) × (front.rest.0 ≤ length a.rests)) a.kept.items };
+    ghost invariant = { λ a. All (IsWithin a.lists) a.kept.items };
 }
 
 impl<'p> Fronts<'p> {
@@ -50,7 +50,18 @@ impl<'p> Fronts<'p> {
         ensures { (g : Grammar) (kinds : Kinds) (rule : Rule) → IsKnownProgram g kinds program.now begins.now → IsEntry g entry.0 rule →
             IfOk result (λ fronts. HoldReadings g kinds [] fronts) }
     {
-        Err(NoMemory)
+        let mut lists = Lists::new(alloc);
+        let mut kept = Vec::new(alloc);
+        match start_of(program, entry.0) {
+            None => unreachable!(),
+            Some(start) => enter(begins, entry.0, start, &mut lists, Front::EMPTY, &mut kept)?,
+        }
+        Ok(Fronts {
+            program,
+            begins,
+            lists,
+            kept,
+        })
     }
 
     /// Reads one more token, and answers whether some sentence begins with the kinds of the visible tokens so far. A hidden token changes
@@ -63,7 +74,17 @@ impl<'p> Fronts<'p> {
             IsSupplied g kinds → IfOk result (λ starts. IsTrue starts ↔ Starts g kinds (seen ks token)) }
         ensures refused { IfErr result (λ refused. self.new ≡ self.old) }
     {
-        Err(NoMemory)
+        if token.hidden {
+            return Ok(!self.kept.is_empty());
+        }
+        let sought = Sought {
+            program: self.program,
+            begins: self.begins,
+            kind: token.kind,
+        };
+        let alloc = *self.kept.allocator();
+        self.kept = sought.explore(alloc, &mut self.lists, self.kept.as_slice())?;
+        Ok(!self.kept.is_empty())
     }
 
     /// Whether the visible tokens so far are a sentence. Takes no memory. Linear in what is still to be done of the readings.
@@ -71,6 +92,11 @@ impl<'p> Fronts<'p> {
         requires known { (g : Grammar) × (kinds : Kinds) × (ks : List ℕ) × HoldReadings g kinds ks self.now }
         ensures { (g : Grammar) (kinds : Kinds) (ks : List ℕ) → HoldReadings g kinds ks self.now → IsTrue result ↔ IsWhole g kinds ks }
     {
+        for front in &self.kept {
+            if self.lists.may_end(self.begins, *front) {
+                return true;
+            }
+        }
         false
     }
 }

@@ -3,5 +3,7 @@
 
 mod front;
 mod fronts;
+mod lists;
+mod sought;
 
 pub use fronts::Fronts;

@@ -31,7 +31,7 @@ use Rattle.lw_begins.specs.Gives.{OpensNode, TaskGives, PlacesGive}
 use Rattle.lw_begins.specs.Gives as gives
 use Rattle.lw_viable.specs.Readings.{IsPlacedTask, HasTask}
 use Rattle.lw_viable.specs.Readings as place
-use Rattle.lw_viable.proofs.Doing.{value_form, reads_gives, form_given, form_gives, unlayered_value}
+use Rattle.lw_viable.proofs.Moves.Doing.{value_form, reads_gives, form_given, form_gives, unlayered_value}
 
 -- ---- a value that is read by a call or a keyword is read as itself
 
@@ -77,7 +77,7 @@ module _ (g : Grammar) (kinds : Kinds) where
   -- ---- an instruction that reads a token, or calls a rule
 
   -- the task gives this token, and nothing else
-  pub record ReadsToken (t : Task) (k : ℕ) : Type 0 where
+  pub record GivesToken (t : Task) (k : ℕ) : Type 0 where
     pub given : TaskGives g kinds t (mark.Token k ∷ [])
     pub only : {m : List Mark} → TaskGives g kinds t m → m ≡ mark.Token k ∷ []
 
@@ -99,7 +99,7 @@ module _ (g : Grammar) (kinds : Kinds) where
 
   module _ (are : AreKinds g kinds) (tasks : List Task) where
     by_call : {t : Task} {k : KindId} {name : List ℕ} → CallsBy g kinds name (Token k) → ((m : List Mark) → Calls g kinds name m → TaskGives g kinds t m) →
-        ((m : List Mark) → TaskGives g kinds t m → Calls g kinds name m) → ReadsToken t k.0
+        ((m : List Mark) → TaskGives g kinds t m → Calls g kinds name m) → GivesToken t k.0
     by_call (say.terminal is) to from = record { given = to _ (y.terminal is); only = λ p. token_called is (from _ p) }
 
     by_rule : {t : Task} {r : ℕ} {name : List ℕ} → CallsBy g kinds name (Call r) → ((rule : Rule) → IsRule g name r rule → IsReached g r) →
@@ -118,7 +118,7 @@ module _ (g : Grammar) (kinds : Kinds) where
     call_given : {name : List ℕ} {span : Span} {m : List Mark} → Gives g kinds (layer.Call name span) m → Calls g kinds name m
     call_given (y.called c) = c
 
-    pub token_said : {t : Task} {k : KindId} → SaysTask g kinds tasks t (Token k) → ReadsToken t k.0
+    pub token_said : {t : Task} {k : KindId} → SaysTask g kinds tasks t (Token k) → GivesToken t k.0
     token_said (say.keyword at is) = record { given = form_given g kinds at (y.keyword is); only = λ p. keyword_given is (form_gives g kinds at p) }
     token_said (say.called at by) = by_call by (λ m c. form_given g kinds at (y.called c)) (λ m p. call_given (form_gives g kinds at p))
     token_said (say.reads_keyword at is) = record {

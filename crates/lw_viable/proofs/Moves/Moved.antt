@@ -36,12 +36,12 @@ use Rattle.lw_viable.specs.Readings.{IsPlacedTask, HasTask}
 use Rattle.lw_viable.specs.Readings as place
 use Rattle.lw_viable.specs.Moves.{left, MovesBy}
 use Rattle.lw_viable.specs.Moves as move
-use Rattle.lw_viable.proofs.Beside.{beside_given, place_at}
-use Rattle.lw_viable.proofs.Calling.{formed, token_said, call_said, read_itself}
-use Rattle.lw_viable.proofs.Doing.{value_form, does_gives, form_gives, read_given, thing_given}
-use Rattle.lw_viable.proofs.Entering.{node_enters, body_enters}
-use Rattle.lw_viable.proofs.Giving.{one_place_gives, places_joined}
-use Rattle.lw_viable.proofs.Saying.{loop_said, said, instr_at}
+use Rattle.lw_viable.proofs.Moves.Beside.{beside_given, place_at}
+use Rattle.lw_viable.proofs.Moves.Calling.{formed, token_said, call_said, read_itself}
+use Rattle.lw_viable.proofs.Moves.Doing.{value_form, does_gives, form_gives, read_given, thing_given}
+use Rattle.lw_viable.proofs.Moves.Entering.{node_enters, body_enters}
+use Rattle.lw_viable.proofs.Moves.Giving.{one_place_gives, places_joined}
+use Rattle.lw_viable.proofs.Moves.Saying.{loop_said, said, instr_at}
 
 module _ (g : Grammar) (kinds : Kinds) where
   acted_gives : {a : Action} {m : List Mark} → Gives g kinds (layer.Act a) m → m ≡ mark.Act a ∷ []

@@ -13,8 +13,8 @@ use Rattle.lw_program.specs.Says.{Task, thing_of, StandFrom}
 use Rattle.lw_begins.specs.Gives.{PlacesGive}
 use Rattle.lw_begins.specs.Gives as gives
 use Rattle.lw_viable.specs.Moves.{side_by_side}
-use Rattle.lw_viable.proofs.Giving.{nothing_given, first_given}
-use Rattle.lw_viable.proofs.Doing.{thing_yields, thing_given}
+use Rattle.lw_viable.proofs.Moves.Giving.{nothing_given, first_given}
+use Rattle.lw_viable.proofs.Moves.Doing.{thing_yields, thing_given}
 
 -- what holds at each place
 pub all_beside : (P : ℕ → Type 0) (first count : ℕ) → ((i : ℕ) → i < count → P (first + i)) → All P (side_by_side first count)

@@ -19,7 +19,7 @@ use Rattle.lw_program.specs.Numbered.{put_sites, act_sites}
 use Rattle.lw_recipes.specs.declared.mark.TreeMark.TheVariants as numbered
 use Rattle.lw_recipes.specs.Meant.{AssignedAt, AreMeant}
 use Rattle.lw_recipes.specs.Meant as meant
-use Rattle.lw_viable.proofs.Doing.{element_form, value_form}
+use Rattle.lw_viable.proofs.Moves.Doing.{element_form, value_form}
 
 same_outer : {s t : PartSite} {i j : ℕ} → s ▸ i ≡ t ▸ j → s ≡ t
 same_outer same = cc

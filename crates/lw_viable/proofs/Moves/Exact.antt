@@ -32,13 +32,13 @@ use Rattle.lw_viable.specs.Readings.{IsPlacedTask, HasTask}
 use Rattle.lw_viable.specs.Readings as place
 use Rattle.lw_viable.specs.Moves.{side_by_side, left, MovesBy}
 use Rattle.lw_viable.specs.Moves as move
-use Rattle.lw_viable.proofs.Beside.{all_beside, each_item, item_at, beside_yield}
-use Rattle.lw_viable.proofs.Calling.{token_said, call_said, read_itself}
-use Rattle.lw_viable.proofs.Doing.{value_form, thing_placed, does_gives, reads_gives, form_given, read_given, thing_yields}
-use Rattle.lw_viable.proofs.Entering.{node_placed, body_placed, node_given, body_given}
-use Rattle.lw_viable.proofs.Giving.{nothing_given, first_given, of_one_place}
-use Rattle.lw_viable.proofs.Marking.{token_meant, open_meant, shut_meant, end_meant, none_meant, act_meant, put_meant}
-use Rattle.lw_viable.proofs.Saying.{is_calling, loop_said, said, instr_at}
+use Rattle.lw_viable.proofs.Moves.Beside.{all_beside, each_item, item_at, beside_yield}
+use Rattle.lw_viable.proofs.Moves.Calling.{token_said, call_said, read_itself}
+use Rattle.lw_viable.proofs.Moves.Doing.{value_form, thing_placed, does_gives, reads_gives, form_given, read_given, thing_yields}
+use Rattle.lw_viable.proofs.Moves.Entering.{node_placed, body_placed, node_given, body_given}
+use Rattle.lw_viable.proofs.Moves.Giving.{nothing_given, first_given, of_one_place}
+use Rattle.lw_viable.proofs.Moves.Marking.{token_meant, open_meant, shut_meant, end_meant, none_meant, act_meant, put_meant}
+use Rattle.lw_viable.proofs.Moves.Saying.{is_calling, loop_said, said, instr_at}
 
 module _ (g : Grammar) (kinds : Kinds) where
   -- a task that leaves this mark and goes on at these places

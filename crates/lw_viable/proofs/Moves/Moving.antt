@@ -11,10 +11,10 @@ use Rattle.lw_begins.specs.Gives.{OpensNode, PlacesGive}
 use Rattle.lw_begins.specs.Gives as gives
 use Rattle.lw_viable.specs.Readings.{HasTask}
 use Rattle.lw_viable.specs.Moves.{left, MovesBy}
-use Rattle.lw_viable.proofs.Exact.{moves_exact}
-use Rattle.lw_viable.proofs.Giving.{first_given, places_cut}
-use Rattle.lw_viable.proofs.Moved.{Moved, says_moves}
-use Rattle.lw_viable.proofs.Saying.{instr_at}
+use Rattle.lw_viable.proofs.Moves.Exact.{moves_exact}
+use Rattle.lw_viable.proofs.Moves.Giving.{first_given, places_cut}
+use Rattle.lw_viable.proofs.Moves.Moved.{Moved, says_moves}
+use Rattle.lw_viable.proofs.Moves.Saying.{instr_at}
 
 module _ (g : Grammar) (kinds : Kinds) (are : AreKinds g kinds) (program : ProgramParts) (is : IsProgramOf g kinds program) (nodes : List Bool)
     (told : (r : ℕ) (rule : Rule) → slice_get g.rules r ≡ Some rule → OpensNode g rule ↔ (slice_get nodes r ≡ Some true)) where

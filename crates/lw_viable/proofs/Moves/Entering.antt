@@ -20,8 +20,8 @@ use Rattle.lw_begins.specs.Gives.{OpensNode, PlacesGive}
 use Rattle.lw_begins.specs.Gives as gives
 use Rattle.lw_viable.specs.Readings.{HasTask}
 use Rattle.lw_viable.specs.Readings as place
-use Rattle.lw_viable.proofs.Doing.{thing_placed, does_gives, thing_yields, thing_given}
-use Rattle.lw_viable.proofs.Giving.{first_given, one_place_gives, of_one_place}
+use Rattle.lw_viable.proofs.Moves.Doing.{thing_placed, does_gives, thing_yields, thing_given}
+use Rattle.lw_viable.proofs.Moves.Giving.{first_given, one_place_gives, of_one_place}
 
 module _ (g : Grammar) (kinds : Kinds) (program : ProgramParts) (is : IsProgramOf g kinds program) where
   module _ {r start : ℕ} {rule : Rule} (reached : IsReached g r) (there : slice_get g.rules r ≡ Some rule)

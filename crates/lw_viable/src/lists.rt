@@ -1,0 +1,203 @@
+// The lists by which readings are kept.
+ghost use Rattle.std.specs.Prelude.{◌≡◌, ◌-◌, ◌<◌, ◌≤◌, ◌++◌, [], ◌∷◌, None, length, map, IfOk, OnOk, MatchOption, ◌↔◌, IsTrue};
+ghost use Rattle.std.specs.List.{AllByRecursion};
+ghost use Rattle.lw_viable.specs.Growing.{ArePut, Grows, IsMade, IsWithin, changed, cells_of, read};
+ghost use Rattle.lw_viable.specs.Moves.{left, side_by_side};
+ghost use Rattle.lw_viable.specs.Turning.{MayBePassed, way};
+
+use crate::front::Front;
+use lw_base::NoMemory;
+use lw_begins::Begins;
+use lw_chains::Chains;
+use lw_recipes::TreeMark;
+use std::alloc::Global;
+
+/// The lists of readings: those of their marks, the latest first, and those of the places that are still to be done.
+#[derive(Drop)]
+pub(crate) struct Lists {
+    pub(crate) marks: Chains<TreeMark>,
+    pub(crate) rests: Chains<u32>,
+}
+
+impl Lists {
+    pub(crate) fn new(alloc: Global) -> Lists
+        ensures marks { result.marks ≡ [] }
+        ensures rests { result.rests ≡ [] }
+    {
+        Lists {
+            marks: Chains::new(alloc),
+            rests: Chains::new(alloc),
+        }
+    }
+
+    /// The first place that is still to be done, and the reading behind it.
+    pub(crate) fn first(&self, front: Front) -> Option<(u32, Front)>
+        requires { IsWithin self.now front }
+        ensures { MatchOption result ((read self.now front).rest ≡ [])
+            (λ first. IsWithin self.now first.1
+            × ((read self.now first.1).marks ≡ (read self.now front).marks)
+            × ((read self.now front).rest ≡ first.0 ∷ (read self.now first.1).rest)
+            × (first.1.rest.0 < front.rest.0)) }
+    {
+        match self.rests.first(front.rest) {
+            None => None,
+            Some((place, rest)) => Some((
+                place,
+                Front {
+                    marks: front.marks,
+                    rest,
+                },
+            )),
+        }
+    }
+
+    /// A reading with a mark behind the others, if any.
+    fn mark(&mut self, front: Front, mark: Option<TreeMark>) -> Result<Front, NoMemory>
+        requires { IsWithin self.old front }
+        ensures grows { Grows self.old self.new }
+        ensures made { IfOk result (λ made. IsMade (length (left mark)) self.old self.new front made (changed (read self.old front) (mark, []))) }
+    {
+        let Some(mark) = mark else {
+            return Ok(front);
+        };
+        let marks = self.marks.put(mark, front.marks)?;
+        Ok(Front {
+            marks,
+            rest: front.rest,
+        })
+    }
+
+    /// A reading with a place before those that are still to be done.
+    fn place(&mut self, front: Front, place: u32) -> Result<Front, NoMemory>
+        requires { IsWithin self.old front }
+        ensures grows { Grows self.old self.new }
+        ensures made { IfOk result (λ made. IsMade 1 self.old self.new front made (changed (read self.old front) (None, place ∷ []))) }
+    {
+        let rest = self.rests.put(place, front.rest)?;
+        Ok(Front {
+            marks: front.marks,
+            rest,
+        })
+    }
+
+    /// A reading with these places before those that are still to be done.
+    fn places(&mut self, front: Front, places: &[u32]) -> Result<Front, NoMemory>
+        requires { IsWithin self.old front }
+        ensures grows { Grows self.old self.new }
+        ensures made { IfOk result (λ made. IsMade (length places.now) self.old self.new front made (changed (read self.old front) (None, places.now))) }
+    {
+        let mut made = front;
+        for place in places.iter().rev() {
+            made = self.place(made, *place)?;
+        }
+        Ok(made)
+    }
+
+    /// A reading with the places from the first up to the end before those that are still to be done.
+    fn row(&mut self, front: Front, first: u32, end: u32) -> Result<Front, NoMemory>
+        requires { IsWithin self.old front }
+        ensures grows { Grows self.old self.new }
+        ensures made { IfOk result (λ made. IsMade (end - first) self.old self.new front made (changed (read self.old front) (None, side_by_side first (end - first)))) }
+    {
+        let mut made = front;
+        for place in (first..end).rev() {
+            made = self.place(made, place)?;
+        }
+        Ok(made)
+    }
+
+    /// A reading with a mark behind the others, if any, and these places before those that are still to be done.
+    fn change(
+        &mut self,
+        front: Front,
+        mark: Option<TreeMark>,
+        places: &[u32],
+    ) -> Result<Front, NoMemory>
+        requires { IsWithin self.old front }
+        ensures grows { Grows self.old self.new }
+        ensures made { IfOk result (λ made. IsMade (cells_of (mark, places.now)) self.old self.new front made (changed (read self.old front) (mark, places.now))) }
+    {
+        let marked = self.mark(front, mark)?;
+        self.places(marked, places)
+    }
+
+    /// Puts on what a mark, if any, and these places make of a reading.
+    pub(crate) fn put(
+        &mut self,
+        fronts: &mut Vec<Front>,
+        front: Front,
+        mark: Option<TreeMark>,
+        places: &[u32],
+    ) -> Result<(), NoMemory>
+        requires { IsWithin self.old front }
+        ensures grows { Grows self.old self.new }
+        ensures put { OnOk result (ArePut ((mark, places.now) ∷ []) self.old self.new front fronts.old.items fronts.new.items) }
+    {
+        fronts.push(self.change(front, mark, places)?)?;
+        Ok(())
+    }
+
+    /// Puts on what the places from the first up to the end make of a reading, one after another.
+    pub(crate) fn put_row(
+        &mut self,
+        fronts: &mut Vec<Front>,
+        front: Front,
+        first: u32,
+        end: u32,
+    ) -> Result<(), NoMemory>
+        requires { IsWithin self.old front }
+        ensures grows { Grows self.old self.new }
+        ensures put { OnOk result (ArePut ((None, side_by_side first (end - first)) ∷ []) self.old self.new front fronts.old.items fronts.new.items) }
+    {
+        fronts.push(self.row(front, first, end)?)?;
+        Ok(())
+    }
+
+    /// Puts on what each of the places from the first up to the end makes of a reading.
+    pub(crate) fn put_ways(
+        &mut self,
+        fronts: &mut Vec<Front>,
+        front: Front,
+        first: u32,
+        end: u32,
+    ) -> Result<(), NoMemory>
+        requires { IsWithin self.old front }
+        ensures grows { Grows self.old self.new }
+        ensures put { OnOk result (ArePut (map way (side_by_side first (end - first))) self.old self.new front fronts.old.items fronts.new.items) }
+    {
+        for place in first..end {
+            self.put(fronts, front, None, &[place])?;
+        }
+        Ok(())
+    }
+
+    /// Puts on a reading as it is, and what these places make of it.
+    pub(crate) fn put_either(
+        &mut self,
+        fronts: &mut Vec<Front>,
+        front: Front,
+        places: &[u32],
+    ) -> Result<(), NoMemory>
+        requires { IsWithin self.old front }
+        ensures grows { Grows self.old self.new }
+        ensures put { OnOk result (ArePut ((None, []) ∷ (None, places.now) ∷ []) self.old self.new front fronts.old.items fronts.new.items) }
+    {
+        self.put(fronts, front, None, &[])?;
+        self.put(fronts, front, None, places)
+    }
+
+    /// Whether each place that is still to be done may read nothing.
+    pub(crate) fn may_end(&self, begins: &Begins, front: Front) -> bool
+        requires { IsWithin self.now front }
+        ensures { IsTrue result ↔ AllByRecursion (MayBePassed begins.now) (read self.now front).rest }
+    {
+        let mut rest = front;
+        'places: while let Some((place, behind)) = self.first(rest) {
+            if !begins.may_be_empty(place as usize) {
+                return false;
+            }
+            rest = behind;
+        }
+        true
+    }
+}

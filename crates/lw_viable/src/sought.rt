@@ -1,0 +1,222 @@
+// The readings that go on with a token of one kind.
+ghost use Rattle.std.specs.Prelude.{ℕ, ◌≡◌, ◌+◌, ◌<◌, ◌++◌, List, [], ◌∷◌, Some, All, map, IfOk, OnOk, MatchOption, ◌≢◌, slice_get};
+ghost use Rattle.lw_base.specs.declared.numbers.PointId.{PointId};
+ghost use Rattle.lw_grammar.specs.declared.grammar.Grammar.{Grammar};
+ghost use Rattle.lw_grammar.specs.Kinds.{Kinds, kind_count};
+ghost use Rattle.lw_viable.specs.Fronts.{IsKnownProgram};
+ghost use Rattle.lw_viable.specs.Growing.{ArePut, Change, Grows, IsMade, IsWithin, cells_of, changed, read};
+ghost use Rattle.lw_viable.specs.Readings.{Keeps};
+ghost use Rattle.lw_viable.specs.Turning.{Calls, Enters, IsMoved, IsTurned, LoopsOnce, ReadsToken};
+
+use crate::front::Front;
+use crate::lists::Lists;
+use lw_base::{KindId, NoMemory, RuleId};
+use lw_begins::Begins;
+use lw_program::{Instr, Program};
+use lw_recipes::TreeMark;
+use std::alloc::Global;
+
+/// The kind of the next token, and what is known of the places at which it may be read.
+#[derive(Clone, Copy)]
+pub(crate) struct Sought<'p> {
+    pub(crate) program: &'p Program,
+    pub(crate) begins: &'p Begins,
+    pub(crate) kind: KindId,
+}
+
+impl Sought<'_> {
+    /// A call of a rule.
+    fn call(
+        self,
+        rule: u16,
+        lists: &mut Lists,
+        front: Front,
+        work: &mut Vec<Front>,
+    ) -> Result<(), NoMemory>
+        requires { IsWithin lists.old front }
+        ensures grows { Grows lists.old lists.new }
+        ensures put { OnOk result ((changes : List Change) × Calls self.entry.program.now self.entry.begins.now self.entry.kind.0 rule changes
+            × ArePut changes lists.old lists.new front work.old.items work.new.items) }
+    {
+        if !self.begins.may_meet(rule as usize, self.kind) {
+            return Ok(());
+        }
+        match start_of(self.program, rule) {
+            None => Ok(()),
+            Some(start) => enter(self.begins, rule, start, lists, front, work),
+        }
+    }
+
+    /// The body of the loop at this place, and then the loop.
+    fn once(
+        self,
+        rest: u32,
+        lists: &mut Lists,
+        front: Front,
+        work: &mut Vec<Front>,
+    ) -> Result<(), NoMemory>
+        requires { IsWithin lists.old front }
+        ensures grows { Grows lists.old lists.new }
+        ensures put { OnOk result ((changes : List Change) × LoopsOnce self.entry.program.now rest changes
+            × ArePut changes lists.old lists.new front work.old.items work.new.items) }
+    {
+        match body_of(instr_at(self.program, rest)) {
+            None => Ok(()),
+            Some(body) => lists.put(work, front, None, &[body, rest]),
+        }
+    }
+
+    /// A token of this kind.
+    fn token(
+        self,
+        kind: KindId,
+        lists: &mut Lists,
+        front: Front,
+        found: &mut Vec<Front>,
+    ) -> Result<(), NoMemory>
+        requires { IsWithin lists.old front }
+        ensures grows { Grows lists.old lists.new }
+        ensures put { OnOk result ((changes : List Change) × ReadsToken self.entry.kind.0 kind changes
+            × ArePut changes lists.old lists.new front found.old.items found.new.items) }
+    {
+        if kind != self.kind {
+            return Ok(());
+        }
+        lists.put(found, front, Some(TreeMark::Token(kind)), &[])
+    }
+
+    /// What stands at a place, behind which a reading goes on.
+    fn moves(
+        self,
+        place: u32,
+        lists: &mut Lists,
+        front: Front,
+        work: &mut Vec<Front>,
+        found: &mut Vec<Front>,
+    ) -> Result<(), NoMemory>
+        requires { IsWithin lists.old front }
+        ensures grows { Grows lists.old lists.new }
+        ensures moved { OnOk result (IsMoved self.entry.program.now self.entry.begins.now self.entry.kind.0 place lists.old lists.new front
+            work.old.items work.new.items found.old.items found.new.items) }
+    {
+        match instr_at(self.program, place) {
+            None => Ok(()),
+            Some(Instr::Token(kind)) => self.token(kind, lists, front, found),
+            Some(Instr::End) => lists.put(work, front, Some(TreeMark::End), &[]),
+            Some(Instr::Shut) => lists.put(work, front, Some(TreeMark::Shut), &[]),
+            Some(Instr::Act(number)) => lists.put(work, front, Some(TreeMark::Act(number)), &[]),
+            Some(Instr::Row { first, end }) => lists.put_row(work, front, first, end),
+            Some(Instr::Choice { first, end, .. }) => lists.put_ways(work, front, first, end),
+            Some(Instr::Maybe { body, .. }) => lists.put_either(work, front, &[body]),
+            Some(Instr::Loop { body, .. }) => lists.put_either(work, front, &[body, place]),
+            Some(Instr::Once { rest }) => self.once(rest, lists, front, work),
+            Some(Instr::Put { put, first }) => {
+                let end = behind(first)?;
+                lists.put(work, front, Some(TreeMark::Put(put)), &[first, end])
+            }
+            Some(Instr::Call { rule }) => self.call(rule, lists, front, work),
+        }
+    }
+
+    /// What stands at the first place of a reading. One with no place left is dropped.
+    fn turn(
+        self,
+        lists: &mut Lists,
+        front: Front,
+        work: &mut Vec<Front>,
+        found: &mut Vec<Front>,
+    ) -> Result<(), NoMemory>
+        requires { IsWithin lists.old front }
+        ensures grows { Grows lists.old lists.new }
+        ensures turned { OnOk result (IsTurned self.entry.program.now self.entry.begins.now self.entry.kind.0 lists.old lists.new front
+            work.old.items work.new.items found.old.items found.new.items) }
+    {
+        match lists.first(front) {
+            None => Ok(()),
+            Some((place, behind)) => self.moves(place, lists, behind, work, found),
+        }
+    }
+
+    /// All readings that these go on to by a token of the kind.
+    pub(crate) fn explore(
+        self,
+        alloc: Global,
+        lists: &mut Lists,
+        kept: &[Front],
+    ) -> Result<Vec<Front>, NoMemory>
+        requires { All (IsWithin lists.old) kept.now }
+        ensures grows { Grows lists.old lists.new }
+        ensures within { IfOk result (λ found. All (IsWithin lists.new) found.items) }
+        ensures keeps { (g : Grammar) (kinds : Kinds) (ks : List ℕ) (known : IsKnownProgram g kinds self.entry.program.now self.entry.begins.now) →
+            self.entry.kind.0 < kind_count kinds → Keeps g kinds known.program.tasks ks (map (read lists.old) kept.now) →
+            IfOk result (λ found. Keeps g kinds known.program.tasks (ks ++ self.entry.kind.0 ∷ []) (map (read lists.new) found.items)) }
+    {
+        let mut work = Vec::new(alloc);
+        work.extend_from_slice(kept)?;
+        let mut found = Vec::new(alloc);
+        'turns: while let Some(front) = work.pop() {
+            self.turn(lists, front, &mut work, &mut found)?;
+        }
+        Ok(found)
+    }
+}
+
+/// What stands at a place.
+fn instr_at(program: &Program, place: u32) -> Option<Instr>
+    ensures { result ≡ slice_get program.now.code place }
+{
+    program.code().get(place as usize).copied()
+}
+
+/// The place of the body where a loop stands.
+fn body_of(instr: Option<Instr>) -> Option<u32>
+    ensures { MatchOption result ((point : PointId) (body : ℕ) → instr ≢ Some (Instr.Loop point body))
+        (λ body. (point : PointId) × (instr ≡ Some (Instr.Loop point body))) }
+{
+    match instr? {
+        Instr::Loop { body, .. } => Some(body),
+        _ => None,
+    }
+}
+
+/// Where a rule starts, if it does.
+pub(crate) fn start_of(program: &Program, rule: u16) -> Option<u32>
+    ensures { MatchOption result ((start : ℕ) → slice_get program.now.starts rule ≢ Some (Some start))
+        (λ start. slice_get program.now.starts rule ≡ Some (Some start)) }
+{
+    program.starts().get(rule as usize).copied().flatten()
+}
+
+/// Puts on what a reading goes on to where a rule is called that starts there: a node, where the rule makes one, or its body alone.
+pub(crate) fn enter(
+    begins: &Begins,
+    rule: u16,
+    start: u32,
+    lists: &mut Lists,
+    front: Front,
+    fronts: &mut Vec<Front>,
+) -> Result<(), NoMemory>
+    requires { IsWithin lists.old front }
+    ensures grows { Grows lists.old lists.new }
+    ensures put { OnOk result ((change : Change) × Enters begins.now rule start change
+        × ArePut (change ∷ []) lists.old lists.new front fronts.old.items fronts.new.items) }
+{
+    if begins.makes_node(rule as usize) {
+        let end = behind(start)?;
+        lists.put(
+            fronts,
+            front,
+            Some(TreeMark::Open(RuleId(rule))),
+            &[start, end],
+        )
+    } else {
+        lists.put(fronts, front, None, &[start])
+    }
+}
+
+/// The place behind another. Where it has no number, memory is wanting.
+fn behind(place: u32) -> Result<u32, NoMemory>
+    ensures { IfOk result (λ next. next ≡ place + 1) }
+{
+    place.checked_add(1).ok_or(NoMemory)
+}
