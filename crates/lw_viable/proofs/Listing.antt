@@ -13,7 +13,7 @@ use Rattle.lw_begins.specs.Told.{BeginsParts, IsMet}
 use Rattle.lw_viable.specs.Moves.{side_by_side, MovesBy}
 use Rattle.lw_viable.specs.Moves as move
 use Rattle.lw_viable.specs.Growing.{Change}
-use Rattle.lw_viable.specs.Turning.{way, Enters, LoopsOnce, ReadsToken, AreRead, Calls, AreQuiet}
+use Rattle.lw_viable.specs.Turning.{way_change, Enters, LoopsOnce, ReadsToken, AreRead, CallsAtRule, AreQuiet}
 use Rattle.lw_viable.specs.Turning as turn
 use Rattle.lw_viable.proofs.Moves.Beside.{all_beside}
 
@@ -34,13 +34,13 @@ first_of x xs = (0, omega arith, refl)
 second_of : {X : Type 0} (x y : X) (xs : List X) → Contains (x ∷ y ∷ xs) y
 second_of x y xs = (1, omega arith, refl)
 
-way_put : (first count w : ℕ) → first ≤ w → w < first + count → Contains (map way (side_by_side first count)) (way w)
+way_put : (first count w : ℕ) → first ≤ w → w < first + count → Contains (map way_change (side_by_side first count)) (way_change w)
 way_put first zero w from below = absurd (omega arith)
 way_put first (suc count) w from below = elim (cases_lt first w) [
   | inl past ↦ let (k, within, is) = way_put (first + 1) count w (omega arith) (omega arith) in (suc k, omega arith, is)
   | inr before ↦
       let same : first ≡ w = omega arith in
-      subst (λ w. Contains (map way (side_by_side first (suc count))) (way w)) same (first_of (way first) (map way (side_by_side (first + 1) count)))
+      subst (λ w. Contains (map way_change (side_by_side first (suc count))) (way_change w)) same (first_of (way_change first) (map way_change (side_by_side (first + 1) count)))
 ]
 
 module _ (program : ProgramParts) (told : BeginsParts) (kind p : ℕ) where
@@ -73,7 +73,7 @@ module _ (program : ProgramParts) (told : BeginsParts) (kind p : ℕ) where
   entered_quietly at starts (turn.opens flag) = (move.opens at starts flag, tt)
   entered_quietly at starts (turn.goes no_flag) = (move.calls at starts no_flag, tt)
 
-  called_quietly : {r : ℕ} {changes : List Change} → slice_get program.code p ≡ Some (Call r) → Calls program told kind r changes → All IsQuietMove changes
+  called_quietly : {r : ℕ} {changes : List Change} → slice_get program.code p ≡ Some (Call r) → CallsAtRule program told kind r changes → All IsQuietMove changes
   called_quietly at (turn.misses not_met) = All-nil IsQuietMove
   called_quietly at (turn.nowhere none) = All-nil IsQuietMove
   called_quietly at (turn.enters {change} starts enters) = one_quiet change (entered_quietly at starts enters) refl
@@ -90,9 +90,9 @@ module _ (program : ProgramParts) (told : BeginsParts) (kind p : ℕ) where
   quiet_moves changes (Some (Act n)) at are = one_quiet _ (move.acts at, tt) are
   quiet_moves changes (Some (Row first end)) at are = one_quiet _ (move.row at, tt) are
   quiet_moves changes (Some (Choice point first end)) at are =
-      All-same IsQuietMove changes (map way (side_by_side first (end - first))) are
-      (All-map IsQuietMove way (side_by_side first (end - first))
-      (all_beside (λ w. IsQuietMove (way w)) first (end - first) (λ i below. (move.way (first + i) at (omega arith) (omega arith), tt))))
+      All-same IsQuietMove changes (map way_change (side_by_side first (end - first))) are
+      (All-map IsQuietMove way_change (side_by_side first (end - first))
+      (all_beside (λ w. IsQuietMove (way_change w)) first (end - first) (λ i below. (move.way (first + i) at (omega arith) (omega arith), tt))))
   quiet_moves changes (Some (Maybe point inner)) at are = two_quiet _ _ (move.passes at, tt) (move.enters at, tt) are
   quiet_moves changes (Some (Loop point inner)) at are = two_quiet _ _ (move.leaves at, tt) (move.again at, tt) are
   quiet_moves changes (Some (Once rest)) at are = looped_quietly at are
@@ -144,7 +144,7 @@ module _ (program : ProgramParts) (told : BeginsParts) (kind p : ℕ) where
     gone (turn.opens flag) no_flag = absurd (no_flag flag)
     gone (turn.goes no_flag') no_flag = refl
 
-    open_put : {r start : ℕ} {changes : List Change} → Calls program told kind r changes → slice_get program.code p ≡ Some (Call r) →
+    open_put : {r start : ℕ} {changes : List Change} → CallsAtRule program told kind r changes → slice_get program.code p ≡ Some (Call r) →
         slice_get program.starts r ≡ Some (Some start) → slice_get told.nodes r ≡ Some true → changes ≡ quiet →
         IsPut quiet tokens (Some (numbered.Open (record { 0 = r })), start ∷ (start + 1) ∷ [])
     open_put (turn.misses not_met) at starts flag are = missed at not_met
@@ -154,7 +154,7 @@ module _ (program : ProgramParts) (told : BeginsParts) (kind p : ℕ) where
         let same : other ≡ start = cc in
         quietly (subst (Contains quiet) (opened enters flag ∙ ap (λ s. (Some (numbered.Open (record { 0 = r })), s ∷ (s + 1) ∷ [])) same) (contains_as (sym are) (first_of change [])))
 
-    call_put : {r start : ℕ} {changes : List Change} → Calls program told kind r changes → slice_get program.code p ≡ Some (Call r) →
+    call_put : {r start : ℕ} {changes : List Change} → CallsAtRule program told kind r changes → slice_get program.code p ≡ Some (Call r) →
         slice_get program.starts r ≡ Some (Some start) → ¬ (slice_get told.nodes r ≡ Some true) → changes ≡ quiet → IsPut quiet tokens (None, start ∷ [])
     call_put (turn.misses not_met) at starts no_flag are = missed at not_met
     call_put (turn.nowhere none) at starts no_flag are = absurd (none _ starts)
@@ -171,7 +171,7 @@ module _ (program : ProgramParts) (told : BeginsParts) (kind p : ℕ) where
     each_put (move.row at) = quietly (contains_as (at_quiet at) (first_of _ []))
     each_put (move.way {first} {end} w at from below) = quietly (contains_as (at_quiet at) (way_put first (end - first) w from (omega arith)))
     each_put (move.enters at) = quietly (contains_as (at_quiet at) (second_of _ _ []))
-    each_put (move.passes {inner} at) = quietly (contains_as (at_quiet at) (first_of _ (way inner ∷ [])))
+    each_put (move.passes {inner} at) = quietly (contains_as (at_quiet at) (first_of _ (way_change inner ∷ [])))
     each_put (move.again at) = quietly (contains_as (at_quiet at) (second_of _ _ []))
     each_put (move.leaves {inner} at) = quietly (contains_as (at_quiet at) (first_of _ (loops p inner ∷ [])))
     each_put (move.once at loop) = loop_put (at_quiet at) loop refl

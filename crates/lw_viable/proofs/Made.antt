@@ -3,14 +3,14 @@ use Rattle.std.proofs.Common.{ℕ, ◌≡◌, ◌+◌, ◌-◌, ◌<◌, ◌≤�
 use Rattle.lw_recipes.specs.declared.mark.TreeMark.{TreeMark}
 use Rattle.lw_viable.specs.Readings.{KeptReading}
 use Rattle.lw_viable.specs.Moves.{left, side_by_side}
-use Rattle.lw_viable.specs.Growing.{IsWithin, read, Grows, IsMade, changed}
+use Rattle.lw_viable.specs.Growing.{HasLists, read, GrowsLists, IsMadeFront, changed}
 use Rattle.lw_viable.specs.declared.front.Front.{Front}
 use Rattle.lw_viable.specs.declared.lists.Lists.{Lists}
 
-pub grows_none : (lists : Lists) → Grows lists lists
+pub grows_none : (lists : Lists) → GrowsLists lists lists
 grows_none lists = record { marks = omega arith; rests = omega arith; same_marks = λ link within. refl; same_rests = λ link within. refl }
 
-pub grows_on : {old mid new : Lists} → Grows old mid → Grows mid new → Grows old new
+pub grows_on : {old mid new : Lists} → GrowsLists old mid → GrowsLists mid new → GrowsLists old new
 grows_on a b =
     record {
       marks = omega (arith, a.marks, b.marks);
@@ -28,12 +28,12 @@ pub unchanged : (r : KeptReading) → changed r (None, []) ≡ r
 unfolding reading
 unchanged r = ap (λ marks. reading marks r.rest) (append-nil r.marks)
 
-pub made_none : (lists : Lists) (front : Front) → IsWithin lists front → front.rest.0 < 2 ^ 32 → IsMade 0 lists lists front front (changed (read lists front) (None, []))
+pub made_none : (lists : Lists) (front : Front) → HasLists lists front → front.rest.0 < 2 ^ 32 → IsMadeFront 0 lists lists front front (changed (read lists front) (None, []))
 made_none lists front within fits =
     record { within = within; is = sym (unchanged (read lists front)); spent = omega arith; fits = fits; none = λ none. refl }
 
-pub made_on : {m n : ℕ} {old mid new : Lists} {front half made : Front} {r s : KeptReading} → IsMade m old mid front half r → IsMade n mid new half made s →
-    IsMade (m + n) old new front made s
+pub made_on : {m n : ℕ} {old mid new : Lists} {front half made : Front} {r s : KeptReading} → IsMadeFront m old mid front half r → IsMadeFront n mid new half made s →
+    IsMadeFront (m + n) old new front made s
 made_on {m} {n} a b =
     record {
       within = b.within;
@@ -43,9 +43,9 @@ made_on {m} {n} a b =
       none = λ none. b.none (omega arith) ∙ a.none (omega arith);
     }
 
-pub made_as : {m n : ℕ} {old new : Lists} {front made : Front} {r s : KeptReading} → m ≡ n → r ≡ s → IsMade m old new front made r → IsMade n old new front made s
+pub made_as : {m n : ℕ} {old new : Lists} {front made : Front} {r s : KeptReading} → m ≡ n → r ≡ s → IsMadeFront m old new front made r → IsMadeFront n old new front made s
 made_as {old} {new} {front} {made} {s} same is a =
-    subst (λ n. IsMade n old new front made s) same (record { within = a.within; is = a.is ∙ is; spent = a.spent; fits = a.fits; none = a.none })
+    subst (λ n. IsMadeFront n old new front made s) same (record { within = a.within; is = a.is ∙ is; spent = a.spent; fits = a.fits; none = a.none })
 
 -- one change and then another, of which the first puts the later places
 pub changed_on : (r : KeptReading) (mark : Option TreeMark) (places later : List ℕ) → changed (changed r (mark, later)) (None, places) ≡ changed r (mark, places ++ later)
@@ -56,8 +56,8 @@ changed_on r mark places later =
 
 -- one place more before those that were put
 pub made_place : {n : ℕ} {old mid new : Lists} {front half made : Front} (mark : Option TreeMark) (places later : List ℕ) →
-    IsMade n old mid front half (changed (read old front) (mark, later)) → IsMade (length places) mid new half made (changed (read mid half) (None, places)) →
-    IsMade (n + length places) old new front made (changed (read old front) (mark, places ++ later))
+    IsMadeFront n old mid front half (changed (read old front) (mark, later)) → IsMadeFront (length places) mid new half made (changed (read mid half) (None, places)) →
+    IsMadeFront (n + length places) old new front made (changed (read old front) (mark, places ++ later))
 made_place {old} {front} mark places later a b =
     made_as refl (ap (λ r. changed r (None, places)) a.is ∙ changed_on (read old front) mark places later) (made_on a b)
 

@@ -13,8 +13,8 @@ use Rattle.lw_begins.specs.Told.{BeginsParts}
 use Rattle.lw_viable.specs.Readings.{KeptReading}
 use Rattle.lw_viable.specs.Moves.{side_by_side}
 use Rattle.lw_viable.specs.Fronts.{IsKnownProgram}
-use Rattle.lw_viable.specs.Growing.{IsWithin, read, Grows, Change, changed, weight_of, weight, kept, ArePut}
-use Rattle.lw_viable.specs.Turning.{way, Enters, LoopsOnce, Calls, AreQuiet, IsMoved, IsTurned}
+use Rattle.lw_viable.specs.Growing.{HasLists, read, GrowsLists, Change, changed, weight_of, fronts_weight, kept, ArePut}
+use Rattle.lw_viable.specs.Turning.{way_change, Enters, LoopsOnce, CallsAtRule, AreQuiet, IsMovedAt, IsTurned}
 use Rattle.lw_viable.specs.Turning as turn
 use Rattle.lw_viable.specs.declared.front.Front.{Front}
 use Rattle.lw_viable.specs.declared.lists.Lists.{Lists}
@@ -48,15 +48,15 @@ either_light : (front : Front) (p : ℕ) (ps : List ℕ) → IsLight front ((Non
 either_light front p ps =
     record { light = omega (arith, sum_by-cons (keeps front) (None, []) ((None, p ∷ ps) ∷ []), sum_by-cons (keeps front) (None, p ∷ ps) []) }
 
-ways_none : (front : Front) (places : List ℕ) → sum_by (keeps front) (map way places) ≡ 0
+ways_none : (front : Front) (places : List ℕ) → sum_by (keeps front) (map way_change places) ≡ 0
 ways_none front [] = refl
-ways_none front (p ∷ ps) = let others = ways_none front ps in omega (arith, others, sum_by-cons (keeps front) (way p) (map way ps))
+ways_none front (p ∷ ps) = let others = ways_none front ps in omega (arith, others, sum_by-cons (keeps front) (way_change p) (map way_change ps))
 
-ways_light : (front : Front) (places : List ℕ) → IsLight front (map way places)
+ways_light : (front : Front) (places : List ℕ) → IsLight front (map way_change places)
 ways_light front places = let none = ways_none front places in record { light = omega (arith, none) }
 
 module _ (program : ProgramParts) (told : BeginsParts) (kind p : ℕ) where
-  calls_light : (front : Front) {r : ℕ} {changes : List Change} → Calls program told kind r changes → IsLight front changes
+  calls_light : (front : Front) {r : ℕ} {changes : List Change} → CallsAtRule program told kind r changes → IsLight front changes
   calls_light front (turn.misses not_met) = none_light front
   calls_light front (turn.nowhere none) = none_light front
   calls_light front (turn.enters {change} starts enters) = one_light front change
@@ -79,10 +79,10 @@ module _ (program : ProgramParts) (told : BeginsParts) (kind p : ℕ) where
   quiet_light front changes (Some (Put n first)) are = light_as are (one_light front _)
   quiet_light front changes (Some (Call r)) are = calls_light front are
 
-module _ (program : ProgramParts) (told : BeginsParts) (kind : ℕ) {old new : Lists} (grows : Grows old new) where
+module _ (program : ProgramParts) (told : BeginsParts) (kind : ℕ) {old new : Lists} (grows : GrowsLists old new) where
   -- less is still to be explored
   pub turned_lighter : (front : Front) (work after found noted : List Front) → IsTurned program told kind old new front work after found noted →
-      weight new after < weight old (work ++ front ∷ [])
+      fronts_weight new after < fronts_weight old (work ++ front ∷ [])
   turned_lighter front work after found noted (turn.nothing empty same same_found) =
       let shrinks = room_shrinks grows in omega (arith, shrinks, sum_by_push weight_of work front, ap (λ fronts. sum_by weight_of fronts) same)
   turned_lighter front work after found noted (turn.moves {p} {behind} within marks rest less moved) =
@@ -98,21 +98,21 @@ module _ (program : ProgramParts) (told : BeginsParts) (kind : ℕ) {old new : L
         ap (λ fronts. sum_by weight_of fronts) moved.puts.are,
       )
 
-  put_within : (changes : List Change) (front : Front) (before after : List Front) → All (IsWithin old) before → ArePut changes old new front before after → All (IsWithin new) after
+  put_within : (changes : List Change) (front : Front) (before after : List Front) → All (HasLists old) before → ArePut changes old new front before after → All (HasLists new) after
   put_within changes front before after within put =
-      All-same (IsWithin new) after (before ++ put.fronts) put.are (All-append (IsWithin new) before put.fronts (all_stay_within grows before within) put.within)
+      All-same (HasLists new) after (before ++ put.fronts) put.are (All-append (HasLists new) before put.fronts (all_stay_within grows before within) put.within)
 
-  pub turned_within : (front : Front) (work after found noted : List Front) → All (IsWithin old) work → All (IsWithin old) found →
-      IsTurned program told kind old new front work after found noted → All (IsWithin new) after × All (IsWithin new) noted
+  pub turned_within : (front : Front) (work after found noted : List Front) → All (HasLists old) work → All (HasLists old) found →
+      IsTurned program told kind old new front work after found noted → All (HasLists new) after × All (HasLists new) noted
   turned_within front work after found noted within found_within (turn.nothing empty same same_found) = (
-    All-same (IsWithin new) after work same (all_stay_within grows work within),
-    All-same (IsWithin new) noted found same_found (all_stay_within grows found found_within),
+    All-same (HasLists new) after work same (all_stay_within grows work within),
+    All-same (HasLists new) noted found same_found (all_stay_within grows found found_within),
   )
   turned_within front work after found noted within found_within (turn.moves {behind} behind_within marks rest less moved) =
       (put_within moved.quiet behind work after within moved.puts, put_within moved.tokens behind found noted found_within moved.finds)
 
   -- what is put on is read as its changes
-  put_read : (changes : List Change) (front : Front) (before after : List Front) → All (IsWithin old) before → ArePut changes old new front before after →
+  put_read : (changes : List Change) (front : Front) (before after : List Front) → All (HasLists old) before → ArePut changes old new front before after →
       map (read new) after ≡ map (read old) before ++ map (changed (read old front)) changes
   put_read changes front before after within put =
       ap (map (read new)) put.are ∙ map-append (read new) before put.fronts ∙ ap (λ rs. rs ++ map (read new) put.fronts) (all_read_same grows before within)
@@ -122,7 +122,7 @@ module _ (program : ProgramParts) (told : BeginsParts) (kind : ℕ) {old new : L
     abbrev Explores : List KeptReading → List KeptReading → Type 0
     Explores work found = IsExploring g kinds known ks kind work found
 
-    pub turned_keeps : (front : Front) (work after found noted : List Front) → All (IsWithin old) work → All (IsWithin old) found →
+    pub turned_keeps : (front : Front) (work after found noted : List Front) → All (HasLists old) work → All (HasLists old) found →
         Explores (map (read old) (work ++ front ∷ [])) (map (read old) found) → IsTurned program told kind old new front work after found noted →
         Explores (map (read new) after) (map (read new) noted)
     turned_keeps front work after found noted within found_within explored (turn.nothing empty same same_found) =

@@ -9,7 +9,7 @@ use Rattle.lw_viable.specs.declared.front.Front.{Front}
 use Rattle.lw_viable.specs.declared.lists.Lists.{Lists}
 
 -- the lists of the front are there
-pub record IsWithin (lists : Lists) (front : Front) : Type 0 where
+pub record HasLists (lists : Lists) (front : Front) : Type 0 where
   pub marks : front.marks.0 ≤ length lists.marks
   pub rest : front.rest.0 ≤ length lists.rests
 
@@ -17,7 +17,7 @@ abbrev pub read : Lists → Front → KeptReading
 read lists front = reading_of lists.marks lists.rests front
 
 -- the lists of before are as they were
-pub record Grows (old new : Lists) : Type 0 where
+pub record GrowsLists (old new : Lists) : Type 0 where
   pub marks : length old.marks ≤ length new.marks
   pub rests : length old.rests ≤ length new.rests
   pub same_marks : (link : ℕ) → link ≤ length old.marks → chain new.marks link ≡ chain old.marks link
@@ -28,8 +28,8 @@ abbrev pub room : Lists → ℕ
 room lists = (2 ^ 32 - length lists.marks) + (2 ^ 32 - length lists.rests)
 
 -- the front that was made of another by so many cells, and what is read by it
-pub record IsMade (cells : ℕ) (old new : Lists) (front made : Front) (reading : KeptReading) : Type 0 where
-  pub within : IsWithin new made
+pub record IsMadeFront (cells : ℕ) (old new : Lists) (front made : Front) (reading : KeptReading) : Type 0 where
+  pub within : HasLists new made
   pub is : read new made ≡ reading
   pub spent : room new + cells ≤ room old
   pub fits : made.rest.0 < 2 ^ 32
@@ -53,8 +53,8 @@ abbrev pub cell_weight : ℕ
 cell_weight = 2 ^ 34
 
 -- what these fronts and the cells that may still be put in weigh
-abbrev pub weight : Lists → List Front → ℕ
-weight lists fronts = sum_by weight_of fronts + cell_weight * room lists
+abbrev pub fronts_weight : Lists → List Front → ℕ
+fronts_weight lists fronts = sum_by weight_of fronts + cell_weight * room lists
 
 -- of the front's own weight what a change without cells keeps
 abbrev pub kept : Front → Option TreeMark → List ℕ → ℕ
@@ -67,6 +67,6 @@ kept front (Some mark) ps = 0
 pub record ArePut (changes : List Change) (old new : Lists) (front : Front) (before after : List Front) : Type 0 where
   pub fronts : List Front
   pub are : after ≡ before ++ fronts
-  pub within : All (IsWithin new) fronts
+  pub within : All (HasLists new) fronts
   pub are_read : map (read new) fronts ≡ map (changed (read old front)) changes
-  pub lighter : weight new fronts ≤ cell_weight * room old + sum_by (λ change. kept front change.0 change.1) changes
+  pub lighter : fronts_weight new fronts ≤ cell_weight * room old + sum_by (λ change. kept front change.0 change.1) changes

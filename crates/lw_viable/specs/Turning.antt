@@ -8,12 +8,12 @@ use Rattle.lw_program.specs.ProgramOf.{ProgramParts}
 use Rattle.lw_recipes.specs.declared.mark.TreeMark.TheVariants as mark
 use Rattle.lw_begins.specs.Told.{BeginsParts, IsMet}
 use Rattle.lw_viable.specs.Moves.{side_by_side}
-use Rattle.lw_viable.specs.Growing.{Change, IsWithin, read, ArePut}
+use Rattle.lw_viable.specs.Growing.{Change, HasLists, read, ArePut}
 use Rattle.lw_viable.specs.declared.front.Front.{Front}
 use Rattle.lw_viable.specs.declared.lists.Lists.{Lists}
 
-abbrev pub way : ℕ → Change
-way w = (None, w ∷ [])
+abbrev pub way_change : ℕ → Change
+way_change w = (None, w ∷ [])
 
 -- the place may read nothing, by what is told
 abbrev pub MayBePassed : BeginsParts → ℕ → Type 0
@@ -41,10 +41,10 @@ AreRead kind _ changes = changes ≡ []
 -- by a program of which all is told
 module _ (program : ProgramParts) (told : BeginsParts) (kind : ℕ) where
   -- a call of a rule is left out where the kind cannot come next
-  pub data Calls (r : ℕ) : List Change → Type 0 where
-    misses : ¬ IsMet told.meets r kind → Calls r []
-    nowhere : ((start : ℕ) → slice_get program.starts r ≢ Some (Some start)) → Calls r []
-    enters : {start : ℕ} {change : Change} → slice_get program.starts r ≡ Some (Some start) → Enters told r start change → Calls r (change ∷ [])
+  pub data CallsAtRule (r : ℕ) : List Change → Type 0 where
+    misses : ¬ IsMet told.meets r kind → CallsAtRule r []
+    nowhere : ((start : ℕ) → slice_get program.starts r ≢ Some (Some start)) → CallsAtRule r []
+    enters : {start : ℕ} {change : Change} → slice_get program.starts r ≡ Some (Some start) → Enters told r start change → CallsAtRule r (change ∷ [])
 
   -- the changes that read no token, one for each way that there is
   abbrev pub AreQuiet : ℕ → Option Instr → List Change → Type 0
@@ -54,15 +54,15 @@ module _ (program : ProgramParts) (told : BeginsParts) (kind : ℕ) where
   AreQuiet p (Some Shut) changes = changes ≡ (Some mark.Shut, []) ∷ []
   AreQuiet p (Some (Act n)) changes = changes ≡ (Some (mark.Act n), []) ∷ []
   AreQuiet p (Some (Row first end)) changes = changes ≡ (None, side_by_side first (end - first)) ∷ []
-  AreQuiet p (Some (Choice point first end)) changes = changes ≡ map way (side_by_side first (end - first))
+  AreQuiet p (Some (Choice point first end)) changes = changes ≡ map way_change (side_by_side first (end - first))
   AreQuiet p (Some (Maybe point inner)) changes = changes ≡ (None, []) ∷ (None, inner ∷ []) ∷ []
   AreQuiet p (Some (Loop point inner)) changes = changes ≡ (None, []) ∷ (None, inner ∷ p ∷ []) ∷ []
   AreQuiet p (Some (Once rest)) changes = LoopsOnce program rest changes
   AreQuiet p (Some (Put n first)) changes = changes ≡ (Some (mark.Put n), first ∷ (first + 1) ∷ []) ∷ []
-  AreQuiet p (Some (Call r)) changes = Calls r changes
+  AreQuiet p (Some (Call r)) changes = CallsAtRule r changes
 
   -- what is put on at this place: what is still to be explored, and what was found
-  pub record IsMoved (p : ℕ) (old new : Lists) (front : Front) (old_work work old_found found : List Front) : Type 0 where
+  pub record IsMovedAt (p : ℕ) (old new : Lists) (front : Front) (old_work work old_found found : List Front) : Type 0 where
     pub quiet : List Change
     pub are_quiet : AreQuiet p (slice_get program.code p) quiet
     pub puts : ArePut quiet old new front old_work work
@@ -73,6 +73,6 @@ module _ (program : ProgramParts) (told : BeginsParts) (kind : ℕ) where
   -- A turn at a front: nothing is left to be done, or something is put on at its first place.
   pub data IsTurned (old new : Lists) (front : Front) (old_work work old_found found : List Front) : Type 0 where
     nothing : (read old front).rest ≡ [] → work ≡ old_work → found ≡ old_found → IsTurned old new front old_work work old_found found
-    moves : {p : ℕ} {behind : Front} → IsWithin old behind → (read old behind).marks ≡ (read old front).marks →
-        (read old front).rest ≡ p ∷ (read old behind).rest → behind.rest.0 < front.rest.0 → IsMoved p old new behind old_work work old_found found →
+    moves : {p : ℕ} {behind : Front} → HasLists old behind → (read old behind).marks ≡ (read old front).marks →
+        (read old front).rest ≡ p ∷ (read old behind).rest → behind.rest.0 < front.rest.0 → IsMovedAt p old new behind old_work work old_found found →
         IsTurned old new front old_work work old_found found

@@ -29,13 +29,13 @@ pub struct Fronts<'p> {
 impl<'p> Model for Fronts<'p> {
     ghost use Rattle.std.specs.Prelude.{map, All};
     ghost use Rattle.lw_viable.specs.Fronts.{FrontsParts};
-    ghost use Rattle.lw_viable.specs.Growing.{IsWithin, read};
+    ghost use Rattle.lw_viable.specs.Growing.{HasLists, read};
 
     ghost Value = { FrontsParts };
 
     ghost view = { λ a. record { program = a.program.now; begins = a.begins.now; kept = map (read a.lists) a.kept.items } };
 
-    ghost invariant = { λ a. All (IsWithin a.lists) a.kept.items };
+    ghost invariant = { λ a. All (HasLists a.lists) a.kept.items };
 }
 
 impl<'p> Fronts<'p> {

@@ -1,9 +1,9 @@
 // The lists by which readings are kept.
 ghost use Rattle.std.specs.Prelude.{◌≡◌, ◌-◌, ◌<◌, ◌≤◌, ◌++◌, [], ◌∷◌, None, length, map, IfOk, OnOk, MatchOption, ◌↔◌, IsTrue};
 ghost use Rattle.std.specs.List.{AllByRecursion};
-ghost use Rattle.lw_viable.specs.Growing.{ArePut, Grows, IsMade, IsWithin, changed, cells_of, read};
+ghost use Rattle.lw_viable.specs.Growing.{ArePut, GrowsLists, IsMadeFront, HasLists, changed, cells_of, read};
 ghost use Rattle.lw_viable.specs.Moves.{left, side_by_side};
-ghost use Rattle.lw_viable.specs.Turning.{MayBePassed, way};
+ghost use Rattle.lw_viable.specs.Turning.{MayBePassed, way_change};
 
 use crate::front::Front;
 use lw_base::NoMemory;
@@ -32,9 +32,9 @@ impl Lists {
 
     /// The first place that is still to be done, and the reading behind it.
     pub(crate) fn first(&self, front: Front) -> Option<(u32, Front)>
-        requires { IsWithin self.now front }
+        requires { HasLists self.now front }
         ensures { MatchOption result ((read self.now front).rest ≡ [])
-            (λ first. IsWithin self.now first.1
+            (λ first. HasLists self.now first.1
             × ((read self.now first.1).marks ≡ (read self.now front).marks)
             × ((read self.now front).rest ≡ first.0 ∷ (read self.now first.1).rest)
             × (first.1.rest.0 < front.rest.0)) }
@@ -53,9 +53,9 @@ impl Lists {
 
     /// A reading with a mark behind the others, if any.
     fn mark(&mut self, front: Front, mark: Option<TreeMark>) -> Result<Front, NoMemory>
-        requires { IsWithin self.old front }
-        ensures grows { Grows self.old self.new }
-        ensures made { IfOk result (λ made. IsMade (length (left mark)) self.old self.new front made (changed (read self.old front) (mark, []))) }
+        requires { HasLists self.old front }
+        ensures grows { GrowsLists self.old self.new }
+        ensures made { IfOk result (λ made. IsMadeFront (length (left mark)) self.old self.new front made (changed (read self.old front) (mark, []))) }
     {
         let Some(mark) = mark else {
             return Ok(front);
@@ -69,9 +69,9 @@ impl Lists {
 
     /// A reading with a place before those that are still to be done.
     fn place(&mut self, front: Front, place: u32) -> Result<Front, NoMemory>
-        requires { IsWithin self.old front }
-        ensures grows { Grows self.old self.new }
-        ensures made { IfOk result (λ made. IsMade 1 self.old self.new front made (changed (read self.old front) (None, place ∷ []))) }
+        requires { HasLists self.old front }
+        ensures grows { GrowsLists self.old self.new }
+        ensures made { IfOk result (λ made. IsMadeFront 1 self.old self.new front made (changed (read self.old front) (None, place ∷ []))) }
     {
         let rest = self.rests.put(place, front.rest)?;
         Ok(Front {
@@ -82,9 +82,9 @@ impl Lists {
 
     /// A reading with these places before those that are still to be done.
     fn places(&mut self, front: Front, places: &[u32]) -> Result<Front, NoMemory>
-        requires { IsWithin self.old front }
-        ensures grows { Grows self.old self.new }
-        ensures made { IfOk result (λ made. IsMade (length places.now) self.old self.new front made (changed (read self.old front) (None, places.now))) }
+        requires { HasLists self.old front }
+        ensures grows { GrowsLists self.old self.new }
+        ensures made { IfOk result (λ made. IsMadeFront (length places.now) self.old self.new front made (changed (read self.old front) (None, places.now))) }
     {
         let mut made = front;
         for place in places.iter().rev() {
@@ -95,9 +95,9 @@ impl Lists {
 
     /// A reading with the places from the first up to the end before those that are still to be done.
     fn row(&mut self, front: Front, first: u32, end: u32) -> Result<Front, NoMemory>
-        requires { IsWithin self.old front }
-        ensures grows { Grows self.old self.new }
-        ensures made { IfOk result (λ made. IsMade (end - first) self.old self.new front made (changed (read self.old front) (None, side_by_side first (end - first)))) }
+        requires { HasLists self.old front }
+        ensures grows { GrowsLists self.old self.new }
+        ensures made { IfOk result (λ made. IsMadeFront (end - first) self.old self.new front made (changed (read self.old front) (None, side_by_side first (end - first)))) }
     {
         let mut made = front;
         for place in (first..end).rev() {
@@ -113,9 +113,9 @@ impl Lists {
         mark: Option<TreeMark>,
         places: &[u32],
     ) -> Result<Front, NoMemory>
-        requires { IsWithin self.old front }
-        ensures grows { Grows self.old self.new }
-        ensures made { IfOk result (λ made. IsMade (cells_of (mark, places.now)) self.old self.new front made (changed (read self.old front) (mark, places.now))) }
+        requires { HasLists self.old front }
+        ensures grows { GrowsLists self.old self.new }
+        ensures made { IfOk result (λ made. IsMadeFront (cells_of (mark, places.now)) self.old self.new front made (changed (read self.old front) (mark, places.now))) }
     {
         let marked = self.mark(front, mark)?;
         self.places(marked, places)
@@ -129,8 +129,8 @@ impl Lists {
         mark: Option<TreeMark>,
         places: &[u32],
     ) -> Result<(), NoMemory>
-        requires { IsWithin self.old front }
-        ensures grows { Grows self.old self.new }
+        requires { HasLists self.old front }
+        ensures grows { GrowsLists self.old self.new }
         ensures put { OnOk result (ArePut ((mark, places.now) ∷ []) self.old self.new front fronts.old.items fronts.new.items) }
     {
         fronts.push(self.change(front, mark, places)?)?;
@@ -145,8 +145,8 @@ impl Lists {
         first: u32,
         end: u32,
     ) -> Result<(), NoMemory>
-        requires { IsWithin self.old front }
-        ensures grows { Grows self.old self.new }
+        requires { HasLists self.old front }
+        ensures grows { GrowsLists self.old self.new }
         ensures put { OnOk result (ArePut ((None, side_by_side first (end - first)) ∷ []) self.old self.new front fronts.old.items fronts.new.items) }
     {
         fronts.push(self.row(front, first, end)?)?;
@@ -161,9 +161,9 @@ impl Lists {
         first: u32,
         end: u32,
     ) -> Result<(), NoMemory>
-        requires { IsWithin self.old front }
-        ensures grows { Grows self.old self.new }
-        ensures put { OnOk result (ArePut (map way (side_by_side first (end - first))) self.old self.new front fronts.old.items fronts.new.items) }
+        requires { HasLists self.old front }
+        ensures grows { GrowsLists self.old self.new }
+        ensures put { OnOk result (ArePut (map way_change (side_by_side first (end - first))) self.old self.new front fronts.old.items fronts.new.items) }
     {
         for place in first..end {
             self.put(fronts, front, None, &[place])?;
@@ -178,8 +178,8 @@ impl Lists {
         front: Front,
         places: &[u32],
     ) -> Result<(), NoMemory>
-        requires { IsWithin self.old front }
-        ensures grows { Grows self.old self.new }
+        requires { HasLists self.old front }
+        ensures grows { GrowsLists self.old self.new }
         ensures put { OnOk result (ArePut ((None, []) ∷ (None, places.now) ∷ []) self.old self.new front fronts.old.items fronts.new.items) }
     {
         self.put(fronts, front, None, &[])?;
@@ -188,7 +188,7 @@ impl Lists {
 
     /// Whether each place that is still to be done may read nothing.
     pub(crate) fn may_end(&self, begins: &Begins, front: Front) -> bool
-        requires { IsWithin self.now front }
+        requires { HasLists self.now front }
         ensures { IsTrue result ↔ AllByRecursion (MayBePassed begins.now) (read self.now front).rest }
     {
         let mut rest = front;

@@ -4,9 +4,9 @@ ghost use Rattle.lw_base.specs.declared.numbers.PointId.{PointId};
 ghost use Rattle.lw_grammar.specs.declared.grammar.Grammar.{Grammar};
 ghost use Rattle.lw_grammar.specs.Kinds.{Kinds, kind_count};
 ghost use Rattle.lw_viable.specs.Fronts.{IsKnownProgram};
-ghost use Rattle.lw_viable.specs.Growing.{ArePut, Change, Grows, IsMade, IsWithin, cells_of, changed, read};
+ghost use Rattle.lw_viable.specs.Growing.{ArePut, Change, GrowsLists, IsMadeFront, HasLists, cells_of, changed, read};
 ghost use Rattle.lw_viable.specs.Readings.{Keeps};
-ghost use Rattle.lw_viable.specs.Turning.{Calls, Enters, IsMoved, IsTurned, LoopsOnce, ReadsToken};
+ghost use Rattle.lw_viable.specs.Turning.{CallsAtRule, Enters, IsMovedAt, IsTurned, LoopsOnce, ReadsToken};
 
 use crate::front::Front;
 use crate::lists::Lists;
@@ -33,9 +33,9 @@ impl Sought<'_> {
         front: Front,
         work: &mut Vec<Front>,
     ) -> Result<(), NoMemory>
-        requires { IsWithin lists.old front }
-        ensures grows { Grows lists.old lists.new }
-        ensures put { OnOk result ((changes : List Change) × Calls self.entry.program.now self.entry.begins.now self.entry.kind.0 rule changes
+        requires { HasLists lists.old front }
+        ensures grows { GrowsLists lists.old lists.new }
+        ensures put { OnOk result ((changes : List Change) × CallsAtRule self.entry.program.now self.entry.begins.now self.entry.kind.0 rule changes
             × ArePut changes lists.old lists.new front work.old.items work.new.items) }
     {
         if !self.begins.may_meet(rule as usize, self.kind) {
@@ -55,8 +55,8 @@ impl Sought<'_> {
         front: Front,
         work: &mut Vec<Front>,
     ) -> Result<(), NoMemory>
-        requires { IsWithin lists.old front }
-        ensures grows { Grows lists.old lists.new }
+        requires { HasLists lists.old front }
+        ensures grows { GrowsLists lists.old lists.new }
         ensures put { OnOk result ((changes : List Change) × LoopsOnce self.entry.program.now rest changes
             × ArePut changes lists.old lists.new front work.old.items work.new.items) }
     {
@@ -74,8 +74,8 @@ impl Sought<'_> {
         front: Front,
         found: &mut Vec<Front>,
     ) -> Result<(), NoMemory>
-        requires { IsWithin lists.old front }
-        ensures grows { Grows lists.old lists.new }
+        requires { HasLists lists.old front }
+        ensures grows { GrowsLists lists.old lists.new }
         ensures put { OnOk result ((changes : List Change) × ReadsToken self.entry.kind.0 kind changes
             × ArePut changes lists.old lists.new front found.old.items found.new.items) }
     {
@@ -94,9 +94,9 @@ impl Sought<'_> {
         work: &mut Vec<Front>,
         found: &mut Vec<Front>,
     ) -> Result<(), NoMemory>
-        requires { IsWithin lists.old front }
-        ensures grows { Grows lists.old lists.new }
-        ensures moved { OnOk result (IsMoved self.entry.program.now self.entry.begins.now self.entry.kind.0 place lists.old lists.new front
+        requires { HasLists lists.old front }
+        ensures grows { GrowsLists lists.old lists.new }
+        ensures moved { OnOk result (IsMovedAt self.entry.program.now self.entry.begins.now self.entry.kind.0 place lists.old lists.new front
             work.old.items work.new.items found.old.items found.new.items) }
     {
         match instr_at(self.program, place) {
@@ -126,8 +126,8 @@ impl Sought<'_> {
         work: &mut Vec<Front>,
         found: &mut Vec<Front>,
     ) -> Result<(), NoMemory>
-        requires { IsWithin lists.old front }
-        ensures grows { Grows lists.old lists.new }
+        requires { HasLists lists.old front }
+        ensures grows { GrowsLists lists.old lists.new }
         ensures turned { OnOk result (IsTurned self.entry.program.now self.entry.begins.now self.entry.kind.0 lists.old lists.new front
             work.old.items work.new.items found.old.items found.new.items) }
     {
@@ -144,9 +144,9 @@ impl Sought<'_> {
         lists: &mut Lists,
         kept: &[Front],
     ) -> Result<Vec<Front>, NoMemory>
-        requires { All (IsWithin lists.old) kept.now }
-        ensures grows { Grows lists.old lists.new }
-        ensures within { IfOk result (λ found. All (IsWithin lists.new) found.items) }
+        requires { All (HasLists lists.old) kept.now }
+        ensures grows { GrowsLists lists.old lists.new }
+        ensures within { IfOk result (λ found. All (HasLists lists.new) found.items) }
         ensures keeps { (g : Grammar) (kinds : Kinds) (ks : List ℕ) (known : IsKnownProgram g kinds self.entry.program.now self.entry.begins.now) →
             self.entry.kind.0 < kind_count kinds → Keeps g kinds known.program.tasks ks (map (read lists.old) kept.now) →
             IfOk result (λ found. Keeps g kinds known.program.tasks (ks ++ self.entry.kind.0 ∷ []) (map (read lists.new) found.items)) }
@@ -196,8 +196,8 @@ pub(crate) fn enter(
     front: Front,
     fronts: &mut Vec<Front>,
 ) -> Result<(), NoMemory>
-    requires { IsWithin lists.old front }
-    ensures grows { Grows lists.old lists.new }
+    requires { HasLists lists.old front }
+    ensures grows { GrowsLists lists.old lists.new }
     ensures put { OnOk result ((change : Change) × Enters begins.now rule start change
         × ArePut (change ∷ []) lists.old lists.new front fronts.old.items fronts.new.items) }
 {

@@ -1,13 +1,13 @@
 -- The places before those that are left may read nothing.
 use Rattle.std.proofs.Common.{◌↔◌}
 use Rattle.std.specs.List.{AllByRecursion}
-use Rattle.lw_viable.specs.Growing.{IsWithin, read}
+use Rattle.lw_viable.specs.Growing.{HasLists, read}
 use Rattle.lw_viable.specs.Turning.{MayBePassed}
 use Rattle.lw_viable.proofs.lists.Lists.may_end.Given as goal
 
 abbrev pub invariant-places : goal.invariant-places
 invariant-places l = record {
-  within : IsWithin l.self l.rest;
+  within : HasLists l.self l.rest;
   same : AllByRecursion (MayBePassed l.begins) (read l.self l.rest).rest ↔ AllByRecursion (MayBePassed l.begins) (read l.self l.fn.front).rest;
 }
 

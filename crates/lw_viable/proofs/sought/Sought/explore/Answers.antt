@@ -2,7 +2,7 @@
 use Rattle.std.proofs.Common.{◌≡◌, ◌<◌, [], ◌++◌, map, Some, sym, ap, ◌∙◌, subst, arith}
 use Rattle.std.proofs.lemmas.Grind.{common_steps}
 use Rattle.std.proofs.lemmas.List.Elements.{All-nil, All-same, All-pop}
-use Rattle.lw_viable.specs.Growing.{IsWithin, read, weight}
+use Rattle.lw_viable.specs.Growing.{HasLists, read, fronts_weight}
 use Rattle.lw_viable.proofs.Exploring.{IsExploring, exploring_first, exploring_last}
 use Rattle.lw_viable.proofs.Made.{grows_none, grows_on}
 use Rattle.lw_viable.proofs.Turned.{turned_lighter, turned_within, turned_keeps}
@@ -16,8 +16,8 @@ turns-init c =
     let found : c.new-found.result.items ≡ [] = c.new-found.ensures.items in
     record {
       grows = grows_none lists;
-      within = All-same (IsWithin lists) c.extend_from_slice.new.self.items c.args.kept.now work c.requires;
-      found_within = All-same (IsWithin lists) c.new-found.result.items [] found (All-nil (IsWithin lists));
+      within = All-same (HasLists lists) c.extend_from_slice.new.self.items c.args.kept.now work c.requires;
+      found_within = All-same (HasLists lists) c.new-found.result.items [] found (All-nil (HasLists lists));
       explored =
           λ g kinds ks known within keeps.
           subst (λ work. IsExploring g kinds known ks c.args.self.kind.0 (map (read lists) work) (map (read lists) c.new-found.result.items)) (sym work)
@@ -27,7 +27,7 @@ turns-init c =
 
 pub turns-smaller : goal.turns-smaller
 turns-smaller c =
-    subst (λ work. weight c.turn.new.lists c.turn.new.work.items < weight c.turns.lists work) (sym c.in-Some.ensures.items)
+    subst (λ work. fronts_weight c.turn.new.lists c.turn.new.work.items < fronts_weight c.turns.lists work) (sym c.in-Some.ensures.items)
     (turned_lighter c.args.self.program.now c.args.self.begins.now c.args.self.kind.0 c.turn.ensures.grows c.in-Some.front c.pop.new.self.items c.turn.new.work.items
     c.turns.found.items c.turn.new.found.items c.in_ok-turn.ensures.turned)
 
@@ -38,7 +38,7 @@ turns-preserved c =
     let kind = c.args.self.kind.0 in
     let others = c.pop.new.self.items in
     let popped = c.in-Some.ensures.items in
-    let within = All-pop (IsWithin c.turns.lists) c.turns.work.items others (Some c.in-Some.front) popped c.turns.invariant.within in
+    let within = All-pop (HasLists c.turns.lists) c.turns.work.items others (Some c.in-Some.front) popped c.turns.invariant.within in
     let (all_within, all_found_within) =
     turned_within program told kind c.turn.ensures.grows c.in-Some.front others c.turn.new.work.items c.turns.found.items c.turn.new.found.items within.0
     c.turns.invariant.found_within c.in_ok-turn.ensures.turned in

@@ -3,20 +3,20 @@ use Rattle.std.proofs.Common.{ℕ, ◌<◌, List, All, map}
 use Rattle.lw_grammar.specs.declared.grammar.Grammar.{Grammar}
 use Rattle.lw_grammar.specs.Kinds.{Kinds, kind_count}
 use Rattle.lw_viable.specs.Fronts.{IsKnownProgram}
-use Rattle.lw_viable.specs.Growing.{Grows, IsWithin, read, weight}
+use Rattle.lw_viable.specs.Growing.{GrowsLists, HasLists, read, fronts_weight}
 use Rattle.lw_viable.specs.Readings.{Keeps}
 use Rattle.lw_viable.proofs.Exploring.{IsExploring}
 use Rattle.lw_viable.proofs.sought.Sought.explore.Given as goal
 
 abbrev pub invariant-turns : goal.invariant-turns
 invariant-turns l = record {
-  grows : Grows l.fn.lists l.lists;
-  within : All (IsWithin l.lists) l.work.items;
-  found_within : All (IsWithin l.lists) l.found.items;
+  grows : GrowsLists l.fn.lists l.lists;
+  within : All (HasLists l.lists) l.work.items;
+  found_within : All (HasLists l.lists) l.found.items;
   explored : (g : Grammar) (kinds : Kinds) (ks : List ℕ) (known : IsKnownProgram g kinds l.self.program.now l.self.begins.now) → l.self.kind.0 < kind_count kinds →
       Keeps g kinds known.program.tasks ks (map (read l.fn.lists) l.kept) →
       IsExploring g kinds known ks l.self.kind.0 (map (read l.lists) l.work.items) (map (read l.lists) l.found.items);
 }
 
 abbrev pub decreases-turns : goal.decreases-turns
-decreases-turns l = weight l.lists l.work.items
+decreases-turns l = fronts_weight l.lists l.work.items

@@ -4,7 +4,7 @@ use Rattle.std.proofs.lemmas.Result.{on_ok_weaker}
 use Rattle.lw_program.specs.declared.instr.Instr.TheVariants.{Row, Choice, Maybe, Loop, Once, Put, Call}
 use Rattle.lw_recipes.specs.declared.mark.TreeMark.TheVariants as mark
 use Rattle.lw_viable.specs.Moves.{side_by_side}
-use Rattle.lw_viable.specs.Turning.{way}
+use Rattle.lw_viable.specs.Turning.{way_change}
 use Rattle.lw_viable.proofs.Made.{grows_none}
 use Rattle.lw_viable.proofs.AtPlaces.{moved_quietly, moved_by_token}
 use Rattle.lw_viable.proofs.Putting.{put_none}
@@ -34,7 +34,7 @@ returns-in-Some-Choice-clause-moved c =
     let at = c.in-Some-Choice in
     on_ok_weaker c.put_ways.result (λ put.
     moved_quietly c.args.self.program.now c.args.self.begins.now c.args.self.kind.0 c.args.place (Some (Choice at.field-0-0 at.first at.end))
-    (map way (side_by_side at.first (at.end - at.first))) c.args.found.now.items (sym at.ensures ∙ ap Some at.field-0-is) c.put_ways.ensures.grows refl refl put) c.put_ways.ensures.put
+    (map way_change (side_by_side at.first (at.end - at.first))) c.args.found.now.items (sym at.ensures ∙ ap Some at.field-0-is) c.put_ways.ensures.grows refl refl put) c.put_ways.ensures.put
 
 pub returns-in-Some-Maybe-clause-moved : goal.returns-in-Some-Maybe-clause-moved
 returns-in-Some-Maybe-clause-moved c =
