@@ -1,7 +1,6 @@
 -- What the readings of some kinds say: they are the kinds of a sentence where one of them may end, and begin one where there is a reading.
 use Rattle.std.proofs.Common.{◌≡◌, ◌↔◌, ℕ, ◌<◌, List, [], ◌∷◌, ◌++◌, All, Any, Bool, not, eqb, IsTrue, length, refl, sym, ap, ◌∙◌, append-nil, arith}
 use Rattle.std.proofs.lemmas.Bool.Decides.{nat_tests}
-use Rattle.std.proofs.lemmas.List.{append_cancel_left}
 use Rattle.std.proofs.lemmas.List.Elements.{All-head, All-tail, All-contains}
 use Rattle.std.specs.List.{AllByRecursion}
 use Rattle.lw_grammar.specs.declared.grammar.Grammar.{Grammar}
@@ -17,8 +16,7 @@ use Rattle.lw_begins.specs.Told.{BeginsParts}
 use Rattle.lw_viable.specs.Readings.{KeptReading, GoesOnFrom, HasTask, IsKeptReading, Keeps}
 use Rattle.lw_viable.specs.Fronts.{FrontsParts, IsKnownProgram, HoldReadings}
 use Rattle.lw_viable.specs.Turning.{MayBePassed}
-use Rattle.lw_viable.proofs.Exploring.{of_any, any_of}
-use Rattle.lw_viable.proofs.Meaning.{one_kinds}
+use Rattle.lw_viable.proofs.Exploring.{of_any, any_of, kept_ahead, kinds_left}
 use Rattle.lw_viable.proofs.Moves.Finishing.{places_give}
 use Rattle.lw_viable.proofs.Moves.Giving.{first_given}
 
@@ -54,12 +52,6 @@ module _ (g : Grammar) (kinds : Kinds) {program : ProgramParts} {told : BeginsPa
       let (own, others) = none_left (kinds_of first.own) (kinds_of first.others) (sym (kinds_join first.own first.others) ∙ sym (ap kinds_of first.are) ∙ none) in
       ((known.begins.empty p t stands).0 (first.own, first.does, own), give_passed ps (All-tail Placed p ps placed) first.give others)
 
-  -- what follows has the kinds that are left
-  left_over : {ks ls : List ℕ} {r : KeptReading} {m : List Mark} → Kept ks r → (on : Goes m r) → kinds_of m ≡ ks ++ ls → kinds_of on.others ≡ ls
-  left_over {ks} {ls} kept on have =
-      append_cancel_left ks (kinds_of on.others) ls
-      (ap (λ ks. ks ++ kinds_of on.others) (sym kept.kinds_are ∙ one_kinds g kept.meant on.meant) ∙ sym (kinds_join on.front on.others) ∙ sym (ap kinds_of on.are) ∙ have)
-
   -- a reading goes on to a sentence of its kinds and those of what its places give
   goes_to : {ks : List ℕ} {r : KeptReading} {n : List Mark} (kept : Kept ks r) → PlacesGive g kinds known.program.tasks r.rest n →
       IsSentence g kinds (kept.front ++ n) × (kinds_of (kept.front ++ n) ≡ ks ++ kinds_of n)
@@ -77,7 +69,7 @@ module _ (g : Grammar) (kinds : Kinds) {program : ProgramParts} {told : BeginsPa
         let there : kinds_of marks ≡ ks ++ [] = are ∙ sym (append-nil ks) in
         let (r, has, on) = of_any (Goes marks) readings (keeps.all marks [] sentence there) in
         let kept = All-contains (Kept ks) readings r keeps.each has in
-        any_of MayEnd readings r has (give_passed r.rest kept.placed on.gives (left_over kept on there))
+        any_of MayEnd readings r has (give_passed r.rest kept.placed on.gives (kinds_left g kinds known (kept_ahead g kinds known kept) on there))
 
     pub ends_whole : Any MayEnd readings → IsWhole g kinds ks
     ends_whole some =

@@ -24,6 +24,7 @@ use Rattle.lw_viable.specs.Moves as move
 use Rattle.lw_viable.specs.Fronts.{IsKnownProgram}
 use Rattle.lw_viable.specs.Growing.{Change, changed}
 use Rattle.lw_viable.specs.Turning.{AreQuiet, AreRead}
+use Rattle.lw_viable.proofs.Made.{reading}
 use Rattle.lw_viable.proofs.Listing.{IsQuiet, IsQuietMove, IsTokenMove, quiet_moves, token_moves, IsPut, each_put}
 use Rattle.lw_viable.proofs.Listing as listing
 use Rattle.lw_viable.proofs.Meaning.{meant_joined, meant_cut, one_kinds}
@@ -31,9 +32,6 @@ use Rattle.lw_viable.proofs.Moves.Calling.{call_said}
 use Rattle.lw_viable.proofs.Moves.Giving.{nothing_given, first_given}
 use Rattle.lw_viable.proofs.Moves.Moving.{moves_placed, moves_mean, moves_give, moves_all}
 use Rattle.lw_viable.proofs.Moves.Saying.{said}
-
-abbrev pub reading : List TreeMark → List ℕ → KeptReading
-reading marks rest = record { marks = marks; rest = rest }
 
 pub any_of : {X : Type 0} (P : X → Type 0) (xs : List X) (x : X) → Contains xs x → P x → Any P xs
 any_of P xs x (k, within, is) p = (k, x, within, is, p)
@@ -143,7 +141,7 @@ module _ (g : Grammar) (kinds : Kinds) {program : ProgramParts} {told : BeginsPa
   -- ---- every sentence goes on by a move
 
   -- what follows on a reading has the kinds that are left
-  kinds_left : {ks ls : List ℕ} {r : KeptReading} {m : List Mark} → IsAhead ks r → (on : Goes m r) → kinds_of m ≡ ks ++ ls → kinds_of on.others ≡ ls
+  pub kinds_left : {ks ls : List ℕ} {r : KeptReading} {m : List Mark} → IsAhead ks r → (on : Goes m r) → kinds_of m ≡ ks ++ ls → kinds_of on.others ≡ ls
   kinds_left {ks} {ls} ahead on have =
       append_cancel_left ks (kinds_of on.others) ls
       (ap (λ ks. ks ++ kinds_of on.others) (sym ahead.kinds_are ∙ one_kinds g ahead.meant on.meant) ∙ sym (kinds_join on.front on.others) ∙ sym (ap kinds_of on.are) ∙ have)

@@ -13,7 +13,7 @@ use Rattle.lw_begins.specs.Told.{BeginsParts, IsMet}
 use Rattle.lw_viable.specs.Moves.{side_by_side, MovesBy}
 use Rattle.lw_viable.specs.Moves as move
 use Rattle.lw_viable.specs.Growing.{Change}
-use Rattle.lw_viable.specs.Turning.{way_change, Enters, LoopsOnce, ReadsToken, AreRead, CallsAtRule, AreQuiet}
+use Rattle.lw_viable.specs.Turning.{way_change, Enters, LoopsOnce, ReadsToken, AreRead, IsCalled, AreQuiet}
 use Rattle.lw_viable.specs.Turning as turn
 use Rattle.lw_viable.proofs.Moves.Beside.{all_beside}
 
@@ -73,7 +73,7 @@ module _ (program : ProgramParts) (told : BeginsParts) (kind p : ℕ) where
   entered_quietly at starts (turn.opens flag) = (move.opens at starts flag, tt)
   entered_quietly at starts (turn.goes no_flag) = (move.calls at starts no_flag, tt)
 
-  called_quietly : {r : ℕ} {changes : List Change} → slice_get program.code p ≡ Some (Call r) → CallsAtRule program told kind r changes → All IsQuietMove changes
+  called_quietly : {r : ℕ} {changes : List Change} → slice_get program.code p ≡ Some (Call r) → IsCalled program told kind r changes → All IsQuietMove changes
   called_quietly at (turn.misses not_met) = All-nil IsQuietMove
   called_quietly at (turn.nowhere none) = All-nil IsQuietMove
   called_quietly at (turn.enters {change} starts enters) = one_quiet change (entered_quietly at starts enters) refl
@@ -144,7 +144,7 @@ module _ (program : ProgramParts) (told : BeginsParts) (kind p : ℕ) where
     gone (turn.opens flag) no_flag = absurd (no_flag flag)
     gone (turn.goes no_flag') no_flag = refl
 
-    open_put : {r start : ℕ} {changes : List Change} → CallsAtRule program told kind r changes → slice_get program.code p ≡ Some (Call r) →
+    open_put : {r start : ℕ} {changes : List Change} → IsCalled program told kind r changes → slice_get program.code p ≡ Some (Call r) →
         slice_get program.starts r ≡ Some (Some start) → slice_get told.nodes r ≡ Some true → changes ≡ quiet →
         IsPut quiet tokens (Some (numbered.Open (record { 0 = r })), start ∷ (start + 1) ∷ [])
     open_put (turn.misses not_met) at starts flag are = missed at not_met
@@ -154,7 +154,7 @@ module _ (program : ProgramParts) (told : BeginsParts) (kind p : ℕ) where
         let same : other ≡ start = cc in
         quietly (subst (Contains quiet) (opened enters flag ∙ ap (λ s. (Some (numbered.Open (record { 0 = r })), s ∷ (s + 1) ∷ [])) same) (contains_as (sym are) (first_of change [])))
 
-    call_put : {r start : ℕ} {changes : List Change} → CallsAtRule program told kind r changes → slice_get program.code p ≡ Some (Call r) →
+    call_put : {r start : ℕ} {changes : List Change} → IsCalled program told kind r changes → slice_get program.code p ≡ Some (Call r) →
         slice_get program.starts r ≡ Some (Some start) → ¬ (slice_get told.nodes r ≡ Some true) → changes ≡ quiet → IsPut quiet tokens (None, start ∷ [])
     call_put (turn.misses not_met) at starts no_flag are = missed at not_met
     call_put (turn.nowhere none) at starts no_flag are = absurd (none _ starts)

@@ -1,9 +1,9 @@
 -- Fronts that are made of others, a cell at a time.
-use Rattle.std.proofs.Common.{ℕ, ◌≡◌, ◌+◌, ◌-◌, ◌<◌, ◌≤◌, ◌^◌, ◌⊎◌, inl, inr, List, [], ◌∷◌, ◌++◌, Option, None, refl, sym, ap, ◌∙◌, subst, append_assoc, append-nil, length, suc, arith}
+use Rattle.std.proofs.Common.{ℕ, ◌≡◌, ◌+◌, ◌-◌, ◌<◌, ◌≤◌, ◌⊎◌, inl, inr, List, ◌∷◌, ◌++◌, Option, None, refl, sym, ap, ◌∙◌, subst, append_assoc, append-nil, length, suc, arith}
 use Rattle.lw_recipes.specs.declared.mark.TreeMark.{TreeMark}
 use Rattle.lw_viable.specs.Readings.{KeptReading}
 use Rattle.lw_viable.specs.Moves.{left, side_by_side}
-use Rattle.lw_viable.specs.Growing.{HasLists, read, GrowsLists, IsMadeFront, changed}
+use Rattle.lw_viable.specs.Growing.{read, GrowsLists, IsMadeFront, changed}
 use Rattle.lw_viable.specs.declared.front.Front.{Front}
 use Rattle.lw_viable.specs.declared.lists.Lists.{Lists}
 
@@ -20,17 +20,8 @@ grows_on a b =
     }
 
 -- a reading of these marks and places
-pub reading : List TreeMark → List ℕ → KeptReading
+abbrev pub reading : List TreeMark → List ℕ → KeptReading
 reading marks rest = record { marks = marks; rest = rest }
-
--- with no mark and no place it is the old one
-pub unchanged : (r : KeptReading) → changed r (None, []) ≡ r
-unfolding reading
-unchanged r = ap (λ marks. reading marks r.rest) (append-nil r.marks)
-
-pub made_none : (lists : Lists) (front : Front) → HasLists lists front → front.rest.0 < 2 ^ 32 → IsMadeFront 0 lists lists front front (changed (read lists front) (None, []))
-made_none lists front within fits =
-    record { within = within; is = sym (unchanged (read lists front)); spent = omega arith; fits = fits; none = λ none. refl }
 
 pub made_on : {m n : ℕ} {old mid new : Lists} {front half made : Front} {r s : KeptReading} → IsMadeFront m old mid front half r → IsMadeFront n mid new half made s →
     IsMadeFront (m + n) old new front made s
@@ -49,7 +40,6 @@ made_as {old} {new} {front} {made} {s} same is a =
 
 -- one change and then another, of which the first puts the later places
 pub changed_on : (r : KeptReading) (mark : Option TreeMark) (places later : List ℕ) → changed (changed r (mark, later)) (None, places) ≡ changed r (mark, places ++ later)
-unfolding reading
 changed_on r mark places later =
     ap (λ marks. reading marks (places ++ (later ++ r.rest))) (append-nil (r.marks ++ left mark)) ∙
     ap (λ rest. reading (r.marks ++ left mark) rest) (sym (append_assoc places later r.rest))

@@ -26,7 +26,8 @@ use Rattle.lw_viable.specs.Turning.{Enters}
 use Rattle.lw_viable.specs.Turning as turn
 use Rattle.lw_viable.specs.declared.front.Front.{Front}
 use Rattle.lw_viable.specs.declared.lists.Lists.{Lists}
-use Rattle.lw_viable.proofs.Exploring.{reading, any_of}
+use Rattle.lw_viable.proofs.Exploring.{any_of}
+use Rattle.lw_viable.proofs.Made.{reading}
 use Rattle.lw_viable.proofs.Moves.Entering.{node_placed, body_placed, node_given, body_given, node_enters, body_enters}
 use Rattle.lw_viable.proofs.Moves.Marking.{open_meant, none_meant}
 

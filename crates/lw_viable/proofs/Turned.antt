@@ -14,11 +14,12 @@ use Rattle.lw_viable.specs.Readings.{KeptReading}
 use Rattle.lw_viable.specs.Moves.{side_by_side}
 use Rattle.lw_viable.specs.Fronts.{IsKnownProgram}
 use Rattle.lw_viable.specs.Growing.{HasLists, read, GrowsLists, Change, changed, weight_of, fronts_weight, kept, ArePut}
-use Rattle.lw_viable.specs.Turning.{way_change, Enters, LoopsOnce, CallsAtRule, AreQuiet, IsMovedAt, IsTurned}
+use Rattle.lw_viable.specs.Turning.{way_change, Enters, LoopsOnce, IsCalled, AreQuiet, IsMovedAt, IsTurned}
 use Rattle.lw_viable.specs.Turning as turn
 use Rattle.lw_viable.specs.declared.front.Front.{Front}
 use Rattle.lw_viable.specs.declared.lists.Lists.{Lists}
-use Rattle.lw_viable.proofs.Exploring.{reading, IsExploring, dropped, turned}
+use Rattle.lw_viable.proofs.Exploring.{IsExploring, dropped, turned}
+use Rattle.lw_viable.proofs.Made.{reading}
 use Rattle.lw_viable.proofs.Putting.{all_stay_within, all_read_same, room_shrinks}
 
 -- ---- weights
@@ -56,7 +57,7 @@ ways_light : (front : Front) (places : List ℕ) → IsLight front (map way_chan
 ways_light front places = let none = ways_none front places in record { light = omega (arith, none) }
 
 module _ (program : ProgramParts) (told : BeginsParts) (kind p : ℕ) where
-  calls_light : (front : Front) {r : ℕ} {changes : List Change} → CallsAtRule program told kind r changes → IsLight front changes
+  calls_light : (front : Front) {r : ℕ} {changes : List Change} → IsCalled program told kind r changes → IsLight front changes
   calls_light front (turn.misses not_met) = none_light front
   calls_light front (turn.nowhere none) = none_light front
   calls_light front (turn.enters {change} starts enters) = one_light front change

@@ -41,10 +41,10 @@ AreRead kind _ changes = changes ≡ []
 -- by a program of which all is told
 module _ (program : ProgramParts) (told : BeginsParts) (kind : ℕ) where
   -- a call of a rule is left out where the kind cannot come next
-  pub data CallsAtRule (r : ℕ) : List Change → Type 0 where
-    misses : ¬ IsMet told.meets r kind → CallsAtRule r []
-    nowhere : ((start : ℕ) → slice_get program.starts r ≢ Some (Some start)) → CallsAtRule r []
-    enters : {start : ℕ} {change : Change} → slice_get program.starts r ≡ Some (Some start) → Enters told r start change → CallsAtRule r (change ∷ [])
+  pub data IsCalled (r : ℕ) : List Change → Type 0 where
+    misses : ¬ IsMet told.meets r kind → IsCalled r []
+    nowhere : ((start : ℕ) → slice_get program.starts r ≢ Some (Some start)) → IsCalled r []
+    enters : {start : ℕ} {change : Change} → slice_get program.starts r ≡ Some (Some start) → Enters told r start change → IsCalled r (change ∷ [])
 
   -- the changes that read no token, one for each way that there is
   abbrev pub AreQuiet : ℕ → Option Instr → List Change → Type 0
@@ -59,7 +59,7 @@ module _ (program : ProgramParts) (told : BeginsParts) (kind : ℕ) where
   AreQuiet p (Some (Loop point inner)) changes = changes ≡ (None, []) ∷ (None, inner ∷ p ∷ []) ∷ []
   AreQuiet p (Some (Once rest)) changes = LoopsOnce program rest changes
   AreQuiet p (Some (Put n first)) changes = changes ≡ (Some (mark.Put n), first ∷ (first + 1) ∷ []) ∷ []
-  AreQuiet p (Some (Call r)) changes = CallsAtRule r changes
+  AreQuiet p (Some (Call r)) changes = IsCalled r changes
 
   -- what is put on at this place: what is still to be explored, and what was found
   pub record IsMovedAt (p : ℕ) (old new : Lists) (front : Front) (old_work work old_found found : List Front) : Type 0 where

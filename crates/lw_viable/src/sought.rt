@@ -6,7 +6,7 @@ ghost use Rattle.lw_grammar.specs.Kinds.{Kinds, kind_count};
 ghost use Rattle.lw_viable.specs.Fronts.{IsKnownProgram};
 ghost use Rattle.lw_viable.specs.Growing.{ArePut, Change, GrowsLists, IsMadeFront, HasLists, cells_of, changed, read};
 ghost use Rattle.lw_viable.specs.Readings.{Keeps};
-ghost use Rattle.lw_viable.specs.Turning.{CallsAtRule, Enters, IsMovedAt, IsTurned, LoopsOnce, ReadsToken};
+ghost use Rattle.lw_viable.specs.Turning.{IsCalled, Enters, IsMovedAt, IsTurned, LoopsOnce, ReadsToken};
 
 use crate::front::Front;
 use crate::lists::Lists;
@@ -35,7 +35,7 @@ impl Sought<'_> {
     ) -> Result<(), NoMemory>
         requires { HasLists lists.old front }
         ensures grows { GrowsLists lists.old lists.new }
-        ensures put { OnOk result ((changes : List Change) × CallsAtRule self.entry.program.now self.entry.begins.now self.entry.kind.0 rule changes
+        ensures put { OnOk result ((changes : List Change) × IsCalled self.entry.program.now self.entry.begins.now self.entry.kind.0 rule changes
             × ArePut changes lists.old lists.new front work.old.items work.new.items) }
     {
         if !self.begins.may_meet(rule as usize, self.kind) {
