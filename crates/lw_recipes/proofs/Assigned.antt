@@ -1,6 +1,6 @@
 -- A value goes into one property and by one operator, and so the recipe of what goes there is that of the value at the site.
-use Rattle.std.proofs.Common.{◌≡◌, ℕ, List, Some, map, option_map, slice_get, refl, sym, ap, ◌∙◌, subst}
-use Rattle.std.proofs.lemmas.Option.{slice_get-map, same_Some}
+use Rattle.std.proofs.Common.{◌≡◌, ℕ, List, Some, map, option_map, slice_get, sym, ap, ◌∙◌, subst}
+use Rattle.std.proofs.lemmas.Option.{slice_get-map}
 use Rattle.lw_base.specs.declared.token.Span.{Span}
 use Rattle.lw_grammar.specs.declared.grammar.Grammar.{Grammar}
 use Rattle.lw_grammar.specs.declared.rule.Action.{Action}

@@ -1,5 +1,5 @@
 -- The types and the properties of what stands in a rule are among those of the grammar, and so have numbers.
-use Rattle.std.proofs.Common.{◌≡◌, ℕ, ◌++◌, List, [], ◌∷◌, Contains, map, refl, sym, subst, arith}
+use Rattle.std.proofs.Common.{◌≡◌, ℕ, ◌++◌, List, Contains, map, refl, sym, subst, arith}
 use Rattle.std.specs.List.{flat_map}
 use Rattle.std.proofs.lemmas.List.Elements.{Contains-append_right}
 use Rattle.lw_base.specs.declared.token.Span.{Span}
@@ -18,7 +18,7 @@ use Rattle.lw_grammar.specs.Leaves as leaf
 use Rattle.lw_grammar.proofs.FirstUses.{Contains-first_uses}
 use Rattle.lw_grammar.proofs.LeafLemmas.{leaves_by}
 use Rattle.lw_derivations.proofs.TokenCalls.{got_there}
-use Rattle.lw_look.specs.Sites.{PartSite, rule_of, Body}
+use Rattle.lw_look.specs.Sites.{rule_of, Body}
 use Rattle.lw_look.proofs.Reaching.{in_rule}
 use Rattle.lw_numbers.specs.Numbering.{type_names, property_names, rule_types, result_types, leaf_types, leaf_properties, put_property, if_whole}
 use Rattle.lw_recipes.specs.Drafted.{StandsSomewhere}

@@ -1,5 +1,5 @@
 -- What is put behind the recipes so far where a part of a rule is gone past: one for each of its values, and one for each of its actions.
-use Rattle.std.specs.Prelude.{ℕ, ◌≡◌, ◌≢◌, ◌++◌, List, Option, Some, Contains, map, slice_get}
+use Rattle.std.specs.Prelude.{ℕ, ◌≡◌, ◌≢◌, ◌++◌, List, Option, Some, slice_get}
 use Rattle.std.specs.List.{AllZip}
 use Rattle.lw_base.specs.declared.numbers.TypeId.{TypeId}
 use Rattle.lw_base.specs.declared.token.Span.{Span}

@@ -1,6 +1,9 @@
 // The recipes of small grammars, of which one has faults.
 ghost use Rattle.std.specs.Prelude.{◌≤◌, IfOk};
 ghost use Rattle.lw_grammar.specs.Size.{size};
+ghost use Rattle.lw_numbers.specs.Tables.{AreNumbersOf};
+ghost use Rattle.lw_name_rules.specs.NameTable.{AreNameRulesOf};
+ghost use Rattle.lw_kinds.specs.Rows.{AreKindRowOf};
 
 use crate::Recipes;
 use lw_base::{Name, NoMemory, RuleId};
@@ -83,14 +86,36 @@ fn grammar_of(alloc: Global, text: &str) -> Result<Grammar, Fail>
     Ok(loaded.grammar)
 }
 
+fn name_rules_of(alloc: Global, g: &Grammar, numbers: &Numbers) -> Result<NameRules, NoMemory>
+    requires numbered { AreNumbersOf g.now numbers.now }
+    requires small { size g.now ≤ 65535 }
+    ensures { IfOk result (AreNameRulesOf g.now) }
+{
+    let subtypes = Subtypes::of(alloc, g, numbers)?;
+    NameRules::of(alloc, g, numbers, &subtypes)
+}
+
+fn kinds_of(
+    alloc: Global,
+    g: &Grammar,
+    numbers: &Numbers,
+    name_rules: &NameRules,
+) -> Result<KindTable, NoMemory>
+    requires numbered { AreNumbersOf g.now numbers.now }
+    requires related { AreNameRulesOf g.now name_rules.now }
+    requires small { size g.now ≤ 65535 }
+    ensures { IfOk result (AreKindRowOf g.now) }
+{
+    let reading = Reading::of(alloc, g, numbers, name_rules)?;
+    KindTable::of(alloc, g, numbers, name_rules, &reading)
+}
+
 fn recipes_of(alloc: Global, g: &Grammar) -> Result<Recipes, NoMemory>
     requires { size g.now ≤ 65535 }
 {
     let numbers = Numbers::of(alloc, g)?;
-    let subtypes = Subtypes::of(alloc, g, &numbers)?;
-    let name_rules = NameRules::of(alloc, g, &numbers, &subtypes)?;
-    let reading = Reading::of(alloc, g, &numbers, &name_rules)?;
-    let kinds = KindTable::of(alloc, g, &numbers, &name_rules, &reading)?;
+    let name_rules = name_rules_of(alloc, g, &numbers)?;
+    let kinds = kinds_of(alloc, g, &numbers, &name_rules)?;
     let lexicon = Lexicon {
         g,
         numbers: &numbers,

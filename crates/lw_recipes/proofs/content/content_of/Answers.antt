@@ -1,6 +1,6 @@
 use Rattle.std.proofs.Common.{sym, ap, ◌∙◌, subst}
 use Rattle.lw_grammar.specs.declared.rule.Value0.{out-Value0}
-use Rattle.lw_grammar.specs.declared.rule.Value0.TheViews.{outs-Keyword, outs-Call, outs-Cross, outs-Choice}
+use Rattle.lw_grammar.specs.declared.rule.Value0.TheViews.{outs-Keyword, outs-Call, outs-Cross}
 use Rattle.lw_recipes.specs.Drafted.{IsContentOf}
 use Rattle.lw_recipes.specs.declared.recipe.Content.TheVariants.{Keyword}
 use Rattle.lw_recipes.proofs.Contents.{truth_content, keyword_content}

@@ -1,4 +1,4 @@
-use Rattle.std.proofs.Common.{ℕ, OnOk, map, take}
+use Rattle.std.proofs.Common.{ℕ, map, take}
 use Rattle.lw_look.specs.Choices.{inside}
 use Rattle.lw_look.specs.Sites.{PartSite, ◌▸◌, Value}
 use Rattle.lw_program.specs.Numbered.{value_puts}
