@@ -1,2 +1,5 @@
+pub mod Contents
+pub mod Owners
 pub mod Standing
 pub mod Built
+pub mod Steps

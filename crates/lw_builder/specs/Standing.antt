@@ -22,6 +22,7 @@ use Rattle.lw_builder.specs.declared.open.Open.TheVariants as variant
 use Rattle.lw_builder.specs.declared.open.OpenNode.{OpenNode}
 use Rattle.lw_builder.specs.declared.open.OpenValue.{OpenValue}
 use Rattle.lw_builder.specs.declared.builder.Builder.{Builder}
+use Rattle.lw_builder.specs.Contents.{nobody}
 
 -- how many nodes and references the brackets hold
 abbrev pub nodes_in : List Bracket → ℕ
@@ -59,10 +60,7 @@ all_loose (InNode type from held ∷ bs) = all_loose bs ++ put_in (nodes_in bs) 
 all_loose (InValue p op c at inside ∷ bs) = all_loose bs
 all_loose (Root x ∷ bs) = all_loose bs
 
--- the references that were read; the node of one that is not finished has no number yet, and 0 stands for it
-abbrev pub nobody : NodeId
-nobody = record { 0 = 0 }
-
+-- the references that were read
 abbrev pub all_pointed : List Bracket → List Reference
 all_pointed [] = []
 all_pointed (InNode type from held ∷ bs) = all_pointed bs ++ pointed_in nobody (nodes_in bs) held

@@ -12,7 +12,9 @@ ghost use Rattle.lw_tree.specs.Parts.{SameTables, Tile};
 ghost use Rattle.lw_builder.specs.Built.{ArePartsOf, GoesOnBy, HasFollowed, IsOverSame, visible_of};
 
 use crate::Builder;
+use crate::finishing::place_behind;
 use lw_base::{Name, NoMemory, Token};
+use lw_preorder::in_preorder;
 use lw_recipes::{Recipes, TreeMark};
 use lw_tree::Tree;
 use std::alloc::Global;
@@ -44,11 +46,21 @@ impl<'a> Builder<'a> {
             GoesOnBy g self.old x bs after → OnOk result (HasFollowed g (m ++ x ∷ []) after self.new) }
         ensures over { IsOverSame self.old self.new }
     {
-        Err(NoMemory)
+        match mark {
+            TreeMark::Token(_) => {
+                self.read += 1;
+                Ok(())
+            }
+            TreeMark::Open(rule) => self.begin(rule),
+            TreeMark::Shut => self.shut(),
+            TreeMark::Put(put) => self.put(put),
+            TreeMark::End => self.end(),
+            TreeMark::Act(act) => self.act(act),
+        }
     }
 
     /// The tree that is there once all that is open is closed, the innermost first; a reference that is not finished is left out.
-    pub fn tree(self, tokens: Vec<Token>) -> Result<Tree, NoMemory>
+    pub fn tree(mut self, tokens: Vec<Token>) -> Result<Tree, NoMemory>
         requires closes { (g : Grammar) × (m : List Mark) × (bs : List Bracket) × (x : Grown) × HasFollowed g m bs self ×
             Closes g self.text.now (take self.read self.visible.now) bs x }
         requires tokens { Tile 0 tokens.items }
@@ -56,7 +68,11 @@ impl<'a> Builder<'a> {
             Closes g self.entry.text.now (take self.entry.read self.entry.visible.now) bs x →
             IfOk result (λ tree. SameTables tree (parts_of_tree x tokens.items self.entry.recipes.now.naming)) }
     {
-        Err(NoMemory)
+        self.close()?;
+        place_behind(self.finished.len())?;
+        let alloc = *self.finished.allocator();
+        let name = self.recipes.name();
+        in_preorder(alloc, self.finished, self.kept, self.refs, tokens, name)
     }
 }
 
@@ -76,5 +92,22 @@ pub fn tree_of(
         FollowsMarks g text.now m (visible_of tokens.items) bs → Closes g text.now (visible_of tokens.items) bs x →
         IfOk result (IsOpenedTree g text.now m (visible_of tokens.items) tokens.items) }
 {
-    Err(NoMemory)
+    let visible = visible_of(alloc, tokens.as_slice())?;
+    let mut builder = Builder::new(alloc, recipes, text, visible.as_slice());
+    'marks: for mark in marks {
+        builder.mark(*mark)?;
+    }
+    builder.tree(tokens)
+}
+
+/// The tokens that are not hidden.
+fn visible_of(alloc: Global, tokens: &[Token]) -> Result<Vec<Token>, NoMemory>
+    ensures { IfOk result (λ visible. visible.items ≡ visible_of tokens.now) }
+{
+    let visible = tokens
+        .iter()
+        .filter(|token| !token.hidden)
+        .copied()
+        .collect(alloc)?;
+    Ok(visible)
 }

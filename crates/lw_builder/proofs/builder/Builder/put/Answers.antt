@@ -1,0 +1,8 @@
+use Rattle.std.proofs.Common.{refl}
+use Rattle.lw_builder.proofs.Beginning.{value_begun}
+use Rattle.lw_builder.proofs.builder.Builder.put.Goals as goal
+
+pub returns-clause-begun : goal.returns-clause-begun
+returns-clause-begun c = λ g name op v means bs after over h change.
+    value_begun g c.args.self.now _ name op v _ bs after over h means change
+    (record { same = record { finished = refl; kept = refl; loose = refl; refs = refl }; brackets = c.in_ok-push.ensures.items }) refl refl

@@ -1,0 +1,84 @@
+// What is still open at the end is closed.
+ghost use Rattle.std.specs.Prelude.{◌≡◌, ◌<◌, ◌↔◌, ◌++◌, ◌∷◌, [], List, IsTrue, MatchOption, OnOk};
+ghost use Rattle.lw_grammar.specs.declared.grammar.Grammar.{Grammar};
+ghost use Rattle.lw_marks.specs.Brackets.{Root};
+ghost use Rattle.lw_marks.specs.Grown.{Grown};
+ghost use Rattle.lw_recipes.specs.Making.{IsReference};
+ghost use Rattle.lw_builder.specs.declared.open.Open.{Open as Opened};
+ghost use Rattle.lw_builder.specs.Standing.{StandsOpen};
+ghost use Rattle.lw_builder.specs.Steps.{IsClosing, IsSameReading, IsWhole, count_open};
+
+use crate::Builder;
+use crate::open::{Open, OpenValue};
+use lw_base::NoMemory;
+use lw_recipes::Content;
+
+impl Builder<'_> {
+    /// Closes all that is open, the innermost first.
+    pub(crate) fn close(&mut self) -> Result<(), NoMemory>
+        requires { (g : Grammar) × (x : Grown) × IsClosing g self.old x }
+        ensures closed { (g : Grammar) (x : Grown) → IsClosing g self.old x → OnOk result (StandsOpen g self.new (Root x ∷ [])) }
+        ensures reading { IsSameReading self.old self.new }
+    {
+        'closing: while !self.is_whole() {
+            self.close_innermost()?;
+        }
+        Ok(())
+    }
+
+    fn is_whole(&self) -> bool
+        ensures { IsTrue result ↔ IsWhole self.now }
+    {
+        matches!(self.brackets.last(), Some(Open::Whole))
+    }
+
+    /// Closes what is open innermost.
+    fn close_innermost(&mut self) -> Result<(), NoMemory>
+        requires closing { (g : Grammar) × (x : Grown) × IsClosing g self.old x }
+        requires open { ¬ IsWhole self.old }
+        ensures closing { (g : Grammar) (x : Grown) → IsClosing g self.old x → OnOk result (IsClosing g self.new x) }
+        ensures fewer { OnOk result (count_open self.new < count_open self.old) }
+        ensures reading { IsSameReading self.old self.new }
+    {
+        match self.innermost() {
+            Some(Open::InNode(_)) => self.shut(),
+            Some(Open::InValue(value)) => self.close_value(value),
+            Some(Open::Whole) => unreachable!(),
+            None => unreachable!(),
+        }
+    }
+
+    fn innermost(&self) -> Option<Open>
+        ensures { MatchOption result (self.now.brackets.items ≡ []) (λ one. (below : List Opened) × (self.now.brackets.items ≡ below ++ one ∷ [])) }
+    {
+        self.brackets.last().copied()
+    }
+
+    /// Closes the value that is open innermost. A reference that is not finished is left out. No grammar reads a node inside a reference, so
+    /// that one with a node inside it is refused.
+    fn close_value(&mut self, value: OpenValue) -> Result<(), NoMemory>
+        requires closing { (g : Grammar) × (x : Grown) × IsClosing g self.old x }
+        requires innermost { (below : List Opened) × (self.old.brackets.items ≡ below ++ Open.InValue value ∷ []) }
+        ensures closing { (g : Grammar) (x : Grown) → IsClosing g self.old x → OnOk result (IsClosing g self.new x) }
+        ensures fewer { OnOk result (count_open self.new < count_open self.old) }
+        ensures reading { IsSameReading self.old self.new }
+    {
+        let recipe = self.recipes.value(value.put);
+        if !is_reference(&recipe.content) {
+            return self.end();
+        }
+        match value.node {
+            None => {
+                self.take_value();
+                Ok(())
+            }
+            Some(_) => Err(NoMemory),
+        }
+    }
+}
+
+fn is_reference(content: &Content) -> bool
+    ensures { IsTrue result ↔ IsReference content.now }
+{
+    matches!(content, Content::Reference(..))
+}
