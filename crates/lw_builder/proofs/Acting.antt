@@ -1,9 +1,8 @@
 -- Actions of the grammar, by their recipes.
-use Rattle.std.proofs.Common.{ℕ, ◌≡◌, ◌<◌, Option, Some, None, Bool, List, [], ◌∷◌, length, slice_get, refl, sym, subst, ap, ◌∙◌}
+use Rattle.std.proofs.Common.{ℕ, ◌≡◌, ◌<◌, Option, Some, None, Bool, List, ◌∷◌, length, slice_get, sym, subst, ◌∙◌}
 use Rattle.std.specs.Prelude.{Result, Ok, Err, OnOk}
 use Rattle.std.proofs.lemmas.Option.{none-some, same_Some, slice_get_within}
 use Rattle.lw_base.specs.declared.numbers.PropId.{PropId}
-use Rattle.lw_base.specs.declared.numbers.TypeId.{TypeId}
 use Rattle.lw_base.specs.declared.token.Token.{Token}
 use Rattle.lw_grammar.specs.declared.grammar.Grammar.{Grammar}
 use Rattle.lw_grammar.specs.declared.rule.Action.{Action}
@@ -18,7 +17,7 @@ use Rattle.lw_recipes.specs.Meant.{MeansMark, acts}
 use Rattle.lw_recipes.specs.Making.{RecipeLists, AreRecipesOf, IsPutNumber}
 use Rattle.lw_builder.specs.declared.builder.Builder.{Builder}
 use Rattle.lw_builder.specs.Standing.{StandsOpen}
-use Rattle.lw_builder.specs.Steps.{IsOver, Does, HasNode, read_tokens}
+use Rattle.lw_builder.specs.Steps.{DoesMark, EndsInNode, read_tokens}
 use Rattle.lw_builder.proofs.OneNumber.{one_type, one_property}
 use Rattle.lw_builder.proofs.Taking.{has_node}
 
@@ -59,7 +58,7 @@ acts_on g old text ts a bs after h (wraps {type = t} {from = f} {held = held} {b
     record { type = t; from = f; held = held; below = below; stands = h }
 
 pub acts_on_node : (g : Grammar) (old : Builder) (text : List ℕ) (ts : List Token) (a : Action) (bs after : List Bracket) → StandsOpen g old bs →
-    ChangesOpen g text ts (mark.Act a) bs after → HasNode old
+    ChangesOpen g text ts (mark.Act a) bs after → EndsInNode old
 acts_on_node g old text ts a bs after h change =
     let n = acts_on g old text ts a bs after h change in
     has_node g old n.type n.from n.held n.below n.stands
@@ -89,15 +88,15 @@ renamed_so g old new text ts a r bs after done is none h (wraps {name = name} {i
 
 pub renamed : {E : Type 0} (answer : Result (Unit {0}) E) (g : Grammar) (old new : Builder) (n : ℕ) (a : Action) (r : ActionRecipe) →
     ((g : Grammar) (type from : ℕ) (held : Held) (bs : List Bracket) → StandsOpen g old (InNode type from held ∷ bs) →
-      OnOk answer (StandsOpen g new (InNode r.type_id.0 from held ∷ bs))) →
-    MeansMark g (numbered.Act n) (mark.Act a) → slice_get old.recipes.now.done n ≡ Some r → r.put ≡ None → OnOk answer (Does g (mark.Act a) old new)
+    OnOk answer (StandsOpen g new (InNode r.type_id.0 from held ∷ bs))) →
+    MeansMark g (numbered.Act n) (mark.Act a) → slice_get old.recipes.now.done n ≡ Some r → r.put ≡ None → OnOk answer (DoesMark g (mark.Act a) old new)
 renamed (Ok x) g old new n a r done means at none = λ bs after over h change.
     renamed_so g old new old.text.now (read_tokens old) a r bs after (done g) (action_for g old.recipes.now n a r over.recipes means at) none h change
 renamed (Err e) g old new n a r done means at none = tt
 
 wrapped_so : (g : Grammar) (old new : Builder) (text : List ℕ) (ts : List Token) (a : Action) (r : ActionRecipe) (p : PropId) (bs after : List Bracket) →
     ((type from : ℕ) (held : Held) (below : List Bracket) → StandsOpen g old (InNode type from held ∷ below) →
-      StandsOpen g new (InNode r.type_id.0 from (Takes Nothing p.0 (grown ts type from held)) ∷ below)) →
+    StandsOpen g new (InNode r.type_id.0 from (Takes Nothing p.0 (grown ts type from held)) ∷ below)) →
     IsActionFor g a r → r.put ≡ Some p → StandsOpen g old bs → ChangesOpen g text ts (mark.Act a) bs after → StandsOpen g new after
 wrapped_so g old new text ts a r p bs after done is some h (renames put number) = absurd (a_put g p a.put put (subst (λ k. IsPutNumber g a.put k) some is.put_is))
 wrapped_so g old new text ts a r p bs after done is some h (wraps {type = t} {from = f} {new = k} {p = q} {held = held} {name = name} {is_list = is_list} {bs = below} put number prop) =
@@ -107,8 +106,8 @@ wrapped_so g old new text ts a r p bs after done is some h (wraps {type = t} {fr
 
 pub wrapped : {E : Type 0} (answer : Result (Unit {0}) E) (g : Grammar) (old new : Builder) (n : ℕ) (a : Action) (r : ActionRecipe) (p : PropId) →
     ((g : Grammar) (type from : ℕ) (held : Held) (bs : List Bracket) → StandsOpen g old (InNode type from held ∷ bs) →
-      OnOk answer (StandsOpen g new (InNode r.type_id.0 from (Takes Nothing p.0 (grown (read_tokens old) type from held)) ∷ bs))) →
-    MeansMark g (numbered.Act n) (mark.Act a) → slice_get old.recipes.now.done n ≡ Some r → r.put ≡ Some p → OnOk answer (Does g (mark.Act a) old new)
+    OnOk answer (StandsOpen g new (InNode r.type_id.0 from (Takes Nothing p.0 (grown (read_tokens old) type from held)) ∷ bs))) →
+    MeansMark g (numbered.Act n) (mark.Act a) → slice_get old.recipes.now.done n ≡ Some r → r.put ≡ Some p → OnOk answer (DoesMark g (mark.Act a) old new)
 wrapped (Ok x) g old new n a r p done means at some = λ bs after over h change.
     wrapped_so g old new old.text.now (read_tokens old) a r p bs after (done g) (action_for g old.recipes.now n a r over.recipes means at) some h change
 wrapped (Err e) g old new n a r p done means at some = tt

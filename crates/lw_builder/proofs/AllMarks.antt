@@ -1,5 +1,5 @@
 -- All marks of a list, one after the other.
-use Rattle.std.proofs.Common.{ℕ, zero, suc, ◌≡◌, ◌+◌, ◌<◌, ◌≤◌, Some, List, [], ◌∷◌, ◌++◌, length, take, drop, get_or, slice_get, refl, sym, subst, ap, ◌∙◌, arith, append_assoc, append-nil}
+use Rattle.std.proofs.Common.{ℕ, ◌≡◌, ◌+◌, Some, List, [], ◌∷◌, ◌++◌, length, take, slice_get, refl, sym, subst, ap, ◌∙◌, append_assoc, append-nil}
 use Rattle.std.proofs.lemmas.List.{length-take-le}
 use Rattle.std.specs.Prelude.{not}
 use Rattle.std.proofs.lemmas.List.Elements.{All-filter}
@@ -205,3 +205,24 @@ opened g text m visible tokens bs x recipes tree are f closes same = record {
 
 pub visible_parts : (text : List ℕ) (tokens : List Token) → ArePartsOf text tokens → ArePartsOf text (visible_of tokens)
 visible_parts text tokens parts = All-filter (λ (t : Token). not t.hidden) (λ (t : Token). IsPlace text t.span) tokens parts
+
+-- a builder of these tokens, which were followed so far
+pub started : (g : Grammar) (marks rest : List TreeMark) (m : List Mark) (bs : List Bracket) (text : List ℕ) (visible : List Token) (recipes : RecipeLists)
+    (first builder : Builder) →
+    ((g : Grammar) (m : List Mark) (bs : List Bracket) → AreRecipesOf g first.recipes.now → AreMeant g marks m → FollowsMarks g first.text.now m first.visible.now bs →
+    IsUnderway g m bs rest builder) →
+    first.text.now ≡ text → first.visible.now ≡ visible → first.recipes.now ≡ recipes → AreRecipesOf g recipes → AreMeant g marks m → FollowsMarks g text m visible bs →
+    IsUnderway g m bs rest builder
+started g marks rest m bs text visible recipes first builder all same_text same_visible same_recipes are meant f =
+    all g m bs (subst (λ l. AreRecipesOf g l) (sym same_recipes) are) meant
+    (subst (λ l. FollowsMarks g l m first.visible.now bs) (sym same_text) (subst (λ l. FollowsMarks g text m l bs) (sym same_visible) f))
+
+-- where no mark is left, what closes the brackets closes those of the builder
+pub closes_at_end : (g : Grammar) (m : List Mark) (bs : List Bracket) (x : Grown) (text : List ℕ) (visible : List Token) (builder : Builder) →
+    IsUnderway g m bs [] builder → builder.text.now ≡ text → builder.visible.now ≡ visible → Closes g text visible bs x →
+    HasFollowed g m bs builder × Closes g builder.text.now (read_tokens builder) bs x
+closes_at_end g m bs x text visible builder under same_text same_visible closes =
+    let h = all_followed g m bs builder under in (
+      h.0,
+      subst (λ l. Closes g l (read_tokens builder) bs x) (sym same_text) (subst (λ l. Closes g text l bs x) (sym (h.1 ∙ same_visible)) closes),
+    )

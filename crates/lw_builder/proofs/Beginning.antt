@@ -1,14 +1,13 @@
 -- What begins stands innermost.
-use Rattle.std.proofs.Common.{ℕ, ◌≡◌, ◌≤◌, Option, Some, None, List, [], ◌∷◌, ◌++◌, length, take, slice_get, refl, sym, subst, ap, ◌∙◌}
+use Rattle.std.proofs.Common.{ℕ, ◌≡◌, Some, None, List, ◌∷◌, length, slice_get, sym, subst, ap, ◌∙◌}
 use Rattle.std.proofs.lemmas.List.{append-nil, length-take-le}
 use Rattle.std.proofs.lemmas.Option.{same_Some}
 use Rattle.lw_base.specs.declared.numbers.TypeId.{TypeId}
-use Rattle.lw_base.specs.declared.token.Token.{Token}
 use Rattle.lw_grammar.specs.declared.grammar.Grammar.{Grammar}
 use Rattle.lw_grammar.specs.declared.rule.Op.{Op}
 use Rattle.lw_grammar.specs.declared.rule.Value0.{Value0}
 use Rattle.lw_sentences.specs.Marks as mark
-use Rattle.lw_marks.specs.Grown.{Held, Nothing}
+use Rattle.lw_marks.specs.Grown.{Nothing}
 use Rattle.lw_marks.specs.Brackets.{Bracket, InNode, InValue}
 use Rattle.lw_marks.specs.Follows.{ChangesOpen}
 use Rattle.lw_recipes.specs.declared.mark.TreeMark.TheVariants as numbered
@@ -18,7 +17,7 @@ use Rattle.lw_builder.specs.declared.open.Open.TheVariants as variant
 use Rattle.lw_builder.specs.declared.open.OpenNode.{OpenNode}
 use Rattle.lw_builder.specs.declared.open.OpenValue.{OpenValue}
 use Rattle.lw_builder.specs.Standing.{AreOpen, more, node, value_, StandsOpen}
-use Rattle.lw_builder.specs.Steps.{IsOver, IsKept, read_tokens}
+use Rattle.lw_builder.specs.Steps.{IsOver, read_tokens}
 use Rattle.lw_builder.proofs.Lengths.{length-all_finished}
 use Rattle.lw_builder.proofs.MarkCases.{opens_so, puts_so}
 use Rattle.lw_builder.proofs.Shutting.{Puts_on}

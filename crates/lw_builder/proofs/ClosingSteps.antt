@@ -1,5 +1,5 @@
 -- What is still open is closed.
-use Rattle.std.proofs.Common.{ℕ, ◌≡◌, ◌+◌, ◌-◌, ◌<◌, ◌≤◌, suc, Bool, true, false, Option, Some, None, List, [], ◌∷◌, ◌++◌, length, take, drop, count_by, slice_get, refl, sym, subst, ap, ◌∙◌, arith}
+use Rattle.std.proofs.Common.{ℕ, ◌≡◌, ◌+◌, ◌-◌, ◌<◌, ◌≤◌, suc, Option, Some, None, List, [], ◌∷◌, ◌++◌, length, drop, count_by, slice_get, refl, sym, subst, ap, ◌∙◌, arith}
 use Rattle.std.specs.Prelude.{Result, OnOk, MatchOption, if◌then◌else◌}
 use Rattle.std.proofs.lemmas.Option.{none-some, same_Some, slice_get-get_or}
 use Rattle.std.proofs.lemmas.List.Sums.{sum_by-append}
@@ -8,7 +8,7 @@ use Rattle.lw_grammar.specs.declared.grammar.Grammar.{Grammar}
 use Rattle.lw_grammar.specs.declared.rule.Op.{Op}
 use Rattle.lw_grammar.specs.declared.rule.Value0.{Value0}
 use Rattle.lw_sentences.specs.Marks as mark
-use Rattle.lw_marks.specs.Grown.{Grown, Held, Nothing}
+use Rattle.lw_marks.specs.Grown.{Grown, Held}
 use Rattle.lw_marks.specs.Brackets.{Bracket, InNode, InValue, Root, Shuts, in_value, in_node, at_root}
 use Rattle.lw_marks.specs.Follows.{ChangesOpen, shuts, Closes, root, shut, ended, left_out, MakesReference, PutsValueIn, a_reference, plain, RefersBy, written, by_type, IsCross}
 use Rattle.lw_recipes.specs.declared.recipe.ValueRecipe.{ValueRecipe}
@@ -20,8 +20,8 @@ use Rattle.lw_builder.specs.declared.open.OpenNode.{OpenNode}
 use Rattle.lw_builder.specs.declared.open.OpenValue.{OpenValue}
 use Rattle.lw_builder.specs.Built.{ArePartsOf}
 use Rattle.lw_builder.specs.Standing.{nodes_in, place_in, IsOpen, node, value_, whole, AreOpen, none, more, StandsOpen}
-use Rattle.lw_builder.specs.Steps.{IsOver, Does, CanDo, IsClosing, IsSameReading, IsWhole, is_open, count_open, read_tokens}
-use Rattle.lw_builder.proofs.MarkCases.{shuts_so, EndsSo, ends_so}
+use Rattle.lw_builder.specs.Steps.{IsOver, DoesMark, IsClosing, IsSameReading, IsWholeTree, is_bracket_open, count_open, read_tokens}
+use Rattle.lw_builder.proofs.MarkCases.{EndsSo, ends_so}
 use Rattle.lw_builder.proofs.SameReading.{same_tokens}
 use Rattle.lw_builder.proofs.Ends.{last_of, no_last}
 use Rattle.lw_builder.proofs.Ending.{IsRecipeFor, recipe_for, has_recipe}
@@ -36,10 +36,10 @@ open_in (InNode type from held ∷ bs) = open_in bs + 1
 open_in (InValue p op c at inside ∷ bs) = open_in bs + 1
 open_in (Root x ∷ bs) = open_in bs
 
-count_last : (items : List Open) (one : Open) → count_by is_open (items ++ one ∷ []) ≡ count_by is_open items + count_by is_open (one ∷ [])
-count_last items one = sum_by-append (λ x. if is_open x then 1 else 0) items (one ∷ [])
+count_last : (items : List Open) (one : Open) → count_by is_bracket_open (items ++ one ∷ []) ≡ count_by is_bracket_open items + count_by is_bracket_open (one ∷ [])
+count_last items one = sum_by-append (λ x. if is_bracket_open x then 1 else 0) items (one ∷ [])
 
-as_many_open : (g : Grammar) (bs : List Bracket) (items : List Open) → AreOpen g bs items → count_by is_open items ≡ open_in bs
+as_many_open : (g : Grammar) (bs : List Bracket) (items : List Open) → AreOpen g bs items → count_by is_bracket_open items ≡ open_in bs
 unfolding open_in
 as_many_open g bs items none = refl
 as_many_open g bs items (more {bs = below} {others = others} a (node {open_node = n} t f s v)) =
@@ -107,11 +107,11 @@ node_innermost g old below open_node x at closing =
     closes_node g text ts x type from held rest bs e (left_out makes closes) = absurd (let z : ⊥ = cc in z)
 
 pub node_closed : {E : Type 0} (answer : Result (Unit {0}) E) (g : Grammar) (old new : Builder) (below : List Open) (open_node : OpenNode) (x : Grown) →
-    old.brackets.items ≡ below ++ variant.InNode open_node ∷ [] → OnOk answer (Does g mark.Shut old new) → IsSameReading old new → IsClosing g old x →
+    old.brackets.items ≡ below ++ variant.InNode open_node ∷ [] → OnOk answer (DoesMark g mark.Shut old new) → IsSameReading old new → IsClosing g old x →
     OnOk answer (IsClosing g new x × (count_open new < count_open old))
 node_closed answer g old new below open_node x at does same closing =
     let n = node_innermost g old below open_node x at closing in
-    on_ok answer (Does g mark.Shut old new) (IsClosing g new x × (count_open new < count_open old)) does
+    on_ok answer (DoesMark g mark.Shut old new) (IsClosing g new x × (count_open new < count_open old)) does
     (λ d. let k : StandsOpen g new n.0 = d closing.brackets n.0 closing.over closing.stands (shuts n.1) in
     (still_closing g old new x n.0 closing.over same n.2 k, fewer_open g old new closing.brackets n.0 closing.stands k (fewer_shut (read_tokens old) closing.brackets n.0 n.1)))
 
@@ -190,12 +190,11 @@ value_can_end g old x below open_value r closing at is no_reference =
 
 pub value_ended : {E : Type 0} (answer : Result (Unit {0}) E) (g : Grammar) (old new : Builder) (below : List Open) (open_value : OpenValue) (r : ValueRecipe) (x : Grown) →
     old.brackets.items ≡ below ++ variant.InValue open_value ∷ [] → slice_get old.recipes.now.made open_value.put ≡ Some r → ¬ IsReference r.content →
-    OnOk answer (Does g mark.End old new) → IsSameReading old new → IsClosing g old x → OnOk answer (IsClosing g new x × (count_open new < count_open old))
+    OnOk answer (DoesMark g mark.End old new) → IsSameReading old new → IsClosing g old x → OnOk answer (IsClosing g new x × (count_open new < count_open old))
 value_ended answer g old new below open_value r x at is no_reference does same closing =
     let n = value_can_end g old x below open_value r closing at is no_reference in
-    on_ok answer (Does g mark.End old new) (IsClosing g new x × (count_open new < count_open old)) does
-    (λ d. let k : StandsOpen g new n.0 = d closing.brackets n.0 closing.over closing.stands n.1 in
-    (
+    on_ok answer (DoesMark g mark.End old new) (IsClosing g new x × (count_open new < count_open old)) does
+    (λ d. let k : StandsOpen g new n.0 = d closing.brackets n.0 closing.over closing.stands n.1 in (
       still_closing g old new x n.0 closing.over same n.2 k,
       fewer_open g old new closing.brackets n.0 closing.stands k (fewer_ended g old.text.now (read_tokens old) closing.brackets n.0 n.1),
     ))
@@ -265,7 +264,7 @@ split_last (y ∷ z ∷ zs) x e =
     let r = split_last (z ∷ zs) x here in
     (y ∷ r.0, ap (λ k. y ∷ k) r.1)
 
-pub root_closed : (g : Grammar) (old : Builder) (x : Grown) → IsWhole old → IsClosing g old x → StandsOpen g old (Root x ∷ [])
+pub root_closed : (g : Grammar) (old : Builder) (x : Grown) → IsWholeTree old → IsClosing g old x → StandsOpen g old (Root x ∷ [])
 root_closed g old x top closing =
     let s = some_taken g old.brackets.items top.0 variant.Whole closing.brackets top.1 closing.stands.brackets in
     let t = below_taken g old.brackets.items top.0 variant.Whole s.0 s.1 top.1 (subst (λ l. AreOpen g l old.brackets.items) s.2 closing.stands.brackets) in

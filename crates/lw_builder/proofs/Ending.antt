@@ -1,9 +1,8 @@
 -- A value that ends is put into the node around it.
-use Rattle.std.proofs.Common.{ℕ, ◌≡◌, ◌+◌, ◌-◌, ◌<◌, Option, Some, None, List, [], ◌∷◌, ◌++◌, length, drop, slice_get, refl, sym, subst, ap, ◌∙◌, arith, append_assoc}
+use Rattle.std.proofs.Common.{ℕ, ◌≡◌, ◌+◌, ◌-◌, ◌<◌, Option, Some, None, List, [], ◌∷◌, ◌++◌, length, drop, slice_get, refl, sym, subst, ap, ◌∙◌, append_assoc}
 use Rattle.std.proofs.lemmas.Option.{none-some, same_Some, slice_get_within}
 use Rattle.lw_base.specs.declared.numbers.NodeId.{NodeId}
 use Rattle.lw_base.specs.declared.numbers.PropId.{PropId}
-use Rattle.lw_base.specs.declared.numbers.TypeId.{TypeId}
 use Rattle.lw_base.specs.declared.numbers.RefId.{RefId}
 use Rattle.lw_base.specs.declared.token.Token.{Token}
 use Rattle.lw_grammar.specs.declared.grammar.Grammar.{Grammar}
@@ -13,29 +12,27 @@ use Rattle.lw_tree.specs.declared.node.Reference.{Reference}
 use Rattle.lw_tree.specs.declared.node.Value.{Value}
 use Rattle.lw_tree.specs.declared.node.Value.TheVariants as value
 use Rattle.lw_sentences.specs.Marks as mark
-use Rattle.lw_look.specs.Sites.{PartSite, Value as AValue, IsPartAt}
 use Rattle.lw_marks.specs.Grown.{Plain, as_value, Grown, Held, Puts, Takes, Points, size, size_of}
 use Rattle.lw_marks.specs.Trees.{points_of}
 use Rattle.lw_marks.specs.Numbers.{IsNumberOfProperty}
 use Rattle.lw_marks.specs.Brackets.{Bracket, InNode, InValue, span_of_tokens, joined_texts}
 use Rattle.lw_marks.specs.Follows.{ChangesOpen, PutsValueIn, a_node, a_reference, plain, MakesReference}
-use Rattle.lw_program.specs.Numbered.{put_sites}
 use Rattle.lw_preorder.specs.Finishing.{finished, finished_in}
 use Rattle.lw_preorder.specs.Tables.{put_in, stored, stored_in, pointed, pointed_in}
 use Rattle.lw_recipes.specs.declared.mark.TreeMark.TheVariants as numbered
 use Rattle.lw_recipes.specs.declared.recipe.Content.{Content}
 use Rattle.lw_recipes.specs.declared.recipe.Content.TheVariants as content
 use Rattle.lw_recipes.specs.declared.recipe.ValueRecipe.{ValueRecipe}
-use Rattle.lw_recipes.specs.Meant.{MeansMark, puts, AssignedAt}
+use Rattle.lw_recipes.specs.Meant.{MeansMark, puts}
 use Rattle.lw_recipes.specs.Making as recipe
 use Rattle.lw_recipes.specs.Making.{RecipeLists, AreRecipesOf, IsMadeBy, IsReference}
 use Rattle.lw_builder.specs.declared.builder.Builder.{Builder}
 use Rattle.lw_builder.specs.declared.open.Open.{Open}
 use Rattle.lw_builder.specs.declared.open.Open.TheVariants as variant
 use Rattle.lw_builder.specs.declared.open.OpenValue.{OpenValue}
-use Rattle.lw_builder.specs.Contents.{nobody, said_in, IsMade, IsWorth}
+use Rattle.lw_builder.specs.Contents.{nobody, said_in, IsMadeValue, IsWorth}
 use Rattle.lw_builder.specs.Standing.{nodes_in, points_in, all_finished, all_stored, all_loose, all_pointed, AreOpen, more, node, place_in, StandsOpen}
-use Rattle.lw_builder.specs.Steps.{IsOver, IsKept, IsKeptButRefs, HasValue, IsSameReading, read_tokens}
+use Rattle.lw_builder.specs.Steps.{IsOver, IsKeptButRefs, EndsInValue, IsSameReading, read_tokens}
 use Rattle.lw_builder.proofs.Lengths.{length-all_pointed}
 use Rattle.lw_builder.proofs.Making.{plain_made, looked_up}
 use Rattle.lw_builder.proofs.MarkCases.{EndsSo, ends_so}
@@ -194,7 +191,7 @@ ended_in g text ts below type from p at op c (Some x) held holds name old new r 
 ended_in g text ts below type from p at op c None held holds name old new r (Some k) v h put rf number place worth e = absurd (none-some _ (sym place))
 ended_in g text ts below type from p at op c None held holds name old new r None v h (plain {v = w} is) rf number place worth e =
     let m = plain_made g text ts op c w is in
-    let made : IsMade text ts r.prop m.made old.refs.items new.refs.items v = subst (λ k. IsMade text ts r.prop k old.refs.items new.refs.items v) (rf.so m.made m.by) worth in
+    let made : IsMadeValue text ts r.prop m.made old.refs.items new.refs.items v = subst (λ k. IsMadeValue text ts r.prop k old.refs.items new.refs.items v) (rf.so m.made m.by) worth in
     let so = m.so r.prop old.refs.items new.refs.items v made in
     let e' : IsEnded g below type from held old new r.prop (as_value w) = subst (λ k. IsEnded g below type from held old new r.prop k) so.1 e in
     put_plain g below type from p at op c held old new r.prop w h e' (one_property g name r.prop.0 p rf.number number) so.0
@@ -202,12 +199,12 @@ ended_in g text ts below type from p at op c None held holds name old new r None
     rf number place worth e =
     let l = looked_up g text ts by looked looks in
     let it : IsMadeBy g op c (content.Reference (record { 0 = want }) l.0) = recipe.reference not refers wants l.1 in
-    let made : IsMade text ts r.prop (content.Reference (record { 0 = want }) l.0) old.refs.items new.refs.items v =
-    subst (λ k. IsMade text ts r.prop k old.refs.items new.refs.items v) (rf.so (content.Reference (record { 0 = want }) l.0) it) worth in
+    let made : IsMadeValue text ts r.prop (content.Reference (record { 0 = want }) l.0) old.refs.items new.refs.items v =
+    subst (λ k. IsMadeValue text ts r.prop k old.refs.items new.refs.items v) (rf.so (content.Reference (record { 0 = want }) l.0) it) worth in
     let same : r.prop.0 ≡ p = one_property g name r.prop.0 p rf.number number in
     let e' = subst (λ k. IsEnded g below type from held old new r.prop k) made.1 e in
     let is : record { owner = nobody; prop = r.prop; want = record { 0 = want }; name = said_in l.0 (joined_texts text ts); span = span_of_tokens ts }
-        ≡ record { owner = nobody; prop = record { 0 = p }; want = record { 0 = want }; name = looked; span = span_of_tokens ts } =
+    ≡ record { owner = nobody; prop = record { 0 = p }; want = record { 0 = want }; name = looked; span = span_of_tokens ts } =
     ap (λ (k : ℕ). let y : Reference = record { owner = nobody; prop = record { 0 = k }; want = record { 0 = want }; name = said_in l.0 (joined_texts text ts); span = span_of_tokens ts } in y) same
     ∙ ap (λ (k : List ℕ). let y : Reference = record { owner = nobody; prop = record { 0 = p }; want = record { 0 = want }; name = k; span = span_of_tokens ts } in y) l.2 in
     put_reference g below type from p at want op c looked ts held old new r.prop (record { 0 = length old.refs.items }) _ h e' same refl made.0 is
@@ -238,7 +235,7 @@ ended g old mid done new ended_value r v bs after over h change took same at wor
     (ended_in g old.text.now ts e.below e.type e.from e.p ended_value.first e.op e.c e.inside e.held e.holds e.open_value.name old new r ended_value.node v
     e.stands e.put rf e.open_value.prop e.open_value.node worth' ended_so)
 
-pub value_ends : (g : Grammar) (old : Builder) (bs after : List Bracket) → StandsOpen g old bs → ChangesOpen g old.text.now (read_tokens old) mark.End bs after → HasValue old
+pub value_ends : (g : Grammar) (old : Builder) (bs after : List Bracket) → StandsOpen g old bs → ChangesOpen g old.text.now (read_tokens old) mark.End bs after → EndsInValue old
 value_ends g old bs after h change =
     let e = ends_so g old.text.now (read_tokens old) bs after change in
     has_value g old e.p e.at e.op e.c e.node (InNode e.type e.from e.held ∷ e.below) (subst (λ l. StandsOpen g old l) e.was h)

@@ -1,5 +1,5 @@
 -- A mark that is followed.
-use Rattle.std.proofs.Common.{ℕ, ◌≡◌, ◌+◌, ◌<◌, ◌≤◌, Some, List, [], ◌∷◌, ◌++◌, length, take, get_or, slice_get, refl, sym, subst, ap, ◌∙◌, arith}
+use Rattle.std.proofs.Common.{ℕ, ◌≡◌, ◌+◌, ◌<◌, Some, List, [], ◌∷◌, ◌++◌, length, take, slice_get, refl, sym, subst, ap, ◌∙◌, arith}
 use Rattle.std.specs.Prelude.{Result, OnOk}
 use Rattle.std.proofs.lemmas.List.{take_more}
 use Rattle.std.proofs.lemmas.Option.{slice_get_within, get_or_from_slice_get}
@@ -15,15 +15,14 @@ use Rattle.lw_sentences.specs.Marks.{Mark}
 use Rattle.lw_marks.specs.Brackets.{Bracket}
 use Rattle.lw_marks.specs.Follows as follows
 use Rattle.lw_marks.specs.Follows.{ChangesOpen, FollowsMarks}
-use Rattle.lw_recipes.specs.declared.mark.TreeMark.{TreeMark}
 use Rattle.lw_recipes.specs.declared.mark.TreeMark.TheVariants as numbered
 use Rattle.lw_recipes.specs.Making.{AreRecipesOf}
 use Rattle.lw_recipes.specs.Meant as meant
 use Rattle.lw_recipes.specs.Meant.{MeansMark}
 use Rattle.lw_builder.specs.declared.builder.Builder.{Builder}
-use Rattle.lw_builder.specs.Standing.{AreOpen, StandsOpen}
+use Rattle.lw_builder.specs.Standing.{AreOpen}
 use Rattle.lw_builder.specs.Built.{ArePartsOf, HasFollowed, GoesOnBy, token, other}
-use Rattle.lw_builder.specs.Steps.{IsOver, Does, CanDo, IsSameReading, read_tokens}
+use Rattle.lw_builder.specs.Steps.{IsOver, DoesMark, CanDo, IsSameReading, read_tokens}
 use Rattle.lw_builder.proofs.ClosingSteps.{still_over}
 use Rattle.lw_builder.proofs.Results.{on_ok}
 use Rattle.lw_builder.proofs.SameReading.{same_tokens}
@@ -109,7 +108,7 @@ pub can_do : (g : Grammar) (m : List Mark) (x y : Mark) (bs after : List Bracket
 can_do g m x y bs after builder h is apart goes = (bs, after, over_of g m bs builder h, h.stands, changes g builder x y bs after is apart goes)
 
 pub followed : {E : Type 0} (answer : Result (Unit {0}) E) (g : Grammar) (m : List Mark) (x y : Mark) (bs after : List Bracket) (old new : Builder) →
-    HasFollowed g m bs old → x ≡ y → ((k : ℕ) → y ≡ mark.Token k → ⊥) → GoesOnBy g old x bs after → OnOk answer (Does g y old new) → IsSameReading old new →
+    HasFollowed g m bs old → x ≡ y → ((k : ℕ) → y ≡ mark.Token k → ⊥) → GoesOnBy g old x bs after → OnOk answer (DoesMark g y old new) → IsSameReading old new →
     OnOk answer (HasFollowed g (m ++ x ∷ []) after new)
 followed answer g m x y bs after old new h is apart goes does same =
     let change = changes g old x y bs after is apart goes in
@@ -120,7 +119,7 @@ followed answer g m x y bs after old new h is apart goes does same =
     let f' : FollowsMarks g new.text.now (m ++ x ∷ []) (read_tokens new) after =
     subst (λ l. FollowsMarks g l (m ++ x ∷ []) (read_tokens new) after) (sym same.over.text)
     (subst (λ l. FollowsMarks g old.text.now (m ++ x ∷ []) l after) (sym (same_tokens old new same)) f) in
-    on_ok answer (Does g y old new) (HasFollowed g (m ++ x ∷ []) after new) does
+    on_ok answer (DoesMark g y old new) (HasFollowed g (m ++ x ∷ []) after new) does
     (λ d. record { recipes = now.recipes; parts = now.parts; within = now.within; follows = f'; stands = d bs after over h.stands change })
 
 -- no other mark is a token

@@ -1,22 +1,19 @@
 -- What the tokens of a value become, against the grammar.
-use Rattle.std.proofs.Common.{ℕ, ◌≡◌, ◌≢◌, Bool, true, false, List, [], ◌∷◌, ◌++◌, length, bytes_eq, codes, if◌then◌else◌, refl, sym, subst, ap, ◌∙◌}
+use Rattle.std.proofs.Common.{ℕ, ◌≡◌, Bool, true, false, List, bytes_eq, codes, if◌then◌else◌, refl, ap, ◌∙◌}
 use Rattle.lw_base.specs.declared.token.Span.{Span}
 use Rattle.lw_base.specs.declared.token.Token.{Token}
 use Rattle.lw_base.specs.declared.numbers.PropId.{PropId}
-use Rattle.lw_base.specs.declared.numbers.TypeId.{TypeId}
 use Rattle.lw_grammar.specs.declared.grammar.Grammar.{Grammar}
 use Rattle.lw_grammar.specs.declared.rule.Op.{Op}
 use Rattle.lw_grammar.specs.declared.rule.Value0.{Value0}
-use Rattle.lw_grammar.specs.declared.terminal.Terminal.{Terminal}
 use Rattle.lw_gramread.specs.Values.{word_name}
 use Rattle.lw_tree.specs.declared.node.Reference.{Reference}
 use Rattle.lw_tree.specs.declared.node.Value.{Value}
 use Rattle.lw_tree.specs.declared.node.Value.TheVariants as value
-use Rattle.lw_marks.specs.Grown.{Plain, Text, Number, Huge, Raw, Truth, as_value}
+use Rattle.lw_marks.specs.Grown.{Plain, as_value}
 use Rattle.lw_marks.specs.Values as means
 use Rattle.lw_marks.specs.Values.{NumberMeans, fits, too_large, no_number, TokenMeans, TokenNames, text_said, unquoted}
 use Rattle.lw_marks.specs.Brackets.{span_of_tokens, joined_texts}
-use Rattle.lw_marks.specs.Numbers.{IsNumberOfType}
 use Rattle.lw_marks.specs.Follows as follows
 use Rattle.lw_marks.specs.Follows.{IsPlain, LooksUp, RefersBy}
 use Rattle.lw_recipes.specs.declared.recipe.Content.{Content}
@@ -25,7 +22,7 @@ use Rattle.lw_recipes.specs.declared.recipe.TextForm.{TextForm}
 use Rattle.lw_recipes.specs.declared.recipe.TextForm.TheVariants as form
 use Rattle.lw_recipes.specs.Making as recipe
 use Rattle.lw_recipes.specs.Making.{IsMadeBy, IsNameForm, text_form, IsReference}
-use Rattle.lw_builder.specs.Contents.{said_in, nobody, IsMade}
+use Rattle.lw_builder.specs.Contents.{said_in, IsMadeValue}
 
 said_so : (name text : List ℕ) → said_in (text_form name) text ≡ text_said name text
 said_so name text = by (bytes_eq name (codes "ID")) (bytes_eq name (codes "STRING"))
@@ -53,7 +50,7 @@ module _ (g : Grammar) (text : List ℕ) (ts : List Token) where
   pub record MakesPlain (op : Op) (c : Value0) (v : Plain) : Type 0 where
     pub made : Content
     pub by : IsMadeBy g op c made
-    pub so : (p : PropId) (old new : List Reference) (w : Value) → IsMade text ts p made old new w → (new ≡ old) × (w ≡ as_value v)
+    pub so : (p : PropId) (old new : List Reference) (w : Value) → IsMadeValue text ts p made old new w → (new ≡ old) × (w ≡ as_value v)
     pub no_reference : ¬ IsReference made
 
   pub plain_made : (op : Op) (c : Value0) (v : Plain) → IsPlain g text op c ts v → MakesPlain op c v

@@ -1,16 +1,14 @@
 -- What each kind of mark changes.
-use Rattle.std.proofs.Common.{ℕ, ◌≡◌, Option, Some, None, List, [], ◌∷◌, Bool, length, drop, slice_get, refl}
+use Rattle.std.proofs.Common.{ℕ, ◌≡◌, Option, Some, None, List, ◌∷◌, length, drop, slice_get, refl}
 use Rattle.lw_base.specs.declared.token.Token.{Token}
-use Rattle.lw_base.specs.declared.numbers.TypeId.{TypeId}
 use Rattle.lw_grammar.specs.declared.grammar.Grammar.{Grammar}
-use Rattle.lw_grammar.specs.declared.rule.Action.{Action}
 use Rattle.lw_grammar.specs.declared.rule.Op.{Op}
 use Rattle.lw_grammar.specs.declared.rule.Value0.{Value0}
 use Rattle.lw_sentences.specs.Marks as mark
 use Rattle.lw_marks.specs.Grown.{Grown, Held, Nothing}
 use Rattle.lw_marks.specs.Numbers.{IsNumberOfProperty}
 use Rattle.lw_marks.specs.Brackets.{Bracket, InNode, InValue, Shuts}
-use Rattle.lw_marks.specs.Follows.{ChangesOpen, opens, puts, shuts, renames, wraps, ends, PutsValueIn}
+use Rattle.lw_marks.specs.Follows.{ChangesOpen, opens, puts, shuts, ends, PutsValueIn}
 use Rattle.lw_recipes.specs.Making.{RecipeLists, AreRecipesOf}
 
 module _ (g : Grammar) (text : List ℕ) (ts : List Token) where

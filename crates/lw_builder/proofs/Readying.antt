@@ -1,5 +1,5 @@
 -- A node that is ready becomes one that is finished.
-use Rattle.std.proofs.Common.{ℕ, ◌≡◌, ◌+◌, ◌-◌, ◌≤◌, ◌<◌, Some, None, List, [], ◌∷◌, ◌++◌, length, take, drop, refl, sym, subst, ap, ◌∙◌, arith, append_assoc, length-append}
+use Rattle.std.proofs.Common.{ℕ, ◌≡◌, ◌+◌, ◌-◌, ◌≤◌, ◌<◌, Some, None, List, [], ◌∷◌, ◌++◌, length, take, drop, sym, subst, ap, ◌∙◌, arith, append_assoc, length-append}
 use Rattle.std.proofs.Math.Seq.{take-append_seam, drop-append_seam}
 use Rattle.std.proofs.lemmas.List.{append-nil}
 use Rattle.lw_base.specs.declared.token.Token.{Token}
@@ -8,7 +8,7 @@ use Rattle.lw_base.specs.declared.numbers.NodeId.{NodeId}
 use Rattle.lw_base.specs.declared.numbers.PropId.{PropId}
 use Rattle.lw_tree.specs.declared.node.Reference.{Reference}
 use Rattle.lw_tree.specs.declared.node.Value.{Value}
-use Rattle.lw_marks.specs.Grown.{Plain, Text, Number, Huge, Raw, Truth, as_value, Grown, Held, Nothing, Puts, Takes, Points, size, size_of}
+use Rattle.lw_marks.specs.Grown.{Plain, Text, Number, Huge, Raw, Truth, as_value, Held, Nothing, Puts, Takes, Points, size, size_of}
 use Rattle.lw_marks.specs.Trees.{points_of}
 use Rattle.lw_marks.specs.Brackets.{Bracket, grown, span_of_tokens}
 use Rattle.lw_preorder.specs.declared.finished.Finished.{Finished}
@@ -19,7 +19,7 @@ use Rattle.lw_builder.specs.declared.open.OpenNode.{OpenNode}
 use Rattle.lw_builder.specs.Contents.{nobody}
 use Rattle.lw_builder.specs.Owners.{claims_all, IsClaimable, AreClaimable}
 use Rattle.lw_builder.specs.Standing.{nodes_in, points_in, all_finished, all_stored, all_loose, all_pointed}
-use Rattle.lw_builder.specs.Steps.{IsReady, IsFinished, read_tokens}
+use Rattle.lw_builder.specs.Steps.{IsReadyToFinish, IsFinished}
 use Rattle.lw_builder.proofs.Adopting.{adopts_held}
 use Rattle.lw_builder.proofs.Claiming.{claims_held}
 use Rattle.lw_builder.proofs.Lengths.{a_node_or_more, as_many_finished_in, as_many_pointed_in, length-all_finished, length-all_pointed}
@@ -62,13 +62,13 @@ claimable_held n b r (Points held p want name s) le =
     claimable_more n (put_in b r held) _ _ (claimable_held n b r held (omega (arith, le))) lt
 claimable_held n b r (Takes held p x) le = claimable_more n (put_in b r held) _ _ (claimable_held n b r held (omega (arith, le))) tt
 
-inside_is : (builder : Builder) (node : OpenNode) (bs : List Bracket) (held : Held) (inside : List (PropId × Value)) → IsReady builder node bs held →
+inside_is : (builder : Builder) (node : OpenNode) (bs : List Bracket) (held : Held) (inside : List (PropId × Value)) → IsReadyToFinish builder node bs held →
     inside ≡ drop node.values builder.loose.items → inside ≡ put_in (nodes_in bs) (points_in bs) held
 inside_is builder node bs held inside ready is =
     let these : List (PropId × Value) = put_in (nodes_in bs) (points_in bs) held in
     is ∙ ap (λ l. drop node.values l) ready.loose ∙ ap (λ n. drop n (all_loose bs ++ these)) ready.values ∙ drop-append_seam (all_loose bs) these
 
-pub ready_within : (builder : Builder) (node : OpenNode) (bs : List Bracket) (held : Held) (inside : List (PropId × Value)) → IsReady builder node bs held →
+pub ready_within : (builder : Builder) (node : OpenNode) (bs : List Bracket) (held : Held) (inside : List (PropId × Value)) → IsReadyToFinish builder node bs held →
     inside ≡ drop node.values builder.loose.items → AreWithin (length builder.finished.items) inside
 ready_within builder node bs held inside ready is =
     let P : List (PropId × Value) → Type 0 = λ l. AreWithin (length builder.finished.items) l in
@@ -83,7 +83,7 @@ ready_within builder node bs held inside ready is =
     subst P (sym (inside_is builder node bs held inside ready is))
     (within_held (length builder.finished.items) (nodes_in bs) (points_in bs) held long)
 
-pub ready_claimable : (builder : Builder) (node : OpenNode) (bs : List Bracket) (held : Held) (inside : List (PropId × Value)) → IsReady builder node bs held →
+pub ready_claimable : (builder : Builder) (node : OpenNode) (bs : List Bracket) (held : Held) (inside : List (PropId × Value)) → IsReadyToFinish builder node bs held →
     inside ≡ drop node.values builder.loose.items → AreClaimable (length builder.refs.items) inside
 ready_claimable builder node bs held inside ready is =
     let P : List (PropId × Value) → Type 0 = λ l. AreClaimable (length builder.refs.items) l in
@@ -100,7 +100,7 @@ ready_claimable builder node bs held inside ready is =
 
 -- the references among the values of the node are given its place
 claimed_all : (old : Builder) (node : OpenNode) (bs : List Bracket) (held : Held) (own : NodeId) (inside : List (PropId × Value)) (refs : List Reference) →
-    IsReady old node bs held → inside ≡ put_in (nodes_in bs) (points_in bs) held → refs ≡ claims_all own inside old.refs.items →
+    IsReadyToFinish old node bs held → inside ≡ put_in (nodes_in bs) (points_in bs) held → refs ≡ claims_all own inside old.refs.items →
     refs ≡ all_pointed bs ++ pointed_in own (nodes_in bs) held
 claimed_all old node bs held own inside refs ready inside' claim =
     let A : List Reference = all_pointed bs in
@@ -114,7 +114,7 @@ claimed_all old node bs held own inside refs ready inside' claim =
     claim ∙ ap (λ l. claims_all own l old.refs.items) inside' ∙ ap (λ l. claims_all own (put_in b r held) l) (ready.refs ∙ tidy) ∙ fit ∙ tidy'
 
 pub finish_all : (old new : Builder) (node : OpenNode) (bs : List Bracket) (held : Held) (inside : List (PropId × Value)) (given : List Finished)
-    (own : NodeId) (ts : List Token) (s : Span) → IsReady old node bs held → inside ≡ drop node.values old.loose.items →
+    (own : NodeId) (ts : List Token) (s : Span) → IsReadyToFinish old node bs held → inside ≡ drop node.values old.loose.items →
     new.loose.items ≡ take node.values old.loose.items → given ≡ adopts_all own inside old.finished.items → own.0 ≡ length old.finished.items →
     new.finished.items ≡ given ++ record { node = record { type_id = node.type_id; container = None; prop = None; span = s }; start = node.start } ∷ [] →
     new.refs.items ≡ claims_all own inside old.refs.items → new.kept.items ≡ old.kept.items ++ owned own inside → s ≡ span_of_tokens (drop node.first ts) →

@@ -1,12 +1,9 @@
 -- Actions done to the node that is open.
-use Rattle.std.proofs.Common.{ℕ, ◌≡◌, ◌+◌, ◌-◌, Some, None, List, [], ◌∷◌, ◌++◌, length, refl, sym, subst, ap, ◌∙◌, arith, append_assoc}
-use Rattle.std.proofs.lemmas.List.{append-nil}
+use Rattle.std.proofs.Common.{ℕ, ◌≡◌, ◌+◌, ◌-◌, None, List, [], ◌∷◌, ◌++◌, refl, sym, subst, ap, ◌∙◌, arith}
 use Rattle.lw_base.specs.declared.numbers.NodeId.{NodeId}
 use Rattle.lw_base.specs.declared.numbers.PropId.{PropId}
-use Rattle.lw_base.specs.declared.numbers.TypeId.{TypeId}
 use Rattle.lw_base.specs.declared.token.Token.{Token}
 use Rattle.lw_grammar.specs.declared.grammar.Grammar.{Grammar}
-use Rattle.lw_tree.specs.declared.node.Value.{Value}
 use Rattle.lw_tree.specs.declared.node.Value.TheVariants.{Child}
 use Rattle.lw_marks.specs.Grown.{Grown, Held, Nothing, Takes, size}
 use Rattle.lw_marks.specs.Brackets.{Bracket, InNode, grown}
@@ -16,15 +13,15 @@ use Rattle.lw_builder.specs.declared.builder.Builder.{Builder}
 use Rattle.lw_builder.specs.declared.open.Open.TheVariants as variant
 use Rattle.lw_builder.specs.declared.open.OpenNode.{OpenNode}
 use Rattle.lw_builder.specs.Standing.{nodes_in, points_in, all_finished, all_stored, all_loose, all_pointed, AreOpen, more, node, StandsOpen}
-use Rattle.lw_builder.specs.Steps.{IsReady, IsFinished}
-use Rattle.lw_builder.proofs.Taking.{Took, IsNodeOpen, below_taken, ready}
+use Rattle.lw_builder.specs.Steps.{IsReadyToFinish, IsFinished}
+use Rattle.lw_builder.proofs.Taking.{Took, below_taken, ready}
 
 -- what is open below the node that was taken off, and the node, whose type and start are known
 pub record NodeTaken (g : Grammar) (bs : List Bracket) (t f : ℕ) (held : Held) (mid : Builder) (open_node : OpenNode) : Type 0 where
   pub below : AreOpen g bs mid.brackets.items
   pub type_is : open_node.type_id.0 ≡ t
   pub first_is : open_node.first ≡ f
-  pub ready : IsReady mid open_node bs held
+  pub ready : IsReadyToFinish mid open_node bs held
 
 same_type : {t u f h : ℕ} {x y : Held} → InNode t f x ≡ InNode u h y → t ≡ u
 same_type e = cc
@@ -43,7 +40,7 @@ node_taken g old mid open_node t f held bs took h =
       below = (below_taken g _ _ _ (InNode t f held) bs took.brackets h.brackets).0;
       type_is = sym (same_type r.0.is);
       first_is = sym (same_first r.0.is);
-      ready = subst (λ x. IsReady mid open_node bs x) (sym (same_held r.0.is)) r.1;
+      ready = subst (λ x. IsReadyToFinish mid open_node bs x) (sym (same_held r.0.is)) r.1;
     }
 
 pub put_back : (g : Grammar) (mid new : Builder) (open_node next : OpenNode) (t f : ℕ) (held : Held) (bs : List Bracket) → NodeTaken g bs t f held mid open_node →

@@ -1,8 +1,7 @@
 -- What was read stays what it was.
-use Rattle.std.proofs.Common.{ℕ, ◌≡◌, List, take, refl, sym, subst, ap, ◌∙◌}
+use Rattle.std.proofs.Common.{ℕ, ◌≡◌, List, take, ap, ◌∙◌}
 use Rattle.lw_base.specs.declared.token.Token.{Token}
 use Rattle.lw_builder.specs.declared.builder.Builder.{Builder}
-use Rattle.lw_builder.specs.Built.{IsOverSame}
 use Rattle.lw_builder.specs.Steps.{IsSameReading, read_tokens}
 
 pub same_tokens : (old new : Builder) → IsSameReading old new → read_tokens new ≡ read_tokens old

@@ -1,11 +1,9 @@
 -- A node that shuts: it is the value around it, takes the place of the node around it, or is the root.
-use Rattle.std.proofs.Common.{ℕ, ◌≡◌, ◌+◌, ◌-◌, Option, Some, None, List, [], ◌∷◌, ◌++◌, length, refl, sym, subst, ap, ◌∙◌, arith}
+use Rattle.std.proofs.Common.{ℕ, ◌≡◌, ◌+◌, ◌-◌, Some, None, List, [], ◌∷◌, ◌++◌, refl, sym, subst, ap, ◌∙◌, arith}
 use Rattle.std.proofs.lemmas.List.{append-nil}
 use Rattle.lw_base.specs.declared.numbers.NodeId.{NodeId}
 use Rattle.lw_base.specs.declared.token.Token.{Token}
 use Rattle.lw_grammar.specs.declared.grammar.Grammar.{Grammar}
-use Rattle.lw_grammar.specs.declared.rule.Op.{Op}
-use Rattle.lw_grammar.specs.declared.rule.Value0.{Value0}
 use Rattle.lw_marks.specs.Grown.{Grown, Held, Nothing, size}
 use Rattle.lw_marks.specs.Brackets.{Bracket, InNode, InValue, Root, grown, Shuts, in_value, in_node, at_root}
 use Rattle.lw_preorder.specs.Finishing.{finished_in}
@@ -19,10 +17,10 @@ use Rattle.lw_builder.specs.declared.open.Open.TheVariants as variant
 use Rattle.lw_builder.specs.declared.open.OpenNode.{OpenNode}
 use Rattle.lw_builder.specs.declared.open.OpenValue.{OpenValue}
 use Rattle.lw_builder.specs.Contents.{nobody}
-use Rattle.lw_builder.specs.Standing.{nodes_in, points_in, all_finished, all_stored, all_loose, all_pointed, AreOpen, none, more, IsOpen, node, value_, whole, StandsOpen}
-use Rattle.lw_builder.specs.Steps.{HasNode, IsKept, IsReady, IsFinished}
+use Rattle.lw_builder.specs.Standing.{nodes_in, points_in, all_finished, all_stored, all_loose, all_pointed, AreOpen, none, more, node, value_, whole, StandsOpen}
+use Rattle.lw_builder.specs.Steps.{KeepsTables, IsReadyToFinish, IsFinished}
 use Rattle.lw_builder.proofs.Ends.{no_last}
-use Rattle.lw_builder.proofs.Taking.{Took, IsNodeOpen, node_open, IsValueOpen, value_open, of_value, root_open, top_of, below_taken, none_open, has_node}
+use Rattle.lw_builder.proofs.Taking.{Took, IsNodeOpen, node_open, IsValueOpen, value_open, of_value, root_open, top_of, below_taken, none_open}
 use Rattle.lw_builder.proofs.Renaming.{NodeTaken, node_taken}
 
 -- a node that shuts is innermost
@@ -41,7 +39,7 @@ innermost g old bs after ts h (in_node {type = t} {from = f} {outer = outer} {at
     record { type = t; from = f; held = held; below = InNode outer at Nothing ∷ rest; is = refl; stands = h }
 innermost g old bs after ts h (at_root {type = t} {from = f} {held = held}) = record { type = t; from = f; held = held; below = []; is = refl; stands = h }
 
-still_ready : (mid low : Builder) (open_node : OpenNode) (bs : List Bracket) (held : Held) → IsKept mid low → IsReady mid open_node bs held → IsReady low open_node bs held
+still_ready : (mid low : Builder) (open_node : OpenNode) (bs : List Bracket) (held : Held) → KeepsTables mid low → IsReadyToFinish mid open_node bs held → IsReadyToFinish low open_node bs held
 still_ready mid low open_node bs held same r = record {
   finished = same.finished ∙ r.finished;
   stored = same.kept ∙ r.stored;
@@ -53,8 +51,8 @@ still_ready mid low open_node bs held same r = record {
 
 -- it is ready also where what stands around it was taken off
 pub ready_to_finish : (g : Grammar) (old mid low : Builder) (open_node : OpenNode) (bs after : List Bracket) (ts : List Token) →
-    StandsOpen g old bs → Shuts ts bs after → Took old mid (variant.InNode open_node) → IsKept mid low →
-    (below : List Bracket) × (held : Held) × IsReady low open_node below held
+    StandsOpen g old bs → Shuts ts bs after → Took old mid (variant.InNode open_node) → KeepsTables mid low →
+    (below : List Bracket) × (held : Held) × IsReadyToFinish low open_node below held
 ready_to_finish g old mid low open_node bs after ts h shuts took same =
     let top = innermost g old bs after ts h shuts in
     let n = node_taken g old mid open_node top.type top.from top.held top.below took top.stands in
@@ -63,11 +61,11 @@ ready_to_finish g old mid low open_node bs after ts h shuts took same =
 -- the node is finished so
 abbrev pub Finishes : Builder → Builder → OpenNode → NodeId → List Token → Type 0
 Finishes low done open_node own ts =
-    (below : List Bracket) (held : Held) → IsReady low open_node below held → IsFinished done own.0 below (grown ts open_node.type_id.0 open_node.first held)
+    (below : List Bracket) (held : Held) → IsReadyToFinish low open_node below held → IsFinished done own.0 below (grown ts open_node.type_id.0 open_node.first held)
 
 -- the same, by the type and the start of the bracket
 finished_so : (g : Grammar) (mid low done : Builder) (open_node : OpenNode) (own : NodeId) (ts : List Token) (below : List Bracket) (t f : ℕ) (held : Held) →
-    NodeTaken g below t f held mid open_node → IsKept mid low → Finishes low done open_node own ts → IsFinished done own.0 below (grown ts t f held)
+    NodeTaken g below t f held mid open_node → KeepsTables mid low → Finishes low done open_node own ts → IsFinished done own.0 below (grown ts t f held)
 finished_so g mid low done open_node own ts below t f held n same fin =
     let e : grown ts open_node.type_id.0 open_node.first held ≡ grown ts t f held =
     ap (λ k. grown ts k open_node.first held) n.type_is ∙ ap (λ k. grown ts t k held) n.first_is in
@@ -75,7 +73,7 @@ finished_so g mid low done open_node own ts below t f held n same fin =
 
 -- the new tables are those that were there when the node was finished, and this is put on the brackets
 pub record Puts_on (done new : Builder) (one : Open) : Type 0 where
-  pub same : IsKept done new
+  pub same : KeepsTables done new
   pub brackets : new.brackets.items ≡ done.brackets.items ++ one ∷ []
 
 pub shut_value : (g : Grammar) (old mid low done new : Builder) (open_node : OpenNode) (value next : OpenValue) (own : NodeId) (ts : List Token)
@@ -104,7 +102,7 @@ shut_value g old mid low done new open_node value next own ts bs after h (in_nod
     let below : List Bracket = InNode outer at Nothing ∷ rest in
     let n = node_taken g old mid open_node t f held below took h in
     let v = of_value g rest (InNode outer at Nothing) (variant.InValue value) value
-        (below_taken g mid.brackets.items low.brackets.items (variant.InValue value) (InNode outer at Nothing) rest took'.brackets n.below).1 refl in
+    (below_taken g mid.brackets.items low.brackets.items (variant.InValue value) (InNode outer at Nothing) rest took'.brackets n.below).1 refl in
     absurd (let e = v.is in let z : ⊥ = cc in z)
 shut_value g old mid low done new open_node value next own ts bs after h (at_root {type = t} {from = f} {held = held}) took took' fin same puts put first inside =
     let n = node_taken g old mid open_node t f held [] took h in
@@ -124,7 +122,7 @@ shut_node g old mid low new open_node outer next ts bs after h (in_node {type = 
     let r : ℕ = points_in rest in
     let z : b + 0 ≡ b = omega arith in
     let zr : r + 0 ≡ r = omega arith in
-    let s : IsReady mid open_node below held = n.ready in
+    let s : IsReadyToFinish mid open_node below held = n.ready in
     record {
       finished = puts.same.finished ∙ took'.same.finished ∙ s.finished ∙ ap (λ l. l ++ finished_in None (b + 0) held) (append-nil (all_finished rest))
           ∙ ap (λ (k : ℕ). all_finished rest ++ finished_in None k held) z;
@@ -142,14 +140,14 @@ shut_node g old mid low new open_node outer next ts bs after h (in_value {type =
     let below : List Bracket = InValue p op c at None ∷ rest in
     let n = node_taken g old mid open_node t f held below took h in
     let o = node_open g rest (InValue p op c at None) (variant.InNode outer) outer
-        (below_taken g mid.brackets.items low.brackets.items (variant.InNode outer) (InValue p op c at None) rest took'.brackets n.below).1 refl in
+    (below_taken g mid.brackets.items low.brackets.items (variant.InNode outer) (InValue p op c at None) rest took'.brackets n.below).1 refl in
     absurd (let e = o.is in let z : ⊥ = cc in z)
 shut_node g old mid low new open_node outer next ts bs after h (at_root {type = t} {from = f} {held = held}) took took' puts ty first start values =
     let n = node_taken g old mid open_node t f held [] took h in
     absurd (no_last low.brackets.items (variant.InNode outer) (sym (none_open g mid.brackets.items n.below) ∙ took'.brackets))
 
 pub shut_root : (g : Grammar) (old mid low done new : Builder) (open_node : OpenNode) (own : NodeId) (ts : List Token) (bs after : List Bracket) →
-    StandsOpen g old bs → Shuts ts bs after → Took old mid (variant.InNode open_node) → IsKept mid low → mid.brackets.items ≡ [] →
+    StandsOpen g old bs → Shuts ts bs after → Took old mid (variant.InNode open_node) → KeepsTables mid low → mid.brackets.items ≡ [] →
     Finishes low done open_node own ts → done.brackets.items ≡ [] → Puts_on done new variant.Whole → StandsOpen g new after
 shut_root g old mid low done new open_node own ts bs after h (at_root {type = t} {from = f} {held = held}) took kept empty fin same puts =
     let n = node_taken g old mid open_node t f held [] took h in

@@ -1,5 +1,5 @@
 -- Where tokens stand, and what they say together.
-use Rattle.std.proofs.Common.{ℕ, ◌≡◌, ◌+◌, ◌-◌, ◌<◌, ◌≤◌, Some, List, [], ◌∷◌, ◌++◌, length, get_or, take, refl, sym, subst, ap, ◌∙◌, arith, append_assoc, append-nil}
+use Rattle.std.proofs.Common.{ℕ, ◌≡◌, ◌+◌, ◌-◌, ◌<◌, ◌≤◌, Some, List, [], ◌∷◌, ◌++◌, length, get_or, take, sym, subst, ap, ◌∙◌, arith, append_assoc, append-nil}
 use Rattle.std.proofs.lemmas.List.{take_all, take_more}
 use Rattle.std.specs.Prelude.{slice_get, slice_range}
 use Rattle.lw_base.specs.declared.token.Span.{Span}
@@ -25,7 +25,7 @@ pub joined_more : (text : List ℕ) (ts : List Token) (t : Token) → joined_tex
 joined_more text [] t = append-nil _
 joined_more text (u ∷ ts) t =
     let e : (slice_range text u.span.start u.span.end ++ joined_texts text ts) ++ slice_range text t.span.start t.span.end
-        ≡ slice_range text u.span.start u.span.end ++ (joined_texts text ts ++ slice_range text t.span.start t.span.end) = simp append_assoc in
+    ≡ slice_range text u.span.start u.span.end ++ (joined_texts text ts ++ slice_range text t.span.start t.span.end) = simp append_assoc in
     ap (λ l. slice_range text u.span.start u.span.end ++ l) (joined_more text ts t) ∙ sym e
 
 pub joined_step : (text before part after : List ℕ) (ts : List Token) (i : ℕ) (d : Token) → before ≡ joined_texts text (take i ts) →

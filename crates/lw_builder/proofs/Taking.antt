@@ -1,5 +1,5 @@
 -- The innermost bracket, as it stands in the tables and as it is taken off.
-use Rattle.std.proofs.Common.{ℕ, ◌≡◌, Option, Some, None, List, [], ◌∷◌, ◌++◌, length, refl, sym, subst, ap, ◌∙◌}
+use Rattle.std.proofs.Common.{ℕ, ◌≡◌, Option, List, [], ◌∷◌, ◌++◌, length, refl, sym, subst, ap, ◌∙◌}
 use Rattle.lw_grammar.specs.declared.grammar.Grammar.{Grammar}
 use Rattle.lw_grammar.specs.declared.rule.Op.{Op}
 use Rattle.lw_grammar.specs.declared.rule.Value0.{Value0}
@@ -15,7 +15,7 @@ use Rattle.lw_builder.specs.declared.open.Open.TheVariants as variant
 use Rattle.lw_builder.specs.declared.open.OpenNode.{OpenNode}
 use Rattle.lw_builder.specs.declared.open.OpenValue.{OpenValue}
 use Rattle.lw_builder.specs.Standing.{nodes_in, all_loose, place_in, IsOpen, node, value_, whole, AreOpen, none, more, StandsOpen}
-use Rattle.lw_builder.specs.Steps.{HasNode, HasValue, IsKept, IsReady}
+use Rattle.lw_builder.specs.Steps.{EndsInNode, EndsInValue, KeepsTables, IsReadyToFinish}
 use Rattle.lw_builder.proofs.Ends.{front_of, last_of, no_last}
 
 -- what is innermost, and what stands below it
@@ -24,10 +24,10 @@ pub record HasTop (g : Grammar) (b : Bracket) (bs : List Bracket) (items : List 
   pub one : Open
   pub split : items ≡ below ++ one ∷ []
   pub rest : AreOpen g bs below
-  pub is_open : IsOpen g bs b one
+  pub is_bracket_open : IsOpen g bs b one
 
 pub top_of : (g : Grammar) (b : Bracket) (bs : List Bracket) (items : List Open) → AreOpen g (b ∷ bs) items → HasTop g b bs items
-top_of g b bs items (more {one = one} {others = others} a o) = record { below = others; one = one; split = refl; rest = a; is_open = o }
+top_of g b bs items (more {one = one} {others = others} a o) = record { below = others; one = one; split = refl; rest = a; is_bracket_open = o }
 
 pub none_open : (g : Grammar) (items : List Open) → AreOpen g [] items → items ≡ []
 none_open g items none = refl
@@ -107,14 +107,14 @@ for_value g bs b one p at op c inside (value_ {open_value = v} means prop first 
 for_value g bs b one p at op c inside (node ty first start values) e = absurd (let z : ⊥ = cc in z)
 for_value g bs b one p at op c inside whole e = absurd (let z : ⊥ = cc in z)
 
-pub has_node : (g : Grammar) (old : Builder) (t f : ℕ) (held : Held) (bs : List Bracket) → StandsOpen g old (InNode t f held ∷ bs) → HasNode old
+pub has_node : (g : Grammar) (old : Builder) (t f : ℕ) (held : Held) (bs : List Bracket) → StandsOpen g old (InNode t f held ∷ bs) → EndsInNode old
 has_node g old t f held bs h =
     let top = top_of g (InNode t f held) bs old.brackets.items h.brackets in
     let n = for_node g bs (InNode t f held) top.one t f held top.is_open refl in
     (top.below, n.0, top.split ∙ ap (λ o. top.below ++ o ∷ []) n.1)
 
 pub has_value : (g : Grammar) (old : Builder) (p at : ℕ) (op : Op) (c : Value0) (inside : Option Grown) (bs : List Bracket) →
-    StandsOpen g old (InValue p op c at inside ∷ bs) → HasValue old
+    StandsOpen g old (InValue p op c at inside ∷ bs) → EndsInValue old
 has_value g old p at op c inside bs h =
     let top = top_of g (InValue p op c at inside) bs old.brackets.items h.brackets in
     let v = for_value g bs (InValue p op c at inside) top.one p at op c inside top.is_open refl in
@@ -122,15 +122,14 @@ has_value g old p at op c inside bs h =
 
 -- what was taken off
 pub record Took (old new : Builder) (one : Open) : Type 0 where
-  pub same : IsKept old new
+  pub same : KeepsTables old new
   pub brackets : old.brackets.items ≡ new.brackets.items ++ one ∷ []
 
 pub below_taken : (g : Grammar) (items below : List Open) (one : Open) (b : Bracket) (bs : List Bracket) → items ≡ below ++ one ∷ [] → AreOpen g (b ∷ bs) items →
     AreOpen g bs below × IsOpen g bs b one
 below_taken g items below one b bs took h =
     let top = top_of g b bs items h in
-    let e : top.below ++ top.one ∷ [] ≡ below ++ one ∷ [] = sym top.split ∙ took in
-    (
+    let e : top.below ++ top.one ∷ [] ≡ below ++ one ∷ [] = sym top.split ∙ took in (
       subst (λ l. AreOpen g bs l) (front_of top.below below top.one one e) top.rest,
       subst (λ o. IsOpen g bs b o) (last_of top.below below top.one one e) top.is_open,
     )
@@ -143,11 +142,10 @@ some_taken g items below one (b ∷ bs) took h = (b, bs, refl)
 
 -- the node that was taken off is ready
 pub ready : (g : Grammar) (old new : Builder) (open_node : OpenNode) (b : Bracket) (bs : List Bracket) → Took old new (variant.InNode open_node) → StandsOpen g old (b ∷ bs) →
-    (n : IsNodeOpen bs b open_node) × IsReady new open_node bs n.held
+    (n : IsNodeOpen bs b open_node) × IsReadyToFinish new open_node bs n.held
 ready g old new open_node b bs took h =
     let n : IsNodeOpen bs b open_node = node_open g bs b (variant.InNode open_node) open_node (below_taken g _ _ _ b bs took.brackets h.brackets).1 refl in
-    let still : StandsOpen g old (InNode open_node.type_id.0 open_node.first n.held ∷ bs) = subst (λ k. StandsOpen g old (k ∷ bs)) n.is h in
-    (
+    let still : StandsOpen g old (InNode open_node.type_id.0 open_node.first n.held ∷ bs) = subst (λ k. StandsOpen g old (k ∷ bs)) n.is h in (
       n,
       record {
         finished = took.same.finished ∙ still.finished;

@@ -1,5 +1,5 @@
 -- What a builder has built, and what its next mark does.
-use Rattle.std.specs.Prelude.{ℕ, ◌≡◌, ◌+◌, ◌≤◌, List, ◌∷◌, [], Some, All, take, length, slice_get, not, filter}
+use Rattle.std.specs.Prelude.{ℕ, ◌≡◌, ◌≤◌, List, Some, All, take, length, slice_get, not, filter}
 use Rattle.lw_base.specs.declared.token.Token.{Token}
 use Rattle.lw_grammar.specs.declared.grammar.Grammar.{Grammar}
 use Rattle.lw_gramread.specs.Places.{IsPlace}

@@ -27,16 +27,16 @@ nobody = record { 0 = 0 }
 
 module _ (text : List ℕ) (ts : List Token) (p : PropId) where
   -- `IsMade content old new v`: the tokens ts, which are put into p, are the value v. A reference stands behind those that were read before.
-  abbrev pub IsMade : Content → List Reference → List Reference → Value → Type 0
-  IsMade content.Truth old new v = (new ≡ old) × (v ≡ value.Truth (span_of_tokens ts))
-  IsMade (content.Keyword word) old new v = (new ≡ old) × (v ≡ value.Text word (span_of_tokens ts))
-  IsMade (content.Text form) old new v = (new ≡ old) × (v ≡ value.Text (said_in form (joined_texts text ts)) (span_of_tokens ts))
-  IsMade content.Number old new v = (new ≡ old) × (x : Plain) × NumberMeans (joined_texts text ts) (span_of_tokens ts) x × (v ≡ as_value x)
-  IsMade (content.Reference want form) old new v =
+  abbrev pub IsMadeValue : Content → List Reference → List Reference → Value → Type 0
+  IsMadeValue content.Truth old new v = (new ≡ old) × (v ≡ value.Truth (span_of_tokens ts))
+  IsMadeValue (content.Keyword word) old new v = (new ≡ old) × (v ≡ value.Text word (span_of_tokens ts))
+  IsMadeValue (content.Text form) old new v = (new ≡ old) × (v ≡ value.Text (said_in form (joined_texts text ts)) (span_of_tokens ts))
+  IsMadeValue content.Number old new v = (new ≡ old) × (x : Plain) × NumberMeans (joined_texts text ts) (span_of_tokens ts) x × (v ≡ as_value x)
+  IsMadeValue (content.Reference want form) old new v =
       (new ≡ old ++ record { owner = nobody; prop = p; want = want; name = said_in form (joined_texts text ts); span = span_of_tokens ts } ∷ [])
       × (v ≡ value.Refers (record { 0 = length old }))
 
   -- the value of the node that was finished among them, or what they are themselves
   abbrev pub IsWorth : Content → List Reference → List Reference → Option NodeId → Value → Type 0
-  IsWorth made old new None v = IsMade made old new v
+  IsWorth made old new None v = IsMadeValue made old new v
   IsWorth made old new (Some place) v = (new ≡ old) × (v ≡ value.Child place)

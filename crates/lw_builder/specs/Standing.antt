@@ -8,7 +8,7 @@ use Rattle.lw_grammar.specs.declared.rule.Value0.{Value0}
 use Rattle.lw_sentences.specs.Marks as mark
 use Rattle.lw_tree.specs.declared.node.Reference.{Reference}
 use Rattle.lw_tree.specs.declared.node.Value.{Value}
-use Rattle.lw_marks.specs.Grown.{Grown, Held, Nothing, size, size_of}
+use Rattle.lw_marks.specs.Grown.{Grown, Held, size, size_of}
 use Rattle.lw_marks.specs.Trees.{points, points_of}
 use Rattle.lw_marks.specs.Numbers.{IsNumberOfProperty}
 use Rattle.lw_marks.specs.Brackets.{Bracket, InNode, InValue, Root}

@@ -28,18 +28,18 @@ pub record IsSameReading (old new : Builder) : Type 0 where
   pub read : new.read ≡ old.read
 
 -- a node, or a value, is open innermost
-abbrev pub HasNode : Builder → Type 0
-HasNode builder = (below : List Open) × (node : OpenNode) × (builder.brackets.items ≡ below ++ variant.InNode node ∷ [])
+abbrev pub EndsInNode : Builder → Type 0
+EndsInNode builder = (below : List Open) × (node : OpenNode) × (builder.brackets.items ≡ below ++ variant.InNode node ∷ [])
 
-abbrev pub HasValue : Builder → Type 0
-HasValue builder = (below : List Open) × (value : OpenValue) × (builder.brackets.items ≡ below ++ variant.InValue value ∷ [])
+abbrev pub EndsInValue : Builder → Type 0
+EndsInValue builder = (below : List Open) × (value : OpenValue) × (builder.brackets.items ≡ below ++ variant.InValue value ∷ [])
 
 -- the whole tree is there
-abbrev pub IsWhole : Builder → Type 0
-IsWhole builder = (below : List Open) × (builder.brackets.items ≡ below ++ variant.Whole ∷ [])
+abbrev pub IsWholeTree : Builder → Type 0
+IsWholeTree builder = (below : List Open) × (builder.brackets.items ≡ below ++ variant.Whole ∷ [])
 
 -- the tables are those of before
-pub record IsKept (old new : Builder) : Type 0 where
+pub record KeepsTables (old new : Builder) : Type 0 where
   pub finished : new.finished.items ≡ old.finished.items
   pub kept : new.kept.items ≡ old.kept.items
   pub loose : new.loose.items ≡ old.loose.items
@@ -53,12 +53,12 @@ pub record IsKeptButRefs (old new : Builder) : Type 0 where
   pub brackets : new.brackets.items ≡ old.brackets.items
 
 -- how many brackets are open
-abbrev pub is_open : Open → Bool
-is_open variant.Whole = false
-is_open _ = true
+abbrev pub is_bracket_open : Open → Bool
+is_bracket_open variant.Whole = false
+is_bracket_open _ = true
 
 abbrev pub count_open : Builder → ℕ
-count_open builder = count_by is_open builder.brackets.items
+count_open builder = count_by is_bracket_open builder.brackets.items
 
 module _ (g : Grammar) where
   -- the recipes are those of the grammar, and the tokens are parts of the text
@@ -73,8 +73,8 @@ module _ (g : Grammar) where
       × ChangesOpen g builder.text.now (read_tokens builder) x bs after
 
   -- the mark was followed
-  abbrev pub Does : Mark → Builder → Builder → Type 0
-  Does x old new = (bs after : List Bracket) → IsOver old → StandsOpen g old bs → ChangesOpen g old.text.now (read_tokens old) x bs after → StandsOpen g new after
+  abbrev pub DoesMark : Mark → Builder → Builder → Type 0
+  DoesMark x old new = (bs after : List Bracket) → IsOver old → StandsOpen g old bs → ChangesOpen g old.text.now (read_tokens old) x bs after → StandsOpen g new after
 
   -- what is open will leave this
   pub record IsClosing (builder : Builder) (x : Grown) : Type 0 where
@@ -84,7 +84,7 @@ module _ (g : Grammar) where
     pub closes : Closes g builder.text.now (read_tokens builder) brackets x
 
 -- the node was open inside these brackets, and holds this
-pub record IsReady (builder : Builder) (node : OpenNode) (bs : List Bracket) (held : Held) : Type 0 where
+pub record IsReadyToFinish (builder : Builder) (node : OpenNode) (bs : List Bracket) (held : Held) : Type 0 where
   pub finished : builder.finished.items ≡ all_finished bs ++ finished_in None (nodes_in bs) held
   pub stored : builder.kept.items ≡ all_stored bs ++ stored_in (nodes_in bs) (points_in bs) held
   pub loose : builder.loose.items ≡ all_loose bs ++ put_in (nodes_in bs) (points_in bs) held

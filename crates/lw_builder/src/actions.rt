@@ -8,7 +8,7 @@ ghost use Rattle.lw_marks.specs.Grown.{Held, Nothing, Takes};
 ghost use Rattle.lw_recipes.specs.declared.mark.TreeMark.TheVariants as numbered;
 ghost use Rattle.lw_recipes.specs.Meant.{MeansMark};
 ghost use Rattle.lw_builder.specs.Standing.{StandsOpen};
-ghost use Rattle.lw_builder.specs.Steps.{CanDo, Does, HasNode, IsSameReading, read_tokens};
+ghost use Rattle.lw_builder.specs.Steps.{CanDo, DoesMark, EndsInNode, IsSameReading, read_tokens};
 
 use crate::Builder;
 use crate::open::{Open, OpenNode};
@@ -19,7 +19,7 @@ impl Builder<'_> {
     /// Does the action of this number.
     pub(crate) fn act(&mut self, act: u32) -> Result<(), NoMemory>
         requires { (g : Grammar) × (a : Action) × MeansMark g (numbered.Act act) (mark.Act a) × CanDo g (mark.Act a) self.old }
-        ensures acted { (g : Grammar) (a : Action) → MeansMark g (numbered.Act act) (mark.Act a) → OnOk result (Does g (mark.Act a) self.old self.new) }
+        ensures acted { (g : Grammar) (a : Action) → MeansMark g (numbered.Act act) (mark.Act a) → OnOk result (DoesMark g (mark.Act a) self.old self.new) }
         ensures reading { IsSameReading self.old self.new }
     {
         let action = self.recipes.action(act);
@@ -31,7 +31,7 @@ impl Builder<'_> {
 
     /// The node that is open becomes one of this type.
     fn rename(&mut self, type_id: TypeId) -> Result<(), NoMemory>
-        requires { HasNode self.old }
+        requires { EndsInNode self.old }
         ensures renamed { (g : Grammar) (type from : ℕ) (held : Held) (bs : List Bracket) → StandsOpen g self.old (InNode type from held ∷ bs) →
             OnOk result (StandsOpen g self.new (InNode type_id.0 from held ∷ bs)) }
         ensures reading { IsSameReading self.old self.new }

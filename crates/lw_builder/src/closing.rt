@@ -4,8 +4,8 @@ ghost use Rattle.lw_grammar.specs.declared.grammar.Grammar.{Grammar};
 ghost use Rattle.lw_marks.specs.Brackets.{joined_texts as joined_in};
 ghost use Rattle.lw_sentences.specs.Marks as mark;
 ghost use Rattle.lw_builder.specs.Built.{ArePartsOf};
-ghost use Rattle.lw_builder.specs.Contents.{IsMade, IsWorth, said_in};
-ghost use Rattle.lw_builder.specs.Steps.{CanDo, Does, HasNode, HasValue, IsKept, IsKeptButRefs, IsSameReading, read_tokens};
+ghost use Rattle.lw_builder.specs.Contents.{IsMadeValue, IsWorth, said_in};
+ghost use Rattle.lw_builder.specs.Steps.{CanDo, DoesMark, EndsInNode, EndsInValue, KeepsTables, IsKeptButRefs, IsSameReading, read_tokens};
 
 use crate::Builder;
 use crate::contents::{number, said_in};
@@ -20,9 +20,9 @@ use std::alloc::Global;
 impl Builder<'_> {
     /// Takes the innermost bracket off, a node.
     pub(crate) fn take_node(&mut self) -> OpenNode
-        requires { HasNode self.old }
+        requires { EndsInNode self.old }
         ensures brackets { self.old.brackets.items ≡ self.new.brackets.items ++ Open.InNode result ∷ [] }
-        ensures kept { IsKept self.old self.new }
+        ensures kept { KeepsTables self.old self.new }
         ensures reading { IsSameReading self.old self.new }
     {
         match self.brackets.pop() {
@@ -33,9 +33,9 @@ impl Builder<'_> {
 
     /// Takes the innermost bracket off, a value.
     pub(crate) fn take_value(&mut self) -> OpenValue
-        requires { HasValue self.old }
+        requires { EndsInValue self.old }
         ensures brackets { self.old.brackets.items ≡ self.new.brackets.items ++ Open.InValue result ∷ [] }
-        ensures kept { IsKept self.old self.new }
+        ensures kept { KeepsTables self.old self.new }
         ensures reading { IsSameReading self.old self.new }
     {
         match self.brackets.pop() {
@@ -47,7 +47,7 @@ impl Builder<'_> {
     /// The innermost node ends: it is the value that is open around it, takes the place of the node around it, or is the root.
     pub(crate) fn shut(&mut self) -> Result<(), NoMemory>
         requires { (g : Grammar) × CanDo g mark.Shut self.old }
-        ensures shut { (g : Grammar) → OnOk result (Does g mark.Shut self.old self.new) }
+        ensures shut { (g : Grammar) → OnOk result (DoesMark g mark.Shut self.old self.new) }
         ensures reading { IsSameReading self.old self.new }
     {
         let node = self.take_node();
@@ -79,7 +79,7 @@ impl Builder<'_> {
     /// The innermost value ends: it is the node that was finished inside it, or what its tokens say.
     pub(crate) fn end(&mut self) -> Result<(), NoMemory>
         requires { (g : Grammar) × CanDo g mark.End self.old }
-        ensures ended { (g : Grammar) → OnOk result (Does g mark.End self.old self.new) }
+        ensures ended { (g : Grammar) → OnOk result (DoesMark g mark.End self.old self.new) }
         ensures reading { IsSameReading self.old self.new }
     {
         let ended = self.take_value();
@@ -109,7 +109,7 @@ impl Builder<'_> {
     fn made(&mut self, recipe: &ValueRecipe, first: usize) -> Result<Value, NoMemory>
         requires within { self.old.read ≤ length self.old.visible.now }
         requires parts { ArePartsOf self.old.text.now self.old.visible.now }
-        ensures made { IfOk result (IsMade self.old.text.now (drop first (read_tokens self.old)) recipe.now.prop recipe.now.content
+        ensures made { IfOk result (IsMadeValue self.old.text.now (drop first (read_tokens self.old)) recipe.now.prop recipe.now.content
             self.old.refs.items self.new.refs.items) }
         ensures others { IsKeptButRefs self.old self.new }
         ensures reading { IsSameReading self.old self.new }

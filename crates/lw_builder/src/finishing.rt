@@ -5,7 +5,7 @@ ghost use Rattle.lw_marks.specs.Grown.{Held};
 ghost use Rattle.lw_preorder.specs.Finishing.{adopted, adopts, adopts_all, AreWithin, IsPlaceWithin};
 ghost use Rattle.lw_preorder.specs.Tables.{owned};
 ghost use Rattle.lw_builder.specs.Owners.{claimed, claims, claims_all, AreClaimable, IsClaimable};
-ghost use Rattle.lw_builder.specs.Steps.{IsFinished, IsReady, IsSameReading, read_tokens};
+ghost use Rattle.lw_builder.specs.Steps.{IsFinished, IsReadyToFinish, IsSameReading, read_tokens};
 
 use crate::Builder;
 use crate::open::OpenNode;
@@ -84,9 +84,9 @@ fn give(
 impl Builder<'_> {
     /// Finishes a node that was taken off the brackets, and gives its place. It takes time in proportion to its values.
     pub(crate) fn finish(&mut self, node: OpenNode) -> Result<NodeId, NoMemory>
-        requires ready { (bs : List Bracket) × (held : Held) × IsReady self.old node bs held }
+        requires ready { (bs : List Bracket) × (held : Held) × IsReadyToFinish self.old node bs held }
         requires within { self.old.read ≤ length self.old.visible.now }
-        ensures finished { (bs : List Bracket) (held : Held) → IsReady self.old node bs held →
+        ensures finished { (bs : List Bracket) (held : Held) → IsReadyToFinish self.old node bs held →
             IfOk result (λ own. IsFinished self.new own.0 bs (grown (read_tokens self.old) node.type_id.0 node.first held)) }
         ensures brackets { IfOk result (λ _. self.new.brackets.items ≡ self.old.brackets.items) }
         ensures reading { IsSameReading self.old self.new }

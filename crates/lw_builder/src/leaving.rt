@@ -6,7 +6,7 @@ ghost use Rattle.lw_marks.specs.Grown.{Grown};
 ghost use Rattle.lw_recipes.specs.Making.{IsReference};
 ghost use Rattle.lw_builder.specs.declared.open.Open.{Open as Opened};
 ghost use Rattle.lw_builder.specs.Standing.{StandsOpen};
-ghost use Rattle.lw_builder.specs.Steps.{IsClosing, IsSameReading, IsWhole, count_open};
+ghost use Rattle.lw_builder.specs.Steps.{IsClosing, IsSameReading, IsWholeTree, count_open};
 
 use crate::Builder;
 use crate::open::{Open, OpenValue};
@@ -27,7 +27,7 @@ impl Builder<'_> {
     }
 
     fn is_whole(&self) -> bool
-        ensures { IsTrue result ↔ IsWhole self.now }
+        ensures { IsTrue result ↔ IsWholeTree self.now }
     {
         matches!(self.brackets.last(), Some(Open::Whole))
     }
@@ -35,7 +35,7 @@ impl Builder<'_> {
     /// Closes what is open innermost.
     fn close_innermost(&mut self) -> Result<(), NoMemory>
         requires closing { (g : Grammar) × (x : Grown) × IsClosing g self.old x }
-        requires open { ¬ IsWhole self.old }
+        requires open { ¬ IsWholeTree self.old }
         ensures closing { (g : Grammar) (x : Grown) → IsClosing g self.old x → OnOk result (IsClosing g self.new x) }
         ensures fewer { OnOk result (count_open self.new < count_open self.old) }
         ensures reading { IsSameReading self.old self.new }

@@ -21,7 +21,12 @@ use std::alloc::Global;
 
 impl<'a> Builder<'a> {
     /// Nothing is built yet of the text with these visible tokens.
-    pub fn new(alloc: Global, recipes: &'a Recipes, text: &'a Name, visible: &'a [Token]) -> Builder<'a>
+    pub fn new(
+        alloc: Global,
+        recipes: &'a Recipes,
+        text: &'a Name,
+        visible: &'a [Token],
+    ) -> Builder<'a>
         ensures nothing { (g : Grammar) → AreRecipesOf g recipes.now → ArePartsOf text.now visible.now → HasFollowed g [] [] result }
         ensures over { (result.text.now ≡ text.now) × (result.visible.now ≡ visible.now) × (result.recipes.now ≡ recipes.now) }
     {

@@ -6,7 +6,7 @@ ghost use Rattle.lw_grammar.specs.declared.rule.Value0.{Value0};
 ghost use Rattle.lw_sentences.specs.Marks as mark;
 ghost use Rattle.lw_recipes.specs.declared.mark.TreeMark.TheVariants as numbered;
 ghost use Rattle.lw_recipes.specs.Meant.{MeansMark};
-ghost use Rattle.lw_builder.specs.Steps.{CanDo, Does, IsSameReading};
+ghost use Rattle.lw_builder.specs.Steps.{CanDo, DoesMark, IsSameReading};
 
 use crate::Builder;
 use crate::finishing::place_behind;
@@ -17,7 +17,7 @@ impl Builder<'_> {
     /// The node of a rule begins.
     pub(crate) fn begin(&mut self, rule: RuleId) -> Result<(), NoMemory>
         requires { (g : Grammar) × CanDo g (mark.Open rule.0) self.old }
-        ensures begun { (g : Grammar) → OnOk result (Does g (mark.Open rule.0) self.old self.new) }
+        ensures begun { (g : Grammar) → OnOk result (DoesMark g (mark.Open rule.0) self.old self.new) }
         ensures reading { IsSameReading self.old self.new }
     {
         let type_id = self.type_of(rule);
@@ -46,7 +46,7 @@ impl Builder<'_> {
     /// The value of this number begins.
     pub(crate) fn put(&mut self, put: u32) -> Result<(), NoMemory>
         ensures begun { (g : Grammar) (name : List ℕ) (op : Op) (c : Value0) → MeansMark g (numbered.Put put) (mark.Put name op c) →
-            OnOk result (Does g (mark.Put name op c) self.old self.new) }
+            OnOk result (DoesMark g (mark.Put name op c) self.old self.new) }
         ensures reading { IsSameReading self.old self.new }
     {
         self.brackets.push(Open::InValue(OpenValue {

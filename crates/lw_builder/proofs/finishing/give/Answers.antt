@@ -1,4 +1,4 @@
-use Rattle.std.proofs.Common.{ap, sym, ◌∙◌, refl}
+use Rattle.std.proofs.Common.{ap, sym, ◌∙◌}
 use Rattle.lw_preorder.specs.Finishing.{adopts}
 use Rattle.lw_builder.specs.Owners.{claims}
 use Rattle.lw_builder.proofs.Adopting.{adopts-more}

@@ -1,4 +1,4 @@
-use Rattle.std.proofs.Common.{◌≡◌, drop, List}
+use Rattle.std.proofs.Common.{drop, List}
 use Rattle.lw_grammar.specs.declared.grammar.Grammar.{Grammar}
 use Rattle.lw_sentences.specs.Marks.{Mark}
 use Rattle.lw_marks.specs.Brackets.{Bracket}

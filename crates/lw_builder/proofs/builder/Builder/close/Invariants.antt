@@ -1,4 +1,3 @@
-use Rattle.std.proofs.Common.{ℕ}
 use Rattle.lw_grammar.specs.declared.grammar.Grammar.{Grammar}
 use Rattle.lw_marks.specs.Grown.{Grown}
 use Rattle.lw_builder.specs.Steps.{IsClosing, IsSameReading, count_open}

@@ -14,7 +14,7 @@ end-requires c =
     let r = c.requires.closing in
     let m = c.requires.innermost in
     let n = value_can_end r.0 c.args.self.now r.1 m.0 c.args.value c.value-recipe.result.now r.2 m.1 c.value-recipe.ensures
-        (λ is. true≢false (sym (c.is_reference.ensures.1 is) ∙ c.if-not-is_reference.true)) in
+    (λ is. true≢false (sym (c.is_reference.ensures.1 is) ∙ c.if-not-is_reference.true)) in
     (r.0, (r.2.brackets, n.0, r.2.over, r.2.stands, n.1))
 
 pub returns-then-not-is_reference-clause-closing : goal.returns-then-not-is_reference-clause-closing

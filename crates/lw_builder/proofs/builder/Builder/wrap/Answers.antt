@@ -25,6 +25,6 @@ returns-clause-wrapped c = λ g type from held bs h.
     let node = c.take_node-node.result in
     let d = c.in_ok-own.ensures.finished bs held n.ready in
     let d' = subst (λ ts. IsFinished c.finish.new.self c.in_ok-own.own.0 bs (grown ts node.type_id.0 node.first held))
-        (same_tokens c.args.self.now c.take_node-node.new.self c.take_node-node.ensures.reading) d in
+    (same_tokens c.args.self.now c.take_node-node.new.self c.take_node-node.ensures.reading) d in
     wrapped g c.take_node-node.new.self c.finish.new.self _ node _ c.in_ok-own.own c.args.prop _ type from held bs n d'
     c.in_ok-own.ensures.brackets refl refl c.in_ok-push-2.ensures.items refl c.in_ok-push.ensures.items refl refl refl
