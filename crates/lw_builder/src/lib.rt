@@ -1,4 +1,21 @@
-//! The tree of marks, built as they come.
+//! The tree that marks stand for, built as they come.
+//!
+//! A parser leaves marks in the order of the text: a token was read, a node begins or ends, a value begins or ends, an action is done. A
+//! [`Builder`] follows them one by one and keeps what is open: nodes with what they hold so far, and values that are being read. At the
+//! end it gives the tree. [`tree_of`] does the same for a list of marks.
+//!
+//! Its model is what is open (`Bracket` of `lw_marks`), and `FollowsMarks` there says what marks leave open, by the grammar. How that
+//! stands in the builder's tables says `specs/Standing.antt`: nodes are named by their places in the order of finishing, since a node is
+//! finished before it is known what it is put into.
+//!
+//! It promises that a mark leaves open in the builder exactly what it leaves by the definition ([`Builder::mark`]), and that the tree is
+//! that of the grammar's derivation, or the one opened of a beginning ([`Builder::tree`]): what is open is closed, the innermost first, and
+//! a reference that is not finished is left out. What becomes of tokens is looked up by number in the recipes of the grammar, and no name is
+//! compared.
+//!
+//! A mark takes constant time, but for the texts that it copies and for the end of a node, which is linear in the values of the node.
+//! Nothing recurses. The only error is that memory is refused; 2^32 nodes or references are too many for any. A node inside a reference
+//! that is not finished, which no grammar without faults reads, is refused in the same way.
 #![tactic(auto)]
 
 mod actions;
