@@ -110,14 +110,14 @@ for_value g bs b one p at op c inside whole e = absurd (let z : ⊥ = cc in z)
 pub has_node : (g : Grammar) (old : Builder) (t f : ℕ) (held : Held) (bs : List Bracket) → StandsOpen g old (InNode t f held ∷ bs) → EndsInNode old
 has_node g old t f held bs h =
     let top = top_of g (InNode t f held) bs old.brackets.items h.brackets in
-    let n = for_node g bs (InNode t f held) top.one t f held top.is_open refl in
+    let n = for_node g bs (InNode t f held) top.one t f held top.is_bracket_open refl in
     (top.below, n.0, top.split ∙ ap (λ o. top.below ++ o ∷ []) n.1)
 
 pub has_value : (g : Grammar) (old : Builder) (p at : ℕ) (op : Op) (c : Value0) (inside : Option Grown) (bs : List Bracket) →
     StandsOpen g old (InValue p op c at inside ∷ bs) → EndsInValue old
 has_value g old p at op c inside bs h =
     let top = top_of g (InValue p op c at inside) bs old.brackets.items h.brackets in
-    let v = for_value g bs (InValue p op c at inside) top.one p at op c inside top.is_open refl in
+    let v = for_value g bs (InValue p op c at inside) top.one p at op c inside top.is_bracket_open refl in
     (top.below, v.0, top.split ∙ ap (λ o. top.below ++ o ∷ []) v.1)
 
 -- what was taken off
@@ -131,7 +131,7 @@ below_taken g items below one b bs took h =
     let top = top_of g b bs items h in
     let e : top.below ++ top.one ∷ [] ≡ below ++ one ∷ [] = sym top.split ∙ took in (
       subst (λ l. AreOpen g bs l) (front_of top.below below top.one one e) top.rest,
-      subst (λ o. IsOpen g bs b o) (last_of top.below below top.one one e) top.is_open,
+      subst (λ o. IsOpen g bs b o) (last_of top.below below top.one one e) top.is_bracket_open,
     )
 
 -- something was there to take off
