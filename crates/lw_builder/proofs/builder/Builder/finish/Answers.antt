@@ -15,6 +15,6 @@ give-requires-clause-refs c =
 pub returns-clause-finished : goal.returns-clause-finished
 returns-clause-finished c = λ bs held ready.
     finish_all c.args.self.now _ c.args.node bs held c.in_ok-inside.inside.items c.give.new.finished.items (record { 0 = c.in_ok-place_behind.field-0 })
-    (read_tokens c.args.self.now) c.span_of-span.result
+    (read_tokens c.args.self.now) c.span_of_tokens-span.result
     ready c.in_ok-inside.ensures.tail c.in_ok-inside.ensures.items c.in_ok-give.ensures.finished (c.in_ok-place_behind.ensures ∙ c.len.ensures ∙ omega arith) c.in_ok-push.ensures.items
-    c.in_ok-give.ensures.refs c.in_ok-give.ensures.kept (c.span_of-span.ensures ∙ ap span_of_tokens c.read_since.ensures)
+    c.in_ok-give.ensures.refs c.in_ok-give.ensures.kept (c.span_of_tokens-span.ensures ∙ ap span_of_tokens c.read_since.ensures)
