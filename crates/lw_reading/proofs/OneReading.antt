@@ -1,23 +1,34 @@
 -- A text has one reading: what it is cut into is settled, and a list of tokens is whole, or has a first that cannot stand, or ends early.
-use Rattle.std.proofs.Common.{◌≡◌, ◌≢◌, ℕ, ◌+◌, List, [], ◌∷◌, ◌++◌, length, drop, append_assoc, append-nil, encode_utf8, inl, inr, ◌⊎◌, refl, sym, ap, ap₂, ◌∙◌, subst, arith}
+use Rattle.std.proofs.Common.{◌≡◌, ◌≢◌, ℕ, ◌+◌, List, [], ◌∷◌, ◌++◌, Option, Some, None, length, drop, append_assoc, append-nil, encode_utf8, inl, inr, ◌⊎◌, refl, sym, ap, ap₂, ◌∙◌, subst, arith}
 use Rattle.std.proofs.lemmas.List.{map-append}
 use Rattle.std.proofs.lemmas.Str.{encode_same}
 use Rattle.lw_base.specs.declared.token.Span.{Span}
 use Rattle.lw_base.specs.declared.token.Token.{Token}
 use Rattle.lw_grammar.specs.declared.grammar.Grammar.{Grammar}
 use Rattle.lw_grammar.specs.Kinds.{Kinds}
-use Rattle.lw_sentences.specs.Sentences.{IsWhole, Starts}
+use Rattle.lw_base.specs.declared.numbers.PropId.{PropId}
+use Rattle.lw_sentences.specs.Marks.{Mark, kinds_of}
+use Rattle.lw_sentences.specs.Sentences.{IsSentence, IsWhole, Starts}
+use Rattle.lw_tree.specs.Parts.{Parts, SameTables, values_at}
+use Rattle.lw_marks.specs.Brackets.{Bracket, Root}
+use Rattle.lw_marks.specs.Grown.{Grown}
+use Rattle.lw_marks.specs.Numbers.{IsNamingProperty}
+use Rattle.lw_marks.specs.Trees.{IsTree, parts_of_tree}
+use Rattle.lw_rooted.proofs.OneTree.{one_follows}
+use Rattle.lw_rooted.proofs.OneValue.{one_number_of_property}
 use Rattle.lw_tokens.specs.Keywords.{AreKeywords}
 use Rattle.lw_tokens.specs.Lexicon.{Lexicon, IsLexicon}
 use Rattle.lw_tokens.specs.Cut.{IsCut, HasNoTokenAt, IsCharacterAt, visible, kinds}
 use Rattle.lw_tokens.proofs.OneCut.{one_cut, one_place, no_cut}
 use Rattle.lw_tokens.proofs.OnePattern.{one_lexicon}
-use Rattle.lw_reading.specs.declared.issue.Issue.TheVariants.{Lexical, Syntax}
-use Rattle.lw_reading.specs.declared.issue.Parsed.{Parsed}
-use Rattle.lw_reading.specs.declared.issue.Parsed.TheVariants.{Broken}
+use Rattle.lw_tree.specs.declared.issue.Issue.{Issue}
+use Rattle.lw_tree.specs.declared.issue.Issue.TheVariants.{Lexical, Syntax}
+use Rattle.lw_reading.specs.declared.parsed.Parsed.{Parsed}
+use Rattle.lw_reading.specs.declared.parsed.Parsed.TheVariants.{Whole, Broken}
 use Rattle.lw_reading.specs.Reading as reading
 use Rattle.lw_reading.specs.Reading.{IsFirstUnexpected, EndsEarly, ReadsBy, Reads}
-use Rattle.lw_reading.specs.Laws.{HasNoEmptyKeyword}
+use Rattle.lw_reading.specs.Laws as law
+use Rattle.lw_reading.specs.Laws.{IsReadOneWay, IsSameReading}
 use Rattle.lw_grammar.proofs.KindLemmas.{one_kinds}
 use Rattle.lw_reading.proofs.OneKinds.{can_be_told_apart}
 
@@ -44,6 +55,34 @@ placed (a ∷ before) after (b ∷ befores) afters x y same = both (placed befor
 never_empty : {A : Type 0} (before : List A) (x : A) (rest : List A) → (before ++ x ∷ []) ++ rest ≢ []
 never_empty [] x rest is = cc
 never_empty (a ∷ before) x rest is = cc
+
+same_root : {x y : Grown} → ◌≡◌ {A = List Bracket} (Root x ∷ []) (Root y ∷ []) → x ≡ y
+same_root is = cc
+
+same_faults : (issue other : Issue) → issue ≡ other → IsSameReading (Broken issue) (Broken other)
+same_faults issue other is = subst (λ x. IsSameReading (Broken issue) (Broken x)) is law.broken
+
+-- the property that names nodes has one number
+one_naming : (g : Grammar) (a b : Option PropId) → IsNamingProperty g a → IsNamingProperty g b → a ≡ b
+one_naming g None None is was = refl
+one_naming g None (Some p) is was = absurd (is p.0 was)
+one_naming g (Some p) None is was = absurd (was p.0 is)
+one_naming g (Some p) (Some q) is was = let e = one_number_of_property g _ p.0 q.0 is was in ap (λ n. Some (record { 0 = n })) e
+
+-- marks that were read with some tokens have one tree
+one_tree : (g : Grammar) (text : List ℕ) (m : List Mark) (seen tokens : List Token) (a b : Parts) → IsTree g text m seen tokens a →
+    IsTree g text m seen tokens b → SameTables a b
+one_tree g text m seen tokens a b is was =
+    let grown = same_root (one_follows g text is.follows was.follows refl refl) in
+    let named = one_naming g a.name b.name is.named was.named in
+    let parts = ap₂ (λ x n. parts_of_tree x tokens n) grown named in
+    record {
+      nodes = is.parts.nodes ∙ ap (λ p. p.nodes) parts ∙ sym was.parts.nodes;
+      values = λ n p. is.parts.values n p ∙ ap (λ x. values_at n p x.values) parts ∙ sym (was.parts.values n p);
+      refs = is.parts.refs ∙ ap (λ p. p.refs) parts ∙ sym was.parts.refs;
+      tokens = is.parts.tokens ∙ ap (λ p. p.tokens) parts ∙ sym was.parts.tokens;
+      name = named;
+    }
 
 module _ (g : Grammar) (of : Kinds) where
   -- what begins some sentence, its own beginnings do too
@@ -104,34 +143,55 @@ module _ (g : Grammar) (of : Kinds) where
         none_inside (visible tokens) is.before is.after t (parted (visible tokens) t is) is.cannot
         (subst (λ ts. (ts ≡ []) ⊎ Starts g of (kinds ts)) (same_visible tokens others cut other) early.follows)
 
-    one_by : (p q : Parsed) → ReadsBy g of lexicon text p → ReadsBy g of lexicon text q → p ≡ q
-    one_by p q (reading.lexical s none at) (reading.lexical r also here) = ap (λ x. Broken (Lexical x)) (one_character s r none also at here)
-    one_by p q (reading.lexical s none at) (reading.whole tokens cut whole) = none_and_cut s.start tokens none cut
-    one_by p q (reading.lexical s none at) (reading.syntax_ tokens t cut is) = none_and_cut s.start tokens none cut
-    one_by p q (reading.lexical s none at) (reading.end_ tokens cut early) = none_and_cut s.start tokens none cut
-    one_by p q (reading.whole tokens cut whole) (reading.lexical s none at) = none_and_cut s.start tokens none cut
-    one_by p q (reading.whole tokens cut whole) (reading.whole others other also) = refl
-    one_by p q (reading.whole tokens cut whole) (reading.syntax_ others t other is) = whole_and_unexpected tokens others t cut other whole is
-    one_by p q (reading.whole tokens cut whole) (reading.end_ others other early) = whole_and_early tokens others cut other whole early
-    one_by p q (reading.syntax_ tokens t cut is) (reading.lexical s none at) = none_and_cut s.start tokens none cut
-    one_by p q (reading.syntax_ tokens t cut is) (reading.whole others other whole) = whole_and_unexpected others tokens t other cut whole is
-    one_by p q (reading.syntax_ tokens t cut is) (reading.syntax_ others u other was) =
-        ap (λ (x : Token). Broken (Syntax x.span x.kind))
-        (one_unexpected (visible tokens) t u is (subst (λ ts. IsFirstUnexpected g of ts u) (same_visible tokens others cut other) was))
-    one_by p q (reading.syntax_ tokens t cut is) (reading.end_ others other early) = unexpected_and_early tokens others t cut other is early
-    one_by p q (reading.end_ tokens cut early) (reading.lexical s none at) = none_and_cut s.start tokens none cut
-    one_by p q (reading.end_ tokens cut early) (reading.whole others other whole) = whole_and_early others tokens other cut whole early
-    one_by p q (reading.end_ tokens cut early) (reading.syntax_ others t other is) = unexpected_and_early others tokens t other cut is early
-    one_by p q (reading.end_ tokens cut early) (reading.end_ others other also) = refl
+    -- the sentence of a text is the whole of its kinds
+    is_whole : (tokens : List Token) (m : List Mark) → IsSentence g of m → kinds_of m ≡ kinds (visible tokens) → IsWhole g of (kinds (visible tokens))
+    is_whole tokens m sentence are = (m, sentence, are)
 
-module _ (g : Grammar) (filled : HasNoEmptyKeyword g) (text : List ℕ) where
+    same_trees : ((m n : List Mark) → IsSentence g of m → IsSentence g of n → kinds_of m ≡ kinds_of n → m ≡ n) → (tokens others : List Token) (m n : List Mark)
+        (a b : Parts) → IsCut lexicon text tokens → IsCut lexicon text others → IsSentence g of m → IsSentence g of n → kinds_of m ≡ kinds (visible tokens) →
+        kinds_of n ≡ kinds (visible others) → IsTree g text m (visible tokens) tokens a → IsTree g text n (visible others) others b → SameTables a b
+    same_trees once tokens others m n a b cut other is was are were tree found =
+        let same = one_cut lexicon apart text tokens others cut other in
+        let marks = once m n is was (are ∙ ap (λ ts. kinds (visible ts)) (sym same) ∙ sym were) in
+        one_tree g text m (visible tokens) tokens a b tree
+        (subst (λ ts. IsTree g text m (visible ts) ts b) same (subst (λ l. IsTree g text l (visible others) others b) (sym marks) found))
+
+    one_by : ((m n : List Mark) → IsSentence g of m → IsSentence g of n → kinds_of m ≡ kinds_of n → m ≡ n) → (p q : Parsed) → ReadsBy g of lexicon text p →
+        ReadsBy g of lexicon text q → IsSameReading p q
+    one_by once p q (reading.lexical s none at) (reading.lexical r also here) = same_faults _ _ (ap Lexical (one_character s r none also at here))
+    one_by once p q (reading.lexical s none at) (reading.whole tokens m cut is are tree) = none_and_cut s.start tokens none cut
+    one_by once p q (reading.lexical s none at) (reading.syntax_ tokens t cut is) = none_and_cut s.start tokens none cut
+    one_by once p q (reading.lexical s none at) (reading.end_ tokens cut early) = none_and_cut s.start tokens none cut
+    one_by once p q (reading.whole tokens m cut is are tree) (reading.lexical s none at) = none_and_cut s.start tokens none cut
+    one_by once p q (reading.whole {tree = a} tokens m cut is are tree) (reading.whole {tree = b} others n other was were found) =
+        law.whole (same_trees once tokens others m n a b cut other is was are were tree found)
+    one_by once p q (reading.whole tokens m cut sentence are tree) (reading.syntax_ others t other is) =
+        whole_and_unexpected tokens others t cut other (is_whole tokens m sentence are) is
+    one_by once p q (reading.whole tokens m cut sentence are tree) (reading.end_ others other early) =
+        whole_and_early tokens others cut other (is_whole tokens m sentence are) early
+    one_by once p q (reading.syntax_ tokens t cut is) (reading.lexical s none at) = none_and_cut s.start tokens none cut
+    one_by once p q (reading.syntax_ tokens t cut is) (reading.whole others m other sentence are tree) =
+        whole_and_unexpected others tokens t other cut (is_whole others m sentence are) is
+    one_by once p q (reading.syntax_ tokens t cut is) (reading.syntax_ others u other was) =
+        same_faults _ _
+        (ap (λ (x : Token). Syntax x.span x.kind)
+        (one_unexpected (visible tokens) t u is (subst (λ ts. IsFirstUnexpected g of ts u) (same_visible tokens others cut other) was)))
+    one_by once p q (reading.syntax_ tokens t cut is) (reading.end_ others other early) = unexpected_and_early tokens others t cut other is early
+    one_by once p q (reading.end_ tokens cut early) (reading.lexical s none at) = none_and_cut s.start tokens none cut
+    one_by once p q (reading.end_ tokens cut early) (reading.whole others m other sentence are tree) =
+        whole_and_early others tokens other cut (is_whole others m sentence are) early
+    one_by once p q (reading.end_ tokens cut early) (reading.syntax_ others t other is) = unexpected_and_early others tokens t other cut is early
+    one_by once p q (reading.end_ tokens cut early) (reading.end_ others other also) = law.broken
+
+module _ (g : Grammar) (one_way : IsReadOneWay g) (text : List ℕ) where
   -- a text has one reading
-  pub one_reading : (p q : Parsed) → Reads g text p → Reads g text q → p ≡ q
-  one_reading p q (reading.too_large long) (reading.too_large also) = refl
+  pub one_reading : (p q : Parsed) → Reads g text p → Reads g text q → IsSameReading p q
+  one_reading p q (reading.too_large long) (reading.too_large also) = law.broken
   one_reading p q (reading.too_large long) (reading.read of lexicon short are is reads) = absurd (omega arith)
   one_reading p q (reading.read of lexicon short are is reads) (reading.too_large long) = absurd (omega arith)
   one_reading p q (reading.read of lexicon short are is reads) (reading.read kinds other below were was also) =
       let same = one_kinds g kinds of were are in
       let words = one_lexicon g of other lexicon (subst (λ k. IsLexicon g k other) same was) is in
-      let apart = subst AreKeywords (sym is.keywords) (can_be_told_apart g of filled are) in
-      one_by g of lexicon apart text p q reads (subst (λ l. ReadsBy g of l text q) words (subst (λ k. ReadsBy g k other text q) same also))
+      let apart = subst AreKeywords (sym is.keywords) (can_be_told_apart g of one_way.keywords are) in
+      one_by g of lexicon apart text (λ m n. one_way.sentences of m n are) p q reads
+      (subst (λ l. ReadsBy g of l text q) words (subst (λ k. ReadsBy g k other text q) same also))

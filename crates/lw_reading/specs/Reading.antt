@@ -1,17 +1,21 @@
--- What a text reads as by a grammar: whole, or broken at the first fault.
+-- What a text reads as by a grammar: whole, with its tree, or broken at the first fault.
 -- The size, the tokens and the sentence are looked at in this order, and one fault is told.
+-- Held against the Langium documentation, "Grammar language" and "Semantic model".
 use Rattle.std.specs.Prelude.{ℕ, ◌≡◌, ◌<◌, ◌≤◌, ◌⊎◌, List, [], ◌∷◌, ◌++◌, length}
 use Rattle.lw_base.specs.declared.limits.TheConstants.{LONGEST_DOCUMENT}
 use Rattle.lw_base.specs.declared.token.Span.{Span}
 use Rattle.lw_base.specs.declared.token.Token.{Token}
 use Rattle.lw_grammar.specs.declared.grammar.Grammar.{Grammar}
 use Rattle.lw_grammar.specs.Kinds.{Kinds, AreKinds}
-use Rattle.lw_sentences.specs.Sentences.{IsWhole, Starts}
+use Rattle.lw_sentences.specs.Marks.{Mark, kinds_of}
+use Rattle.lw_sentences.specs.Sentences.{IsSentence, IsWhole, Starts}
 use Rattle.lw_tokens.specs.Lexicon.{Lexicon, IsLexicon}
 use Rattle.lw_tokens.specs.Cut.{IsCut, HasNoTokenAt, IsCharacterAt, visible, kinds}
-use Rattle.lw_reading.specs.declared.issue.Issue.TheVariants.{Lexical, Syntax, End, TooLarge}
-use Rattle.lw_reading.specs.declared.issue.Parsed.{Parsed}
-use Rattle.lw_reading.specs.declared.issue.Parsed.TheVariants.{Whole, Broken}
+use Rattle.lw_tree.specs.declared.issue.Issue.TheVariants.{Lexical, Syntax, End, TooLarge}
+use Rattle.lw_tree.specs.Parts.{Parts}
+use Rattle.lw_marks.specs.Trees.{IsTree}
+use Rattle.lw_reading.specs.declared.parsed.Parsed.{Parsed}
+use Rattle.lw_reading.specs.declared.parsed.Parsed.TheVariants.{Whole, Broken}
 
 module _ (g : Grammar) (of : Kinds) where
   -- `unexpected` is the first of the tokens that no sentence has after those before it
@@ -31,7 +35,8 @@ module _ (g : Grammar) (of : Kinds) where
     -- what a text that is not too long reads as, by the kinds and the lexicon of the grammar
     pub data ReadsBy : Parsed → Type 0 where
       lexical : (s : Span) → HasNoTokenAt lexicon text s.start → IsCharacterAt text s → ReadsBy (Broken (Lexical s))
-      whole : (tokens : List Token) → IsCut lexicon text tokens → IsWhole g of (kinds (visible tokens)) → ReadsBy Whole
+      whole : {tree : Parts} (tokens : List Token) (m : List Mark) → IsCut lexicon text tokens → IsSentence g of m →
+          kinds_of m ≡ kinds (visible tokens) → IsTree g text m (visible tokens) tokens tree → ReadsBy (Whole tree)
       syntax_ : (tokens : List Token) (t : Token) → IsCut lexicon text tokens → IsFirstUnexpected (visible tokens) t → ReadsBy (Broken (Syntax t.span t.kind))
       end_ : (tokens : List Token) → IsCut lexicon text tokens → EndsEarly (visible tokens) → ReadsBy (Broken (End (length text)))
 

@@ -2,13 +2,14 @@
 ghost use Rattle.std.specs.Prelude.{◌≡◌, ℕ, List};
 ghost use Rattle.lw_grammar.specs.declared.grammar.Grammar.{Grammar};
 ghost use Rattle.lw_grammar.specs.KindTexts.{IsKindText};
-ghost use Rattle.lw_reading.specs.Laws.{HasNoEmptyKeyword, WritesNoEmptyKeyword};
+ghost use Rattle.lw_reading.specs.Laws.{HasNoEmptyKeyword, IsReadOneWay, IsSameReading, WritesNoEmptyKeyword};
 ghost use Rattle.lw_reading.specs.Reading.{Reads};
-ghost use Rattle.lw_reading.specs.declared.issue.Parsed.{Parsed};
+ghost use Rattle.lw_reading.specs.declared.parsed.Parsed.{Parsed};
 
-/// A text has at most one reading by a grammar that has no empty keyword.
+/// A text has at most one reading by a grammar that has no empty keyword and in which no two sentences have one list of kinds. Of two
+/// trees each reader gives the same.
 pub fn one_reading()
-    ensures { (g : Grammar) → HasNoEmptyKeyword g → (text : List ℕ) (p q : Parsed) → Reads g text p → Reads g text q → p ≡ q }
+    ensures { (g : Grammar) → IsReadOneWay g → (text : List ℕ) (p q : Parsed) → Reads g text p → Reads g text q → IsSameReading p q }
 {}
 
 /// A kind of a grammar is told by one text.

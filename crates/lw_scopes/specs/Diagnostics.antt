@@ -1,21 +1,29 @@
 -- The diagnostics of a document, by the shown texts of all documents.
 -- Held against Langium's document lifecycle, "Validation", and the Language Server Protocol 3.17, "Diagnostic".
 use Rattle.std.specs.Prelude.{ℕ, ◌≡◌, List, [], ◌∷◌, Option, Some}
+use Rattle.std.specs.List.{AllZip}
 use Rattle.lw_grammar.specs.declared.grammar.Grammar.{Grammar}
 use Rattle.lw_text.specs.declared.shown.Shown.{Shown}
 use Rattle.lw_reading.specs.Reading.{Reads}
-use Rattle.lw_reading.specs.declared.issue.Issue.{Issue}
-use Rattle.lw_reading.specs.declared.issue.Parsed.TheVariants.{Whole, Broken}
-use Rattle.lw_scopes.specs.Faults.{IsFaultShown}
+use Rattle.lw_reading.specs.declared.parsed.Parsed.TheVariants.{Whole, Broken}
+use Rattle.lw_tree.specs.declared.issue.Issue.{Issue}
+use Rattle.lw_tree.specs.Parts.{Parts}
+use Rattle.lw_scopes.specs.Entries.{Entry, AreEntries}
+use Rattle.lw_scopes.specs.Faults.{IsFaultShown, IsShownAt}
 
 -- the shown text at each address, where there is one
 abbrev pub Texts : Type 0
 Texts = List ℕ → Option (List ℕ)
 
+-- an entry as an editor is shown it
+abbrev pub IsEntryShown : List ℕ → Entry → Shown → Type 0
+IsEntryShown text e shown = IsShownAt text e.span.start e.span.end e.code e.message shown
+
 module _ (g : Grammar) where
-  -- the list of one text: none where it is read whole, else its one fault
+  -- the list of one text: what is told of its tree where it is read whole, else its one fault
   pub data IsList (text : List ℕ) : List Shown → Type 0 where
-    whole : Reads g text Whole → IsList text []
+    whole : {tree : Parts} {entries : List Entry} {list : List Shown} → Reads g text (Whole tree) → AreEntries tree entries →
+        AllZip (IsEntryShown text) entries list → IsList text list
     broken : {issue : Issue} {shown : Shown} → Reads g text (Broken issue) → IsFaultShown g text issue shown → IsList text (shown ∷ [])
 
   -- the list of the document at an address

@@ -8,8 +8,8 @@ use Rattle.lw_grammar.specs.declared.grammar.Grammar.{Grammar}
 use Rattle.lw_text.specs.Position.{IsPosition}
 use Rattle.lw_text.specs.declared.shown.Shown.{Shown}
 use Rattle.lw_grammar.specs.KindTexts.{IsKindText}
-use Rattle.lw_reading.specs.declared.issue.Issue.{Issue}
-use Rattle.lw_reading.specs.declared.issue.Issue.TheVariants.{Lexical, Syntax, End, TooLarge}
+use Rattle.lw_tree.specs.declared.issue.Issue.{Issue}
+use Rattle.lw_tree.specs.declared.issue.Issue.TheVariants.{Lexical, Syntax, End, TooLarge}
 
 -- it runs from one byte offset of the text to another, with this code and this message
 pub record IsShownAt (text : List ℕ) (from to code : ℕ) (message : List ℕ) (shown : Shown) : Type 0 where

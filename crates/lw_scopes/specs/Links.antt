@@ -1,5 +1,5 @@
 -- What the references of a document lead to, by the shown texts of all documents.
--- Held against Langium's default scoping. No grammar that is built so far has a cross-reference, so no document has references.
+-- Held against Langium's default scoping. References are not resolved yet, so no document has links.
 use Rattle.std.specs.Prelude.{ℕ, ◌≡◌, List, [], Option}
 use Rattle.lw_grammar.specs.declared.grammar.Grammar.{Grammar}
 use Rattle.lw_scopes.specs.Diagnostics.{Texts}
