@@ -2,7 +2,7 @@
 use Rattle.std.proofs.Common.{◌≡◌, ℕ, ℤ, ◌≤◌, ◌<◌, List, [], ◌∷◌, ◌++◌, map, length, true, false, inl, inr, sym, refl, ap, ap₂, ◌∙◌, subst, true≢false, arith}
 use Rattle.lw_grammar.specs.declared.grammar.Grammar.{Grammar}
 use Rattle.lw_io.specs.declared.store.Found.{Found}
-use Rattle.lw_reading.specs.Laws.{HasNoEmptyKeyword}
+use Rattle.lw_reading.specs.Laws.{IsReadOneWay}
 use Rattle.lw_rpc.specs.Messages.{message_of}
 use Rattle.lw_rpc.specs.declared.message.Message.{Message}
 use Rattle.lw_rpc.specs.declared.reply.Reply.{Reply}
@@ -49,7 +49,7 @@ module _ (g : Grammar) where
   handled_reads s m found t p e (unbuilt does before) = answered_reads s m found t p e does
   handled_reads s m found t p e (built {t = u} {replies = r} does since builds) = answered_reads s m found u r e does
 
-module _ (g : Grammar) (filled : HasNoEmptyKeyword g) where
+module _ (g : Grammar) (one_way : IsReadOneWay g) where
   one_effect : (m : Documents) (message : Message) (found : List Found) (n o : Documents) (p q : List Reply) → TakesEffect g m message found n p →
       TakesEffect g m message found o q → (n ≡ o) × (p ≡ q)
   one_effect m message found n o p q (opens {address = a} {text = t} {version = v} first) (opens second) = one_opening m a v t n o p q first second
@@ -80,7 +80,7 @@ module _ (g : Grammar) (filled : HasNoEmptyKeyword g) where
   one_handled s m found t u p q e f (built {t = v} {replies = r} {n = n} {published = h} first since builds)
       (built {t = w} {replies = l} {n = o} {published = k} second also too) =
       let one = one_answered s m found v w r l e f first second in
-      let end = one_build g filled v.documents n o h k builds (subst (λ (x : Standing). BuildsToEnd g x.documents o k) (sym one.0) too) in
+      let end = one_build g one_way v.documents n o h k builds (subst (λ (x : Standing). BuildsToEnd g x.documents o k) (sym one.0) too) in
       (ap₂ with_documents one.0 end.0, ap₂ (λ x y. x ++ map as_reply y) one.1 end.1, one.2)
 
   pub one_outcome : (s t u : Standing) (bodies : List (List ℕ)) (found : List (List Found)) (p q : List Reply) (e f : Ended) → Serves g s bodies found t p e →

@@ -3,16 +3,16 @@ ghost use Rattle.std.specs.Prelude.{◌≡◌, ℕ, List, true};
 ghost use Rattle.lw_grammar.specs.declared.grammar.Grammar.{Grammar};
 ghost use Rattle.lw_io.specs.declared.store.Found.{Found};
 ghost use Rattle.lw_machine.specs.Validity.{AreCurrent, IsValid};
-ghost use Rattle.lw_reading.specs.Laws.{HasNoEmptyKeyword};
+ghost use Rattle.lw_reading.specs.Laws.{IsReadOneWay};
 ghost use Rattle.lw_rpc.specs.declared.reply.Reply.{Reply};
 ghost use Rattle.lw_conversation.specs.Sessions.{Serves};
 ghost use Rattle.lw_conversation.specs.Standing.{Standing, beginning};
 ghost use Rattle.lw_conversation.specs.declared.ended.Ended.{Ended};
 
-/// By a grammar that has no empty keyword, what a session does with the bodies of a stream is settled by what the store answers at its reads: where it
+/// By a grammar by which a text is read in one way, what a session does with the bodies of a stream is settled by what the store answers at its reads: where it
 /// stands after them, what it replies and publishes, and whether it is over.
 pub fn one_outcome()
-    ensures { (g : Grammar) → HasNoEmptyKeyword g → (s t u : Standing) (bodies : List (List ℕ)) (found : List (List Found)) (p q : List Reply) (e f : Ended) →
+    ensures { (g : Grammar) → IsReadOneWay g → (s t u : Standing) (bodies : List (List ℕ)) (found : List (List Found)) (p q : List Reply) (e f : Ended) →
         Serves g s bodies found t p e → Serves g s bodies found u q f → (t ≡ u) × (p ≡ q) × (e ≡ f) }
 {}
 

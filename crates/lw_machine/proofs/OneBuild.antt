@@ -3,7 +3,7 @@ use Rattle.std.proofs.Common.{◌≡◌, ◌≢◌, ℕ, List, ◌++◌, Option,
 use Rattle.std.specs.FinMap.{get, insert}
 use Rattle.lw_grammar.specs.declared.grammar.Grammar.{Grammar}
 use Rattle.lw_text.specs.declared.shown.Shown.{Shown}
-use Rattle.lw_reading.specs.Laws.{HasNoEmptyKeyword}
+use Rattle.lw_reading.specs.Laws.{IsReadOneWay}
 use Rattle.lw_machine.specs.declared.published.Published.{Published}
 use Rattle.lw_scopes.specs.Diagnostics.{Texts, AreDiagnostics}
 use Rattle.lw_scopes.specs.Links.{AreLinks}
@@ -26,14 +26,14 @@ one_published address d list p q (same is) (other apart) = absurd (apart is)
 one_published address d list p q (other apart) (same is) = absurd (apart is)
 one_published address d list p q (other apart) (other also) = refl
 
-module _ (g : Grammar) (filled : HasNoEmptyKeyword g) where
+module _ (g : Grammar) (one_way : IsReadOneWay g) where
   module _ (before after : Texts) (address : List ℕ) where
     links : {A : Type 0} → Differ (AreLinks g before address) (AreLinks g after address) → Agree (AreLinks g before address) (AreLinks g after address) → A
     links = never_both _ _ (one_list_of_links g before address) (one_list_of_links g after address)
 
     lists : {A : Type 0} → Differ (AreDiagnostics g before address) (AreDiagnostics g after address) →
         Agree (AreDiagnostics g before address) (AreDiagnostics g after address) → A
-    lists = never_both _ _ (one_list g filled before address) (one_list g filled after address)
+    lists = never_both _ _ (one_list g one_way before address) (one_list g one_way after address)
 
     one_settled : (d e f : Document) → Settles g before after address d e → Settles g before after address d f → e ≡ f
     one_settled d e f (links_differ high differ) (links_differ too also) = refl
@@ -109,7 +109,7 @@ module _ (g : Grammar) (filled : HasNoEmptyKeyword g) where
   one_step m n o p q (validates {address = a} {d = d} {list = list} {published = told} taken is are publishes)
       (validates {address = b} {d = e} {list = second} {published = telling} also was were publishing) =
       let one = one_next m a d b e taken also in
-      let list_is = one_list g filled (shown_texts m) a list second are (subst (λ x. AreDiagnostics g (shown_texts m) x second) one.0 were) in
+      let list_is = one_list g one_way (shown_texts m) a list second are (subst (λ x. AreDiagnostics g (shown_texts m) x second) one.0 were) in
       let back = subst₂ (λ x y. Publishes x y second telling) one.0 one.1 publishing in (
         ap₂ (λ x y. insert m x y) (sym one.0) (ap₂ (λ x y. validated x y) (sym one.1) list_is),
         one_published a d second told telling (subst (λ l. Publishes a d l told) list_is publishes) back,

@@ -8,7 +8,7 @@ ghost use Rattle.lw_machine.specs.Events.{Happens};
 ghost use Rattle.lw_machine.specs.Laws.{AreNews, Chain, GoesOn, most_steps};
 ghost use Rattle.lw_machine.specs.Validity.{AreCurrent, HaveLists, HaveSameContent, IsValid};
 ghost use Rattle.lw_machine.specs.declared.state.State.TheVariants.{Validated};
-ghost use Rattle.lw_reading.specs.Laws.{HasNoEmptyKeyword};
+ghost use Rattle.lw_reading.specs.Laws.{IsReadOneWay};
 ghost use Rattle.lw_machine.specs.declared.published.Published.{Published};
 
 /// While a document is not validated, the build has a document to take up, and only one.
@@ -46,10 +46,10 @@ pub fn built()
     ensures content { (g : Grammar) (m n : Documents) (published : List Published) → BuildsToEnd g m n published → HaveSameContent m n }
 {}
 
-/// By a grammar that has no empty keyword, a step has one outcome, and so has a build: the documents after it, and what it publishes.
+/// By a grammar by which a text is read in one way, a step has one outcome, and so has a build: the documents after it, and what it publishes.
 pub fn one_build()
-    ensures step { (g : Grammar) → HasNoEmptyKeyword g → (m n o : Documents) (p q : List Published) → Builds g m n p → Builds g m o q → (n ≡ o) × (p ≡ q) }
-    ensures build { (g : Grammar) → HasNoEmptyKeyword g → (m n o : Documents) (p q : List Published) →
+    ensures step { (g : Grammar) → IsReadOneWay g → (m n o : Documents) (p q : List Published) → Builds g m n p → Builds g m o q → (n ≡ o) × (p ≡ q) }
+    ensures build { (g : Grammar) → IsReadOneWay g → (m n o : Documents) (p q : List Published) →
         BuildsToEnd g m n p → BuildsToEnd g m o q → (n ≡ o) × (p ≡ q) }
 {}
 
