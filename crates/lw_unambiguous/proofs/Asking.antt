@@ -44,12 +44,12 @@ module _ (g : Grammar) (kinds : Kinds) where
   leave_quiet : (l : Mark) → AsksNothing g kinds (Leave l)
   leave_quiet l choice w xs way = elim way [ ]
 
-  -- `IsDone x l xs`: the step from x that leaves l and xs takes a way, or x asks nothing
-  pub data IsDone : Thing → List Mark → List Thing → Type 0 where
-    asked : {x : Thing} {s : PartSite} {w : ℕ} {xs : List Thing} → Ways g kinds x s w xs → IsDone x [] xs
-    quiet : {x : Thing} {l : List Mark} {xs : List Thing} → AsksNothing g kinds x → IsDone x l xs
+  -- `WayOrQuiet x l xs`: the step from x that leaves l and xs takes a way, or x asks nothing
+  pub data WayOrQuiet : Thing → List Mark → List Thing → Type 0 where
+    asked : {x : Thing} {s : PartSite} {w : ℕ} {xs : List Thing} → Ways g kinds x s w xs → WayOrQuiet x [] xs
+    quiet : {x : Thing} {l : List Mark} {xs : List Thing} → AsksNothing g kinds x → WayOrQuiet x l xs
 
-  pub how_done : {x : Thing} {l : List Mark} {xs : List Thing} → StepsTo g kinds x l xs → IsDone x l xs
+  pub how_done : {x : Thing} {l : List Mark} {xs : List Thing} → StepsTo g kinds x l xs → WayOrQuiet x l xs
   how_done (t.keyword at is) = quiet (element_quiet at (λ none. none))
   how_done (t.called at e) = quiet (element_quiet at (λ none. none))
   how_done (t.assigned at) = quiet (element_quiet at (λ none. none))

@@ -15,12 +15,12 @@ use Rattle.lw_look.proofs.OneStep.{rule_enters}
 use Rattle.lw_look.proofs.OneWay.{behind_at, way_looks, step_context}
 use Rattle.lw_look.proofs.Parsing.{parse_ends}
 use Rattle.lw_look.proofs.Steady.{starts_in_context}
-use Rattle.lw_unambiguous.proofs.Asking.{IsDone, asked, quiet, how_done}
+use Rattle.lw_unambiguous.proofs.Asking.{WayOrQuiet, asked, quiet, how_done}
 use Rattle.lw_unambiguous.proofs.Stepwise.{StepsGive, done, step, rest_by_steps, steps_give_rest}
 
 module _ (g : Grammar) (kinds : Kinds) (k : ℕ) (apart : IsLL g kinds k) where
   -- the parser does the step by which what is left was given: at a choice no other way shows its window
-  parses_on : {x : Thing} {l o : List Mark} {xs rest : List Thing} (m : List Mark) → IsDone g kinds x l xs → StepsTo g kinds x l xs →
+  parses_on : {x : Thing} {l o : List Mark} {xs rest : List Thing} (m : List Mark) → WayOrQuiet g kinds x l xs → StepsTo g kinds x l xs →
       InContext g kinds (x ∷ rest) → RestGives g kinds (xs ++ rest) o → Parses g kinds k m (kinds_of (l ++ o)) (x ∷ rest) →
       Parses g kinds k (m ++ l) (kinds_of o) (xs ++ rest)
   parses_on {o} {xs} {rest} m (asked {s} {w} way) goes context gives before =
