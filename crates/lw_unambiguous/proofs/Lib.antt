@@ -1,0 +1,3 @@
+pub mod Stepwise
+pub mod Asking
+pub mod Parsed
