@@ -25,7 +25,7 @@ use Rattle.langbench.specs.Serving as serving
 use Rattle.langbench.specs.Serving.{Talked, OfGrammar, ServeComesTo, ServeDone, IsSession, WentWrong}
 use Rattle.langbench.specs.Stops.{EndsWith, TheSource, TheSink}
 use Rattle.langbench.proofs.Ends.{CountsAll, if_told, only_memory}
-use Rattle.langbench.proofs.Grammars.{filled, same_grammar}
+use Rattle.langbench.proofs.Grammars.{one_way, same_grammar}
 
 -- of two fronts of a list one is a front of the other
 fronts : (xs ys r s : List ℕ) → xs ++ r ≡ ys ++ s → ((m : List ℕ) × (ys ≡ xs ++ m)) ⊎ ((m : List ℕ) × (xs ≡ ys ++ m) × (s ≡ m ++ r))
@@ -54,7 +54,7 @@ module _ (g : Grammar) (k : ℕ) (clear : IsClear g k) (held : List ℕ) (replie
   longer taken more same t reads others ended serves =
       let stay = bodies_stay is.taken more in
       let all : bodies_of taken ≡ bodies_of is.taken ++ stay.0 = ap bodies_of same ∙ stay.1 in
-      let one = one_session g (filled g k clear) (beginning []) is.standing t (bodies_of taken) is.found reads replies others Clean ended
+      let one = one_session g (one_way g k clear) (beginning []) is.standing t (bodies_of taken) is.found reads replies others Clean ended
       (subst (λ bodies. Serves g (beginning []) bodies is.found is.standing replies Clean) (sym all) (Serves-more g (beginning []) is.standing (bodies_of is.taken) stay.0 is.found replies Clean (λ e. cc) is.serves)) serves in
       (one.1, one.2)
 
@@ -64,7 +64,7 @@ module _ (g : Grammar) (k : ℕ) (clear : IsClear g k) (held : List ℕ) (replie
   shorter taken more same t reads others ended over serves =
       let stay = bodies_stay taken more in
       let all : bodies_of is.taken ≡ bodies_of taken ++ stay.0 = ap bodies_of same ∙ stay.1 in
-      let one = one_session g (filled g k clear) (beginning []) is.standing t (bodies_of is.taken) is.found reads replies others Clean ended is.serves
+      let one = one_session g (one_way g k clear) (beginning []) is.standing t (bodies_of is.taken) is.found reads replies others Clean ended is.serves
       (subst (λ bodies. Serves g (beginning []) bodies reads t others ended) (sym all) (Serves-more g (beginning []) t (bodies_of taken) stay.0 reads others ended over serves)) in
       (one.1, one.2)
 
@@ -108,7 +108,7 @@ module _ (g : Grammar) (k : ℕ) (clear : IsClear g k) (held : List ℕ) (replie
         by more =
             let stays = fault_stays taken more.0 found fault in
             let all : bodies_of taken ≡ bodies_of is.taken = sym (ap bodies_of more.1 ∙ stays.0) in
-            let end = (one_session g (filled g k clear) (beginning []) is.standing t (bodies_of is.taken) is.found reads replies others Clean No is.serves
+            let end = (one_session g (one_way g k clear) (beginning []) is.standing t (bodies_of is.taken) is.found reads replies others Clean No is.serves
             (subst (λ bodies. Serves g (beginning []) bodies reads t others No) all serves)).2 in
             cc
 

@@ -21,7 +21,7 @@ use Rattle.lw_lookahead.specs.declared.fault.LookFault.{LookFault}
 use Rattle.lw_lang.specs.ToldLooks.{IsLookToldAs}
 use Rattle.lw_lang.specs.ToldLooks as told_as
 use Rattle.lw_lang.specs.declared.told_look.ToldLookFault.{ToldLookFault}
-use Rattle.lw_lang.specs.Compiled.{HoldsGrammar, IsClear, IsNotLoaded, IsNotBuilt, HasNoTokens, HasNoTables, Causes}
+use Rattle.lw_lang.specs.Compiled.{HoldsGrammar, IsClear, IsNotLoaded, HasNoTokens, HasNoTables, Causes}
 use Rattle.lw_lang.specs.declared.fault.CompileFault.{CompileFault}
 use Rattle.lw_lang.specs.declared.fault.CompileFault.TheVariants as fault
 use Rattle.langbench.specs.declared.report.Verdict.{Verdict}
@@ -72,10 +72,6 @@ module _ (files : Files) (path : List ℕ) (k : ℕ) (refused : Option (List ℕ
       by found told (as_told.refused is) cause counts = none ThePatterns (counts ThePatterns).rose
       by found told (as_told.matches_empty is) cause counts = one_answer g [] has.row refused found clear.sound.tokens has.are_kinds tt cause
 
-  -- and is built
-  built : IsNotBuilt g k → ⊥
-  built (sound, tables, unbuilt) = unbuilt clear.flat
-
   -- its strings are not too many, and the next kinds tell the ways of each choice apart
   with_tables : (texts : List (List ℕ)) (told : ToldLookFault) → HasNoTables g texts k told → ⊥
   with_tables texts told has = by has.fault told has.as_told has.cause
@@ -106,7 +102,6 @@ module _ (files : Files) (path : List ℕ) (k : ℕ) (refused : Option (List ℕ
       absurd
       (with_tables cause.1.loaded.texts told
       (subst (λ h. HasNoTables h cause.1.loaded.texts k told) (same_grammar files path g holds cause.0 cause.1) cause.2))
-  only_memory fault.Unbuilt cause counts = absurd (built (subst (λ g. IsNotBuilt g k) (same_grammar files path g holds cause.0 cause.1) cause.2))
   only_memory fault.NoMemory cause counts = refl
 
   -- a document is read to its end

@@ -17,7 +17,7 @@ use Rattle.langbench.specs.Reports.{IsReport, IsVerdict}
 use Rattle.lw_load.specs.Loading.{Files}
 use Rattle.langbench.specs.Checking.{Prints, ReadsDocument, ReadsPart, StopsReading, CheckComesTo, WritesSome, most_read}
 use Rattle.langbench.specs.Stops.{stop_of_fault}
-use Rattle.langbench.proofs.Grammars.{filled}
+use Rattle.langbench.proofs.Grammars.{one_way}
 use Rattle.langbench.proofs.OneOutput.{one_output}
 
 abbrev stopped : Stop → Result Verdict Stop
@@ -36,7 +36,6 @@ module _ (files : Files) (path : List ℕ) (k : ℕ) (held : List ℕ) (refused 
   unbuilt (fault.Faults told) cause unread keeps = (cause, unread, keeps)
   unbuilt (fault.Term told) cause unread keeps = (cause, unread, keeps)
   unbuilt (fault.Look told) cause unread keeps = (cause, unread, keeps)
-  unbuilt fault.Unbuilt cause unread keeps = (cause, unread, keeps)
   unbuilt fault.NoMemory cause unread keeps = inl (reads_nothing (Some held) after unread, keeps)
 
   -- where the document is not read nothing is printed
@@ -76,7 +75,7 @@ module _ (files : Files) (path : List ℕ) (k : ℕ) (held : List ℕ) (refused 
     holds = holds;
     clear = clear;
     printed = is.printed;
-    only = λ other also. one_output g (filled g k clear) (take most_read held) other (string_bytes report.text) also is.printed;
+    only = λ other also. one_output g (one_way g k clear) (take most_read held) other (string_bytes report.text) also is.printed;
   }
 
   told : (r : Result Verdict Stop) → IfOk r (λ v. v ≡ report.verdict) → OnOk r (Appends old new (string_bytes report.text)) → OnErr r ((r ≡ Err stop.Write) ⊎ (r ≡ Err stop.Memory)) →

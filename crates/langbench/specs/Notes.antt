@@ -118,7 +118,6 @@ fault_line path (fault.Load found) = load_line path found
 fault_line path (fault.Faults told) = told_lines told
 fault_line path (fault.Term told) = term_line path told
 fault_line path (fault.Look told) = look_line path told
-fault_line path fault.Unbuilt = whole_line path (codes "not built")
 fault_line path fault.NoMemory = memory_line
 
 -- why a run stopped, where this is the path of the grammar that its words name

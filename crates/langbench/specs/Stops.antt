@@ -58,7 +58,6 @@ fault_code (fault.Load found) = load_code found
 fault_code (fault.Faults told) = 3
 fault_code (fault.Term told) = 3
 fault_code (fault.Look told) = 3
-fault_code fault.Unbuilt = 3
 fault_code fault.NoMemory = 7
 
 abbrev pub fault_blame : CompileFault → Blame
@@ -66,7 +65,6 @@ fault_blame (fault.Load found) = load_blame found
 fault_blame (fault.Faults told) = Nobody
 fault_blame (fault.Term told) = term_blame told
 fault_blame (fault.Look told) = Nobody
-fault_blame fault.Unbuilt = Nobody
 fault_blame fault.NoMemory = Unsaid
 
 -- any stop

@@ -92,7 +92,6 @@ fn fault_line(alloc: Global, path: &Name, fault: &CompileFault) -> Result<String
         CompileFault::Faults(told) => told_lines(alloc, told.as_slice()),
         CompileFault::Term(told) => term_line(alloc, path, told),
         CompileFault::Look(told) => look_line(alloc, path, told),
-        CompileFault::Unbuilt => whole_line(alloc, path, "not built"),
         CompileFault::NoMemory => Ok(String::from_str(alloc, "out of memory\n")?),
     }
 }

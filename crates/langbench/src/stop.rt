@@ -53,8 +53,7 @@ fn fault_code(fault: &CompileFault) -> u8
         CompileFault::Load(found) => load_code(found),
         CompileFault::Faults(_)
         | CompileFault::Term(_)
-        | CompileFault::Look(_)
-        | CompileFault::Unbuilt => 3,
+        | CompileFault::Look(_) => 3,
         CompileFault::NoMemory => 7,
     }
 }

@@ -2,19 +2,23 @@
 ghost use Rattle.std.specs.Prelude.{◌≡◌, IfOk};
 ghost use Rattle.lw_syntax.specs.PlacesWithin.{IsWithin};
 ghost use Rattle.lw_lang.specs.Language.{IsNamed, IsIssueWithin};
-ghost use Rattle.lw_scopes.specs.Diagnostics.{IsList};
+ghost use Rattle.lw_rooted.specs.Within.{StandsInText};
+ghost use Rattle.lw_scopes.specs.Diagnostics.{IsEntryShown, IsList};
 ghost use Rattle.lw_scopes.specs.Faults.{IsFaultShown, IsShownAt, too_large_shown};
+ghost use Rattle.lw_check.specs.Remarks.{AreShown, entry_of};
 
+use crate::remark::{Remark, remarks_of};
 use lw_base::{Items, LONGEST_DOCUMENT, Name, NoMemory, Span};
 use lw_lang::{Issue, Language, Parsed};
 use lw_text::{Encoding, Pos, Shown, TextDoc};
+use lw_tree::Tree;
 use std::alloc::Global;
 
-/// The list of a text: empty where the grammar reads it whole, else its one fault. The one error is
+/// The list of a text: what is told of its tree where the grammar reads it whole, else its one fault. The one error is
 /// [`NoMemory`], want of memory.
 ///
 /// Positions are zero-based lines and UTF-16 units (Language Server Protocol 3.17, "Position"), found by the
-/// lines that the text knows. It takes time linear in the length of the text, and memory for its tokens.
+/// lines that the text knows. It takes time linear in the length of the text, and memory for its tokens and its tree.
 pub fn diagnostics(
     alloc: Global,
     language: &Language,
@@ -22,14 +26,38 @@ pub fn diagnostics(
 ) -> Result<Items<Shown>, NoMemory>
     ensures { IfOk result (IsList language.now.grammar document.now) }
 {
-    let mut list = Items::new(alloc);
     match language.read(alloc, document.as_name())? {
-        Parsed::Whole => Ok(list),
+        Parsed::Whole(tree) => tree_shown(alloc, document, &tree),
         Parsed::Broken(issue) => {
+            let mut list = Items::new(alloc);
             list.push(fault_shown(alloc, language, document, issue)?)?;
             Ok(list)
         }
     }
+}
+
+// What is told of a tree, as it is shown.
+fn tree_shown(alloc: Global, text: &TextDoc, tree: &Tree) -> Result<Items<Shown>, NoMemory>
+    requires { StandsInText text.now tree.now }
+    ensures { IfOk result (AreShown text.now tree.now) }
+{
+    let mut list = Items::new(alloc);
+    'showing: for remark in remarks_of(alloc, tree)? {
+        list.push(remark_shown(text, remark))?;
+    }
+    Ok(list)
+}
+
+// A remark, as it is shown.
+fn remark_shown(text: &TextDoc, remark: Remark) -> Shown
+    requires { IsWithin text.now (entry_of remark).span }
+    ensures { IsEntryShown text.now (entry_of remark) result }
+{
+    let span = Span {
+        start: remark.start,
+        end: remark.end,
+    };
+    shown_at(text, span, remark.code, remark.message)
 }
 
 /// The one diagnostic of a text that is longer than a document may be, at the text's start. The one error is

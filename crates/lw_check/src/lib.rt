@@ -2,7 +2,8 @@
 //!
 //! Its model: a document is its text, and what it is told is a list of [`Shown`](lw_text::Shown), each
 //! with where it begins and ends, its code and its message. Which list a text has is defined in
-//! `specs/Diagnostics.antt` of `lw_scopes`, and how a fault is shown in `specs/Faults.antt` there.
+//! `specs/Diagnostics.antt` of `lw_scopes`: what is told of the tree of a text that is read whole in `specs/Entries.antt`
+//! there, and how a fault is shown in `specs/Faults.antt`.
 //!
 //! It promises that [`diagnostics`] answers exactly that list. [`too_large`] is the one entry of a document
 //! that is not read, which a caller may know before it has the whole text. The one error of both calls is want
@@ -10,6 +11,7 @@
 #![tactic(auto)]
 
 mod document;
+mod remark;
 
 pub use document::{diagnostics, too_large};
 

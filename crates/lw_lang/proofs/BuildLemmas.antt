@@ -1,37 +1,22 @@
 -- A grammar that has a set of tokens, and what is made of it.
-use Rattle.std.proofs.Common.{◌≡◌, ◌≢◌, ◌+◌, ◌≤◌, ℕ, List, [], ◌∷◌, AllPairs, Result, Ok, Err, IfOk, length, map, sum_by, sym, subst, arith}
-use Rattle.std.specs.List.{flat_map}
+use Rattle.std.proofs.Common.{◌≡◌, ◌+◌, ◌≤◌, ℕ, List, [], ◌∷◌, Result, Ok, Err, IfOk, length, sum_by, sym, subst, arith}
 use Rattle.std.proofs.lemmas.List.Elements.{All-weaker}
 use Rattle.std.proofs.lemmas.List.Sums.{sum_by-cons}
-use Rattle.lw_base.specs.declared.numbers.KindId.{KindId}
 use Rattle.lw_grammar.specs.declared.grammar.Grammar.{Grammar}
 use Rattle.lw_grammar.specs.declared.rule.Rule.{Rule}
 use Rattle.lw_grammar.specs.declared.terminal.Terminal.{Terminal}
-use Rattle.lw_grammar.specs.Kinds.{Kinds, AreKinds}
-use Rattle.lw_grammar.specs.Leaves.{keywords_in}
 use Rattle.lw_grammar.specs.Size.{size, element_size, term_size}
-use Rattle.lw_grammar.proofs.KindLemmas.{one_kinds}
 use Rattle.lw_load.specs.declared.limits.TheConstants.{LARGEST_GRAMMAR}
 use Rattle.lw_gramcheck.specs.Judging.{IsFaultless}
 use Rattle.lw_kinds.specs.Rows.{KindRow, AreKindRowOf}
 use Rattle.lw_terminals.specs.TokenKinds.{TokenKinds}
 use Rattle.lw_token_sets.specs.TokenSets.{IsTokenSetOf, HasTokens}
-use Rattle.lw_token_sets.proofs.DistinctTexts.{first_uses-differ}
 use Rattle.lw_token_sets.proofs.Unlisted.{taken_unlisted}
 use Rattle.lw_token_sets.specs.Taken.{HasTaken}
 use Rattle.lw_lang.specs.Compiled.{HasSoundTokens, HasTables, IsClear}
-use Rattle.lw_lang.specs.Flat.{IsFlat, HasRow}
 use Rattle.lw_lang.specs.Language.{LanguageView}
 use Rattle.lw_lang.specs.Prepared.{IsPrepared}
-use Rattle.lw_lang.specs.Rows.{IsOnlyRow}
-use Rattle.lw_lang.proofs.EntryNodes.{makes_nodes}
-use Rattle.lw_lang.proofs.FlatRow.{is_only_row}
-
--- ---- the keywords of a grammar differ
-
-keywords_differ : (g : Grammar) (of : Kinds) → AreKinds g of → AllPairs (λ a b. a ≢ b) of.keywords
-keywords_differ g of are =
-    subst (AllPairs (λ a b. a ≢ b)) (sym are.keywords) (first_uses-differ [] (flat_map (λ (rule : Rule). keywords_in rule.body) are.rules))
+use Rattle.lw_parse.specs.Parsers.{ParserParts, ParsesFaultless}
 
 -- ---- a grammar with a set of tokens has tokens
 
@@ -56,23 +41,11 @@ module _ (g : Grammar) (row : KindRow) (are : AreKindRowOf g row) where
     pub sound_tokens : HasSoundTokens g
     sound_tokens = record { faultless = faultless; tokens = has_tokens [] tokens is }
 
-    module _ (items : List KindId) (has : HasRow g (map (λ kind. kind.0) items)) where
-      only_row : IsOnlyRow g has.kinds (map (λ kind. kind.0) items)
-      only_row =
-          is_only_row g has.kinds (keywords_differ g has.kinds has.are) has.shape (makes_nodes g has.shape faultless)
-          (map (λ kind. kind.0) items) has.reads
+    pub is_prepared : (k : ℕ) (parser : ParserParts) → ParsesFaultless g is.of k parser → IsPrepared g tokens parser
+    is_prepared k parser parses = record { of = is.of; kinds = is.are; lexicon = is.lexicon; texts = is.texts; depth = k; parses = parses }
 
-      pub is_prepared : IsPrepared g tokens items
-      is_prepared = record {
-        of = is.of;
-        kinds = is.are;
-        lexicon = is.lexicon;
-        texts = is.texts;
-        row = subst (λ kinds. IsOnlyRow g kinds (map (λ kind. kind.0) items)) (one_kinds g has.kinds is.of has.are is.are) only_row;
-      }
-
-      pub is_clear : (k : ℕ) → HasTables g k → IsClear g k
-      is_clear k tables = record { sound = sound_tokens; tables = tables; flat = (map (λ kind. kind.0) items, has) }
+    pub is_clear : (k : ℕ) → HasTables g k → IsClear g k
+    is_clear k tables = record { sound = sound_tokens; tables = tables }
 
 -- the language of a grammar with tokens has them
 pub built_tokens : (g : Grammar) (listed : List (List ℕ)) → HasTokens g listed → {E : Type 0} (r : Result LanguageView E) → IfOk r (λ language. language.grammar ≡ g) →

@@ -58,7 +58,6 @@ module _ (told : Option Files) (root : List ℕ) (loaded : Loaded) (loads : IfSo
         by None l o f cause = tt
         by (Some files) l o (fault.Load found) cause = absurd cause
         by (Some files) l o (fault.Faults told) cause = (loaded.grammar, record { loaded = loaded; loads = l; only = o; same = refl }, cause)
-        by (Some files) l o fault.Unbuilt cause = (loaded.grammar, record { loaded = loaded; loads = l; only = o; same = refl }, cause)
         by (Some files) l o (fault.Look told) cause = (loaded.grammar, record { loaded = loaded; loads = l; only = o; same = refl }, cause)
         by (Some files) l o (fault.Term told) cause = (loaded.grammar, record { loaded = loaded; loads = l; only = o; same = refl }, cause)
         by (Some files) l o fault.NoMemory cause = tt

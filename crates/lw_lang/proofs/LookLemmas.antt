@@ -10,6 +10,8 @@ use Rattle.lw_look.specs.Supplied.{NodesAreTold}
 use Rattle.lw_points.specs.declared.point.TheConstants.{MOST_STRINGS}
 use Rattle.lw_lookahead.specs.Conflicts.{CausesNoTables}
 use Rattle.lw_lookahead.specs.declared.fault.LookFault.{LookFault}
+use Rattle.lw_lookahead.specs.declared.kept.Tables.{Tables}
+use Rattle.lw_lookahead.specs.Tables.{AreTables}
 use Rattle.lw_subtypes.specs.Kinship.{AreNodeRules}
 use Rattle.lw_lang.specs.Compiled.{HasTables}
 
@@ -37,6 +39,9 @@ module _ (g h : Grammar) (is : h ≡ g) (kinds : Kinds) (are : AreKinds g kinds)
     few = subst (λ h. (kinds : Kinds) → AreKinds h kinds → ¬ HasMoreStrings h kinds k MOST_STRINGS) is few kinds are;
     tells = subst (λ h. (kinds : Kinds) → AreKinds h kinds → IsLL h kinds k) is tells kinds are;
   }
+
+  pub has_all_tables : (tables : Tables) → ((kinds : Kinds) → AreKinds h kinds → AreTables h kinds k tables) → (kinds : Kinds) → AreKinds g kinds → AreTables g kinds k tables
+  has_all_tables tables all = subst (λ h. (kinds : Kinds) → AreKinds h kinds → AreTables h kinds k tables) is all
 
   pub has_cause : (fault : LookFault) → ((kinds : Kinds) → AreKinds h kinds → CausesNoTables h kinds k fault) → CausesNoTables g kinds k fault
   has_cause fault cause = subst (λ h. (kinds : Kinds) → AreKinds h kinds → CausesNoTables h kinds k fault) is cause kinds are

@@ -1,5 +1,5 @@
 -- Why a grammar has no set of tokens, as it is told: the cause, and what becomes of the patterns.
-use Rattle.std.proofs.Common.{◌≡◌, ℕ, List, [], Option, Ok, Err, Result, IfErr, refl, subst}
+use Rattle.std.proofs.Common.{◌≡◌, ℕ, List, [], Option, Ok, Err, Result, IfErr, refl, sym, subst}
 use Rattle.lw_grammar.specs.declared.grammar.Grammar.{Grammar}
 use Rattle.lw_grammar.specs.Kinds.{Kinds, AreKinds}
 use Rattle.lw_gramcheck.specs.Judging.{IsFaultless}
@@ -10,7 +10,7 @@ use Rattle.lw_token_sets.specs.TokenSets as token
 use Rattle.lw_token_sets.proofs.Unlisted.{causes_unlisted}
 use Rattle.lw_lookahead.specs.Conflicts.{CausesNoTables}
 use Rattle.lw_lookahead.specs.declared.fault.LookFault.{LookFault}
-use Rattle.lw_lang.specs.Compiled.{GrammarCauses, HasSoundTokens, IsBehindTokens, IsUnbuiltOrMemory, CountsPatterns, KeepsPatterns}
+use Rattle.lw_lang.specs.Compiled.{GrammarCauses, HasSoundTokens, IsBehindTokens, CountsPatterns, KeepsPatterns}
 use Rattle.lw_lang.specs.ToldLooks.{IsLookToldOr}
 use Rattle.lw_lang.specs.ToldTerms.{IsToldOr, IsTermToldAs}
 use Rattle.lw_lang.specs.ToldTerms as told
@@ -35,7 +35,6 @@ module _ (g : Grammar) (texts : List (List ℕ)) (why : TermFault) where
   told_causes k row are faultless listed refused cause fault.NoMemory is = tt
   told_causes k row are faultless listed refused cause (fault.Load found) is = absurd is
   told_causes k row are faultless listed refused cause (fault.Faults found) is = absurd is
-  told_causes k row are faultless listed refused cause fault.Unbuilt is = absurd is
   told_causes k row are faultless listed refused cause (fault.Look found) is = absurd is
 
 -- and it counts as it did
@@ -54,7 +53,6 @@ module _ (g : Grammar) (texts : List (List ℕ)) (T U : Type 0) where
   told_counts before now why fault.NoMemory is counts = subst (λ w. token.CountsRefused {T = T} before now (Err w)) is counts
   told_counts before now why (fault.Load found) is counts = absurd is
   told_counts before now why (fault.Faults found) is counts = absurd is
-  told_counts before now why fault.Unbuilt is counts = absurd is
   told_counts before now why (fault.Look found) is counts = absurd is
 
   term_keeps : (before now : Option (List ℕ)) (why : TermFault) (as_told : ToldTermFault) → IsTermToldAs g texts why as_told →
@@ -71,34 +69,23 @@ module _ (g : Grammar) (texts : List (List ℕ)) (T U : Type 0) where
   told_keeps before now why fault.NoMemory is keeps = subst (λ w. token.KeepsLastRefused {T = T} before now (Err w)) is keeps
   told_keeps before now why (fault.Load found) is keeps = absurd is
   told_keeps before now why (fault.Faults found) is keeps = absurd is
-  told_keeps before now why fault.Unbuilt is keeps = absurd is
   told_keeps before now why (fault.Look found) is keeps = absurd is
 
--- ---- a grammar without tables, or one that is not built, or no memory
+-- ---- a grammar without tables, or no memory
 
 module _ (g : Grammar) (texts : List (List ℕ)) (k : ℕ) where
   behind_causes : (refused : Option (List ℕ)) (f : CompileFault) → IsBehindTokens g texts k f → GrammarCauses g texts k refused f
   behind_causes refused (fault.Look found) is = is
-  behind_causes refused fault.Unbuilt is = is
   behind_causes refused fault.NoMemory is = tt
   behind_causes refused (fault.Load found) is = absurd is
   behind_causes refused (fault.Faults found) is = absurd is
   behind_causes refused (fault.Term found) is = absurd is
-
-  unbuilt_behind : (f : CompileFault) → IsUnbuiltOrMemory g k f → IsBehindTokens g texts k f
-  unbuilt_behind fault.Unbuilt is = is
-  unbuilt_behind fault.NoMemory is = tt
-  unbuilt_behind (fault.Look found) is = absurd is
-  unbuilt_behind (fault.Load found) is = absurd is
-  unbuilt_behind (fault.Faults found) is = absurd is
-  unbuilt_behind (fault.Term found) is = absurd is
 
   -- its cause is one by the grammar, as it is told
   pub look_causes : HasSoundTokens g → (kinds : Kinds) → AreKinds g kinds → (why : LookFault) → CausesNoTables g kinds k why → (f : CompileFault) →
       IsLookToldOr g texts k why f → IsBehindTokens g texts k f
   look_causes sound kinds are why cause (fault.Look told) is = record { sound = sound; kinds = kinds; are = are; fault = why; cause = cause; as_told = is }
   look_causes sound kinds are why cause fault.NoMemory is = tt
-  look_causes sound kinds are why cause fault.Unbuilt is = absurd is
   look_causes sound kinds are why cause (fault.Load found) is = absurd is
   look_causes sound kinds are why cause (fault.Faults found) is = absurd is
   look_causes sound kinds are why cause (fault.Term found) is = absurd is
@@ -108,15 +95,15 @@ module _ (g : Grammar) (texts : List (List ℕ)) (k : ℕ) where
     sound_causes refused (Ok language) is = tt
     sound_causes refused (Err f) is = behind_causes refused f is
 
-    pub language_causes : (r : Result T CompileFault) → IfErr r (IsUnbuiltOrMemory g k) → IfErr r (IsBehindTokens g texts k)
+    -- that memory is wanting is a cause
+    pub language_causes : (r : Result T CompileFault) → IfErr r (λ f. f ≡ fault.NoMemory) → IfErr r (IsBehindTokens g texts k)
     language_causes (Ok language) is = tt
-    language_causes (Err f) is = unbuilt_behind f is
+    language_causes (Err f) is = subst (IsBehindTokens g texts k) (sym is) tt
 
     -- of the patterns nothing has changed
     pub sound_counts : (before now : ℕ) → now ≡ before → (r : Result T CompileFault) → IfErr r (IsBehindTokens g texts k) → CountsPatterns before now r
     sound_counts before now same (Ok language) is = same
     sound_counts before now same (Err (fault.Look found)) is = same
-    sound_counts before now same (Err fault.Unbuilt) is = same
     sound_counts before now same (Err fault.NoMemory) is = same
     sound_counts before now same (Err (fault.Load found)) is = absurd is
     sound_counts before now same (Err (fault.Faults found)) is = absurd is

@@ -22,12 +22,11 @@ use Rattle.lw_lang.specs.Judged.{AreAllTold}
 use Rattle.lw_lang.specs.ToldLooks.{IsLookToldAs}
 use Rattle.lw_lang.specs.declared.told_look.ToldLookFault.{ToldLookFault}
 use Rattle.lw_lang.specs.ToldTerms.{IsTermToldAs}
-use Rattle.lw_lang.specs.Flat.{IsFlat}
 use Rattle.lw_lang.specs.declared.told_term.PatternProblem.TheVariants.{Refused}
 use Rattle.lw_lang.specs.declared.told_term.ToldTermFault.{ToldTermFault}
 use Rattle.lw_lang.specs.declared.told_term.ToldTermFault.TheVariants.{Pattern}
 use Rattle.lw_lang.specs.declared.fault.CompileFault.{CompileFault}
-use Rattle.lw_lang.specs.declared.fault.CompileFault.TheVariants.{Load, Faults, Term, Look, Unbuilt, NoMemory}
+use Rattle.lw_lang.specs.declared.fault.CompileFault.TheVariants.{Load, Faults, Term, Look, NoMemory}
 
 -- the root file and all that it imports say this grammar together, and no other
 pub record HoldsGrammar (files : Files) (root : List ℕ) (g : Grammar) : Type 0 where
@@ -48,15 +47,10 @@ pub record HasTables (g : Grammar) (k : ℕ) : Type 0 where
   pub few : ¬ HasMoreStrings g kinds k MOST_STRINGS
   pub tells : IsLL g kinds k
 
--- a grammar that has all this, and is one of those that are built so far
+-- a grammar that has all this
 pub record IsClear (g : Grammar) (k : ℕ) : Type 0 where
   pub sound : HasSoundTokens g
   pub tables : HasTables g k
-  pub flat : IsFlat g
-
--- a grammar that has all this and is not built
-abbrev pub IsNotBuilt : Grammar → ℕ → Type 0
-IsNotBuilt g k = HasSoundTokens g × HasTables g k × ¬ IsFlat g
 
 -- the first fault of the files; unless the store failed, they say no grammar
 pub record IsNotLoaded (files : Files) (root : List ℕ) (found : LoadFault) : Type 0 where
@@ -89,7 +83,6 @@ Causes files root k refused (Load found) = IsNotLoaded files root found
 Causes files root k refused (Faults told) = (g : Grammar) × (holds : HoldsGrammar files root g) × AreAllTold g holds.loaded.texts told
 Causes files root k refused (Term told) = (g : Grammar) × (holds : HoldsGrammar files root g) × HasNoTokens g holds.loaded.texts refused told
 Causes files root k refused (Look told) = (g : Grammar) × (holds : HoldsGrammar files root g) × HasNoTables g holds.loaded.texts k told
-Causes files root k refused Unbuilt = (g : Grammar) × HoldsGrammar files root g × IsNotBuilt g k
 Causes files root k refused NoMemory = Unit {0}
 
 -- the same by the grammar and the texts of its files
@@ -98,19 +91,11 @@ GrammarCauses g texts k refused (Load found) = ⊥
 GrammarCauses g texts k refused (Faults told) = AreAllTold g texts told
 GrammarCauses g texts k refused (Term told) = HasNoTokens g texts refused told
 GrammarCauses g texts k refused (Look told) = HasNoTables g texts k told
-GrammarCauses g texts k refused Unbuilt = IsNotBuilt g k
 GrammarCauses g texts k refused NoMemory = Unit {0}
-
--- a grammar without a fault, with a set of tokens and with tables, that is not built, or there was no memory
-abbrev pub IsUnbuiltOrMemory : Grammar → ℕ → CompileFault → Type 0
-IsUnbuiltOrMemory g k Unbuilt = IsNotBuilt g k
-IsUnbuiltOrMemory g k NoMemory = Unit {0}
-IsUnbuiltOrMemory g k _ = ⊥
 
 -- what may be wrong with a grammar without a fault that has a set of tokens
 abbrev pub IsBehindTokens : Grammar → List (List ℕ) → ℕ → CompileFault → Type 0
 IsBehindTokens g texts k (Look told) = HasNoTables g texts k told
-IsBehindTokens g texts k Unbuilt = IsNotBuilt g k
 IsBehindTokens g texts k NoMemory = Unit {0}
 IsBehindTokens g texts k _ = ⊥
 

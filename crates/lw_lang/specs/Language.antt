@@ -2,10 +2,11 @@
 use Rattle.std.specs.Prelude.{ℕ, ◌<◌, ◌≤◌, List, length}
 use Rattle.lw_grammar.specs.declared.grammar.Grammar.{Grammar}
 use Rattle.lw_syntax.specs.PlacesWithin.{IsWithin}
-use Rattle.lw_reading.specs.declared.issue.Issue.{Issue}
-use Rattle.lw_reading.specs.declared.issue.Issue.TheVariants.{Lexical, Syntax, End, TooLarge}
-use Rattle.lw_reading.specs.declared.issue.Parsed.{Parsed}
-use Rattle.lw_reading.specs.declared.issue.Parsed.TheVariants.{Whole, Broken}
+use Rattle.lw_tree.specs.Parts.{Parts}
+use Rattle.lw_tree.specs.declared.issue.Issue.{Issue}
+use Rattle.lw_tree.specs.declared.issue.Issue.TheVariants.{Lexical, Syntax, End, TooLarge}
+use Rattle.lw_reading.specs.declared.parsed.Parsed.{Parsed}
+use Rattle.lw_reading.specs.declared.parsed.Parsed.TheVariants.{Whole, Broken}
 
 pub record LanguageView : Type 0 where
   pub grammar : Grammar
@@ -26,4 +27,9 @@ IsIssueWithin text TooLarge = Unit {0}
 -- a fact of the fault, where there is one
 abbrev pub IfBroken : Parsed → (Issue → Type 0) → Type 0
 IfBroken (Broken issue) P = P issue
-IfBroken Whole P = Unit {0}
+IfBroken (Whole tree) P = Unit {0}
+
+-- a fact of the tree, where there is one
+abbrev pub IfWhole : Parsed → (Parts → Type 0) → Type 0
+IfWhole (Whole tree) P = P tree
+IfWhole (Broken issue) P = Unit {0}

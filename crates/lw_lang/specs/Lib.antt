@@ -1,12 +1,8 @@
-pub mod Shape
-pub mod ShapeParts
-pub mod Rows
-pub mod Flat
-pub mod FlatParts
 pub mod ToldTerms
 pub mod ToldLooks
 pub mod Language
 pub mod Prepared
+pub mod Parsing
 pub mod Ready
 pub mod Compiled
 pub mod Judged

@@ -6,25 +6,31 @@ ghost use Rattle.lw_formed.specs.WellFormed.{IsWellFormed};
 ghost use Rattle.lw_gramcheck.specs.Judging.{IsFaultless};
 ghost use Rattle.lw_token_sets.specs.Numbered.{AreNumberedKindsOf};
 ghost use Rattle.lw_token_sets.specs.TokenSets.{IsTokenSetOf, HasTokens};
-ghost use Rattle.lw_lang.specs.Compiled.{HoldsGrammar, IsClear, HasTables, Causes, GrammarCauses, IsBehindTokens, IsUnbuiltOrMemory, CountsStore, CountsPatterns, KeepsPatterns};
+ghost use Rattle.lw_lang.specs.Compiled.{HoldsGrammar, IsClear, HasTables, Causes, GrammarCauses, IsBehindTokens, CountsStore, CountsPatterns, KeepsPatterns};
+ghost use Rattle.lw_lang.specs.declared.fault.CompileFault.TheVariants.{NoMemory as no_memory};
+ghost use Rattle.lw_look.specs.Supplied.{IsSupplied};
+ghost use Rattle.lw_lookahead.specs.Tables.{AreTables};
+ghost use Rattle.lw_parse.specs.Parsers.{ParsesFaultless};
+ghost use Rattle.lw_grammar.specs.Kinds.{Kinds, AreKinds};
 ghost use Rattle.lw_lexicon.specs.Known.{IsKnownLexicon};
 ghost use Rattle.lw_lang.specs.ToldTerms.{CanBeTold, IsToldOr};
 ghost use Rattle.lw_lang.specs.ToldLooks.{CanLookBeTold, IsLookToldOr};
 ghost use Rattle.lw_grammar.specs.KindTexts.{AreKindTexts};
 ghost use Rattle.lw_grammar.specs.Size.{size};
 
+use crate::entry::entry;
 use crate::fault::CompileFault;
-use crate::flat::flat_row;
 use crate::judging::judge_files;
 use crate::language::Language;
 use crate::told_look::told_look;
 use crate::told_term::told_term;
-use lw_base::Name;
+use lw_base::{Name, NoMemory};
 use lw_grammar::Grammar;
 use lw_io::{Patterns, Store};
 use lw_lexicon::Lexicon;
 use lw_load::load;
-use lw_lookahead::{LookFault, tables};
+use lw_lookahead::{LookFault, Tables, tables};
+use lw_parse::Parser;
 use lw_terminals::TokenSet;
 use lw_token_sets::{NumberedKinds, TermFault, token_set};
 use std::alloc::Global;
@@ -35,8 +41,7 @@ use std::alloc::Global;
 /// The files are loaded first, then faults are looked for, then the set of tokens is made: too many kinds are told first, then a
 /// keyword that is blank, then the first terminal, in the order of kinds, whose pattern is long, refused or matches the empty
 /// text. Then it is found out whether `k` kinds tell the ways of each choice apart: too many strings are told first, then the first choice
-/// that is in conflict. What has passed all of this is a language where it is of the form that is built so far. Nothing of this
-/// changes the store's files.
+/// that is in conflict. What has passed all of this is a language. Nothing of this changes the store's files.
 pub fn compile<F: Store, P: Patterns>(
     alloc: Global,
     root: &Name,
@@ -151,6 +156,7 @@ fn build_sound(
     requires fits { size grammar ≤ LARGEST_GRAMMAR }
     requires stand { Stands texts.now grammar }
     requires most { k ≤ 3 }
+    requires supplied { (kinds : Kinds) → AreKinds grammar kinds → IsSupplied grammar kinds }
     requires numbered { AreNumberedKindsOf grammar numbered.now }
     requires tokens { IsTokenSetOf grammar [] numbered.now.kinds tokens }
     ensures grammar { IfOk result (λ language. language.grammar ≡ grammar) }
@@ -159,7 +165,7 @@ fn build_sound(
     ensures fault { IfErr result (IsBehindTokens grammar texts.now k) }
 {
     match tables(alloc, lexicon(&grammar, numbered), k as usize) {
-        Ok(_tables) => language_of(alloc, grammar, k, numbered, tokens),
+        Ok(tables) => language_of(alloc, grammar, k, numbered, tokens, tables),
         Err(fault) => Err(look_fault_of(grammar, texts, k, fault)),
     }
 }
@@ -190,25 +196,55 @@ fn look_fault_of(grammar: Grammar, texts: &[Name], k: u8, fault: LookFault) -> C
     }
 }
 
-// The language of a grammar that has these tokens and has tables.
+// The language of a grammar that has these tokens and these tables.
 fn language_of(
     alloc: Global,
     grammar: Grammar,
     k: u8,
     numbered: &NumberedKinds,
     tokens: TokenSet,
+    tables: Tables,
 ) -> Result<Language, CompileFault>
     requires faultless { IsFaultless grammar }
+    requires fits { size grammar ≤ LARGEST_GRAMMAR }
+    requires most { k ≤ 3 }
+    requires supplied { (kinds : Kinds) → AreKinds grammar kinds → IsSupplied grammar kinds }
     requires numbered { AreNumberedKindsOf grammar numbered.now }
     requires tokens { IsTokenSetOf grammar [] numbered.now.kinds tokens }
-    requires tables { HasTables grammar k }
+    requires has { HasTables grammar k }
+    requires tables { (kinds : Kinds) → AreKinds grammar kinds → AreTables grammar kinds k tables }
     ensures grammar { IfOk result (λ language. language.grammar ≡ grammar) }
     ensures clear { IfOk result (λ language. IsClear language.grammar k) }
     ensures texts { IfOk result (λ language. AreKindTexts language.grammar language.texts) }
-    ensures fault { IfErr result (IsUnbuiltOrMemory grammar k) }
+    ensures fault { IfErr result (λ fault. fault ≡ no_memory) }
 {
-    match flat_row(alloc, &grammar, numbered)? {
-        Some(row) => Ok(Language::new(grammar, tokens, row)),
-        None => Err(CompileFault::Unbuilt),
+    match parser_of(alloc, &grammar, k, numbered, tables) {
+        Ok(parser) => Ok(Language::new(grammar, tokens, parser)),
+        Err(NoMemory) => Err(CompileFault::NoMemory),
+    }
+}
+
+// What the texts of a grammar without faults are parsed by.
+fn parser_of(
+    alloc: Global,
+    g: &Grammar,
+    k: u8,
+    numbered: &NumberedKinds,
+    tables: Tables,
+) -> Result<Parser, NoMemory>
+    requires faultless { IsFaultless g.now }
+    requires fits { size g.now ≤ LARGEST_GRAMMAR }
+    requires most { k ≤ 3 }
+    requires supplied { (kinds : Kinds) → AreKinds g.now kinds → IsSupplied g.now kinds }
+    requires numbered { AreNumberedKindsOf g.now numbered.now }
+    requires tables { (kinds : Kinds) → AreKinds g.now kinds → AreTables g.now kinds k tables }
+    ensures { (kinds : Kinds) → AreKinds g.now kinds → IfOk result (ParsesFaultless g.now kinds k) }
+{
+    match entry(g) {
+        Some(rule) => {
+            let nodes = numbered.nodes.as_slice();
+            Parser::of(alloc, lexicon(g, numbered), nodes, tables, k as usize, rule)
+        }
+        None => unreachable!(),
     }
 }

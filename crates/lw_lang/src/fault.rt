@@ -21,8 +21,6 @@ pub enum CompileFault {
     Term(ToldTermFault),
     /// The next kinds do not tell the ways of its choices apart, or there are too many look-ahead strings.
     Look(ToldLookFault),
-    /// What the files say is of no form that is built so far.
-    Unbuilt,
     /// There was no memory.
     NoMemory,
 }

@@ -111,7 +111,7 @@ fn told_of(alloc: Global, text: &str, k: u8) -> Result<String, NoMemory>
         Err(CompileFault::NoMemory) => Err(NoMemory),
         Err(CompileFault::Term(told)) => shown_term(alloc, &told),
         Err(CompileFault::Look(told)) => shown_look(alloc, &told),
-        Err(CompileFault::Unbuilt) | Ok(_) => Ok(String::new(alloc)),
+        Ok(_) => Ok(String::new(alloc)),
     }
 }
 

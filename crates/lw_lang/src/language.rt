@@ -1,14 +1,20 @@
 // A language: what a grammar was made into, and reading by it.
 ghost use Rattle.std.specs.Prelude.{◌≡◌, ◌≤◌, ◌<◌, IfOk, Some, length, slice_get};
-ghost use Rattle.lw_reading.specs.Reading.{Reads};
-ghost use Rattle.lw_grammar.specs.KindTexts.{AreKindTexts};
-ghost use Rattle.lw_lang.specs.Language.{IfBroken, IsNamed, IsIssueWithin};
+ghost use Rattle.lw_base.specs.declared.limits.TheConstants.{LONGEST_DOCUMENT};
+ghost use Rattle.lw_grammar.specs.declared.grammar.Grammar.{Grammar};
+ghost use Rattle.lw_grammar.specs.Kinds.{Kinds};
+ghost use Rattle.lw_grammar.specs.KindTexts.{AreKindTexts, texts_of};
+ghost use Rattle.lw_reading.specs.Reading.{Reads, ReadsBy};
+ghost use Rattle.lw_tokens.specs.Lexicon.{Lexicon};
+ghost use Rattle.lw_rooted.specs.Within.{StandsInText};
+ghost use Rattle.lw_lang.specs.Language.{IfBroken, IfWhole, IsNamed, IsIssueWithin};
+ghost use Rattle.lw_lang.specs.Parsing.{CanParse};
 ghost use Rattle.lw_lang.specs.Prepared.{IsPrepared};
 
-use crate::recogniser::recognise;
-use lw_base::{KindId, LONGEST_DOCUMENT, Name, NoMemory};
+use lw_base::{KindId, LONGEST_DOCUMENT, Name, NoMemory, Token};
 use lw_grammar::Grammar;
 use lw_lexer::{LexFault, lex};
+use lw_parse::{ParseFault, Parser};
 use lw_reading::{Issue, Parsed};
 use lw_terminals::TokenSet;
 use std::alloc::Global;
@@ -20,7 +26,7 @@ use std::marker::Model;
 pub struct Language {
     grammar: Grammar,
     tokens: TokenSet,
-    row: Vec<KindId>,
+    parser: Parser,
 }
 
 impl Model for Language {
@@ -43,15 +49,15 @@ impl Model for Language {
 }
 
 impl Language {
-    // The language of a grammar, by its kinds and its one row.
-    pub(crate) fn new(grammar: Grammar, tokens: TokenSet, row: Vec<KindId>) -> Language
-        requires { IsPrepared grammar tokens row.items }
+    // The language of a grammar, by its kinds and what its texts are parsed by.
+    pub(crate) fn new(grammar: Grammar, tokens: TokenSet, parser: Parser) -> Language
+        requires { IsPrepared grammar tokens parser }
         ensures { result ≡ record { grammar = grammar; texts = tokens.texts } }
     {
         Language {
             grammar,
             tokens,
-            row,
+            parser,
         }
     }
 
@@ -71,21 +77,53 @@ impl Language {
         self.tokens.kind_text(kind)
     }
 
-    /// What the text reads as. At each token every pattern is tried once at its start: time is linear in the
-    /// length of the text where a pattern looks no further than it matches, and up to quadratic elsewhere.
+    /// What the text reads as: its tree, or its one fault. The one error is want of memory.
+    ///
+    /// At each token every pattern is tried once at its start: time is linear in the length of the text where a pattern looks no
+    /// further than it matches, and up to quadratic elsewhere. Parsing is linear in the tokens; where they are no sentence, they are
+    /// gone through once more, with all readings that they leave open, for the first that cannot stand.
     pub fn read(&self, alloc: Global, text: &Name) -> Result<Parsed, NoMemory>
         ensures reads { IfOk result (Reads self.now.grammar text.now) }
         ensures named { IfOk result (λ parsed. IfBroken parsed (IsNamed self.now.texts)) }
         ensures within { IfOk result (λ parsed. IfBroken parsed (IsIssueWithin text.now)) }
+        ensures stands { IfOk result (λ parsed. IfWhole parsed (StandsInText text.now)) }
     {
         let length = text.bytes().len();
         if length > LONGEST_DOCUMENT {
             return Ok(Parsed::Broken(Issue::TooLarge));
         }
         match lex(alloc, &self.tokens, text) {
-            Ok(tokens) => Ok(recognise(&self.row, &tokens, length as u32)),
+            Ok(tokens) => parsed(alloc, &self.parser, text, tokens),
             Err(LexFault::NoToken(span)) => Ok(Parsed::Broken(Issue::Lexical(span))),
             Err(LexFault::NoMemory) => Err(NoMemory),
         }
+    }
+}
+
+/// What the tokens of a text are: its tree, or the first that cannot stand, or the text's end.
+fn parsed(
+    alloc: Global,
+    parser: &Parser,
+    text: &Name,
+    tokens: Vec<Token>,
+) -> Result<Parsed, NoMemory>
+    requires short { length text.now ≤ LONGEST_DOCUMENT }
+    requires cut { (g : Grammar) × (kinds : Kinds) × (lexicon : Lexicon) × CanParse g kinds lexicon parser.now text.now tokens.items }
+    ensures reads { (g : Grammar) (kinds : Kinds) (lexicon : Lexicon) → CanParse g kinds lexicon parser.now text.now tokens.entry.items →
+        IfOk result (ReadsBy g kinds lexicon text.now) }
+    ensures named { (g : Grammar) (kinds : Kinds) (lexicon : Lexicon) → CanParse g kinds lexicon parser.now text.now tokens.entry.items →
+        IfOk result (λ parsed. IfBroken parsed (IsNamed (texts_of kinds))) }
+    ensures within { (g : Grammar) (kinds : Kinds) (lexicon : Lexicon) → CanParse g kinds lexicon parser.now text.now tokens.entry.items →
+        IfOk result (λ parsed. IfBroken parsed (IsIssueWithin text.now)) }
+    ensures stands { (g : Grammar) (kinds : Kinds) (lexicon : Lexicon) → CanParse g kinds lexicon parser.now text.now tokens.entry.items →
+        IfOk result (λ parsed. IfWhole parsed (StandsInText text.now)) }
+{
+    match parser.parse(alloc, text, tokens) {
+        Ok(tree) => Ok(Parsed::Whole(tree)),
+        Err(ParseFault::Unexpected(_, token)) => {
+            Ok(Parsed::Broken(Issue::Syntax(token.span, token.kind)))
+        }
+        Err(ParseFault::UnexpectedEnd) => Ok(Parsed::Broken(Issue::End(text.bytes().len() as u32))),
+        Err(ParseFault::NoMemory) => Err(NoMemory),
     }
 }

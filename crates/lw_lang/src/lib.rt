@@ -2,29 +2,25 @@
 //!
 //! [`compile`] loads the root file of a grammar with all that it imports through a store (`lw_load`), and answers the
 //! [`Language`] of what the files say together, or the one cause why there is none. [`Language::read`] says what a text
-//! reads as, exactly as `specs/Reading.antt` of `lw_reading` does. A language is seen as its grammar and the texts by
-//! which messages name its kinds.
+//! reads as, with its tree or its one fault, exactly as `specs/Reading.antt` of `lw_reading` does. A language is seen as its
+//! grammar and the texts by which messages name its kinds.
 //!
 //! Any grammar is loaded, and judged (`lw_gramcheck`): where something is wrong with it, all faults of the first phase that has
 //! any are told, each by the path of its file and the position there (`lw_told`). Of one without a fault the set of tokens is
 //! made (`lw_token_sets`), and then it is found out whether the next kinds of tokens tell the ways of its choices apart
-//! (`lw_lookahead`); why not is told in the same way. What then has the form of `specs/Flat.antt` is made ready: its one rule has one
-//! row of kinds, so reading is a walk along that row. Any other is [`CompileFault::Unbuilt`], which has no place of its own and is told at
-//! the start of the root file.
+//! (`lw_lookahead`); why not is told in the same way. What has passed all of this is made ready: by the tables its rules are
+//! parsed (`lw_parse`), and nothing of that is made anew for a text.
 #![tactic(auto)]
 
 mod compiler;
+mod entry;
 mod fault;
 #[cfg(test)]
 mod fault_tests;
-mod flat;
-mod flat_parts;
 mod judging;
 mod language;
-mod recogniser;
 #[cfg(test)]
-mod recogniser_tests;
-mod shape;
+mod reading_tests;
 mod told_look;
 mod told_term;
 

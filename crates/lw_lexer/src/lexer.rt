@@ -1,10 +1,11 @@
 // A text cut into tokens.
-ghost use Rattle.std.specs.Prelude.{◌≡◌, ◌+◌, ◌<◌, ◌≤◌, List, IfOk, Err, ℕ, ◌++◌, length, encode_utf8, drop};
+ghost use Rattle.std.specs.Prelude.{◌≡◌, ◌+◌, ◌<◌, ◌≤◌, List, IfOk, Err, ℕ, All, ◌++◌, length, encode_utf8, drop};
 ghost use Rattle.lw_base.specs.declared.limits.TheConstants.{LONGEST_TEXT};
 ghost use Rattle.std.specs.Char.{IsScalar};
 ghost use Rattle.lw_base.specs.declared.token.Span.{Span};
 ghost use Rattle.lw_base.specs.declared.token.Token.{Token};
 ghost use Rattle.lw_tokens.specs.Cut.{IsCut, HasNoTokenAt, IsCharacterAt};
+ghost use Rattle.lw_lexer.specs.TokenPlaces.{IsTokenPlace};
 
 use crate::LexFault;
 use crate::next::next_token;
@@ -16,6 +17,7 @@ use std::alloc::Global;
 pub fn lex(alloc: Global, set: &TokenSet, text: &Name) -> Result<Vec<Token>, LexFault>
     requires { length text.now ≤ LONGEST_TEXT }
     ensures cut { IfOk result (λ tokens. IsCut set.now.lexicon text.now tokens.items) }
+    ensures places { IfOk result (λ tokens. All (IsTokenPlace text.now) tokens.items) }
     ensures no_token { (s : Span) → result ≡ Err (LexFault.NoToken s) → HasNoTokenAt set.now.lexicon text.now s.start }
     ensures character { (s : Span) → result ≡ Err (LexFault.NoToken s) → IsCharacterAt text.now s }
 

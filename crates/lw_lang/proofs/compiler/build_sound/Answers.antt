@@ -1,18 +1,21 @@
 use Rattle.std.proofs.Common.{sym, subst}
-use Rattle.lw_grammar.specs.declared.grammar.Grammar.{Grammar}
 use Rattle.lw_look.specs.Supplied.{NodesAreTold}
 use Rattle.lw_lang.proofs.BuildLemmas.{sound_tokens}
 use Rattle.lw_lang.proofs.ChoicePlaces.{look_can_be_told}
-use Rattle.lw_lang.proofs.LookLemmas.{nodes_told, has_tables, has_cause}
+use Rattle.lw_lang.proofs.LookLemmas.{nodes_told, has_tables, has_all_tables, has_cause}
 use Rattle.lw_lang.proofs.ToldLemmas.{look_causes, language_causes}
 use Rattle.lw_lang.proofs.compiler.build_sound.Goals as goal
 
 pub tables-requires-clause-told : goal.tables-requires-clause-told
 tables-requires-clause-told c = subst NodesAreTold (sym c.lexicon.ensures.grammar) (nodes_told c.args.grammar c.args.numbered.now.nodes.items c.requires.numbered.nodes)
 
+pub language_of-requires-clause-has : goal.language_of-requires-clause-has
+language_of-requires-clause-has c =
+    has_tables c.args.grammar _ c.lexicon.ensures.grammar c.requires.tokens.of c.requires.tokens.are c.args.k c.in-Ok.ensures.ll c.in-Ok.ensures.few
+
 pub language_of-requires-clause-tables : goal.language_of-requires-clause-tables
 language_of-requires-clause-tables c =
-    has_tables c.args.grammar _ c.lexicon.ensures.grammar c.requires.tokens.of c.requires.tokens.are c.args.k c.in-Ok.ensures.ll c.in-Ok.ensures.few
+    has_all_tables c.args.grammar _ c.lexicon.ensures.grammar c.requires.tokens.of c.requires.tokens.are c.args.k c.in-Ok.tables c.in-Ok.ensures.tables
 
 pub look_fault_of-requires-clause-told : goal.look_fault_of-requires-clause-told
 look_fault_of-requires-clause-told c =

@@ -1,10 +1,13 @@
-use Rattle.std.proofs.Common.{◌≡◌, ◌<◌, ◌∙◌, length, drop, Some, IsCharBoundary, sym, ap, subst, arith}
+use Rattle.std.proofs.Common.{◌≡◌, ◌<◌, ◌+◌, ◌∙◌, length, drop, Some, All, IsCharBoundary, sym, ap, subst, arith}
+use Rattle.std.proofs.lemmas.List.Elements.{All-nil, All-push}
 use Rattle.std.proofs.lemmas.Str.{IsCharBoundary-start, IsCharBoundary-from_rest}
 use Rattle.lw_base.specs.declared.token.Span.{Span}
+use Rattle.lw_base.specs.declared.token.Token.{Token}
 use Rattle.lw_tokens.specs.Cut as cut
 use Rattle.lw_tokens.specs.Cut.{IsCut, IsCutTo, HasNoTokenAt}
 use Rattle.lw_tokens.specs.NextToken.{IsNextToken}
 use Rattle.lw_lexer.specs.Place.{next_of}
+use Rattle.lw_lexer.specs.TokenPlaces.{IsTokenPlace}
 use Rattle.lw_tokens.proofs.OneCut.{one_cut, no_cut, one_place}
 use Rattle.lw_lexer.proofs.lexer.lex.Goals as goal
 
@@ -13,6 +16,7 @@ cutting-init c = record {
   matchers = c.in_ok-matchers.ensures.terminals;
   boundary = IsCharBoundary-start c.text-text.result.now c.text-text.utf8;
   cut = rw c.new-tokens.ensures.items cut.start;
+  places = rw c.new-tokens.ensures.items (All-nil (IsTokenPlace c.text-text.result.now));
 }
 
 pub cutting-preserved : goal.cutting-preserved
@@ -24,10 +28,19 @@ cutting-preserved c =
     let below : at < length text = omega (arith, c.cutting-test.true) in
     let boundary : IsCharBoundary (drop at text) next.bytes = rw c.range_from-rest.ensures.value at c.in-Some.ensures.boundary in
     let is_next : IsNextToken c.args.set.now.lexicon (drop at text) (Some (next_of next)) = rw c.range_from-rest.ensures.value at c.in-Some.ensures.next in
+    let end : IsCharBoundary text (at + next.bytes) = IsCharBoundary-from_rest text at next.bytes (omega (arith, below)) boundary in
+    let token : Token = record { kind = next.kind; span = record { start = at; end = at + next.bytes }; hidden = next.hidden } in
+    let place : IsTokenPlace text token = record {
+      not_empty = omega (arith, c.in-Some.ensures.some);
+      within = end.0;
+      starts = inv.boundary;
+      ends = end;
+    } in
     record {
       matchers = c.next_token.ensures.same ∙ inv.matchers;
-      boundary = IsCharBoundary-from_rest text at next.bytes (omega (arith, below)) boundary;
+      boundary = end;
       cut = rw (c.in_ok-push.ensures.items, c.span_of-in-cutting.ensures) (cut.then inv.cut below is_next);
+      places = rw (c.in_ok-push.ensures.items, c.span_of-in-cutting.ensures) (All-push (IsTokenPlace text) c.cutting.tokens.items token inv.places place);
     }
 
 pub returns-in_default-clause-no_cut : goal.returns-in_default-clause-no_cut

@@ -1,5 +1,6 @@
-use Rattle.std.proofs.Common.{◌≡◌, ◌-◌, length, IsCharBoundary}
+use Rattle.std.proofs.Common.{◌≡◌, ◌-◌, length, All, IsCharBoundary}
 use Rattle.lw_tokens.specs.Cut.{IsCutTo}
+use Rattle.lw_lexer.specs.TokenPlaces.{IsTokenPlace}
 use Rattle.lw_lexer.proofs.lexer.lex.Given as goal
 
 abbrev pub invariant-cutting : goal.invariant-cutting
@@ -7,6 +8,7 @@ invariant-cutting l = record {
   matchers : l.matchers.items ≡ l.set.lexicon.terminals;
   boundary : IsCharBoundary l.text l.at;
   cut : IsCutTo l.set.lexicon l.text l.at l.tokens.items;
+  places : All (IsTokenPlace l.text) l.tokens.items;
 }
 
 abbrev pub decreases-cutting : goal.decreases-cutting

@@ -1,6 +1,6 @@
-use Rattle.std.proofs.Common.{arith, length, map, ap, Err}
+use Rattle.std.proofs.Common.{arith, length, ap, subst, sym, Err}
 use Rattle.lw_reading.specs.Reading as reading
-use Rattle.lw_lang.proofs.ReadLemmas.{read_fault, read_tokens, named, within, character_within}
+use Rattle.lw_lang.proofs.ReadLemmas.{can_parse, read_fault, read_tokens, named, character_within}
 use Rattle.lw_lang.proofs.language.Language.read.Goals as goal
 
 pub returns-then-length-gt-LONGEST_DOCUMENT-clause-reads :
@@ -8,20 +8,39 @@ pub returns-then-length-gt-LONGEST_DOCUMENT-clause-reads :
 returns-then-length-gt-LONGEST_DOCUMENT-clause-reads c =
     reading.too_large (omega (arith, c.if-length-gt-LONGEST_DOCUMENT.true, ap length c.bytes-length.ensures.bytes))
 
+pub parsed-requires-clause-short : goal.parsed-requires-clause-short
+parsed-requires-clause-short c = omega (arith, c.if-length-gt-LONGEST_DOCUMENT.false, ap length c.bytes-length.ensures.bytes)
+
+pub parsed-requires-clause-cut : goal.parsed-requires-clause-cut
+parsed-requires-clause-cut c = (
+  c.self.inside.grammar,
+  c.self.invariant.of,
+  c.self.inside.tokens.lexicon,
+  can_parse c.self.inside _ c.self.view_is c.self.invariant c.args.text.now c.in-Ok.tokens.items c.in-Ok.ensures.cut c.in-Ok.ensures.places,
+)
+
 pub returns-in-Ok-clause-reads : goal.returns-in-Ok-clause-reads
 returns-in-Ok-clause-reads c =
-    read_tokens c.self.inside _ c.self.view_is c.self.invariant c.args.text.now (omega (arith, c.if-length-gt-LONGEST_DOCUMENT.false, ap length c.bytes-length.ensures.bytes)) _ _ _ _ _
-    (ap (map (λ kind. kind.0)) c.deref.ensures.value) c.deref-in-Ok.ensures.value (ap length c.bytes-length.ensures.bytes) c.in-Ok.ensures.cut c.recognise.ensures
+    let can = can_parse c.self.inside _ c.self.view_is c.self.invariant c.args.text.now c.in-Ok.tokens.items c.in-Ok.ensures.cut c.in-Ok.ensures.places in
+    read_tokens c.self.inside _ c.self.view_is c.self.invariant c.args.text.now
+    (omega (arith, c.if-length-gt-LONGEST_DOCUMENT.false, ap length c.bytes-length.ensures.bytes)) c.parsed.result
+    (c.parsed.ensures.reads c.self.inside.grammar c.self.invariant.of c.self.inside.tokens.lexicon can)
 
 pub returns-in-Ok-clause-named : goal.returns-in-Ok-clause-named
 returns-in-Ok-clause-named c =
-    named c.self.inside _ c.self.view_is c.self.invariant c.args.text.now (omega (arith, c.if-length-gt-LONGEST_DOCUMENT.false, ap length c.bytes-length.ensures.bytes)) _ _ _ _ _
-    (ap (map (λ kind. kind.0)) c.deref.ensures.value) c.deref-in-Ok.ensures.value (ap length c.bytes-length.ensures.bytes) c.in-Ok.ensures.cut c.recognise.ensures
+    let can = can_parse c.self.inside _ c.self.view_is c.self.invariant c.args.text.now c.in-Ok.tokens.items c.in-Ok.ensures.cut c.in-Ok.ensures.places in
+    named c.self.inside _ c.self.view_is c.self.invariant c.args.text.now c.parsed.result
+    (c.parsed.ensures.named c.self.inside.grammar c.self.invariant.of c.self.inside.tokens.lexicon can)
 
 pub returns-in-Ok-clause-within : goal.returns-in-Ok-clause-within
 returns-in-Ok-clause-within c =
-    within c.self.inside _ c.self.view_is c.self.invariant c.args.text.now (omega (arith, c.if-length-gt-LONGEST_DOCUMENT.false, ap length c.bytes-length.ensures.bytes)) _ _ _ _ _
-    (ap (map (λ kind. kind.0)) c.deref.ensures.value) c.deref-in-Ok.ensures.value (ap length c.bytes-length.ensures.bytes) c.in-Ok.ensures.cut c.recognise.ensures
+    c.parsed.ensures.within c.self.inside.grammar c.self.invariant.of c.self.inside.tokens.lexicon
+    (can_parse c.self.inside _ c.self.view_is c.self.invariant c.args.text.now c.in-Ok.tokens.items c.in-Ok.ensures.cut c.in-Ok.ensures.places)
+
+pub returns-in-Ok-clause-stands : goal.returns-in-Ok-clause-stands
+returns-in-Ok-clause-stands c =
+    c.parsed.ensures.stands c.self.inside.grammar c.self.invariant.of c.self.inside.tokens.lexicon
+    (can_parse c.self.inside _ c.self.view_is c.self.invariant c.args.text.now c.in-Ok.tokens.items c.in-Ok.ensures.cut c.in-Ok.ensures.places)
 
 pub returns-in-Err-NoToken-clause-reads : goal.returns-in-Err-NoToken-clause-reads
 returns-in-Err-NoToken-clause-reads c =
