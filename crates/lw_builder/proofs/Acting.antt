@@ -14,8 +14,7 @@ use Rattle.lw_marks.specs.Follows.{ChangesOpen, renames, wraps}
 use Rattle.lw_recipes.specs.declared.mark.TreeMark.TheVariants as numbered
 use Rattle.lw_recipes.specs.declared.recipe.ActionRecipe.{ActionRecipe}
 use Rattle.lw_recipes.specs.Meant.{MeansMark, acts}
-use Rattle.lw_recipes.specs.Making.{RecipeLists, IsPutNumber}
-use Rattle.lw_builder.specs.Complete.{AreCompleteRecipesOf}
+use Rattle.lw_recipes.specs.Making.{AreRecipesOf, RecipeLists, IsPutNumber}
 use Rattle.lw_builder.specs.declared.builder.Builder.{Builder}
 use Rattle.lw_builder.specs.Standing.{StandsOpen}
 use Rattle.lw_builder.specs.Steps.{DoesMark, EndsInNode, read_tokens}
@@ -27,20 +26,20 @@ record IsActionFor (g : Grammar) (a : Action) (r : ActionRecipe) : Type 0 where
   type_is : IsNumberOfType g a.type_name r.type_id.0
   put_is : IsPutNumber g a.put r.put
 
-action_for : (g : Grammar) (recipes : RecipeLists) (n : ℕ) (a : Action) (r : ActionRecipe) → AreCompleteRecipesOf g recipes → MeansMark g (numbered.Act n) (mark.Act a) →
+action_for : (g : Grammar) (recipes : RecipeLists) (n : ℕ) (a : Action) (r : ActionRecipe) → AreRecipesOf g recipes → MeansMark g (numbered.Act n) (mark.Act a) →
     slice_get recipes.done n ≡ Some r → IsActionFor g a r
 action_for g recipes n a r are (acts {s = s} at stands) is =
-    let h = are.grammar.actions n s a at stands in
+    let h = are.actions n s a at stands in
     let same : h.0 ≡ r = same_Some h.0 r (sym h.1 ∙ is) in
     record {
       type_is = subst (λ (k : ActionRecipe). IsNumberOfType g a.type_name k.type_id.0) same h.2;
       put_is = subst (λ (k : ActionRecipe). IsPutNumber g a.put k.put) same h.3;
     }
 
-pub has_action : (g : Grammar) (recipes : RecipeLists) (n : ℕ) (a : Action) → AreCompleteRecipesOf g recipes → MeansMark g (numbered.Act n) (mark.Act a) →
+pub has_action : (g : Grammar) (recipes : RecipeLists) (n : ℕ) (a : Action) → AreRecipesOf g recipes → MeansMark g (numbered.Act n) (mark.Act a) →
     n < length recipes.done
 has_action g recipes n a are (acts {s = s} at stands) =
-    let h = are.grammar.actions n s a at stands in
+    let h = are.actions n s a at stands in
     slice_get_within recipes.done n h.0 h.1
 
 -- an action is done to a node

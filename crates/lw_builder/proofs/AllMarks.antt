@@ -16,8 +16,7 @@ use Rattle.lw_marks.specs.Numbers.{IsNamingProperty}
 use Rattle.lw_marks.specs.Trees.{IsOpenedTree, parts_of_tree}
 use Rattle.lw_tree.specs.Parts.{Parts, SameTables}
 use Rattle.lw_recipes.specs.declared.mark.TreeMark.{TreeMark}
-use Rattle.lw_recipes.specs.Making.{RecipeLists}
-use Rattle.lw_builder.specs.Complete.{AreCompleteRecipesOf}
+use Rattle.lw_recipes.specs.Making.{AreRecipesOf, RecipeLists}
 use Rattle.lw_recipes.specs.Meant as meant
 use Rattle.lw_recipes.specs.Meant.{MeansMark, AreMeant}
 use Rattle.lw_builder.specs.declared.builder.Builder.{Builder}
@@ -193,14 +192,14 @@ underway g marks m ts bs builder h are f visible =
 
 -- the tree that was made is that of the marks
 pub opened : (g : Grammar) (text : List ℕ) (m : List Mark) (visible tokens : List Token) (bs : List Bracket) (x : Grown) (recipes : RecipeLists) (tree : Parts) →
-    AreCompleteRecipesOf g recipes → FollowsMarks g text m visible bs → Closes g text visible bs x → SameTables tree (parts_of_tree x tokens recipes.naming) →
+    AreRecipesOf g recipes → FollowsMarks g text m visible bs → Closes g text visible bs x → SameTables tree (parts_of_tree x tokens recipes.naming) →
     IsOpenedTree g text m visible tokens tree
 opened g text m visible tokens bs x recipes tree are f closes same = record {
   brackets = bs;
   grown = x;
   follows = f;
   closes = closes;
-  named = subst (λ n. IsNamingProperty g n) (sym same.name) are.grammar.name;
+  named = subst (λ n. IsNamingProperty g n) (sym same.name) are.name;
   parts = record { nodes = same.nodes; values = same.values; refs = same.refs; tokens = same.tokens; name = refl };
 }
 
@@ -210,12 +209,12 @@ visible_parts text tokens parts = All-filter (λ (t : Token). not t.hidden) (λ 
 -- a builder of these tokens, which were followed so far
 pub started : (g : Grammar) (marks rest : List TreeMark) (m : List Mark) (bs : List Bracket) (text : List ℕ) (visible : List Token) (recipes : RecipeLists)
     (first builder : Builder) →
-    ((g : Grammar) (m : List Mark) (bs : List Bracket) → AreCompleteRecipesOf g first.recipes.now → AreMeant g marks m → FollowsMarks g first.text.now m first.visible.now bs →
+    ((g : Grammar) (m : List Mark) (bs : List Bracket) → AreRecipesOf g first.recipes.now → AreMeant g marks m → FollowsMarks g first.text.now m first.visible.now bs →
     IsUnderway g m bs rest builder) →
-    first.text.now ≡ text → first.visible.now ≡ visible → first.recipes.now ≡ recipes → AreCompleteRecipesOf g recipes → AreMeant g marks m → FollowsMarks g text m visible bs →
+    first.text.now ≡ text → first.visible.now ≡ visible → first.recipes.now ≡ recipes → AreRecipesOf g recipes → AreMeant g marks m → FollowsMarks g text m visible bs →
     IsUnderway g m bs rest builder
 started g marks rest m bs text visible recipes first builder all same_text same_visible same_recipes are meant f =
-    all g m bs (subst (λ l. AreCompleteRecipesOf g l) (sym same_recipes) are) meant
+    all g m bs (subst (λ l. AreRecipesOf g l) (sym same_recipes) are) meant
     (subst (λ l. FollowsMarks g l m first.visible.now bs) (sym same_text) (subst (λ l. FollowsMarks g text m l bs) (sym same_visible) f))
 
 -- where no mark is left, what closes the brackets closes those of the builder

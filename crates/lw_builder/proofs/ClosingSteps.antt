@@ -12,7 +12,7 @@ use Rattle.lw_marks.specs.Grown.{Grown, Held}
 use Rattle.lw_marks.specs.Brackets.{Bracket, InNode, InValue, Root, Shuts, in_value, in_node, at_root}
 use Rattle.lw_marks.specs.Follows.{ChangesOpen, shuts, Closes, root, shut, ended, left_out, MakesReference, PutsValueIn, a_reference, plain, RefersBy, written, by_type, IsCross}
 use Rattle.lw_recipes.specs.declared.recipe.ValueRecipe.{ValueRecipe}
-use Rattle.lw_builder.specs.Complete.{AreCompleteRecipesOf, IsReference}
+use Rattle.lw_recipes.specs.Making.{AreRecipesOf, IsReference}
 use Rattle.lw_builder.specs.declared.builder.Builder.{Builder}
 use Rattle.lw_builder.specs.declared.open.Open.{Open}
 use Rattle.lw_builder.specs.declared.open.Open.TheVariants as variant
@@ -68,7 +68,7 @@ still_over g old new over same =
     let P : List Token → Type 0 = λ l. new.read ≤ length l in
     let Q : ℕ → Type 0 = λ n. n ≤ length old.visible.now in
     record {
-      recipes = subst (λ l. AreCompleteRecipesOf g l) (sym same.over.recipes) over.recipes;
+      recipes = subst (λ l. AreRecipesOf g l) (sym same.over.recipes) over.recipes;
       parts = subst (λ l. ArePartsOf l new.visible.now) (sym same.over.text) (subst (λ l. ArePartsOf old.text.now l) (sym same.over.visible) over.parts);
       within = subst P (sym same.over.visible) (subst Q (sym same.read) over.within);
     }

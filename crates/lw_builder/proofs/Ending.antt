@@ -25,8 +25,7 @@ use Rattle.lw_recipes.specs.declared.recipe.Content.TheVariants as content
 use Rattle.lw_recipes.specs.declared.recipe.ValueRecipe.{ValueRecipe}
 use Rattle.lw_recipes.specs.Meant.{MeansMark, puts}
 use Rattle.lw_recipes.specs.Making as recipe
-use Rattle.lw_recipes.specs.Making.{RecipeLists, IsMadeBy}
-use Rattle.lw_builder.specs.Complete.{AreCompleteRecipesOf, IsReference}
+use Rattle.lw_recipes.specs.Making.{AreRecipesOf, IsReference, RecipeLists, IsMadeBy}
 use Rattle.lw_builder.specs.declared.builder.Builder.{Builder}
 use Rattle.lw_builder.specs.declared.open.Open.{Open}
 use Rattle.lw_builder.specs.declared.open.Open.TheVariants as variant
@@ -47,10 +46,10 @@ pub record IsRecipeFor (g : Grammar) (name : List ℕ) (op : Op) (c : Value0) (r
   pub so : (made : Content) → IsMadeBy g op c made → r.content ≡ made
   pub refers : MakesReference op c → IsReference r.content
 
-pub recipe_for : (g : Grammar) (recipes : RecipeLists) (n : ℕ) (name : List ℕ) (op : Op) (c : Value0) (r : ValueRecipe) → AreCompleteRecipesOf g recipes →
+pub recipe_for : (g : Grammar) (recipes : RecipeLists) (n : ℕ) (name : List ℕ) (op : Op) (c : Value0) (r : ValueRecipe) → AreRecipesOf g recipes →
     MeansMark g (numbered.Put n) (mark.Put name op c) → slice_get recipes.made n ≡ Some r → IsRecipeFor g name op c r
 recipe_for g recipes n name op c r are (puts {s = s} at assigned stands) is =
-    let h = are.grammar.values n s name op c at assigned stands in
+    let h = are.values n s name op c at assigned stands in
     let same : h.0 ≡ r = same_Some h.0 r (sym h.1 ∙ is) in
     record {
       number = subst (λ (k : ValueRecipe). IsNumberOfProperty g name k.prop.0) same h.2;
@@ -58,10 +57,10 @@ recipe_for g recipes n name op c r are (puts {s = s} at assigned stands) is =
       refers = λ makes. are.references n s name op c at assigned stands makes r is;
     }
 
-pub has_recipe : (g : Grammar) (recipes : RecipeLists) (n : ℕ) (name : List ℕ) (op : Op) (c : Value0) → AreCompleteRecipesOf g recipes →
+pub has_recipe : (g : Grammar) (recipes : RecipeLists) (n : ℕ) (name : List ℕ) (op : Op) (c : Value0) → AreRecipesOf g recipes →
     MeansMark g (numbered.Put n) (mark.Put name op c) → n < length recipes.made
 has_recipe g recipes n name op c are (puts {s = s} at assigned stands) =
-    let h = are.grammar.values n s name op c at assigned stands in
+    let h = are.values n s name op c at assigned stands in
     slice_get_within recipes.made n h.0 h.1
 
 -- a value that ends inside a node, with these tables and what is open then

@@ -16,7 +16,7 @@ use Rattle.lw_marks.specs.Brackets.{Bracket}
 use Rattle.lw_marks.specs.Follows as follows
 use Rattle.lw_marks.specs.Follows.{ChangesOpen, FollowsMarks}
 use Rattle.lw_recipes.specs.declared.mark.TreeMark.TheVariants as numbered
-use Rattle.lw_builder.specs.Complete.{AreCompleteRecipesOf}
+use Rattle.lw_recipes.specs.Making.{AreRecipesOf}
 use Rattle.lw_recipes.specs.Meant as meant
 use Rattle.lw_recipes.specs.Meant.{MeansMark}
 use Rattle.lw_builder.specs.declared.builder.Builder.{Builder}
@@ -78,7 +78,7 @@ token_followed g m x k bs after old new is h goes recipes text visible read fini
     let f2 : FollowsMarks g old.text.now (m ++ x ∷ []) (read_tokens new) bs = subst (λ l. FollowsMarks g old.text.now (m ++ x ∷ []) l bs) (sym read') f1 in
     let f3 : FollowsMarks g new.text.now (m ++ x ∷ []) (read_tokens new) bs = subst (λ l. FollowsMarks g l (m ++ x ∷ []) (read_tokens new) bs) (sym text) f2 in
     let now : HasFollowed g (m ++ x ∷ []) bs new = record {
-      recipes = subst (λ l. AreCompleteRecipesOf g l) (sym recipes) h.recipes;
+      recipes = subst (λ l. AreRecipesOf g l) (sym recipes) h.recipes;
       parts = subst (λ l. ArePartsOf l new.visible.now) (sym text) (subst (λ l. ArePartsOf old.text.now l) (sym visible) h.parts);
       within = omega arith;
       follows = f3;

@@ -21,8 +21,7 @@ use Rattle.lw_recipes.specs.declared.recipe.Content.TheVariants as content
 use Rattle.lw_recipes.specs.declared.recipe.TextForm.{TextForm}
 use Rattle.lw_recipes.specs.declared.recipe.TextForm.TheVariants as form
 use Rattle.lw_recipes.specs.Making as recipe
-use Rattle.lw_recipes.specs.Making.{IsMadeBy, IsNameForm, text_form}
-use Rattle.lw_builder.specs.Complete.{IsReference}
+use Rattle.lw_recipes.specs.Making.{IsReference, IsMadeBy, IsNameForm, text_form}
 use Rattle.lw_builder.specs.Contents.{said_in, IsMadeValue}
 
 said_so : (name text : List ℕ) → said_in (text_form name) text ≡ text_said name text

@@ -9,17 +9,16 @@ use Rattle.lw_marks.specs.Grown.{Grown, Held, Nothing}
 use Rattle.lw_marks.specs.Numbers.{IsNumberOfProperty}
 use Rattle.lw_marks.specs.Brackets.{Bracket, InNode, InValue, Shuts}
 use Rattle.lw_marks.specs.Follows.{ChangesOpen, opens, puts, shuts, ends, PutsValueIn}
-use Rattle.lw_recipes.specs.Making.{RecipeLists}
-use Rattle.lw_builder.specs.Complete.{AreCompleteRecipesOf}
+use Rattle.lw_recipes.specs.Making.{AreRecipesOf, RecipeLists}
 
 module _ (g : Grammar) (text : List ℕ) (ts : List Token) where
   pub shuts_so : (bs after : List Bracket) → ChangesOpen g text ts mark.Shut bs after → Shuts ts bs after
   shuts_so bs after (shuts s) = s
 
   -- the node that begins has the type that the recipes tell of its rule
-  pub opens_so : (recipes : RecipeLists) (r : ℕ) (bs after : List Bracket) → AreCompleteRecipesOf g recipes → ChangesOpen g text ts (mark.Open r) bs after →
+  pub opens_so : (recipes : RecipeLists) (r : ℕ) (bs after : List Bracket) → AreRecipesOf g recipes → ChangesOpen g text ts (mark.Open r) bs after →
       (type : ℕ) × (slice_get recipes.opened r ≡ Some (Some (record { 0 = type }))) × (after ≡ InNode type (length ts) Nothing ∷ bs)
-  opens_so recipes r bs after are (opens {type = type} {rule = rule} {name = name} at has number) = (type, are.grammar.types r type rule name at has number, refl)
+  opens_so recipes r bs after are (opens {type = type} {rule = rule} {name = name} at has number) = (type, are.types r type rule name at has number, refl)
 
   pub puts_so : (name : List ℕ) (op : Op) (c : Value0) (bs after : List Bracket) → ChangesOpen g text ts (mark.Put name op c) bs after →
       (p : ℕ) × IsNumberOfProperty g name p × (after ≡ InValue p op c (length ts) None ∷ bs)

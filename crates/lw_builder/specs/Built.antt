@@ -7,7 +7,7 @@ use Rattle.lw_sentences.specs.Marks.{Mark}
 use Rattle.lw_sentences.specs.Marks as mark
 use Rattle.lw_marks.specs.Brackets.{Bracket}
 use Rattle.lw_marks.specs.Follows.{ChangesOpen, FollowsMarks}
-use Rattle.lw_builder.specs.Complete.{AreCompleteRecipesOf}
+use Rattle.lw_recipes.specs.Making.{AreRecipesOf}
 use Rattle.lw_builder.specs.declared.builder.Builder.{Builder}
 use Rattle.lw_builder.specs.Standing.{StandsOpen}
 
@@ -22,7 +22,7 @@ ArePartsOf text tokens = All (λ t. IsPlace text t.span) tokens
 module _ (g : Grammar) where
   -- the builder has followed these marks, with as many of the visible tokens as it has read, and these brackets are open
   pub record HasFollowed (m : List Mark) (bs : List Bracket) (builder : Builder) : Type 0 where
-    pub recipes : AreCompleteRecipesOf g builder.recipes.now
+    pub recipes : AreRecipesOf g builder.recipes.now
     pub parts : ArePartsOf builder.text.now builder.visible.now
     pub within : builder.read ≤ length builder.visible.now
     pub follows : FollowsMarks g builder.text.now m (take builder.read builder.visible.now) bs

@@ -3,4 +3,3 @@ pub mod Owners
 pub mod Standing
 pub mod Built
 pub mod Steps
-pub mod Complete

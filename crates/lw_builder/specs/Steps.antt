@@ -8,7 +8,7 @@ use Rattle.lw_marks.specs.Brackets.{Bracket}
 use Rattle.lw_marks.specs.Follows.{ChangesOpen, Closes}
 use Rattle.lw_preorder.specs.Finishing.{finished, finished_in}
 use Rattle.lw_preorder.specs.Tables.{put_in, stored, stored_in, pointed, pointed_in}
-use Rattle.lw_builder.specs.Complete.{AreCompleteRecipesOf}
+use Rattle.lw_recipes.specs.Making.{AreRecipesOf}
 use Rattle.lw_builder.specs.declared.open.Open.{Open}
 use Rattle.lw_builder.specs.declared.open.Open.TheVariants as variant
 use Rattle.lw_builder.specs.declared.open.OpenNode.{OpenNode}
@@ -63,7 +63,7 @@ count_open builder = count_by is_bracket_open builder.brackets.items
 module _ (g : Grammar) where
   -- the recipes are those of the grammar, and the tokens are parts of the text
   pub record IsOver (builder : Builder) : Type 0 where
-    pub recipes : AreCompleteRecipesOf g builder.recipes.now
+    pub recipes : AreRecipesOf g builder.recipes.now
     pub parts : ArePartsOf builder.text.now builder.visible.now
     pub within : builder.read ≤ length builder.visible.now
 

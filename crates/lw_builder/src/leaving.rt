@@ -3,7 +3,7 @@ ghost use Rattle.std.specs.Prelude.{◌≡◌, ◌<◌, ◌↔◌, ◌++◌, ◌
 ghost use Rattle.lw_grammar.specs.declared.grammar.Grammar.{Grammar};
 ghost use Rattle.lw_marks.specs.Brackets.{Root};
 ghost use Rattle.lw_marks.specs.Grown.{Grown};
-ghost use Rattle.lw_builder.specs.Complete.{IsReference};
+ghost use Rattle.lw_recipes.specs.Making.{IsReference};
 ghost use Rattle.lw_builder.specs.declared.open.Open.{Open as Opened};
 ghost use Rattle.lw_builder.specs.Standing.{StandsOpen};
 ghost use Rattle.lw_builder.specs.Steps.{IsClosing, IsSameReading, IsWholeTree, count_open};

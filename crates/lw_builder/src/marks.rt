@@ -6,7 +6,7 @@ ghost use Rattle.lw_marks.specs.Brackets.{Bracket};
 ghost use Rattle.lw_marks.specs.Follows.{Closes, FollowsMarks};
 ghost use Rattle.lw_marks.specs.Grown.{Grown};
 ghost use Rattle.lw_marks.specs.Trees.{IsOpenedTree, parts_of_tree};
-ghost use Rattle.lw_builder.specs.Complete.{AreCompleteRecipesOf};
+ghost use Rattle.lw_recipes.specs.Making.{AreRecipesOf};
 ghost use Rattle.lw_recipes.specs.Meant.{AreMeant, MeansMark};
 ghost use Rattle.lw_tree.specs.Parts.{SameTables, Tile};
 ghost use Rattle.lw_builder.specs.Built.{ArePartsOf, GoesOnBy, HasFollowed, IsOverSame, visible_of};
@@ -27,7 +27,7 @@ impl<'a> Builder<'a> {
         text: &'a Name,
         visible: &'a [Token],
     ) -> Builder<'a>
-        ensures nothing { (g : Grammar) → AreCompleteRecipesOf g recipes.now → ArePartsOf text.now visible.now → HasFollowed g [] [] result }
+        ensures nothing { (g : Grammar) → AreRecipesOf g recipes.now → ArePartsOf text.now visible.now → HasFollowed g [] [] result }
         ensures over { (result.text.now ≡ text.now) × (result.visible.now ≡ visible.now) × (result.recipes.now ≡ recipes.now) }
     {
         Builder {
@@ -89,11 +89,11 @@ pub fn tree_of(
     tokens: Vec<Token>,
     text: &Name,
 ) -> Result<Tree, NoMemory>
-    requires follows { (g : Grammar) × (m : List Mark) × (bs : List Bracket) × (x : Grown) × AreCompleteRecipesOf g recipes.now × AreMeant g marks.now m ×
+    requires follows { (g : Grammar) × (m : List Mark) × (bs : List Bracket) × (x : Grown) × AreRecipesOf g recipes.now × AreMeant g marks.now m ×
         FollowsMarks g text.now m (visible_of tokens.items) bs × Closes g text.now (visible_of tokens.items) bs x }
     requires tokens { Tile 0 tokens.items }
     requires parts { ArePartsOf text.now tokens.items }
-    ensures { (g : Grammar) (m : List Mark) (bs : List Bracket) (x : Grown) → AreCompleteRecipesOf g recipes.now → AreMeant g marks.now m →
+    ensures { (g : Grammar) (m : List Mark) (bs : List Bracket) (x : Grown) → AreRecipesOf g recipes.now → AreMeant g marks.now m →
         FollowsMarks g text.now m (visible_of tokens.items) bs → Closes g text.now (visible_of tokens.items) bs x →
         IfOk result (IsOpenedTree g text.now m (visible_of tokens.items) tokens.items) }
 {

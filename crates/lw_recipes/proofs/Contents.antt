@@ -1,5 +1,5 @@
 -- What a call, a name and a cross-reference become is one thing, since a name means one rule or terminal.
-use Rattle.std.proofs.Common.{◌≡◌, ◌≢◌, ℕ, ◌+◌, List, Option, Some, None, length, refl, sym, ap, ◌∙◌, subst}
+use Rattle.std.proofs.Common.{◌≡◌, ◌≢◌, ℕ, ◌+◌, List, Option, Some, None, length, refl, sym, ap, ap₂, ◌∙◌, subst}
 use Rattle.lw_base.specs.declared.numbers.TypeId.{TypeId}
 use Rattle.lw_base.specs.declared.token.Span.{Span}
 use Rattle.lw_grammar.specs.declared.grammar.Grammar.{Grammar}
@@ -77,34 +77,34 @@ no_cross g f other at (refers.written {wanted} {name} {s} is) = other wanted (So
 no_cross g f other at (refers.by_type {wanted} {s} is reads) = other wanted None s (sym at ∙ is)
 
 module _ (g : Grammar) where
-  pub truth_content : (op : Op) (c : Value0) → op ≡ Flag → IsContentOf g op c content.Truth
-  truth_content op c flag other (make.truth is) = refl
-  truth_content op c flag other (make.keyword proper is) = absurd (proper flag)
-  truth_content op c flag other (make.number n terminal proper is found gives) = absurd (proper flag)
-  truth_content op c flag other (make.words n terminal proper is found gives) = absurd (proper flag)
-  truth_content op c flag other (make.called r rule proper is found) = absurd (proper flag)
-  truth_content op c flag other (make.reference proper refers_by typed form) = absurd (proper flag)
+  truth_alone : (op : Op) (c : Value0) → op ≡ Flag → (other : Content) → IsMadeBy g op c other → content.Truth ≡ other
+  truth_alone op c flag other (make.truth is) = refl
+  truth_alone op c flag other (make.keyword proper is) = absurd (proper flag)
+  truth_alone op c flag other (make.number n terminal proper is found gives) = absurd (proper flag)
+  truth_alone op c flag other (make.words n terminal proper is found gives) = absurd (proper flag)
+  truth_alone op c flag other (make.called r rule proper is found) = absurd (proper flag)
+  truth_alone op c flag other (make.reference proper refers_by typed form) = absurd (proper flag)
 
-  pub keyword_content : (op : Op) (c : Value0) (word : List ℕ) (s : Span) → op ≢ Flag → out-Value0 c ≡ value.Keyword word s →
-      IsContentOf g op c (content.Keyword word)
-  keyword_content op c word s not at other (make.truth is) = absurd (not is)
-  keyword_content op c word s not at other (make.keyword {word = text} proper is) = let same : word ≡ text = cc in ap (λ w. content.Keyword w) same
-  keyword_content op c word s not at other (make.number n terminal proper is found gives) = absurd cc
-  keyword_content op c word s not at other (make.words n terminal proper is found gives) = absurd cc
-  keyword_content op c word s not at other (make.called r rule proper is found) = absurd cc
-  keyword_content op c word s not at other (make.reference proper refers_by typed form) = absurd (no_cross g (value.Keyword word s) (λ w r t same. cc) at refers_by)
+  keyword_alone : (op : Op) (c : Value0) (word : List ℕ) (s : Span) → op ≢ Flag → out-Value0 c ≡ value.Keyword word s →
+      (other : Content) → IsMadeBy g op c other → content.Keyword word ≡ other
+  keyword_alone op c word s not at other (make.truth is) = absurd (not is)
+  keyword_alone op c word s not at other (make.keyword {word = text} proper is) = let same : word ≡ text = cc in ap (λ w. content.Keyword w) same
+  keyword_alone op c word s not at other (make.number n terminal proper is found gives) = absurd cc
+  keyword_alone op c word s not at other (make.words n terminal proper is found gives) = absurd cc
+  keyword_alone op c word s not at other (make.called r rule proper is found) = absurd cc
+  keyword_alone op c word s not at other (make.reference proper refers_by typed form) = absurd (no_cross g (value.Keyword word s) (λ w r t same. cc) at refers_by)
 
-  pub call_content : (name : List ℕ) (found : Content) → IsTold g name content.Number (λ name. content.Text (text_form name)) (content.Text Plain) found →
-      (op : Op) (c : Value0) (s : Span) → op ≢ Flag → out-Value0 c ≡ value.Call name s → IsContentOf g op c found
-  call_content name found told op c s not at other (make.truth is) = absurd (not is)
-  call_content name found told op c s not at other (make.keyword proper is) = absurd cc
-  call_content name found told op c s not at other (make.number {name = called} n terminal proper is of gives) =
+  call_alone : (name : List ℕ) (found : Content) → IsTold g name content.Number (λ name. content.Text (text_form name)) (content.Text Plain) found →
+      (op : Op) (c : Value0) (s : Span) → op ≢ Flag → out-Value0 c ≡ value.Call name s → (other : Content) → IsMadeBy g op c other → found ≡ other
+  call_alone name found told op c s not at other (make.truth is) = absurd (not is)
+  call_alone name found told op c s not at other (make.keyword proper is) = absurd cc
+  call_alone name found told op c s not at other (make.number {name = called} n terminal proper is of gives) =
       let same : called ≡ name = cc in told.numbers n terminal (subst (λ name. IsTerminal g name n terminal) same of) gives
-  call_content name found told op c s not at other (make.words {name = called} n terminal proper is of gives) =
+  call_alone name found told op c s not at other (make.words {name = called} n terminal proper is of gives) =
       let same : called ≡ name = cc in told.others n terminal (subst (λ name. IsTerminal g name n terminal) same of) gives
-  call_content name found told op c s not at other (make.called {name = called} r rule proper is of) =
+  call_alone name found told op c s not at other (make.called {name = called} r rule proper is of) =
       let same : called ≡ name = cc in told.rules r rule (subst (λ name. IsRule g name r rule) same of)
-  call_content name found told op c s not at other (make.reference proper refers_by typed form) = absurd (no_cross g (value.Call name s) (λ w r t same. cc) at refers_by)
+  call_alone name found told op c s not at other (make.reference proper refers_by typed form) = absurd (no_cross g (value.Call name s) (λ w r t same. cc) at refers_by)
 
   -- ---- cross-references
 
@@ -121,15 +121,39 @@ module _ (g : Grammar) where
       let typed : wanted ≡ type_name = cc in
       (typed, subst (λ written. IsReadBy g type_name written name) same (subst (λ wanted. IsNameRule g wanted name) typed reads))
 
-  pub cross_content : (type_name : List ℕ) (written : Option (List ℕ)) (found : Content) →
+  cross_alone : (type_name : List ℕ) (written : Option (List ℕ)) (found : Content) →
       ((want : TypeId) (name : List ℕ) (form : TextForm) → IsReadBy g type_name written name → IsNumberOfType g type_name want.0 → IsNameForm g name form →
       found ≡ content.Reference want form) →
-      (op : Op) (c : Value0) (s : Span) → op ≢ Flag → out-Value0 c ≡ value.Cross type_name written s → IsContentOf g op c found
-  cross_content type_name written found told op c s not at other (make.truth is) = absurd (not is)
-  cross_content type_name written found told op c s not at other (make.keyword proper is) = absurd cc
-  cross_content type_name written found told op c s not at other (make.number n terminal proper is of gives) = absurd cc
-  cross_content type_name written found told op c s not at other (make.words n terminal proper is of gives) = absurd cc
-  cross_content type_name written found told op c s not at other (make.called r rule proper is of) = absurd cc
-  cross_content type_name written found told op c s not at other (make.reference {name} {want} {form} proper refers_by typed formed) =
+      (op : Op) (c : Value0) (s : Span) → op ≢ Flag → out-Value0 c ≡ value.Cross type_name written s → (other : Content) →
+      IsMadeBy g op c other → found ≡ other
+  cross_alone type_name written found told op c s not at other (make.truth is) = absurd (not is)
+  cross_alone type_name written found told op c s not at other (make.keyword proper is) = absurd cc
+  cross_alone type_name written found told op c s not at other (make.number n terminal proper is of gives) = absurd cc
+  cross_alone type_name written found told op c s not at other (make.words n terminal proper is of gives) = absurd cc
+  cross_alone type_name written found told op c s not at other (make.called r rule proper is of) = absurd cc
+  cross_alone type_name written found told op c s not at other (make.reference {name} {want} {form} proper refers_by typed formed) =
       let (same, reads) = reader_of type_name written s at refers_by in
       told want name form reads (subst (λ wanted. IsNumberOfType g wanted want.0) same typed) formed
+
+  -- ---- each with what it is where a reference is to be made
+
+  pub truth_content : (op : Op) (c : Value0) → op ≡ Flag → IsContentOf g op c content.Truth
+  truth_content op c flag = (truth_alone op c flag, λ makes. absurd (makes.0 flag))
+
+  pub keyword_content : (op : Op) (c : Value0) (word : List ℕ) (s : Span) → op ≢ Flag → out-Value0 c ≡ value.Keyword word s →
+      IsContentOf g op c (content.Keyword word)
+  keyword_content op c word s not at = (keyword_alone op c word s not at, λ makes. absurd (let is = makes.1.3 in cc))
+
+  pub call_content : (name : List ℕ) (found : Content) → IsTold g name content.Number (λ name. content.Text (text_form name)) (content.Text Plain) found →
+      (op : Op) (c : Value0) (s : Span) → op ≢ Flag → out-Value0 c ≡ value.Call name s → IsContentOf g op c found
+  call_content name found told op c s not at = (call_alone name found told op c s not at, λ makes. absurd (let is = makes.1.3 in cc))
+
+  pub cross_content : (type_name : List ℕ) (written : Option (List ℕ)) (want : TypeId) (form : TextForm) →
+      ((other : TypeId) → IsNumberOfType g type_name other.0 → want ≡ other) →
+      ((name : List ℕ) (other : TextForm) → IsReadBy g type_name written name → IsNameForm g name other → form ≡ other) →
+      (op : Op) (c : Value0) (s : Span) → op ≢ Flag → out-Value0 c ≡ value.Cross type_name written s → IsContentOf g op c (content.Reference want form)
+  cross_content type_name written want form wants forms op c s not at = (
+    cross_alone type_name written (content.Reference want form)
+        (λ w name f reads typed formed. ap₂ (λ (w : TypeId) (f : TextForm). content.Reference w f) (wants w typed) (forms name f reads formed)) op c s not at,
+    λ makes. tt,
+  )

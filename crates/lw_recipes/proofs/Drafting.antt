@@ -2,7 +2,7 @@
 use Rattle.std.proofs.Common.{◌≡◌, ℕ, ◌+◌, ◌<◌, ◌++◌, List, [], ◌∷◌, Option, Some, Result, OnOk, length, get_or, map, take, slice_get, refl, sym, ap, ◌∙◌, subst}
 use Rattle.std.specs.List.{AllZip}
 use Rattle.std.proofs.lemmas.List.{take_more}
-use Rattle.std.proofs.lemmas.Option.{slice_get_within, slice_get_read, get_or_from_slice_get}
+use Rattle.std.proofs.lemmas.Option.{same_Some, slice_get_within, slice_get_read, get_or_from_slice_get}
 use Rattle.std.proofs.lemmas.Result.{on_ok_weaker}
 use Rattle.lw_base.specs.declared.memory.NoMemory.{NoMemory}
 use Rattle.lw_base.specs.declared.numbers.PropId.{PropId}
@@ -16,8 +16,9 @@ use Rattle.lw_look.specs.Choices.{inside}
 use Rattle.lw_look.specs.Sites.{PartSite, body, ◌▸◌, Body, element_parts, IsPartAt}
 use Rattle.lw_marks.specs.Numbers.{IsNamingProperty}
 use Rattle.lw_program.specs.Numbered.{element_puts, layer_puts, element_acts, layer_acts, rule_puts, rule_acts}
+use Rattle.lw_recipes.specs.declared.recipe.ValueRecipe.{ValueRecipe}
 use Rattle.lw_recipes.specs.Drafted.{AddsFor, ArePartsAt, StandsSomewhere, IsValueRecipe, IsActionRecipe, IsRuleType, IsDrafted, AreDrafted}
-use Rattle.lw_recipes.specs.Making.{AreRecipesOf}
+use Rattle.lw_recipes.specs.Making.{AreRecipesOf, IsReference}
 use Rattle.lw_recipes.specs.declared.draft.Draft.{Draft}
 use Rattle.lw_recipes.proofs.Adding.{zip_at, zip_one, zip_more, adds_none, adds_both}
 use Rattle.lw_recipes.proofs.Assigned.{layer_stands}
@@ -134,7 +135,12 @@ module _ (g : Grammar) where
   all_drafted draft opened naming are named = record {
     values = λ n s p op c at assigned stands.
         let (recipe, there, is) = zip_at (IsValueRecipe g) (rule_puts 0 g.rules) draft.values.items are.values n s at in
-        let (numbered, content) = is p op c assigned stands in (recipe, there, numbered, content);
+        let (numbered, content) = is p op c assigned stands in (recipe, there, numbered, content.0);
+    references = λ n s p op c at assigned stands makes recipe there.
+        let (own, found, is) = zip_at (IsValueRecipe g) (rule_puts 0 g.rules) draft.values.items are.values n s at in
+        let (numbered, content) = is p op c assigned stands in
+        let same : own ≡ recipe = same_Some own recipe (sym found ∙ there) in
+        subst (λ (r : ValueRecipe). IsReference r.content) same (content.1 makes);
     actions = λ n s a at stands.
         let (recipe, there, is) = zip_at (IsActionRecipe g) (rule_acts 0 g.rules) draft.actions.items are.actions n s at in
         let (typed, puts) = is a stands in (recipe, there, typed, puts);

@@ -12,10 +12,11 @@ use Rattle.lw_grammar.specs.declared.rule.Value0.{Value0, out-Value0}
 use Rattle.lw_grammar.specs.declared.rule.Value0.TheOpen as value
 use Rattle.lw_grammar.specs.Subtypes.{HasType}
 use Rattle.lw_look.specs.Sites.{PartSite, ◌▸◌, Part, Value, IsPartAt, ElementAt}
+use Rattle.lw_marks.specs.Follows.{MakesReference}
 use Rattle.lw_marks.specs.Numbers.{IsNumberOfType, IsNumberOfProperty}
 use Rattle.lw_program.specs.Numbered.{rule_puts, rule_acts}
 use Rattle.lw_recipes.specs.Meant.{AssignedAt}
-use Rattle.lw_recipes.specs.Making.{IsMadeBy, IsPutNumber}
+use Rattle.lw_recipes.specs.Making.{IsReference, IsMadeBy, IsPutNumber}
 use Rattle.lw_recipes.specs.declared.draft.Draft.{Draft}
 use Rattle.lw_recipes.specs.declared.recipe.ActionRecipe.{ActionRecipe}
 use Rattle.lw_recipes.specs.declared.recipe.Content.{Content}
@@ -48,9 +49,9 @@ module _ (g : Grammar) where
 
   -- ---- what is made
 
-  -- all that may be made of c is this
+  -- all that may be made of c is this, and it is a reference where c is to be one
   abbrev pub IsContentOf : Op → Value0 → Content → Type 0
-  IsContentOf op c content = (other : Content) → IsMadeBy g op c other → content ≡ other
+  IsContentOf op c content = ((other : Content) → IsMadeBy g op c other → content ≡ other) × (MakesReference op c → IsReference content)
 
   abbrev pub IsValueRecipe : PartSite → ValueRecipe → Type 0
   IsValueRecipe s recipe =

@@ -17,7 +17,7 @@ use Rattle.lw_grammar.specs.Named.{IsRule, IsTerminal}
 use Rattle.lw_grammar.specs.Subtypes.{HasType}
 use Rattle.lw_look.specs.Sites.{PartSite, Value, IsPartAt, ElementAt}
 use Rattle.lw_marks.specs.Numbers.{IsNumberOfType, IsNumberOfProperty, IsNamingProperty}
-use Rattle.lw_marks.specs.Follows.{RefersBy}
+use Rattle.lw_marks.specs.Follows.{MakesReference, RefersBy}
 use Rattle.lw_program.specs.Numbered.{put_sites, act_sites}
 use Rattle.lw_recipes.specs.Meant.{AssignedAt}
 use Rattle.lw_recipes.specs.declared.recipe.ActionRecipe.{ActionRecipe}
@@ -38,6 +38,11 @@ pub record RecipeLists : Type 0 where
 -- what the token of a terminal of this name says
 abbrev pub text_form : List ℕ → TextForm
 text_form name = if bytes_eq name (codes "ID") then Identifier else if bytes_eq name (codes "STRING") then Quoted else Plain
+
+-- what becomes of it is a reference
+abbrev pub IsReference : Content → Type 0
+IsReference (Reference want form) = Unit {0}
+IsReference _ = ⊥
 
 module _ (g : Grammar) where
   -- a reference by the terminal or rule of this name looks up what its tokens say in this form
@@ -71,6 +76,8 @@ module _ (g : Grammar) where
     pub values : (n : ℕ) (s : PartSite) (p : List ℕ) (op : Op) (c : Value0) → slice_get (put_sites g) n ≡ Some s → AssignedAt g s p op →
         IsPartAt g s (Value c) → (recipe : ValueRecipe) × (slice_get recipes.made n ≡ Some recipe) × IsNumberOfProperty g p recipe.prop.0
         × ((content : Content) → IsMadeBy op c content → recipe.content ≡ content)
+    pub references : (n : ℕ) (s : PartSite) (p : List ℕ) (op : Op) (c : Value0) → slice_get (put_sites g) n ≡ Some s → AssignedAt g s p op →
+        IsPartAt g s (Value c) → MakesReference op c → (recipe : ValueRecipe) → slice_get recipes.made n ≡ Some recipe → IsReference recipe.content
     pub actions : (n : ℕ) (s : PartSite) (a : Action) → slice_get (act_sites g) n ≡ Some s → ElementAt g s (layer.Act a) →
         (recipe : ActionRecipe) × (slice_get recipes.done n ≡ Some recipe) × IsNumberOfType g a.type_name recipe.type_id.0
         × IsPutNumber a.put recipe.put

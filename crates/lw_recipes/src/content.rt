@@ -1,6 +1,9 @@
 // What the text that is read for a value becomes.
-ghost use Rattle.std.specs.Prelude.{◌≡◌, ◌≢◌, IfOk};
+ghost use Rattle.std.specs.Prelude.{ℕ, ◌≡◌, ◌≢◌, List, IfOk};
+ghost use Rattle.lw_base.specs.declared.numbers.TypeId.{TypeId as AType};
 ghost use Rattle.lw_base.specs.declared.token.Span.{Span};
+ghost use Rattle.lw_derivations.specs.Crossing.{IsReadBy};
+ghost use Rattle.lw_marks.specs.Numbers.{IsNumberOfType};
 ghost use Rattle.lw_grammar.specs.declared.rule.Op.{Op};
 ghost use Rattle.lw_grammar.specs.declared.rule.Op.TheVariants.{Flag};
 ghost use Rattle.lw_grammar.specs.declared.rule.Value0.{Value0, out-Value0};
@@ -13,7 +16,7 @@ ghost use Rattle.lw_recipes.specs.declared.recipe.TextForm.{TextForm};
 
 use crate::numbering::type_number;
 use crate::recipe::{Content, TextForm};
-use lw_base::{Name, NoMemory};
+use lw_base::{Name, NoMemory, TypeId};
 use lw_grammar::{Op, Primitive, Terminal, Value0};
 use lw_lexicon::Lexicon;
 use lw_numbers::Called;
@@ -65,19 +68,39 @@ fn of_terminal(terminal: &Terminal) -> Content
     }
 }
 
-/// What a cross-reference to this type becomes, where this rule is written for it or none. One that no rule reads, or whose type is
-/// unknown, is a text like any other.
+/// What a cross-reference to this type becomes, where this rule is written for it or none. Where the type is unknown, or no rule reads it,
+/// which a grammar without faults does not have, it wants the first type, or looks up its text as it stands.
 fn referred(lexicon: Lexicon<'_>, wanted: &Name, written: &Option<Name>) -> Content
     requires known { IsKnownLexicon lexicon }
     ensures { (op : Op) (c : Value0) (s : Span) → op ≢ Flag → out-Value0 c ≡ value.Cross wanted.now written.now s →
         IsContentOf lexicon.entry.g.now op c result }
 {
-    let Some(name) = lexicon.read_by(wanted, written) else {
-        return Content::Text(TextForm::Plain);
-    };
+    Content::Reference(
+        wanted_type(lexicon, wanted),
+        read_form(lexicon, wanted, written),
+    )
+}
+
+/// The number of the type, where it is known.
+fn wanted_type(lexicon: Lexicon<'_>, wanted: &Name) -> TypeId
+    requires known { IsKnownLexicon lexicon }
+    ensures { (want : AType) → IsNumberOfType lexicon.entry.g.now wanted.now want.0 → result ≡ want }
+{
     match type_number(lexicon, wanted) {
-        Some(want) => Content::Reference(want, name_form(lexicon, name)),
-        None => Content::Text(TextForm::Plain),
+        Some(want) => want,
+        None => TypeId(0),
+    }
+}
+
+/// In which form a cross-reference to this type is looked up, where a rule reads it.
+fn read_form(lexicon: Lexicon<'_>, wanted: &Name, written: &Option<Name>) -> TextForm
+    requires known { IsKnownLexicon lexicon }
+    ensures { (name : List ℕ) (form : TextForm) → IsReadBy lexicon.entry.g.now wanted.now written.now name → IsNameForm lexicon.entry.g.now name form →
+        result ≡ form }
+{
+    match lexicon.read_by(wanted, written) {
+        Some(name) => name_form(lexicon, name),
+        None => TextForm::Plain,
     }
 }
 

@@ -65,8 +65,8 @@ terminal ID returns number: /[0-9]+/;
 
 const OF_FAULTS: &str = "0 Number
 1 Reference(TypeId(0), Plain)
-2 Text(Plain)
-3 Text(Plain)
+2 Reference(TypeId(0), Plain)
+3 Reference(TypeId(0), Plain)
 4 Text(Plain)
 5 Reference(TypeId(0), Plain)
 Some(TypeId(0))

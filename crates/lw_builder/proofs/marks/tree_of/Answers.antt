@@ -1,6 +1,6 @@
 use Rattle.std.proofs.Common.{◌≡◌, ◌+◌, ◌∙◌, drop, refl, sym, subst, ap}
 use Rattle.std.proofs.lemmas.List.{drop_more, drop_all}
-use Rattle.lw_builder.specs.Complete.{AreCompleteRecipesOf}
+use Rattle.lw_recipes.specs.Making.{AreRecipesOf}
 use Rattle.lw_builder.specs.Built.{ArePartsOf, visible_of}
 use Rattle.lw_builder.proofs.AllMarks.{IsUnderway, underway, started, next_mark, closes_at_end, opened, visible_parts}
 use Rattle.lw_builder.proofs.Results.{if_ok}
@@ -13,7 +13,7 @@ marks-init c =
     let parts = subst (λ l. ArePartsOf c.args.text.now l) (sym seen) (visible_parts c.args.text.now c.args.tokens.items c.requires.parts) in
     record {
       all = λ g m bs are meant f.
-          underway g c.args.marks.now m first.visible.now bs first (c.new-builder.ensures.nothing g (subst (λ l. AreCompleteRecipesOf g l) c.new-builder.ensures.over.2 are) parts)
+          underway g c.args.marks.now m first.visible.now bs first (c.new-builder.ensures.nothing g (subst (λ l. AreRecipesOf g l) c.new-builder.ensures.over.2 are) parts)
           meant f refl;
       over = record { text = refl; visible = refl; recipes = refl };
     }

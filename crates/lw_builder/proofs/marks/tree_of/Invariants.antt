@@ -3,7 +3,7 @@ use Rattle.lw_grammar.specs.declared.grammar.Grammar.{Grammar}
 use Rattle.lw_sentences.specs.Marks.{Mark}
 use Rattle.lw_marks.specs.Brackets.{Bracket}
 use Rattle.lw_marks.specs.Follows.{FollowsMarks}
-use Rattle.lw_builder.specs.Complete.{AreCompleteRecipesOf}
+use Rattle.lw_recipes.specs.Making.{AreRecipesOf}
 use Rattle.lw_recipes.specs.Meant.{AreMeant}
 use Rattle.lw_builder.specs.Built.{IsOverSame}
 use Rattle.lw_builder.proofs.AllMarks.{IsUnderway}
@@ -12,7 +12,7 @@ use Rattle.lw_builder.proofs.marks.tree_of.Given as goal
 abbrev pub invariant-marks : goal.invariant-marks
 invariant-marks l =
     record {
-      all : (g : Grammar) (m : List Mark) (bs : List Bracket) → AreCompleteRecipesOf g l.initial.builder.recipes.now → AreMeant g l.marks m →
+      all : (g : Grammar) (m : List Mark) (bs : List Bracket) → AreRecipesOf g l.initial.builder.recipes.now → AreMeant g l.marks m →
           FollowsMarks g l.initial.builder.text.now m l.initial.builder.visible.now bs → IsUnderway g m bs (drop l.mark-index l.marks) l.builder;
       over : IsOverSame l.initial.builder l.builder;
     }
