@@ -42,8 +42,8 @@ pub one_way : (g : Grammar) (k : ℕ) → IsClear g k → IsReadOneWay g
 one_way g k clear = record {
   keywords = filled g k clear;
   sentences = λ of m n are is was same.
-    let tells = subst (λ kinds. IsLL g kinds k) (one_kinds g clear.tables.kinds of clear.tables.are are) clear.tables.tells in
-    same_sentence g of k are tells m n is was same;
+      let tells = subst (λ kinds. IsLL g kinds k) (one_kinds g clear.tables.kinds of clear.tables.are are) clear.tables.tells in
+      same_sentence g of k are tells m n is was same;
 }
 
 -- by such a grammar a session has one outcome

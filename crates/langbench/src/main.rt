@@ -106,6 +106,8 @@ fn main(rt: HostRuntime) -> ExitCode {
 }
 
 #[cfg(test)]
+mod example_tests;
+#[cfg(test)]
 mod serve_tests;
 #[cfg(test)]
 mod tests;

@@ -51,9 +51,7 @@ fn fault_code(fault: &CompileFault) -> u8
 {
     match fault {
         CompileFault::Load(found) => load_code(found),
-        CompileFault::Faults(_)
-        | CompileFault::Term(_)
-        | CompileFault::Look(_) => 3,
+        CompileFault::Faults(_) | CompileFault::Term(_) | CompileFault::Look(_) => 3,
         CompileFault::NoMemory => 7,
     }
 }

@@ -18,13 +18,22 @@ pub(crate) const FLAT: &str =
 
 const FACES: &str = "grammar G entry A: 'x' v=E; hidden terminal WS: /\\s+/; terminal E: /😀+/;";
 
-const CHOICE: &str = "grammar F entry A: a='a' | b='b';";
+/// Whole numbers.
+const NUMBERS: &str = "grammar Q entry A: v=INT; terminal INT returns number: /[0-9]+/;";
+
+/// Quotients, whose operator begins comments as well.
+const QUOTIENTS: &str =
+    "grammar D entry A: v=N ('/' w+=N)*; terminal N returns number: /[0-9]+(\\.[0-9]*)?/; hidden terminal WS: /\\s+/; hidden terminal C: /\\/\\/[^\\n\\r]*/;";
+
+/// Two ways that begin and end alike.
+const ALIKE: &str = "grammar E entry A: 'a' b='b' 'c' | 'a' d='d' 'c';";
 
 const IMPORTS: &str = "grammar I import './j' entry A: 'a' b=B;";
 
 const ABSENT: &[u8] = b"";
 
-const IMPORTED: &[u8] = b"grammar J import './i.langium' B: 'b' name=ID; terminal ID: /[a-z]+/;";
+const IMPORTED: &[u8] =
+    b"grammar J import './i.langium' B: 'b' name=ID; terminal ID: /[a-z]+/; hidden terminal WS: /\\s+/;";
 
 const UNPATTERNED: &str = "[_a-zA-Z][\\w_]*";
 
@@ -48,13 +57,14 @@ pub(crate) const NOTHING: Failing = Failing {
 };
 
 // What a run is handed beside the bytes of its source: its words, the path of the grammar's file and what it
-// holds, what `j.langium` holds, which is absent where that is nothing, the sizes of the pieces that are read,
+// holds, the path of a second file and what it holds, which is absent where that is nothing, the sizes of the pieces that are read,
 // what fails, and the text that the patterns refuse.
 #[derive(Clone, Copy)]
 pub(crate) struct Setting<'a> {
     pub words: &'a [&'a str],
     pub path: &'a str,
     pub grammar: Option<&'a str>,
+    pub imported_path: &'a str,
     pub imported: &'a [u8],
     pub pieces: &'a [u32],
     pub failing: Failing,
@@ -66,6 +76,7 @@ pub(crate) fn setting_of<'a>(words: &'a [&'a str], grammar: Option<&'a str>) -> 
         words,
         path: PATH,
         grammar,
+        imported_path: "j.langium",
         imported: ABSENT,
         pieces: &[],
         failing: NOTHING,
@@ -102,7 +113,7 @@ fn store_of(alloc: Global, setting: &Setting) -> Result<MemStore, NoMemory> {
         files.push(file(alloc, setting.path, grammar.as_bytes())?)?;
     }
     if !setting.imported.is_empty() {
-        files.push(file(alloc, "j.langium", setting.imported)?)?;
+        files.push(file(alloc, setting.imported_path, setting.imported)?)?;
     }
     Ok(MemStore::new(files, vec![in alloc; setting.failing.file]?))
 }
@@ -221,6 +232,29 @@ fn documents_have_their_lines(rt: HostRuntime) -> Result<(), Fail> {
             1,
             "1:6: error 2: Unexpected 'x'.\n",
         ),
+        (ALIKE, b"adc", 0, "ok\n"),
+        (ALIKE, b"ac", 1, "1:2: error 2: Unexpected 'c'.\n"),
+        (ALIKE, b"aba", 1, "1:3: error 2: Unexpected 'a'.\n"),
+        (NUMBERS, b"9223372036854775807", 0, "ok\n"),
+        (
+            NUMBERS,
+            b"9223372036854775808",
+            1,
+            "1:1: error 6: Number is out of range.\n",
+        ),
+        (QUOTIENTS, b"1.5 / 2 // x", 0, "ok\n"),
+        (
+            QUOTIENTS,
+            b"9223372036854775808 /\n-1",
+            1,
+            "2:1: error 1: Unexpected character.\n",
+        ),
+        (
+            QUOTIENTS,
+            b"9223372036854775808 /\n99999999999999999999",
+            1,
+            "1:1: error 6: Number is out of range.\n2:1: error 6: Number is out of range.\n",
+        ),
     ] {
         let setting = setting_of(&["check", PATH], Some(grammar));
         ends_as(&rt, rt.alloc(), &setting, text, code, line, "")?;
@@ -248,15 +282,6 @@ fn runs_stop_with_a_note(rt: HostRuntime) -> Result<(), Fail> {
     let too_far: &[&str] = &["check", PATH, "--lookahead", "4"];
     let unsaid: &[&str] = &["check", PATH, "--lookahead"];
     for (words, grammar, failing, refused, code, out, note) in [
-        (
-            known,
-            CHOICE,
-            NOTHING,
-            "none",
-            3,
-            "",
-            "f.langium:1:1: not built\n",
-        ),
         (absent, FLAT, NOTHING, "none", 6, "", "g.langium: absent\n"),
         (
             known,
@@ -441,7 +466,6 @@ fn imports_that_are_not_loaded_are_told(rt: HostRuntime) -> Result<(), Fail> {
             3,
             "j.langium:1:57: terminal ID: matches nothing\n",
         ),
-        (IMPORTED, 0, 3, "i.langium:1:1: not built\n"),
         (IMPORTED, 2, 6, "j.langium: failed\n"),
     ] {
         let setting = Setting {
@@ -452,6 +476,12 @@ fn imports_that_are_not_loaded_are_told(rt: HostRuntime) -> Result<(), Fail> {
         };
         ends_as(&rt, rt.alloc(), &setting, b"", code, "", note)?;
     }
+    let setting = Setting {
+        path: "i.langium",
+        imported: IMPORTED,
+        ..setting_of(&["check", "i.langium"], Some(IMPORTS))
+    };
+    ends_as(&rt, rt.alloc(), &setting, b"a b x", 0, "ok\n", "")?;
     Ok(())
 }
 
