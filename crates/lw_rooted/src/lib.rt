@@ -17,4 +17,7 @@
 
 mod laws;
 
-pub use laws::{each_sentence_has_a_tree, marks_have_one_tree};
+pub use laws::{
+    each_sentence_has_a_tree, marks_have_one_tree, references_stand_in_nodes,
+    spans_stand_in_the_text,
+};
