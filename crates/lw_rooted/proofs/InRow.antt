@@ -26,3 +26,7 @@ module _ (text : List ℕ) where
   -- what the tokens from any of them on span
   pub spans_in : {from : ℕ} {ts : List Token} → StandInRow text from ts → (at : ℕ) → IsInText text (span_of_tokens (drop at ts))
   spans_in row at = span_in (dropped at row).1
+
+  pub head_row : {from : ℕ} {t : Token} {ts : List Token} → StandInRow text from (t ∷ ts) →
+      (from ≤ t.span.start) × IsInText text t.span × StandInRow text t.span.end ts
+  head_row (more behind stands others) = (behind, stands, others)

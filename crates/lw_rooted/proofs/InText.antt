@@ -1,15 +1,14 @@
 -- What a tree holds stands in its text, and its references stand in its nodes.
-use Rattle.std.proofs.Common.{ℕ, ◌<◌, List, [], ◌∷◌, ◌++◌, Option, IfSome, All, length, sym, subst}
-use Rattle.std.proofs.lemmas.List.Elements.{All-same}
+use Rattle.std.proofs.Common.{ℕ, ◌<◌, List, Option, IfSome, All, length, sym, subst}
 use Rattle.lw_base.specs.declared.token.Token.{Token}
 use Rattle.lw_base.specs.declared.numbers.PropId.{PropId}
 use Rattle.lw_grammar.specs.declared.grammar.Grammar.{Grammar}
 use Rattle.lw_sentences.specs.Marks.{Mark}
-use Rattle.lw_tree.specs.Parts.{Parts, SameTables, values_at}
-use Rattle.lw_marks.specs.Grown.{Grown, nodes}
+use Rattle.lw_tree.specs.Parts.{Parts, SameTables}
+use Rattle.lw_marks.specs.Grown.{Grown}
 use Rattle.lw_marks.specs.Brackets.{Bracket}
 use Rattle.lw_marks.specs.Follows.{FollowsMarks}
-use Rattle.lw_marks.specs.Trees.{IsTree, IsOpenedTree, parts_of_tree, refs, values}
+use Rattle.lw_marks.specs.Trees.{IsTree, IsOpenedTree, parts_of_tree, refs}
 use Rattle.lw_rooted.specs.Within.{StandInRow, IsInText, StandsInText, value_place}
 use Rattle.lw_rooted.proofs.InRow.{front_row, spans_in}
 use Rattle.lw_rooted.proofs.Spanned.{EachSpan, EachOpen, close_spans, follow_spans}

@@ -18,3 +18,4 @@ pub mod Spanned
 pub mod Tabled
 pub mod Owned
 pub mod InText
+pub mod Standing

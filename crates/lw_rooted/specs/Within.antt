@@ -1,4 +1,5 @@
 -- That what a tree holds stands in the text that it was read from.
+-- Held against Langium's `DocumentSegment`: the offset and the end of a part in its document.
 use Rattle.std.specs.Prelude.{ℕ, ◌≤◌, Option, Some, None, List, [], ◌∷◌, length, All, IfSome}
 use Rattle.lw_base.specs.declared.token.Span.{Span}
 use Rattle.lw_base.specs.declared.token.Token.{Token}
