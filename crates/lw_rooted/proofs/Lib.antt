@@ -13,3 +13,9 @@ pub mod Acting
 pub mod Valued
 pub mod Climbing
 pub mod Sentence
+pub mod InRow
+pub mod Spanned
+pub mod Tabled
+pub mod Owned
+pub mod InText
+pub mod Standing

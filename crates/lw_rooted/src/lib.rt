@@ -12,9 +12,16 @@
 //! no place, a fragment that is assigned leaves no value, a type that is not known has no number, and an
 //! entry rule that makes no node leaves no root.
 //!
+//! What a tree holds stands where it was read: where the tokens stand in the text, one behind the other,
+//! each node, value and reference stands in the text ([`spans_stand_in_the_text`], `specs/Within.antt`),
+//! and each reference in a node of its tree ([`references_stand_in_nodes`]).
+//!
 //! There is no code here but laws.
 #![tactic(auto)]
 
 mod laws;
 
-pub use laws::{each_sentence_has_a_tree, marks_have_one_tree};
+pub use laws::{
+    each_sentence_has_a_tree, marks_have_one_tree, references_stand_in_nodes,
+    spans_stand_in_the_text, tokens_stand_in_a_row,
+};
