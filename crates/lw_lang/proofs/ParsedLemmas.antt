@@ -25,7 +25,7 @@ use Rattle.lw_tree.specs.declared.issue.Issue.TheVariants.{Syntax, End}
 use Rattle.std.specs.List.{AllZip}
 use Rattle.lw_lang.specs.Parsing.{CanParse}
 use Rattle.lw_rooted.specs.Within.{StandsInText}
-use Rattle.lw_rooted.proofs.InText.{stand_in_text}
+use Rattle.lw_rooted.proofs.InText.{tree_in}
 use Rattle.lw_lang.proofs.CutPlaces.{all_known, stand_in_row}
 
 length-AllZip : {A B : Type 0} (R : A → B → Type 0) (xs : List A) (ys : List B) → AllZip R xs ys → length xs ≡ length ys
@@ -109,4 +109,4 @@ module _ (g : Grammar) (of : Kinds) (lexicon : Lexicon) (parser : ParserParts) (
   -- ---- where its tree stands
 
   pub tree_stands : (tree : Parts) → IsOnlyTree g of text tokens tree → StandsInText text tree
-  tree_stands tree is = stand_in_text g text is.marks (visible tokens) tokens tree (stand_in_row lexicon text can.cut can.places) is.tree
+  tree_stands tree is = tree_in g text is.marks (visible tokens) tokens tree (stand_in_row lexicon text can.cut can.places) is.tree
