@@ -1,1 +1,1 @@
-pub mod Remarks
+pub mod Sorting

@@ -3,11 +3,11 @@ ghost use Rattle.std.specs.Prelude.{◌≡◌, IfOk};
 ghost use Rattle.lw_syntax.specs.PlacesWithin.{IsWithin};
 ghost use Rattle.lw_lang.specs.Language.{IsNamed, IsIssueWithin};
 ghost use Rattle.lw_rooted.specs.Within.{StandsInText};
-ghost use Rattle.lw_scopes.specs.Diagnostics.{IsEntryShown, IsList};
+ghost use Rattle.lw_scopes.specs.Diagnostics.{IsDiagnosticShown, IsList};
 ghost use Rattle.lw_scopes.specs.Faults.{IsFaultShown, IsShownAt, too_large_shown};
-ghost use Rattle.lw_check.specs.Remarks.{AreShown, entry_of};
+ghost use Rattle.lw_check.specs.Sorting.{AreShown, diagnostic_of};
 
-use crate::remark::{Remark, remarks_of};
+use crate::sorting::{KeyedDiagnostic, sorted_diagnostics};
 use lw_base::{Items, LONGEST_DOCUMENT, Name, NoMemory, Span};
 use lw_lang::{Issue, Language, Parsed};
 use lw_text::{Encoding, Pos, Shown, TextDoc};
@@ -42,22 +42,22 @@ fn tree_shown(alloc: Global, text: &TextDoc, tree: &Tree) -> Result<Items<Shown>
     ensures { IfOk result (AreShown text.now tree.now) }
 {
     let mut list = Items::new(alloc);
-    'showing: for remark in remarks_of(alloc, tree)? {
-        list.push(remark_shown(text, remark))?;
+    'showing: for diagnostic in sorted_diagnostics(alloc, tree)? {
+        list.push(diagnostic_shown(text, diagnostic))?;
     }
     Ok(list)
 }
 
-// A remark, as it is shown.
-fn remark_shown(text: &TextDoc, remark: Remark) -> Shown
-    requires { IsWithin text.now (entry_of remark).span }
-    ensures { IsEntryShown text.now (entry_of remark) result }
+// A diagnostic, as it is shown.
+fn diagnostic_shown(text: &TextDoc, diagnostic: KeyedDiagnostic) -> Shown
+    requires { IsWithin text.now (diagnostic_of diagnostic).span }
+    ensures { IsDiagnosticShown text.now (diagnostic_of diagnostic) result }
 {
     let span = Span {
-        start: remark.start,
-        end: remark.end,
+        start: diagnostic.start,
+        end: diagnostic.end,
     };
-    shown_at(text, span, remark.code, remark.message)
+    shown_at(text, span, diagnostic.code, diagnostic.message)
 }
 
 /// The one diagnostic of a text that is longer than a document may be, at the text's start. The one error is

@@ -2,7 +2,7 @@
 //!
 //! Its model: a document is its text, and what it is told is a list of [`Shown`](lw_text::Shown), each
 //! with where it begins and ends, its code and its message. Which list a text has is defined in
-//! `specs/Diagnostics.antt` of `lw_scopes`: what is told of the tree of a text that is read whole in `specs/Entries.antt`
+//! `specs/Diagnostics.antt` of `lw_scopes`: what is told of the tree of a text that is read whole in `specs/TreeDiagnostics.antt`
 //! there, and how a fault is shown in `specs/Faults.antt`.
 //!
 //! It promises that [`diagnostics`] answers exactly that list. [`too_large`] is the one entry of a document
@@ -11,7 +11,7 @@
 #![tactic(auto)]
 
 mod document;
-mod remark;
+mod sorting;
 
 pub use document::{diagnostics, too_large};
 

@@ -21,8 +21,8 @@ use Rattle.lw_reading.specs.Laws.{IsReadOneWay, IsSameReading}
 use Rattle.lw_reading.proofs.OneKinds.{one_kind_text}
 use Rattle.lw_reading.proofs.OneReading.{one_reading}
 use Rattle.lw_scopes.specs.Faults.{IsShownAt, IsFaultShown, lexical, syntax_, end_, too_large, unexpected}
-use Rattle.lw_scopes.specs.Entries.{Entry, StandsBefore, by_start, by_code, by_end, by_message, IsTold, number, AreEntries}
-use Rattle.lw_scopes.specs.Diagnostics.{Texts, IsEntryShown, IsList, AreDiagnostics, whole, broken}
+use Rattle.lw_scopes.specs.TreeDiagnostics.{Diagnostic, DiagnosticPrecedes, by_start, by_code, by_end, by_message, IsDiagnosticOf, number, AreDiagnosticsOf}
+use Rattle.lw_scopes.specs.Diagnostics.{Texts, IsDiagnosticShown, IsList, AreDiagnostics, whole, broken}
 use Rattle.lw_scopes.specs.Links.{Link, AreLinks}
 
 one_shown : (text : List ℕ) (from to code : ℕ) (message other : List ℕ) (s r : Shown) → message ≡ other → IsShownAt text from to code message s →
@@ -34,7 +34,7 @@ one_shown text from to code message other s r same is was =
     let says : s.message ≡ r.message = is.says ∙ same ∙ sym was.says in
     λ i. record { start = start i; end = end i; code = number i; message = says i }
 
--- ---- entries
+-- ---- diagnostics
 
 messages_strict : (a b : List ℕ) → slice_cmp nat_cmp a b ≡ Less → slice_cmp nat_cmp b a ≡ Less → ⊥
 messages_strict a b one other = by (sym one ∙ nat_list_cmp_total.antisymm a b ∙ ap ordering_reverse other)
@@ -42,7 +42,7 @@ messages_strict a b one other = by (sym one ∙ nat_list_cmp_total.antisymm a b 
     by : Less ≡ Greater → ⊥
     by same = cc
 
-strictly : (one other : Entry) → StandsBefore one other → StandsBefore other one → ⊥
+strictly : (one other : Diagnostic) → DiagnosticPrecedes one other → DiagnosticPrecedes other one → ⊥
 strictly one other (by_start a) (by_start b) = omega (arith, a, b)
 strictly one other (by_start a) (by_code b _) = omega (arith, a, b)
 strictly one other (by_start a) (by_end b _ _) = omega (arith, a, b)
@@ -61,7 +61,7 @@ strictly one other (by_message a _ _) (by_end _ _ b) = omega (arith, ap (λ s. s
 strictly one other (by_message _ _ a) (by_message _ _ b) = messages_strict one.message other.message a b
 
 -- what is told of a tree is told of every one with its tables
-also_told : (tree other : Parts) → SameTables tree other → (e : Entry) → IsTold tree e → IsTold other e
+also_told : (tree other : Parts) → SameTables tree other → (e : Diagnostic) → IsDiagnosticOf tree e → IsDiagnosticOf other e
 also_told tree other same e (number {s = s} node prop has) =
     let P : List Value → Type 0 = λ vs. Contains vs (Huge s) in number node prop (subst P (same.values node prop) has)
 
@@ -74,13 +74,13 @@ turned_round tree other same = record {
   name = sym same.name;
 }
 
-one_list_of_entries : (tree other : Parts) → SameTables tree other → (xs ys : List Entry) → AreEntries tree xs → AreEntries other ys → xs ≡ ys
-one_list_of_entries tree other same xs ys is was =
-    same_list StandsBefore strictly xs ys is.ordered was.ordered (λ e has. (was.exact e).1 (also_told tree other same e ((is.exact e).0 has)))
+one_list_of_diagnostics : (tree other : Parts) → SameTables tree other → (xs ys : List Diagnostic) → AreDiagnosticsOf tree xs → AreDiagnosticsOf other ys → xs ≡ ys
+one_list_of_diagnostics tree other same xs ys is was =
+    same_list DiagnosticPrecedes strictly xs ys is.ordered was.ordered (λ e has. (was.exact e).1 (also_told tree other same e ((is.exact e).0 has)))
     (λ e has. (is.exact e).1 (also_told other tree (turned_round tree other same) e ((was.exact e).0 has)))
 
--- entries are shown in one way
-one_list_shown : (text : List ℕ) (entries : List Entry) (list other : List Shown) → AllZip (IsEntryShown text) entries list → AllZip (IsEntryShown text) entries other →
+-- diagnostics are shown in one way
+one_list_shown : (text : List ℕ) (diagnostics : List Diagnostic) (list other : List Shown) → AllZip (IsDiagnosticShown text) diagnostics list → AllZip (IsDiagnosticShown text) diagnostics other →
     list ≡ other
 one_list_shown text [] [] [] is was = refl
 one_list_shown text [] [] (r ∷ rs) is was = absurd was
@@ -112,9 +112,9 @@ module _ (g : Grammar) where
     not_either is = elim is [ ]
 
     one_list_of : (text : List ℕ) (list other : List Shown) → IsList g text list → IsList g text other → list ≡ other
-    one_list_of text list other (whole {tree = a} {entries = xs} reads are shown) (whole {tree = b} {entries = ys} also were told) =
-        let same = one_list_of_entries a b (same_trees (one_reading g one_way text (Whole a) (Whole b) reads also)) xs ys are were in
-        one_list_shown text ys list other (subst (λ es. AllZip (IsEntryShown text) es list) same shown) told
+    one_list_of text list other (whole {tree = a} {diagnostics = xs} reads are shown) (whole {tree = b} {diagnostics = ys} also were told) =
+        let same = one_list_of_diagnostics a b (same_trees (one_reading g one_way text (Whole a) (Whole b) reads also)) xs ys are were in
+        one_list_shown text ys list other (subst (λ es. AllZip (IsDiagnosticShown text) es list) same shown) told
     one_list_of text list other (whole {tree = a} reads are shown) (broken {issue = issue} also is) =
         absurd (not_both (one_reading g one_way text (Whole a) (Broken issue) reads also))
     one_list_of text list other (broken {issue = issue} reads is) (whole {tree = b} also were told) =

@@ -8,22 +8,22 @@ use Rattle.lw_reading.specs.Reading.{Reads}
 use Rattle.lw_reading.specs.declared.parsed.Parsed.TheVariants.{Whole, Broken}
 use Rattle.lw_tree.specs.declared.issue.Issue.{Issue}
 use Rattle.lw_tree.specs.Parts.{Parts}
-use Rattle.lw_scopes.specs.Entries.{Entry, AreEntries}
+use Rattle.lw_scopes.specs.TreeDiagnostics.{Diagnostic, AreDiagnosticsOf}
 use Rattle.lw_scopes.specs.Faults.{IsFaultShown, IsShownAt}
 
 -- the shown text at each address, where there is one
 abbrev pub Texts : Type 0
 Texts = List ℕ → Option (List ℕ)
 
--- an entry as an editor is shown it
-abbrev pub IsEntryShown : List ℕ → Entry → Shown → Type 0
-IsEntryShown text e shown = IsShownAt text e.span.start e.span.end e.code e.message shown
+-- a diagnostic as an editor is shown it
+abbrev pub IsDiagnosticShown : List ℕ → Diagnostic → Shown → Type 0
+IsDiagnosticShown text e shown = IsShownAt text e.span.start e.span.end e.code e.message shown
 
 module _ (g : Grammar) where
   -- the list of one text: what is told of its tree where it is read whole, else its one fault
   pub data IsList (text : List ℕ) : List Shown → Type 0 where
-    whole : {tree : Parts} {entries : List Entry} {list : List Shown} → Reads g text (Whole tree) → AreEntries tree entries →
-        AllZip (IsEntryShown text) entries list → IsList text list
+    whole : {tree : Parts} {diagnostics : List Diagnostic} {list : List Shown} → Reads g text (Whole tree) → AreDiagnosticsOf tree diagnostics →
+        AllZip (IsDiagnosticShown text) diagnostics list → IsList text list
     broken : {issue : Issue} {shown : Shown} → Reads g text (Broken issue) → IsFaultShown g text issue shown → IsList text (shown ∷ [])
 
   -- the list of the document at an address

@@ -1,4 +1,4 @@
 pub mod Faults
-pub mod Entries
+pub mod TreeDiagnostics
 pub mod Diagnostics
 pub mod Links
