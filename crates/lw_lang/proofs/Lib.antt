@@ -18,3 +18,4 @@ pub mod CompileLemmas
 pub mod PlainParts
 pub mod ChoicePlaces
 pub mod LookLemmas
+pub mod Supplied

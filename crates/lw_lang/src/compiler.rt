@@ -1,5 +1,6 @@
 // From a grammar file to a language.
 ghost use Rattle.std.specs.Prelude.{◌≡◌, ◌≤◌, ◌<◌, [], length, IfOk, IfErr, IfSome};
+ghost use Rattle.lw_load.specs.FilledChoices.{HasFilledChoices};
 ghost use Rattle.lw_load.specs.declared.limits.TheConstants.{LARGEST_GRAMMAR};
 ghost use Rattle.lw_load.specs.Standing.{Stands};
 ghost use Rattle.lw_formed.specs.WellFormed.{IsWellFormed};
@@ -77,6 +78,7 @@ fn build<P: Patterns>(
     requires root { 0 < length grammar.files }
     requires stand { Stands texts.now grammar }
     requires formed { IsWellFormed grammar }
+    requires filled { HasFilledChoices grammar }
     requires most { k ≤ 3 }
     ensures grammar { IfOk result (λ language. language.grammar ≡ grammar) }
     ensures clear { IfOk result (λ language. IsClear language.grammar k) }
@@ -104,6 +106,7 @@ fn build_faultless<P: Patterns>(
     requires fits { size grammar ≤ LARGEST_GRAMMAR }
     requires stand { Stands texts.now grammar }
     requires formed { IsWellFormed grammar }
+    requires filled { HasFilledChoices grammar }
     requires most { k ≤ 3 }
     ensures grammar { IfOk result (λ language. language.grammar ≡ grammar) }
     ensures clear { IfOk result (λ language. IsClear language.grammar k) }
@@ -150,6 +153,8 @@ fn build_sound(
     requires faultless { IsFaultless grammar }
     requires fits { size grammar ≤ LARGEST_GRAMMAR }
     requires stand { Stands texts.now grammar }
+    requires formed { IsWellFormed grammar }
+    requires filled { HasFilledChoices grammar }
     requires most { k ≤ 3 }
     requires numbered { AreNumberedKindsOf grammar numbered.now }
     requires tokens { IsTokenSetOf grammar [] numbered.now.kinds tokens }

@@ -1,7 +1,6 @@
 // The kinds of tokens of a grammar, beside the numbers of its names.
 ghost use Rattle.std.specs.Prelude.{◌≤◌, IfOk};
 ghost use Rattle.lw_grammar.specs.Size.{size};
-ghost use Rattle.lw_kinds.specs.Rows.{AreKindRowOf};
 ghost use Rattle.lw_name_rules.specs.NameTable.{AreNameRulesOf};
 ghost use Rattle.lw_numbers.specs.Tables.{AreNumbersOf};
 ghost use Rattle.lw_token_sets.specs.Numbered.{AreNumberedKindsOf};
@@ -16,7 +15,7 @@ use lw_subtypes::{Subtypes, node_rules};
 use std::alloc::Global;
 
 /// What the names of a grammar mean, by number, which rules read cross-references that name none and which make nodes, and its kinds
-/// of tokens.
+/// of tokens. Whoever has it knows, too, of each rule whether it has a finite sentence.
 #[derive(Drop)]
 pub struct NumberedKinds {
     pub numbers: Numbers,
@@ -34,7 +33,8 @@ impl NumberedKinds {
     {
         let numbers = Numbers::of(alloc, g)?;
         let name_rules = name_rules(alloc, g, &numbers)?;
-        let kinds = kinds(alloc, g, &numbers, &name_rules)?;
+        let reading = Reading::of(alloc, g, &numbers, &name_rules)?;
+        let kinds = KindTable::of(alloc, g, &numbers, &name_rules, &reading)?;
         let nodes = node_rules(alloc, g, &numbers)?;
         Ok(NumberedKinds {
             numbers,
@@ -53,20 +53,4 @@ fn name_rules(alloc: Global, g: &Grammar, numbers: &Numbers) -> Result<NameRules
 {
     let subtypes = Subtypes::of(alloc, g, numbers)?;
     NameRules::of(alloc, g, numbers, &subtypes)
-}
-
-/// The kinds of a grammar, where these things are known.
-fn kinds(
-    alloc: Global,
-    g: &Grammar,
-    numbers: &Numbers,
-    name_rules: &NameRules,
-) -> Result<KindTable, NoMemory>
-    requires numbered { AreNumbersOf g.now numbers.now }
-    requires related { AreNameRulesOf g.now name_rules.now }
-    requires small { size g.now ≤ 65535 }
-    ensures { IfOk result (AreKindRowOf g.now) }
-{
-    let reading = Reading::of(alloc, g, numbers, name_rules)?;
-    KindTable::of(alloc, g, numbers, name_rules, &reading)
 }
