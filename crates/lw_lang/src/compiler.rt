@@ -9,8 +9,10 @@ ghost use Rattle.lw_token_sets.specs.Numbered.{AreNumberedKindsOf};
 ghost use Rattle.lw_token_sets.specs.TokenSets.{IsTokenSetOf, HasTokens};
 ghost use Rattle.lw_lang.specs.Compiled.{HoldsGrammar, IsClear, HasTables, Causes, GrammarCauses, IsBehindTokens, IsUnbuiltOrMemory, CountsStore, CountsPatterns, KeepsPatterns};
 ghost use Rattle.lw_lexicon.specs.Known.{IsKnownLexicon};
+ghost use Rattle.lw_look.specs.Supplied.{IsSupplied};
 ghost use Rattle.lw_lang.specs.ToldTerms.{CanBeTold, IsToldOr};
 ghost use Rattle.lw_lang.specs.ToldLooks.{CanLookBeTold, IsLookToldOr};
+ghost use Rattle.lw_grammar.specs.Kinds.{Kinds, AreKinds};
 ghost use Rattle.lw_grammar.specs.KindTexts.{AreKindTexts};
 ghost use Rattle.lw_grammar.specs.Size.{size};
 
@@ -169,11 +171,15 @@ fn build_sound(
     }
 }
 
-// What the names of a grammar mean.
+// What the names of a grammar without faults mean.
 fn lexicon<'a>(g: &'a Grammar, numbered: &'a NumberedKinds) -> Lexicon<'a>
-    requires { AreNumberedKindsOf g.now numbered.now }
+    requires numbered { AreNumberedKindsOf g.now numbered.now }
+    requires faultless { IsFaultless g.now }
+    requires formed { IsWellFormed g.now }
+    requires filled { HasFilledChoices g.now }
     ensures lexicon { IsKnownLexicon result }
     ensures grammar { result.g.now ≡ g.now }
+    ensures supplied { (kinds : Kinds) → AreKinds result.g.now kinds → IsSupplied result.g.now kinds }
 {
     Lexicon {
         g,
