@@ -1,6 +1,6 @@
 -- A choice in a rule is written with two alternatives or more, so none is empty.
-use Rattle.std.proofs.Common.{ℕ, ◌≡◌, ◌<◌, List, [], ◌∷◌, map, Contains, sym, ap, ◌∙◌, subst, arith}
-use Rattle.std.specs.List.{flat_map, AllByRecursion}
+use Rattle.std.proofs.Common.{ℕ, ◌≡◌, List, [], ◌∷◌, map, Contains, sym, ap, ◌∙◌, subst, arith}
+use Rattle.std.specs.List.{AllByRecursion}
 use Rattle.lw_base.specs.declared.token.Span.{Span}
 use Rattle.lw_grammar.specs.declared.rule.Element.{Element, out-Element, fold_out-Element}
 use Rattle.lw_grammar.specs.declared.rule.Element.TheFolds.{map-Element}
