@@ -1,9 +1,10 @@
 // The kinds of tokens of a grammar, beside the numbers of its names.
 ghost use Rattle.std.specs.Prelude.{◌≤◌, IfOk};
 ghost use Rattle.lw_grammar.specs.Size.{size};
+ghost use Rattle.lw_kinds.specs.Rows.{AreKindRowOf};
 ghost use Rattle.lw_name_rules.specs.NameTable.{AreNameRulesOf};
 ghost use Rattle.lw_numbers.specs.Tables.{AreNumbersOf};
-ghost use Rattle.lw_token_sets.specs.Numbered.{AreNumberedKindsOf};
+ghost use Rattle.lw_token_sets.specs.Numbered.{AreNumberedKindsOf, EndsAreTold};
 
 use lw_base::NoMemory;
 use lw_derivations::Reading;
@@ -33,8 +34,7 @@ impl NumberedKinds {
     {
         let numbers = Numbers::of(alloc, g)?;
         let name_rules = name_rules(alloc, g, &numbers)?;
-        let reading = Reading::of(alloc, g, &numbers, &name_rules)?;
-        let kinds = KindTable::of(alloc, g, &numbers, &name_rules, &reading)?;
+        let kinds = kinds(alloc, g, &numbers, &name_rules)?;
         let nodes = node_rules(alloc, g, &numbers)?;
         Ok(NumberedKinds {
             numbers,
@@ -53,4 +53,21 @@ fn name_rules(alloc: Global, g: &Grammar, numbers: &Numbers) -> Result<NameRules
 {
     let subtypes = Subtypes::of(alloc, g, numbers)?;
     NameRules::of(alloc, g, numbers, &subtypes)
+}
+
+/// The kinds of a grammar, where these things are known. It is known then, too, which rules have a finite sentence.
+fn kinds(
+    alloc: Global,
+    g: &Grammar,
+    numbers: &Numbers,
+    name_rules: &NameRules,
+) -> Result<KindTable, NoMemory>
+    requires numbered { AreNumbersOf g.now numbers.now }
+    requires related { AreNameRulesOf g.now name_rules.now }
+    requires small { size g.now ≤ 65535 }
+    ensures kinds { IfOk result (AreKindRowOf g.now) }
+    ensures ends { IfOk result (λ _. EndsAreTold g.now) }
+{
+    let reading = Reading::of(alloc, g, numbers, name_rules)?;
+    KindTable::of(alloc, g, numbers, name_rules, &reading)
 }
