@@ -10,3 +10,4 @@ pub mod ToldLemmas
 pub mod CompileLemmas
 pub mod ChoicePlaces
 pub mod LookLemmas
+pub mod Supplied

@@ -1,5 +1,6 @@
 // From a grammar file to a language.
 ghost use Rattle.std.specs.Prelude.{◌≡◌, ◌≤◌, ◌<◌, [], length, IfOk, IfErr, IfSome};
+ghost use Rattle.lw_load.specs.FilledChoices.{HasFilledChoices};
 ghost use Rattle.lw_load.specs.declared.limits.TheConstants.{LARGEST_GRAMMAR};
 ghost use Rattle.lw_load.specs.Standing.{Stands};
 ghost use Rattle.lw_formed.specs.WellFormed.{IsWellFormed};
@@ -82,6 +83,7 @@ fn build<P: Patterns>(
     requires root { 0 < length grammar.files }
     requires stand { Stands texts.now grammar }
     requires formed { IsWellFormed grammar }
+    requires filled { HasFilledChoices grammar }
     requires most { k ≤ 3 }
     ensures grammar { IfOk result (λ language. language.grammar ≡ grammar) }
     ensures clear { IfOk result (λ language. IsClear language.grammar k) }
@@ -109,6 +111,7 @@ fn build_faultless<P: Patterns>(
     requires fits { size grammar ≤ LARGEST_GRAMMAR }
     requires stand { Stands texts.now grammar }
     requires formed { IsWellFormed grammar }
+    requires filled { HasFilledChoices grammar }
     requires most { k ≤ 3 }
     ensures grammar { IfOk result (λ language. language.grammar ≡ grammar) }
     ensures clear { IfOk result (λ language. IsClear language.grammar k) }
@@ -155,8 +158,9 @@ fn build_sound(
     requires faultless { IsFaultless grammar }
     requires fits { size grammar ≤ LARGEST_GRAMMAR }
     requires stand { Stands texts.now grammar }
+    requires formed { IsWellFormed grammar }
+    requires filled { HasFilledChoices grammar }
     requires most { k ≤ 3 }
-    requires supplied { (kinds : Kinds) → AreKinds grammar kinds → IsSupplied grammar kinds }
     requires numbered { AreNumberedKindsOf grammar numbered.now }
     requires tokens { IsTokenSetOf grammar [] numbered.now.kinds tokens }
     ensures grammar { IfOk result (λ language. language.grammar ≡ grammar) }
@@ -170,11 +174,15 @@ fn build_sound(
     }
 }
 
-// What the names of a grammar mean.
+// What the names of a grammar without faults mean.
 fn lexicon<'a>(g: &'a Grammar, numbered: &'a NumberedKinds) -> Lexicon<'a>
-    requires { AreNumberedKindsOf g.now numbered.now }
+    requires numbered { AreNumberedKindsOf g.now numbered.now }
+    requires faultless { IsFaultless g.now }
+    requires formed { IsWellFormed g.now }
+    requires filled { HasFilledChoices g.now }
     ensures lexicon { IsKnownLexicon result }
     ensures grammar { result.g.now ≡ g.now }
+    ensures supplied { (kinds : Kinds) → AreKinds result.g.now kinds → IsSupplied result.g.now kinds }
 {
     Lexicon {
         g,
@@ -208,7 +216,8 @@ fn language_of(
     requires faultless { IsFaultless grammar }
     requires fits { size grammar ≤ LARGEST_GRAMMAR }
     requires most { k ≤ 3 }
-    requires supplied { (kinds : Kinds) → AreKinds grammar kinds → IsSupplied grammar kinds }
+    requires formed { IsWellFormed grammar }
+    requires filled { HasFilledChoices grammar }
     requires numbered { AreNumberedKindsOf grammar numbered.now }
     requires tokens { IsTokenSetOf grammar [] numbered.now.kinds tokens }
     requires has { HasTables grammar k }
@@ -235,7 +244,8 @@ fn parser_of(
     requires faultless { IsFaultless g.now }
     requires fits { size g.now ≤ LARGEST_GRAMMAR }
     requires most { k ≤ 3 }
-    requires supplied { (kinds : Kinds) → AreKinds g.now kinds → IsSupplied g.now kinds }
+    requires formed { IsWellFormed g.now }
+    requires filled { HasFilledChoices g.now }
     requires numbered { AreNumberedKindsOf g.now numbered.now }
     requires tables { (kinds : Kinds) → AreKinds g.now kinds → AreTables g.now kinds k tables }
     ensures { (kinds : Kinds) → AreKinds g.now kinds → IfOk result (ParsesFaultless g.now kinds k) }

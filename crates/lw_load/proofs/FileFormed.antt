@@ -1,4 +1,4 @@
--- What one file says is well formed: each terminal has parts in its choices, and no rule begins where a terminal begins.
+-- What one file says is well formed: each terminal and each rule has parts in its choices, and no rule begins where a terminal begins.
 use Rattle.std.proofs.Common.{ℕ, suc, ◌≡◌, ◌≤◌, ◌<◌, ◌⊎◌, inl, inr, List, [], ◌∷◌, ◌++◌, Contains, refl, ap, subst, arith}
 use Rattle.std.proofs.lemmas.List.Elements.{Contains-push_cases}
 use Rattle.lw_base.specs.declared.token.Span.{Span}
@@ -12,10 +12,12 @@ use Rattle.lw_syntax.specs.Syntax.{Syntax, SpellsItem, SpellsItems, SpellsFile, 
 use Rattle.lw_load.proofs.Rising.{Rises, later, file_rises}
 use Rattle.lw_load.proofs.Behind.{IsNamed, interface_named, union_named, rule_named, terminal_named, grammar_name_behind, imports_behind}
 use Rattle.lw_load.proofs.Filled.{HasParts, terminal_filled}
+use Rattle.lw_load.proofs.FilledRules.{RuleHasParts, rule_filled}
 
 -- what a file says, where all that it says is in one file
 pub record IsFormed (g : Grammar) : Type 0 where
   pub filled : (t : Terminal) → Contains g.terminals t → HasParts t
+  pub filled_rules : (rule : Rule) → Contains g.rules rule → RuleHasParts rule
   pub apart : (rule : Rule) (t : Terminal) → Contains g.rules rule → Contains g.terminals t → ¬ (rule.span.start ≡ t.span.start)
 
 -- and all of it begins before this place
@@ -46,6 +48,7 @@ module _ (g h : Grammar) (rules : h.rules ≡ g.rules) (terminals : h.terminals 
     below = record {
       formed = record {
         filled = λ t there. b.formed.filled t (subst (λ ts. Contains ts t) terminals there);
+        filled_rules = λ rule there. b.formed.filled_rules rule (subst (λ rs. Contains rs rule) rules there);
         apart = λ rule t is_rule is_terminal.
             b.formed.apart rule t (subst (λ rs. Contains rs rule) rules is_rule) (subst (λ ts. Contains ts t) terminals is_terminal);
       };
@@ -56,17 +59,25 @@ module _ (g h : Grammar) (rules : h.rules ≡ g.rules) (terminals : h.terminals 
   }
 
 module _ (g : Grammar) (low : ℕ) (b : IsFormedBelow low g) where
-  behind_rule : (r : Rule) (rest : List Lexeme) → IsNamed low r.span rest → IsFormedBefore rest (record g { rules = g.rules ++ r ∷ [] })
-  behind_rule r rest named = record {
+  behind_rule : (r : Rule) (rest : List Lexeme) → RuleHasParts r → IsNamed low r.span rest → IsFormedBefore rest (record g { rules = g.rules ++ r ∷ [] })
+  behind_rule r rest filled named = record {
     high = suc r.span.start;
     below = record {
-      formed = record { filled = b.formed.filled; apart = λ rule t is_rule is_terminal. apart_from rule t is_terminal (Contains-push_cases g.rules r rule is_rule) };
+      formed = record {
+        filled = b.formed.filled;
+        filled_rules = λ rule there. filled_still rule (Contains-push_cases g.rules r rule there);
+        apart = λ rule t is_rule is_terminal. apart_from rule t is_terminal (Contains-push_cases g.rules r rule is_rule);
+      };
       rules = push_below (λ (z : Rule). z.span.start) g.rules r low b.rules named.0;
       terminals = λ t there. omega (arith, b.terminals t there, named.0);
     };
     rises = named.1;
   }
     where
+      filled_still : (rule : Rule) → Contains g.rules rule ⊎ (r ≡ rule) → RuleHasParts rule
+      filled_still rule (inl old) = b.formed.filled_rules rule old
+      filled_still rule (inr new) = subst RuleHasParts new filled
+
       apart_from : (rule : Rule) (t : Terminal) → Contains g.terminals t → Contains g.rules rule ⊎ (r ≡ rule) → ¬ (rule.span.start ≡ t.span.start)
       apart_from rule t is_terminal (inl old) = b.formed.apart rule t old is_terminal
       apart_from rule t is_terminal (inr new) = λ same.
@@ -78,6 +89,7 @@ module _ (g : Grammar) (low : ℕ) (b : IsFormedBelow low g) where
     below = record {
       formed = record {
         filled = λ u there. filled_still u (Contains-push_cases g.terminals t u there);
+        filled_rules = b.formed.filled_rules;
         apart = λ rule u is_rule is_terminal. apart_from rule u is_rule (Contains-push_cases g.terminals t u is_terminal);
       };
       rules = λ rule there. omega (arith, b.rules rule there, named.0);
@@ -98,7 +110,7 @@ module _ (g : Grammar) (low : ℕ) (b : IsFormedBelow low g) where
   behind_item : {ts rest : List Lexeme} {i : _} → SpellsItem ts rest i → Rises low ts → IsFormedBefore rest (with_item g i)
   behind_item {rest = rest} (syntax.interface {i = i} spells) h = beside g _ refl refl low i.span b rest (interface_named spells (later h))
   behind_item {rest = rest} (syntax.union_type {u = u} spells) h = beside g _ refl refl low u.span b rest (union_named spells (later h))
-  behind_item {rest = rest} (syntax.rule {r = r} spells) h = behind_rule r rest (rule_named spells h)
+  behind_item {rest = rest} (syntax.rule {r = r} spells) h = behind_rule r rest (rule_filled spells) (rule_named spells h)
   behind_item {rest = rest} (syntax.terminal {t = t} spells) h = behind_terminal t rest (terminal_filled spells) (terminal_named spells (later h))
   behind_item {rest = rest} (syntax.hidden_terminal {t = t} spells) h = behind_terminal t rest (terminal_filled spells) (terminal_named spells (later (later h)))
 
@@ -113,7 +125,11 @@ none_there x has = omega (arith, has.1)
 
 bare_formed : (n : List ℕ) (is : List Import) → IsFormedBelow 0 (bare_grammar n is)
 bare_formed n is = record {
-  formed = record { filled = λ t there. absurd (none_there t there); apart = λ rule t there also. absurd (none_there t also) };
+  formed = record {
+    filled = λ t there. absurd (none_there t there);
+    filled_rules = λ rule there. absurd (none_there rule there);
+    apart = λ rule t there also. absurd (none_there t also);
+  };
   rules = λ rule there. absurd (none_there rule there);
   terminals = λ t there. absurd (none_there t there);
 }

@@ -14,7 +14,7 @@ use Rattle.lw_syntax.specs.TerminalRules.{SpellsTermMark, SpellsTermPart, Spells
 use Rattle.lw_formed.specs.WellFormed.{choices, layer_choices}
 
 -- each choice of these sizes has a part
-abbrev AreFilled : List ℕ → Type 0
+abbrev pub AreFilled : List ℕ → Type 0
 AreFilled sizes = AllByRecursion (λ n. 0 < n) sizes
 
 abbrev IsFilled : TermElement → Type 0
@@ -27,9 +27,14 @@ both : (xs ys : List ℕ) → AreFilled xs → AreFilled ys → AreFilled (xs ++
 both [] ys h k = k
 both (x ∷ xs) ys h k = (h.0, both xs ys h.1 k)
 
-each : (es : List TermElement) → EachFilled es → AreFilled (flat_map (λ sizes. sizes) (map choices es))
-each [] h = tt
-each (e ∷ es) h = both (choices e) (flat_map (λ (sizes : List ℕ). sizes) (map choices es)) h.0 (each es h.1)
+-- of all parts
+pub each_filled : {X : Type 0} (sizes_in : X → List ℕ) (xs : List X) → AllByRecursion (λ x. AreFilled (sizes_in x)) xs →
+    AreFilled (flat_map (λ sizes. sizes) (map sizes_in xs))
+each_filled sizes_in [] h = tt
+each_filled sizes_in (x ∷ xs) h = both (sizes_in x) (flat_map (λ (sizes : List ℕ). sizes) (map sizes_in xs)) h.0 (each_filled sizes_in xs h.1)
+
+pub none_empty : (sizes : List ℕ) → AreFilled sizes → ¬ Contains sizes 0
+none_empty sizes h = λ has. let some : 0 < 0 = All-contains (λ n. 0 < n) sizes 0 (All-from_recursion (λ n. 0 < n) sizes h) has in omega (arith, some)
 
 -- by its variant
 by_variant : (e : TermElement) (f : TermElement-F TermElement) → out-TermElement e ≡ f →
@@ -46,12 +51,12 @@ mark_filled (terms.some {e}) h = by_variant _ _ (term.outs-Some1 e) h
 row_of_filled : (e : TermElement) (es : List TermElement) → EachFilled (e ∷ es) → IsFilled (term_group_of (e ∷ es))
 unfolding term_group_of
 row_of_filled e [] h = h.0
-row_of_filled e (f ∷ es) h = by_variant _ _ (term.outs-Group (e ∷ f ∷ es)) (each (e ∷ f ∷ es) h)
+row_of_filled e (f ∷ es) h = by_variant _ _ (term.outs-Group (e ∷ f ∷ es)) (each_filled choices (e ∷ f ∷ es) h)
 
 choice_of_filled : (e : TermElement) (es : List TermElement) → EachFilled (e ∷ es) → IsFilled (term_choice_of (e ∷ es))
 unfolding term_choice_of
 choice_of_filled e [] h = h.0
-choice_of_filled e (f ∷ es) h = by_variant _ _ (term.outs-Choice (e ∷ f ∷ es)) (omega arith, each (e ∷ f ∷ es) h)
+choice_of_filled e (f ∷ es) h = by_variant _ _ (term.outs-Choice (e ∷ f ∷ es)) (omega arith, each_filled choices (e ∷ f ∷ es) h)
 
 mutual
   part_filled : {ts rest : List Lexeme} {e : TermElement} → SpellsTermPart ts rest e → IsFilled e
@@ -82,8 +87,5 @@ mutual
 abbrev pub HasParts : Terminal → Type 0
 HasParts t = ¬ Contains (choices t.body) 0
 
-not_empty : (e : TermElement) → IsFilled e → ¬ Contains (choices e) 0
-not_empty e h = λ has. let some : 0 < 0 = All-contains (λ n. 0 < n) (choices e) 0 (All-from_recursion (λ n. 0 < n) (choices e) h) has in omega (arith, some)
-
 pub terminal_filled : {hidden : Bool} {ts rest : List Lexeme} {t : Terminal} → SpellsTerminal hidden ts rest t → HasParts t
-terminal_filled (terms.terminal {body} head c) = not_empty body (choice_filled c)
+terminal_filled (terms.terminal {body} head c) = none_empty (choices body) (choice_filled c)

@@ -6,13 +6,16 @@ use Rattle.lw_grammar.specs.declared.rule.Rule.{Rule}
 use Rattle.lw_grammar.specs.declared.terminal.Terminal.{Terminal}
 use Rattle.lw_formed.specs.WellFormed.{IsWellFormed}
 use Rattle.lw_syntax.specs.Syntax.{bare_grammar}
+use Rattle.lw_load.specs.FilledChoices.{HasFilledChoices}
 use Rattle.lw_load.specs.Loading.{rules_in, terminals_in, with_file}
 use Rattle.lw_load.proofs.Filled.{HasParts}
+use Rattle.lw_load.proofs.FilledRules.{RuleHasParts}
 use Rattle.lw_load.proofs.FileFormed.{IsFormed, none_there}
 
--- well formed, and each rule and each terminal has the number of one of the files
+-- well formed, with parts in each choice, and each rule and each terminal has the number of one of the files
 pub record IsNumbered (g : Grammar) : Type 0 where
   pub formed : IsWellFormed g
+  pub filled : HasFilledChoices g
   pub rules : (rule : Rule) → Contains g.rules rule → rule.file < length g.files
   pub terminals : (t : Terminal) → Contains g.terminals t → t.file < length g.files
 
@@ -69,6 +72,10 @@ module _ (g : Grammar) (path : List ℕ) (says : Grammar) where
     still_filled t (inl old) = before.formed.no_empty_choice t old
     still_filled t (inr new) = subst HasParts new.is (is.filled new.one new.there)
 
+    still_with_parts : (rule : Rule) → OldOrNewRule rule → RuleHasParts rule
+    still_with_parts rule (inl old) = before.filled rule old
+    still_with_parts rule (inr new) = subst RuleHasParts new.is (is.filled_rules new.one new.there)
+
     still_apart : (rule : Rule) (t : Terminal) → OldOrNewRule rule → OldOrNewTerminal t → ¬ ((rule.file ≡ t.file) × (rule.span.start ≡ t.span.start))
     still_apart rule t (inl old) (inl also) = before.formed.apart rule t old also
     still_apart rule t (inl old) (inr new) = λ same.
@@ -85,6 +92,7 @@ module _ (g : Grammar) (path : List ℕ) (says : Grammar) where
         no_empty_choice = λ t there. still_filled t (terminal_cases t there);
         apart = λ rule t is_rule is_terminal. still_apart rule t (rule_cases rule is_rule) (terminal_cases t is_terminal);
       };
+      filled = λ rule there. still_with_parts rule (rule_cases rule there);
       rules = λ rule there. subst (λ k. rule.file < k) (sym (length-append g.files (path ∷ []))) (rule_numbered rule (rule_cases rule there));
       terminals = λ t there. subst (λ k. t.file < k) (sym (length-append g.files (path ∷ []))) (terminal_numbered t (terminal_cases t there));
     }
@@ -92,6 +100,7 @@ module _ (g : Grammar) (path : List ℕ) (says : Grammar) where
 pub numbered_bare : (name : List ℕ) → IsNumbered (bare_grammar name [])
 numbered_bare name = record {
   formed = record { no_empty_choice = λ t there. absurd (none_there t there); apart = λ rule t there also. absurd (none_there t also) };
+  filled = λ rule there. absurd (none_there rule there);
   rules = λ rule there. absurd (none_there rule there);
   terminals = λ t there. absurd (none_there t there);
 }

@@ -4,3 +4,4 @@ pub mod LoadFaults
 pub mod Standing
 pub mod Opening
 pub mod Walking
+pub mod FilledChoices

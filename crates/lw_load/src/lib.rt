@@ -8,12 +8,13 @@
 //! - `Loading.antt`: which files are loaded, in which order, and how they are joined.
 //! - `LoadFaults.antt`: why none are, the first fault in that order.
 //! - `Standing.antt`: in which file's text each thing stands.
+//! - `FilledChoices.antt`: that each choice in a rule has a part.
 //! - `Opening.antt`, `Walking.antt`: how the walk opens a file, and goes on.
 //!
 //! It promises that [`load`] gives the grammar of a root file and no other, or the first fault, and then the files say
 //! none; that the grammar is not larger than [`LARGEST_GRAMMAR`]; that each choice in a terminal has a part, and no rule
-//! stands where a terminal stands (`lw_formed`); and that each place in it is in the text of its file, so that whoever
-//! finds something wrong can tell where.
+//! stands where a terminal stands (`lw_formed`); that each choice in a rule has a part, too; and that each place in it is
+//! in the text of its file, so that whoever finds something wrong can tell where.
 #![tactic(auto)]
 
 mod fault;

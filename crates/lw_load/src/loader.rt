@@ -2,6 +2,7 @@
 ghost use Rattle.std.specs.Prelude.{◌≡◌, ◌<◌, ◌≤◌, IfOk, IfErr, IfSome, length};
 ghost use Rattle.lw_grammar.specs.Size.{size};
 ghost use Rattle.lw_formed.specs.WellFormed.{IsWellFormed};
+ghost use Rattle.lw_load.specs.FilledChoices.{HasFilledChoices};
 ghost use Rattle.lw_load.specs.declared.limits.TheConstants.{LARGEST_GRAMMAR};
 ghost use Rattle.lw_load.specs.declared.loader.Loaded.{Loaded};
 ghost use Rattle.lw_load.specs.Loading.{Loads};
@@ -35,6 +36,7 @@ pub fn load<F: Store>(alloc: Global, root: &Name, store: &mut F) -> Result<Loade
     ensures root { IfOk result (λ loaded. 0 < length loaded.grammar.files) }
     ensures stand { IfOk result (λ loaded. Stands loaded.texts loaded.grammar) }
     ensures formed { IfOk result (λ loaded. IsWellFormed loaded.grammar) }
+    ensures filled { IfOk result (λ loaded. HasFilledChoices loaded.grammar) }
     ensures fault { IfErr result (λ fault. IfSome (F.files store.old) (λ files. Stops files root.now fault)) }
     ensures nothing { IfErr result (λ fault. IfSome (F.files store.old) (λ files. IsOfFiles fault → (other : Loaded) → ¬ Loads files root.now other)) }
     ensures store { CountsLoad (F.count store.old) (F.count store.new) result }

@@ -10,3 +10,4 @@ pub mod SourceSteps
 pub mod Tried
 pub mod Unlisted
 pub mod Zips
+pub mod ToldEnds

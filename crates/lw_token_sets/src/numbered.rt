@@ -4,7 +4,7 @@ ghost use Rattle.lw_grammar.specs.Size.{size};
 ghost use Rattle.lw_kinds.specs.Rows.{AreKindRowOf};
 ghost use Rattle.lw_name_rules.specs.NameTable.{AreNameRulesOf};
 ghost use Rattle.lw_numbers.specs.Tables.{AreNumbersOf};
-ghost use Rattle.lw_token_sets.specs.Numbered.{AreNumberedKindsOf};
+ghost use Rattle.lw_token_sets.specs.Numbered.{AreNumberedKindsOf, EndsAreTold};
 
 use lw_base::NoMemory;
 use lw_derivations::Reading;
@@ -16,7 +16,7 @@ use lw_subtypes::{Subtypes, node_rules};
 use std::alloc::Global;
 
 /// What the names of a grammar mean, by number, which rules read cross-references that name none and which make nodes, and its kinds
-/// of tokens.
+/// of tokens. Whoever has it knows, too, of each rule whether it has a finite sentence.
 #[derive(Drop)]
 pub struct NumberedKinds {
     pub numbers: Numbers,
@@ -55,7 +55,7 @@ fn name_rules(alloc: Global, g: &Grammar, numbers: &Numbers) -> Result<NameRules
     NameRules::of(alloc, g, numbers, &subtypes)
 }
 
-/// The kinds of a grammar, where these things are known.
+/// The kinds of a grammar, where these things are known. It is known then, too, which rules have a finite sentence.
 fn kinds(
     alloc: Global,
     g: &Grammar,
@@ -65,7 +65,8 @@ fn kinds(
     requires numbered { AreNumbersOf g.now numbers.now }
     requires related { AreNameRulesOf g.now name_rules.now }
     requires small { size g.now ≤ 65535 }
-    ensures { IfOk result (AreKindRowOf g.now) }
+    ensures kinds { IfOk result (AreKindRowOf g.now) }
+    ensures ends { IfOk result (λ _. EndsAreTold g.now) }
 {
     let reading = Reading::of(alloc, g, numbers, name_rules)?;
     KindTable::of(alloc, g, numbers, name_rules, &reading)

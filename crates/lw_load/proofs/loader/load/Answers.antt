@@ -86,3 +86,6 @@ returns-clause-only g c =
 
 pub returns-clause-formed : goal.returns-clause-formed
 returns-clause-formed g c = c.walking.invariant.keeps.formed.formed
+
+pub returns-clause-filled : goal.returns-clause-filled
+returns-clause-filled g c = c.walking.invariant.keeps.formed.filled
