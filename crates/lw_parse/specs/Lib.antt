@@ -1,0 +1,5 @@
+pub mod Parsers
+pub mod Outcomes
+pub mod Running
+pub mod Marked
+pub mod Deciding

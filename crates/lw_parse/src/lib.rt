@@ -1,0 +1,30 @@
+//! Texts of a language parsed: the tree of the only sentence that the visible tokens are, or the first fault.
+//!
+//! A [`Parser`] is made once for a language, of its program, of what is told of the program's places, of what becomes of what is read, and of
+//! the tables by which ways are chosen. [`Parser::parse`] goes over the visible tokens of a text with a stack of places that are still to
+//! be done, the first on top. At each choice it looks at the next kinds and at nothing else, and takes the way that the tables name. What
+//! it leaves are marks, and of them the tree is built.
+//!
+//! Its model is a record of these parts (`specs/Parsers.antt`), and `IsParserOf` says that all of them are those of a grammar. What tokens
+//! read as is said over their kinds alone (`specs/Outcomes.antt`): the tree of the only sentence that has them; or the first token that no
+//! sentence has after those before it; or that they end too early.
+//!
+//! It promises, for a grammar without faults, that the answer is the one which the definition names. A tree is that of a sentence with
+//! the kinds of the visible tokens, and no other sentence has them. A fault rests on no table: where the tables lead nowhere, all readings of
+//! the tokens are kept from the first on (`lw_viable`) until there is none. Numbers of tokens count hidden ones too. Besides, memory may be
+//! wanting.
+//!
+//! A turn takes constant time and the memory that its places and marks take; there are a few turns for each visible token, and nothing
+//! recurses. That the turns between two tokens come to an end is not proved: after 2^64 - 1 of them the answer is that memory is wanting.
+//! A search for a fault takes as much time again as keeping the readings does.
+#![tactic(auto)]
+
+mod deciding;
+mod fault;
+mod parser;
+mod run;
+mod search;
+mod turn;
+
+pub use fault::ParseFault;
+pub use parser::Parser;

@@ -1,0 +1,211 @@
+// A parser, and what texts are by it.
+ghost use Rattle.std.specs.Prelude.{ℕ, ◌≡◌, ◌≢◌, ◌↔◌, ◌≤◌, ◌<◌, List, Some, IsTrue, IfOk, IfErr, MatchOption, true, slice_get, map};
+ghost use Rattle.lw_derivations.specs.Reading.{IsReadingOf};
+ghost use Rattle.lw_grammar.specs.declared.grammar.Grammar.{Grammar};
+ghost use Rattle.lw_grammar.specs.declared.rule.Rule.{Rule};
+ghost use Rattle.lw_grammar.specs.Kinds.{Kinds, AreKinds};
+ghost use Rattle.lw_grammar.specs.Named.{IsEntry};
+ghost use Rattle.lw_grammar.specs.Size.{size};
+ghost use Rattle.lw_lexicon.specs.Known.{IsKnownLexicon};
+ghost use Rattle.lw_look.specs.Choices.{choice_sites};
+ghost use Rattle.lw_look.specs.Looks.{Look};
+ghost use Rattle.lw_look.specs.Sites.{PartSite};
+ghost use Rattle.lw_look.specs.Supplied.{IsSupplied};
+ghost use Rattle.lw_heads.specs.Heads.{seen_in};
+ghost use Rattle.lw_lookahead.specs.Tables.{AreTables};
+ghost use Rattle.lw_sentences.specs.Sentences.{IsWhole};
+ghost use Rattle.lw_subtypes.specs.Kinship.{AreNodeRules};
+ghost use Rattle.lw_tree.specs.Parts.{Tile};
+ghost use Rattle.lw_builder.specs.Built.{ArePartsOf, visible_of as shown};
+ghost use Rattle.lw_parse.specs.Marked.{MeanOnlySentence};
+ghost use Rattle.lw_parse.specs.Outcomes.{IsOnlyTree, IsParseFault, kinds_seen};
+ghost use Rattle.lw_parse.specs.Parsers.{AreOfKinds, IsParserOf, ParsesFaultless, TellWays};
+
+use crate::ParseFault;
+use crate::search::first_impossible;
+use crate::run::marks_of;
+use lw_base::{KindId, Name, NoMemory, PointId, RuleId, Token};
+use lw_begins::Begins;
+use lw_builder::tree_of;
+use lw_derivations::Reading;
+use lw_lexicon::Lexicon;
+use lw_lookahead::Tables;
+use lw_program::{Instr, Program};
+use lw_recipes::{Recipes, TreeMark};
+use lw_tree::Tree;
+use std::alloc::Global;
+use std::marker::Model;
+
+/// What texts of a grammar are parsed by. It is made once for a language.
+#[derive(Drop)]
+pub struct Parser {
+    program: Program,
+    begins: Begins,
+    recipes: Recipes,
+    tables: Tables,
+    k: usize,
+    entry: RuleId,
+}
+
+impl Model for Parser {
+    ghost use Rattle.std.specs.Prelude.{◌≤◌, map};
+    ghost use Rattle.lw_parse.specs.Parsers.{ParserParts};
+
+    ghost Value = { ParserParts };
+
+    ghost view = { λ a. record { program = a.program; begins = a.begins; recipes = a.recipes; tables = record { depth = a.tables.k; ways = map (λ point. point.entries) a.tables.points.items }; k = a.k; entry = a.entry.0 } };
+
+    ghost invariant = { λ a. a.k ≤ 3 };
+}
+
+impl Parser {
+    /// That of a grammar whose names these are. A flag for each rule says whether it makes nodes; the tables are for windows of `k` kinds; the
+    /// number is that of the entry rule. An error is want of memory.
+    pub fn of(
+        alloc: Global,
+        lexicon: Lexicon<'_>,
+        nodes: &[bool],
+        tables: Tables,
+        k: usize,
+        entry: RuleId,
+    ) -> Result<Parser, NoMemory>
+        requires known { IsKnownLexicon lexicon }
+        requires told { AreNodeRules lexicon.g.now nodes.now }
+        requires supplied { (kinds : Kinds) → AreKinds lexicon.g.now kinds → IsSupplied lexicon.g.now kinds }
+        requires small { size lexicon.g.now ≤ 65535 }
+        requires most { k ≤ 3 }
+        ensures { (kinds : Kinds) (rule : Rule) → AreKinds lexicon.entry.g.now kinds → AreTables lexicon.entry.g.now kinds k tables →
+            IsEntry lexicon.entry.g.now entry.0 rule → IfOk result (IsParserOf lexicon.entry.g.now kinds k) }
+    {
+        let reading = Reading::of(alloc, lexicon.g, lexicon.numbers, lexicon.name_rules)?;
+        let program = Program::of(alloc, lexicon, &reading, nodes)?;
+        let begins = Begins::of(alloc, lexicon, &program, nodes)?;
+        let recipes = Recipes::of(alloc, lexicon)?;
+        Ok(Parser {
+            program,
+            begins,
+            recipes,
+            tables,
+            k,
+            entry,
+        })
+    }
+
+    /// The tree of the only sentence that the visible tokens of the text are, or the first fault.
+    pub fn parse(
+        &self,
+        alloc: Global,
+        text: &Name,
+        tokens: Vec<Token>,
+    ) -> Result<Tree, ParseFault>
+        requires known { (g : Grammar) × (kinds : Kinds) × (k : ℕ) × ParsesFaultless g kinds k self.now × AreOfKinds kinds tokens.items }
+        requires tile { Tile 0 tokens.items }
+        requires parts { ArePartsOf text.now tokens.items }
+        ensures tree { (g : Grammar) (kinds : Kinds) (k : ℕ) → ParsesFaultless g kinds k self.now →
+            IfOk result (IsOnlyTree g kinds text.now tokens.items) }
+        ensures fault { (g : Grammar) (kinds : Kinds) (k : ℕ) → ParsesFaultless g kinds k self.now → AreOfKinds kinds tokens.items →
+            IfErr result (IsParseFault g kinds tokens.items) }
+    {
+        match self.marks(alloc, tokens.as_slice()) {
+            Err(_) => Err(ParseFault::NoMemory),
+            Ok(None) => Err(self.fault(alloc, tokens.as_slice())),
+            Ok(Some(marks)) => {
+                match tree_of(alloc, &self.recipes, marks.as_slice(), tokens, text) {
+                    Err(_) => Err(ParseFault::NoMemory),
+                    Ok(tree) => Ok(tree),
+                }
+            }
+        }
+    }
+
+    /// The marks of the sentence that the visible ones of these tokens are, if they are one.
+    fn marks(&self, alloc: Global, tokens: &[Token]) -> Result<Option<Vec<TreeMark>>, NoMemory>
+        ensures { (g : Grammar) (kinds : Kinds) (k : ℕ) → IsParserOf g kinds k self.now → IsSupplied g kinds →
+            IfOk result (λ found. MatchOption found (¬ IsWhole g kinds (kinds_seen tokens.now)) (λ marks. MeanOnlySentence g kinds (kinds_seen tokens.now) marks.items)) }
+    {
+        let visible = visible_of(alloc, tokens)?;
+        marks_of(alloc, self, visible.as_slice())
+    }
+
+    /// The first fault of tokens that are no sentence.
+    fn fault(&self, alloc: Global, tokens: &[Token]) -> ParseFault
+        requires { (g : Grammar) × (kinds : Kinds) × (k : ℕ) × IsParserOf g kinds k self.now × AreOfKinds kinds tokens.now }
+        ensures { (g : Grammar) (kinds : Kinds) (k : ℕ) → IsParserOf g kinds k self.now → IsSupplied g kinds → AreOfKinds kinds tokens.now →
+            ¬ IsWhole g kinds (kinds_seen tokens.now) → IsParseFault g kinds tokens.now result }
+    {
+        match first_impossible(alloc, self, tokens) {
+            Err(_) => ParseFault::NoMemory,
+            Ok(None) => ParseFault::UnexpectedEnd,
+            Ok(Some((number, token))) => ParseFault::Unexpected(number, token),
+        }
+    }
+
+    pub(crate) fn program(&self) -> &Program
+        ensures { result.now ≡ self.now.program }
+    {
+        &self.program
+    }
+
+    pub(crate) fn begins(&self) -> &Begins
+        ensures { result.now ≡ self.now.begins }
+    {
+        &self.begins
+    }
+
+    /// The number of the entry rule.
+    pub(crate) fn entry(&self) -> RuleId
+        ensures { result.0 ≡ self.now.entry }
+    {
+        self.entry
+    }
+
+    /// How many kinds the tables look at.
+    pub(crate) fn depth(&self) -> usize
+        ensures is { result ≡ self.now.k }
+        ensures most { result ≤ 3 }
+    {
+        self.k
+    }
+
+    /// What stands at a place.
+    pub(crate) fn instr_at(&self, place: u32) -> Option<Instr>
+        ensures { result ≡ slice_get self.now.program.code place }
+    {
+        self.program.code().get(place as usize).copied()
+    }
+
+    /// Where a rule starts, if it does.
+    pub(crate) fn start_of(&self, rule: u16) -> Option<u32>
+        ensures { MatchOption result ((start : ℕ) → slice_get self.now.program.starts rule ≢ Some (Some start))
+            (λ start. slice_get self.now.program.starts rule ≡ Some (Some start)) }
+    {
+        self.program.starts().get(rule as usize).copied().flatten()
+    }
+
+    /// Whether a call of the rule is a node of its own.
+    pub(crate) fn makes_node(&self, rule: u16) -> bool
+        ensures { IsTrue result ↔ (slice_get self.now.begins.nodes rule ≡ Some true) }
+    {
+        self.begins.makes_node(rule as usize)
+    }
+
+    /// The way that this window comes next at.
+    pub(crate) fn way(&self, point: PointId, window: &[Option<KindId>]) -> Option<u16>
+        ensures { (g : Grammar) (kinds : Kinds) (k : ℕ) (s : PartSite) (way : ℕ) → TellWays g kinds k self.now.tables →
+            slice_get (choice_sites g) point.0 ≡ Some s → (result ≡ Some way) ↔ Look g kinds k s way (seen_in window.now) }
+    {
+        self.tables.choose(point, window)
+    }
+}
+
+/// The tokens that are not hidden.
+fn visible_of(alloc: Global, tokens: &[Token]) -> Result<Vec<Token>, NoMemory>
+    ensures { IfOk result (λ visible. visible.items ≡ shown tokens.now) }
+{
+    let visible = tokens
+        .iter()
+        .filter(|token| !token.hidden)
+        .copied()
+        .collect(alloc)?;
+    Ok(visible)
+}

@@ -1,0 +1,148 @@
+// A run of the parser over visible tokens, a place of the program at a time.
+ghost use Rattle.std.specs.Prelude.{ℕ, ◌≡◌, ◌≢◌, ◌-◌, [], ◌∷◌, Some, IfOk, OnOk, MatchOption, drop, map};
+ghost use Rattle.lw_grammar.specs.declared.grammar.Grammar.{Grammar};
+ghost use Rattle.lw_grammar.specs.Kinds.{Kinds};
+ghost use Rattle.lw_sentences.specs.Sentences.{IsWhole};
+ghost use Rattle.lw_look.specs.Supplied.{IsSupplied};
+ghost use Rattle.lw_viable.specs.Moves.{left, side_by_side};
+ghost use Rattle.lw_parse.specs.Deciding.{marks_in, places_in, places_of, unread_after, unread_behind};
+ghost use Rattle.lw_parse.specs.Marked.{MeanOnlySentence};
+ghost use Rattle.lw_parse.specs.Parsers.{IsParserOf};
+ghost use Rattle.lw_parse.specs.Running.{state_of, went_on};
+
+use crate::Parser;
+use crate::turn::{Places, Step, Turn};
+use lw_base::{NoMemory, Token};
+use lw_recipes::TreeMark;
+use std::alloc::Global;
+
+/// The visible tokens that are unread, the places that are still to be done, the first last, and the marks that were left.
+#[derive(Drop)]
+pub(crate) struct Run<'p> {
+    pub(crate) parser: &'p Parser,
+    pub(crate) unread: &'p [Token],
+    pub(crate) to_do: Vec<u32>,
+    pub(crate) marks: Vec<TreeMark>,
+}
+
+impl Run<'_> {
+    /// Puts a place before those that are still to be done.
+    fn put(&mut self, place: u32) -> Result<(), NoMemory>
+        ensures { OnOk result (state_of self.new ≡ went_on (state_of self.old) [] (place ∷ []) (state_of self.old).unread) }
+    {
+        Ok(self.to_do.push(place)?)
+    }
+
+    /// Puts the places from the first up to the end before those that are still to be done.
+    fn put_row(&mut self, first: u32, end: u32) -> Result<(), NoMemory>
+        ensures { OnOk result (state_of self.new ≡ went_on (state_of self.old) [] (side_by_side first (end - first)) (state_of self.old).unread) }
+    {
+        for place in (first..end).rev() {
+            self.put(place)?;
+        }
+        Ok(())
+    }
+
+    /// Puts places before those that are still to be done.
+    fn put_all(&mut self, places: Places) -> Result<(), NoMemory>
+        ensures { OnOk result (state_of self.new ≡ went_on (state_of self.old) [] (places_of places) (state_of self.old).unread) }
+    {
+        match places {
+            Places::Nowhere => Ok(()),
+            Places::One(place) => self.put(place),
+            Places::Two(first, second) => {
+                self.put(second)?;
+                self.put(first)
+            }
+            Places::Row { first, end } => self.put_row(first, end),
+        }
+    }
+
+    /// Leaves a mark. A token is then read.
+    fn leave(&mut self, mark: TreeMark) -> Result<(), NoMemory>
+        ensures { OnOk result (state_of self.new ≡ went_on (state_of self.old) (mark ∷ []) [] (unread_behind (Some mark) (state_of self.old).unread)) }
+    {
+        if let TreeMark::Token(_) = mark {
+            self.unread = behind_first(self.unread);
+        }
+        Ok(self.marks.push(mark)?)
+    }
+
+    /// Makes a step.
+    fn make(&mut self, step: Step) -> Result<(), NoMemory>
+        ensures { OnOk result (state_of self.new ≡ went_on (state_of self.old) (left step.mark) (places_of step.places) (unread_behind step.mark (state_of self.old).unread)) }
+    {
+        if let Some(mark) = step.mark {
+            self.leave(mark)?;
+        }
+        self.put_all(step.places)
+    }
+
+    /// Does what was decided.
+    pub(crate) fn turn(&mut self, turn: Turn) -> Result<(), NoMemory>
+        ensures { OnOk result (state_of self.new ≡ went_on (state_of self.old) (marks_in turn) (places_in turn) (unread_after turn (state_of self.old).unread)) }
+    {
+        match turn {
+            Turn::Plain(step) => self.make(step),
+            Turn::Value { number, end, step } => {
+                self.leave(TreeMark::Put(number))?;
+                self.put(end)?;
+                self.make(step)
+            }
+        }
+    }
+
+    /// The marks, where no token is unread.
+    fn whole(self) -> Option<Vec<TreeMark>>
+        ensures { MatchOption result ((state_of self.entry).unread ≢ []) (λ marks. ((state_of self.entry).unread ≡ []) × (marks.items ≡ (state_of self.entry).marks)) }
+    {
+        if self.unread.is_empty() {
+            Some(self.marks)
+        } else {
+            None
+        }
+    }
+}
+
+/// All tokens but the first.
+fn behind_first(tokens: &[Token]) -> &[Token]
+    ensures { result.now ≡ drop 1 tokens.now }
+{
+    match tokens.split_first() {
+        None => tokens,
+        Some((_, behind)) => behind,
+    }
+}
+
+/// The marks of the sentence that these visible tokens are, if they are one. How many turns that takes is not proved; after 2^64 - 1 of them
+/// the answer is that memory is wanting, which no text comes to.
+pub(crate) fn marks_of<'p>(
+    alloc: Global,
+    parser: &'p Parser,
+    visible: &'p [Token],
+) -> Result<Option<Vec<TreeMark>>, NoMemory>
+    ensures { (g : Grammar) (kinds : Kinds) (k : ℕ) → IsParserOf g kinds k parser.now → IsSupplied g kinds →
+        IfOk result (λ found. MatchOption found (¬ IsWhole g kinds (map (λ t. t.kind.0) visible.now))
+        (λ marks. MeanOnlySentence g kinds (map (λ t. t.kind.0) visible.now) marks.items)) }
+{
+    let mut run = Run {
+        parser,
+        unread: visible,
+        to_do: Vec::new(alloc),
+        marks: Vec::new(alloc),
+    };
+    let Some(start) = run.call(parser.entry().0)? else {
+        return Ok(None);
+    };
+    run.make(start)?;
+    'turns: for _turn in 0..u64::MAX {
+        let Some(place) = run.to_do.pop() else {
+            return Ok(run.whole());
+        };
+        let Some(turn) = run.decide(place)? else {
+            return Ok(None);
+        };
+        run.turn(turn)?;
+    }
+    Err(NoMemory)
+}
