@@ -89,17 +89,14 @@ module _ (lexicon : Lexicon) (text : List ℕ) where
 
   in_row : (from : ℕ) (ts : List Token) (at : ℕ) → TilesTo from ts at → All (IsTokenPlace text) ts → StandInRow text from (visible ts)
   in_row from [] at tiles places = within.none
-  in_row from (t ∷ ts) at tiles places = by t.hidden
+  in_row from (t ∷ ts) at tiles places = by t.hidden (in_row t.span.end ts at tiles.2 (All-tail (IsTokenPlace text) t ts places))
     where
       place : IsTokenPlace text t
       place = All-head (IsTokenPlace text) t ts places
 
-      rest : StandInRow text t.span.end (visible ts)
-      rest = in_row t.span.end ts at tiles.2 (All-tail (IsTokenPlace text) t ts places)
-
-      by : (b : Bool) → StandInRow text from (if not b then t ∷ visible ts else visible ts)
-      by true = earlier (omega (arith, tiles.1)) rest
-      by false = within.more (omega (arith, tiles.0)) (omega (arith, place.not_empty), place.within) rest
+      by : (b : Bool) → StandInRow text t.span.end (visible ts) → StandInRow text from (if not b then t ∷ visible ts else visible ts)
+      by true rest = earlier (omega (arith, tiles.1)) rest
+      by false rest = within.more (omega (arith, tiles.0)) (omega (arith, place.not_empty), place.within) rest
 
   pub stand_in_row : {at : ℕ} {tokens : List Token} → IsCutTo lexicon text at tokens → All (IsTokenPlace text) tokens → StandInRow text 0 (visible tokens)
   stand_in_row {at} {tokens} is places = in_row 0 tokens at (tiles_to is places) places
