@@ -13,17 +13,17 @@ use Rattle.lw_tree.specs.declared.node.Value.TheVariants.{Text, Number, Huge, Ra
 use Rattle.lw_check.specs.declared.sorting.KeyedDiagnostic.{KeyedDiagnostic}
 use Rattle.lw_check.specs.Sorting.{diagnostics_of, IsDiagnosticOfValue, TellAll}
 
-there : {X : Type 0} (y : X) (xs : List X) (x : X) → Contains xs x → Contains (y ∷ xs) x
+pub there : {X : Type 0} (y : X) (xs : List X) (x : X) → Contains xs x → Contains (y ∷ xs) x
 there y xs x (k, inside, is) = (suc k, omega (arith, inside), is)
 
-here : {X : Type 0} (x : X) (xs : List X) → Contains (x ∷ xs) x
+pub here : {X : Type 0} (x : X) (xs : List X) → Contains (x ∷ xs) x
 here x xs = (0, omega arith, refl)
 
-first_or_later : {X : Type 0} (x : X) (xs : List X) (y : X) → Contains (x ∷ xs) y → (x ≡ y) ⊎ Contains xs y
+pub first_or_later : {X : Type 0} (x : X) (xs : List X) (y : X) → Contains (x ∷ xs) y → (x ≡ y) ⊎ Contains xs y
 first_or_later x xs y (zero, inside, is) = inl is
 first_or_later x xs y (suc k, inside, is) = inr (k, omega (arith, inside), is)
 
-nothing : {X : Type 0} (x : X) → Contains [] x → ⊥
+pub nothing : {X : Type 0} (x : X) → Contains [] x → ⊥
 nothing x (k, inside, is) = omega (arith, inside)
 
 -- ---- the values of a tree, by node and property
