@@ -1,4 +1,8 @@
 // The exporters of all names.
+ghost use Rattle.std.specs.Prelude.{◌≡◌, OnOk, OnErr, List, ℕ};
+ghost use Rattle.lw_index.specs.Slots.{Place, slot_at};
+ghost use Rattle.lw_index.specs.Turns.{reserved, emptied, offered, swept, TurnsOf, TurnsAll, AreFilledAlike};
+
 use crate::exporters::{self, Exporters, Place};
 use crate::parts::Export;
 use lw_base::{DocId, Name, NoMemory, NodeId};
@@ -14,7 +18,10 @@ fn reserve(
     name: &Name,
     place: &Place,
     doc: DocId,
-) -> Result<(), NoMemory> {
+) -> Result<(), NoMemory>
+    ensures made { OnOk result (TurnsOf (reserved doc) name.now place.now names.old names.new) }
+    ensures refused { OnErr result ((n : List ℕ) (p : Place) → slot_at names.new n p ≡ slot_at names.old n p) }
+{
     if let Some(exporters) = names.get_mut(name) {
         return exporters::reserve(exporters, alloc, place, doc);
     }
@@ -24,24 +31,32 @@ fn reserve(
     Ok(())
 }
 
-fn withdraw(names: &mut Names, name: &Name, place: &Place) {
+fn withdraw(names: &mut Names, name: &Name, place: &Place)
+    ensures { TurnsOf emptied name.now place.now names.old names.new }
+{
     if let Some(exporters) = names.get_mut(name) {
         exporters::withdraw(exporters, place);
     }
 }
 
-fn offer(names: &mut Names, name: &Name, place: &Place, doc: DocId, node: NodeId) {
+fn offer(names: &mut Names, name: &Name, place: &Place, doc: DocId, node: NodeId)
+    ensures { TurnsOf (offered doc node) name.now place.now names.old names.new }
+{
     if let Some(exporters) = names.get_mut(name) {
         exporters::offer(exporters, place, doc, node);
     }
 }
 
-fn sweep(names: &mut Names, name: &Name, place: &Place) {
-    let mut empty = false;
-    if let Some(exporters) = names.get_mut(name) {
-        exporters::sweep(exporters, place);
-        empty = exporters.is_empty();
-    }
+fn sweep(names: &mut Names, name: &Name, place: &Place)
+    ensures { TurnsOf swept name.now place.now names.old names.new }
+{
+    let empty = match names.get_mut(name) {
+        Some(exporters) => {
+            exporters::sweep(exporters, place);
+            exporters.is_empty()
+        }
+        None => false,
+    };
     if empty {
         names.remove(name);
     }
@@ -54,7 +69,11 @@ pub(crate) fn reserve_all(
     place: &mut Place,
     doc: DocId,
     exports: &[Export],
-) -> Result<(), NoMemory> {
+) -> Result<(), NoMemory>
+    ensures made { OnOk result (TurnsAll (λ _. reserved doc) place.old.1 exports.now names.old names.new) }
+    ensures refused { OnErr result (AreFilledAlike names.old names.new) }
+    ensures uri { place.new.1 ≡ place.old.1 }
+{
     for export in exports {
         place.0 = export.type_id.0;
         reserve(names, alloc, &export.name, &*place, doc)?;
@@ -62,21 +81,30 @@ pub(crate) fn reserve_all(
     Ok(())
 }
 
-pub(crate) fn withdraw_all(names: &mut Names, place: &mut Place, exports: &[Export]) {
+pub(crate) fn withdraw_all(names: &mut Names, place: &mut Place, exports: &[Export])
+    ensures turned { TurnsAll (λ _. emptied) place.old.1 exports.now names.old names.new }
+    ensures uri { place.new.1 ≡ place.old.1 }
+{
     for export in exports {
         place.0 = export.type_id.0;
         withdraw(names, &export.name, &*place);
     }
 }
 
-pub(crate) fn offer_all(names: &mut Names, place: &mut Place, doc: DocId, exports: &[Export]) {
+pub(crate) fn offer_all(names: &mut Names, place: &mut Place, doc: DocId, exports: &[Export])
+    ensures turned { TurnsAll (λ x. offered doc x.node) place.old.1 exports.now names.old names.new }
+    ensures uri { place.new.1 ≡ place.old.1 }
+{
     for export in exports {
         place.0 = export.type_id.0;
         offer(names, &export.name, &*place, doc, export.node);
     }
 }
 
-pub(crate) fn sweep_all(names: &mut Names, place: &mut Place, exports: &[Export]) {
+pub(crate) fn sweep_all(names: &mut Names, place: &mut Place, exports: &[Export])
+    ensures turned { TurnsAll (λ _. swept) place.old.1 exports.now names.old names.new }
+    ensures uri { place.new.1 ≡ place.old.1 }
+{
     for export in exports {
         place.0 = export.type_id.0;
         sweep(names, &export.name, &*place);

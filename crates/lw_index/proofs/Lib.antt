@@ -1,0 +1,6 @@
+pub mod Orders
+pub mod Starts
+pub mod OneTurn
+pub mod Ahead
+pub mod Wanted
+pub mod NameTurn
