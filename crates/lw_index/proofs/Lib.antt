@@ -4,3 +4,5 @@ pub mod OneTurn
 pub mod Ahead
 pub mod Wanted
 pub mod NameTurn
+pub mod AllTurns
+pub mod Offered
