@@ -6,3 +6,5 @@ pub mod Wanted
 pub mod NameTurn
 pub mod AllTurns
 pub mod Offered
+pub mod Entering
+pub mod View

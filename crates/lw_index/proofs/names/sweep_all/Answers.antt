@@ -1,4 +1,3 @@
-use Rattle.lw_index.proofs.Offered.{offered_shows}
 use Rattle.std.proofs.Common.{◌≡◌, refl, subst, ap, sym, ◌∙◌}
 use Rattle.lw_index.specs.Turns.{swept, TurnsOf}
 use Rattle.lw_index.proofs.AllTurns.{all_none, all_more}
