@@ -2,11 +2,12 @@
 use Rattle.std.proofs.Common.{◌≡◌, ℕ, List, [], Bool, true, false, cond, Option, Some, None, refl, sym, ap, ◌∙◌, subst, ◌⊎◌, inl, inr, eq-eqb}
 use Rattle.std.specs.Prelude.{MatchOption}
 use Rattle.std.specs.List.{Contains}
-use Rattle.std.specs.Option.{option_map}
+use Rattle.std.specs.Option.{option_map, option_and_then}
 use Rattle.std.specs.Ordering.{eq_by_cmp, nat_cmp}
 use Rattle.std.specs.Cmp.{unsigned_tied}
 use Rattle.std.specs.BTreeMap as tree
-use Rattle.std.specs.BTreeMap.{BTreeMap}
+use Rattle.std.specs.BTreeMap.{BTreeMap, is_at}
+use Rattle.std.specs.Map.{lookup}
 use Rattle.std.proofs.lemmas.Bool.{false≢true, cases_eq, eqb-true}
 use Rattle.lw_base.specs.declared.numbers.DocId.{DocId}
 use Rattle.lw_index.specs.declared.exporters.Slot.{Slot}
@@ -15,16 +16,16 @@ use Rattle.lw_index.specs.declared.parts.Export.{Export}
 use Rattle.lw_index.specs.declared.parts.Target.{Target}
 use Rattle.lw_index.specs.Exported.{export_of}
 use Rattle.lw_index.specs.Entered.{IsLeastNode, Shows, AreEntered}
-use Rattle.lw_index.specs.Slots.{Place, Names, name_cmp, slot_at, filled}
+use Rattle.lw_index.specs.Slots.{Place, Names, name_cmp, slot_in, slot_at, filled}
 use Rattle.lw_index.specs.Turns.{Turn, reserved, emptied, offered, swept, turned, AreFilledAlike}
 use Rattle.lw_index.proofs.Orders.{same_name, itself_name}
 use Rattle.lw_index.proofs.AllTurns.{reserved_alike}
 use Rattle.lw_index.proofs.Offered.{turned_elsewhere, turned_by_none, swept_alike, emptied_stays_free, emptied_where_exported, emptied_only_frees, emptied_stays_there, reserved_where_exported, offered_shows}
 
-abbrev Documents : Type 0
+abbrev pub Documents : Type 0
 Documents = BTreeMap ℕ Document
 
-abbrev held : Documents → ℕ → Option Document
+abbrev pub held : Documents → ℕ → Option Document
 held documents doc = tree.get nat_cmp documents doc
 
 -- what was there of a document that comes or goes: nothing, or this URI and these exports
@@ -37,7 +38,7 @@ none_document e h = cc
 none_uri : (uri : List ℕ) → None ≡ Some uri → ⊥
 none_uri uri h = cc
 
-uri_of : (documents : Documents) (doc : ℕ) (uri : List ℕ) → option_map (λ (d : Document). d.uri) (held documents doc) ≡ Some uri → (d : Document) × (held documents doc ≡ Some d) × (d.uri ≡ uri)
+pub uri_of : (documents : Documents) (doc : ℕ) (uri : List ℕ) → option_map (λ (d : Document). d.uri) (held documents doc) ≡ Some uri → (d : Document) × (held documents doc ≡ Some d) × (d.uri ≡ uri)
 uri_of documents doc uri is = by (held documents doc) refl is
   where
     same : (a b : List ℕ) → Some a ≡ Some b → a ≡ b
@@ -209,3 +210,13 @@ entered_alike documents names n alike entered = record {
       owned = λ m t u x is. entered.owned m t u x (sym (alike m (t, u)) ∙ is);
       apart = entered.apart;
     }
+
+pub entered_same : (documents after : Documents) (names : Names) → after.entries ≡ documents.entries → AreEntered documents names → AreEntered after names
+entered_same documents after names same entered = record {
+      shown = λ doc d is. entered.shown doc d (sym (look doc) ∙ is);
+      owned = λ m t u x is. ap (option_map (λ (e : Document). e.uri)) (look x.doc.0) ∙ entered.owned m t u x is;
+      apart = λ doc other d e is js. entered.apart doc other d e (sym (look doc) ∙ is) (sym (look other) ∙ js);
+    }
+    where
+      look : (doc : ℕ) → held after doc ≡ held documents doc
+      look doc = ap (λ es. lookup (is_at (nat_cmp doc)) es) same

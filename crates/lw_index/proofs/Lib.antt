@@ -8,3 +8,5 @@ pub mod AllTurns
 pub mod Offered
 pub mod Entering
 pub mod View
+pub mod Asked
+pub mod Exchanged
