@@ -32,7 +32,7 @@ held documents doc = tree.get nat_cmp documents doc
 abbrev pub WasThere : Option Document → List ℕ → List Export → Type 0
 WasThere old uri gone = MatchOption old (gone ≡ []) (λ e. (e.uri ≡ uri) × (e.exports ≡ gone))
 
-none_document : (e : Document) → None ≡ Some e → ⊥
+pub none_document : (e : Document) → None ≡ Some e → ⊥
 none_document e h = cc
 
 none_uri : (uri : List ℕ) → None ≡ Some uri → ⊥
@@ -47,7 +47,7 @@ uri_of documents doc uri is = by (held documents doc) refl is
     by None e h = absurd (none_uri uri h)
     by (Some d) e h = (d, e, same d.uri uri h)
 
-same_document : (a b : Document) → Some a ≡ Some b → a ≡ b
+pub same_document : (a b : Document) → Some a ≡ Some b → a ≡ b
 same_document a b e = cc
 
 no_target : (x : Target) → None ≡ Some x → ⊥
@@ -65,7 +65,7 @@ untied a b e = not_true _ (λ h. e (eqb-true a b (sym (unsigned_tied a b) ∙ h)
 
 module _ (documents : Documents) (names : Names) (entered : AreEntered documents names) (d : ℕ) (left : List ℕ) (gone : List Export) (was : WasThere (held documents d) left gone) where
   -- what the document that goes exported is emptied, and else nothing is
-  out : List ℕ → Place → Option Slot → Option Slot
+  abbrev pub out : List ℕ → Place → Option Slot → Option Slot
   out n p slot = turned (λ _. emptied) left n p slot gone
 
   was_none : held documents d ≡ None → gone ≡ []
@@ -76,7 +76,6 @@ module _ (documents : Documents) (names : Names) (entered : AreEntered documents
 
   -- where a target of that document stood, nothing stands any more
   pub own_emptied : (n : List ℕ) (t : ℕ) (u : List ℕ) (x : Target) (slot : Option Slot) → filled (slot_at names n (t, u)) ≡ Some x → x.doc.0 ≡ d → filled (out n (t, u) slot) ≡ None
-  unfolding out
   own_emptied n t u x slot some own =
       let h = uri_of documents x.doc.0 u (entered.owned n t u x some) in
       let is : held documents d ≡ Some h.0 = ap (held documents) (sym own) ∙ h.1 in
@@ -97,7 +96,6 @@ module _ (documents : Documents) (names : Names) (entered : AreEntered documents
 
   pub entered_without : (after : Documents) (n : Names) → ((q : ℕ) → held after q ≡ cond (eq_by_cmp nat_cmp d q) None (held documents q))
       → ((m : List ℕ) (p : Place) → slot_at n m p ≡ turned (λ _. swept) left m p (turned (λ _. emptied) left m p (slot_at names m p) gone) gone) → AreEntered after n
-  unfolding out
   entered_without after n at slots = record {
         shown = λ doc e is m t. shown' doc e is m t (cases_eq doc d);
         owned = λ m t u x is. owned' m t u x is (cases_eq x.doc.0 d);
@@ -125,15 +123,14 @@ module _ (documents : Documents) (names : Names) (entered : AreEntered documents
   -- ---- the document comes, in place of what was there under its number
 
   module _ (doc : DocId) (doc_is : doc.0 ≡ d) (new : Document) (free : (other : ℕ) (e : Document) → held documents other ≡ Some e → e.uri ≡ new.uri → other ≡ d) where
-    abbrev ready : List ℕ → Place → Option Slot
+    abbrev pub ready : List ℕ → Place → Option Slot
     ready m p = turned (λ _. reserved doc) new.uri m p (slot_at names m p) new.exports
 
-    abbrev offers : List ℕ → Place → Option Slot → Option Slot
+    abbrev pub offers : List ℕ → Place → Option Slot → Option Slot
     offers m p slot = turned (λ x. offered doc x.node) new.uri m p slot new.exports
 
     -- its own places are free before it is offered
     own_free : (m : List ℕ) (t : ℕ) → filled (out m (t, new.uri) (ready m (t, new.uri))) ≡ None
-    unfolding out
     own_free m t = by (filled (slot_at names m (t, new.uri))) refl
       where
         by : (o : Option Target) → filled (slot_at names m (t, new.uri)) ≡ o → filled (turned (λ _. emptied) left m (t, new.uri) (ready m (t, new.uri)) gone) ≡ None
@@ -143,7 +140,6 @@ module _ (documents : Documents) (names : Names) (entered : AreEntered documents
             own_emptied m t new.uri x (ready m (t, new.uri)) some (free x.doc.0 h.0 h.1 h.2)
 
     own_shown : (m : List ℕ) (t : ℕ) → Shows d (λ k. Contains new.exports (export_of m t k)) (filled (offers m (t, new.uri) (out m (t, new.uri) (ready m (t, new.uri)))))
-    unfolding out
     own_shown m t =
         subst (λ k. Shows k (λ k. Contains new.exports (export_of m t k)) (filled (offers m (t, new.uri) (out m (t, new.uri) (ready m (t, new.uri)))))) doc_is
         (offered_shows doc new.uri m t new.exports (out m (t, new.uri) (ready m (t, new.uri)))
@@ -157,7 +153,6 @@ module _ (documents : Documents) (names : Names) (entered : AreEntered documents
 
     pub entered_with : (after : Documents) (n : Names) → ((q : ℕ) → held after q ≡ cond (eq_by_cmp nat_cmp d q) (Some new) (held documents q))
         → ((m : List ℕ) (p : Place) → slot_at n m p ≡ turned (λ _. swept) left m p (offers m p (turned (λ _. emptied) left m p (ready m p) gone)) gone) → AreEntered after n
-    unfolding out
     entered_with after n at slots = record {
           shown = λ k e is m t. shown' k e is m t (cases_eq k d);
           owned = λ m t u x is. owned' m t u x is (eq_by_cmp name_cmp new.uri u) refl (cases_eq x.doc.0 d);
