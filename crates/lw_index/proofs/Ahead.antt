@@ -82,12 +82,12 @@ module _ (es : Exporters) (wanted : ℕ) (start : Place) (rest : List (Place × 
   -- at the start of a range all lies ahead
   pub ahead_of_range : (except : Option DocId) → start ≡ (wanted, []) → tree.IsOrdered place_cmp es → IsRangeOf place_cmp (Included start) Unbounded es rest → Ahead es wanted except rest
   ahead_of_range except at ordered range = record {
-      sorted = subst (λ r. IsStrictlySortedBy place_cmp (keys_of r)) (sym is)
-          (subst (IsStrictlySortedBy place_cmp) (sym (keys_filter (lies start) es.entries)) (IsStrictlySortedBy-filter place_cmp (lies start) (keys_of es.entries) ordered));
-      within = λ k d h. types_rise (wanted, []) (slice_index_or rest k d).0 (subst (λ s. IsLeBy place_cmp s (slice_index_or rest k d).0) at (range.0 k d h).0.0);
-      same = λ q h. found q ∙ kept_or_not (lies start q) (slot_in es q) (subst IsSome (found q) h);
-      left = λ uri x c. subst IsSome (sym (found (wanted, uri) ∙ ap (λ b. cond b (slot_in es (wanted, uri)) None) (from_start uri at))) (some_filled _ x c.0);
-    }
+    sorted = subst (λ r. IsStrictlySortedBy place_cmp (keys_of r)) (sym is)
+        (subst (IsStrictlySortedBy place_cmp) (sym (keys_filter (lies start) es.entries)) (IsStrictlySortedBy-filter place_cmp (lies start) (keys_of es.entries) ordered));
+    within = λ k d h. types_rise (wanted, []) (slice_index_or rest k d).0 (subst (λ s. IsLeBy place_cmp s (slice_index_or rest k d).0) at (range.0 k d h).0.0);
+    same = λ q h. found q ∙ kept_or_not (lies start q) (slot_in es q) (subst IsSome (found q) h);
+    left = λ uri x c. subst IsSome (sym (found (wanted, uri) ∙ ap (λ b. cond b (slot_in es (wanted, uri)) None) (from_start uri at))) (some_filled _ x c.0);
+  }
 
 -- ---- the first of what lies ahead
 
@@ -135,14 +135,14 @@ module _ (es : Exporters) (wanted : ℕ) (except : Option DocId) (e : Place × S
   -- it is passed over where it does not count
   pub ahead_behind : ((x : Target) → target_in e.1 ≡ Some x → except ≡ Some x.doc) → Ahead es wanted except rest
   ahead_behind passed = record {
-      sorted = sorted_tail place_cmp e.0 (keys_of rest) ahead.sorted;
-      within = All-tail (λ (d : Place × Slot). wanted ≤ d.0.0) e rest ahead.within;
-      same = λ q found. still q (is_at (place_cmp q) e.0) refl found;
-      left = λ uri x counts. elim (later (wanted, uri) _ refl (ahead.left uri x counts)) [
-        | inl at ↦ absurd (counts.1 (passed x (sym (ap filled here) ∙ ap (λ q. filled (slot_in es q)) (sym at) ∙ counts.0)))
-        | inr found ↦ found
-        ];
-    }
+    sorted = sorted_tail place_cmp e.0 (keys_of rest) ahead.sorted;
+    within = All-tail (λ (d : Place × Slot). wanted ≤ d.0.0) e rest ahead.within;
+    same = λ q found. still q (is_at (place_cmp q) e.0) refl found;
+    left = λ uri x counts. elim (later (wanted, uri) _ refl (ahead.left uri x counts)) [
+      | inl at ↦ absurd (counts.1 (passed x (sym (ap filled here) ∙ ap (λ q. filled (slot_in es q)) (sym at) ∙ counts.0)))
+      | inr found ↦ found
+    ];
+  }
     where
       still : (q : Place) (b : Bool) → is_at (place_cmp q) e.0 ≡ b → IsSome (lookup (is_at (place_cmp q)) rest) → lookup (is_at (place_cmp q)) rest ≡ slot_in es q
       still q true is found = absurd (none_twice q is found)
@@ -153,13 +153,13 @@ module _ (es : Exporters) (wanted : ℕ) (except : Option DocId) (e : Place × S
   -- it is the least where it counts
   pub least_here : e.0.0 ≡ wanted → (x : Target) → target_in e.1 ≡ Some x → except ≢ Some x.doc → IsLeastOf (Counts es wanted except) (e.0.1, x)
   least_here type x is other = record {
-      here = (ap (λ t. filled (slot_in es (t, e.0.1))) (sym type) ∙ ap filled here ∙ is, other);
-      least = λ uri y counts. elim (later (wanted, uri) _ refl (ahead.left uri y counts)) [
-        | inl at ↦ by_node e.0.1 uri x.node.0 y.node.0 (ap (λ (q : Place). slice_cmp nat_cmp e.0.1 q.1) at ∙ tied_itself name_cmp_total e.0.1)
-            (omega (arith, ap (λ (z : Target). z.node.0) (same_Some _ _ (sym is ∙ sym (ap filled here) ∙ ap (λ q. filled (slot_in es q)) (sym at) ∙ counts.0))))
-        | inr found ↦ by_uri e.0.1 uri x.node.0 y.node.0 (behind uri (place_cmp e.0 (wanted, uri)) refl found)
-        ];
-    }
+    here = (ap (λ t. filled (slot_in es (t, e.0.1))) (sym type) ∙ ap filled here ∙ is, other);
+    least = λ uri y counts. elim (later (wanted, uri) _ refl (ahead.left uri y counts)) [
+      | inl at ↦ by_node e.0.1 uri x.node.0 y.node.0 (ap (λ (q : Place). slice_cmp nat_cmp e.0.1 q.1) at ∙ tied_itself name_cmp_total e.0.1)
+          (omega (arith, ap (λ (z : Target). z.node.0) (same_Some _ _ (sym is ∙ sym (ap filled here) ∙ ap (λ q. filled (slot_in es q)) (sym at) ∙ counts.0))))
+      | inr found ↦ by_uri e.0.1 uri x.node.0 y.node.0 (behind uri (place_cmp e.0 (wanted, uri)) refl found)
+    ];
+  }
     where
       behind : (uri : List ℕ) (r : Ordering) → place_cmp e.0 (wanted, uri) ≡ r → IsSome (lookup (is_at (place_cmp (wanted, uri))) rest) → slice_cmp nat_cmp e.0.1 uri ≡ Less
       behind uri Less is found = by_second e.0.0 wanted type (slice_cmp nat_cmp e.0.1 uri) is

@@ -74,7 +74,7 @@ module _ (documents : Documents) (names : Names) (entered : AreEntered documents
   slot_means n t u x some =
       let h = uri_of documents x.doc.0 u (entered.owned n t u x some) in
       let shown : Shows x.doc.0 (λ m. Contains h.0.exports (export_of n t m)) (Some x) =
-          subst (Shows x.doc.0 (λ m. Contains h.0.exports (export_of n t m))) (ap (λ v. filled (slot_at names n (t, v))) h.2 ∙ some) (entered.shown x.doc.0 h.0 h.1 n t) in
+      subst (Shows x.doc.0 (λ m. Contains h.0.exports (export_of n t m))) (ap (λ v. filled (slot_at names n (t, v))) h.2 ∙ some) (entered.shown x.doc.0 h.0 h.1 n t) in
       (h.0, h.1, h.2, shown.here)
 
   module _ (index : Indexed) (index_is : shown_of documents ≡ index) (n : List ℕ) where
@@ -112,11 +112,11 @@ module _ (documents : Documents) (names : Names) (entered : AreEntered documents
             document = d.0;
             wanted = record { type = h.0; wanted = h.1; exported = exported h.0 found.1.doc.0 d.0 found.1.node.0 d.1 d.3 };
             first = λ doc other m w. (
-              let s = slot_of w.type doc other m w.exported in
-              subst (λ u. IsNotBehind (u, found.1.node.0) (other.uri, m)) (sym d.2)
-              (behind_chain (found.0, found.1.node.0) (other.uri, s.0.node.0) (other.uri, m)
-              (least.least other.uri s.0 (w.type, w.wanted, ap filled (sym (slots (w.type, other.uri))) ∙ s.1))
-              (by_node other.uri other.uri s.0.node.0 m (tied_itself name_cmp_total other.uri) s.3)));
+                let s = slot_of w.type doc other m w.exported in
+                subst (λ u. IsNotBehind (u, found.1.node.0) (other.uri, m)) (sym d.2)
+                (behind_chain (found.0, found.1.node.0) (other.uri, s.0.node.0) (other.uri, m)
+                (least.least other.uri s.0 (w.type, w.wanted, ap filled (sym (slots (w.type, other.uri))) ∙ s.1))
+                (by_node other.uri other.uri s.0.node.0 m (tied_itself name_cmp_total other.uri) s.3)));
           }
 
       abbrev pub IsOther : DocId → ℕ → List ℕ → Target → Type 0
@@ -147,7 +147,7 @@ module _ (documents : Documents) (names : Names) (entered : AreEntered documents
               uri_is = d.2;
             };
             least = λ v r. (
-              let s = slot_of t r.other r.document r.node r.exported in
-              let le = least.least r.document.uri s.0 (ap filled (sym (slots (t, r.document.uri))) ∙ s.1, other_than doc t s.0.doc (λ same. r.another (sym s.2 ∙ same))) in
-              subst (λ v. is_gt (slice_cmp nat_cmp found.0 v) ≡ false) r.uri_is (uri_not_behind _ _ le));
+                let s = slot_of t r.other r.document r.node r.exported in
+                let le = least.least r.document.uri s.0 (ap filled (sym (slots (t, r.document.uri))) ∙ s.1, other_than doc t s.0.doc (λ same. r.another (sym s.2 ∙ same))) in
+                subst (λ v. is_gt (slice_cmp nat_cmp found.0 v) ≡ false) r.uri_is (uri_not_behind _ _ le));
           }

@@ -43,6 +43,7 @@ uri_of documents doc uri is = by (held documents doc) refl is
   where
     same : (a b : List ℕ) → Some a ≡ Some b → a ≡ b
     same a b e = cc
+
     by : (o : Option Document) → held documents doc ≡ o → option_map (λ (d : Document). d.uri) o ≡ Some uri → (d : Document) × (held documents doc ≡ Some d) × (d.uri ≡ uri)
     by None e h = absurd (none_uri uri h)
     by (Some d) e h = (d, e, same d.uri uri h)
@@ -97,23 +98,27 @@ module _ (documents : Documents) (names : Names) (entered : AreEntered documents
   pub entered_without : (after : Documents) (n : Names) → ((q : ℕ) → held after q ≡ cond (eq_by_cmp nat_cmp d q) None (held documents q))
       → ((m : List ℕ) (p : Place) → slot_at n m p ≡ turned (λ _. swept) left m p (turned (λ _. emptied) left m p (slot_at names m p) gone) gone) → AreEntered after n
   entered_without after n at slots = record {
-        shown = λ doc e is m t. shown' doc e is m t (cases_eq doc d);
-        owned = λ m t u x is. owned' m t u x is (cases_eq x.doc.0 d);
-        apart = λ doc other e f is js same. entered.apart doc other e f (before doc e is) (before other f js) same;
-      }
+    shown = λ doc e is m t. shown' doc e is m t (cases_eq doc d);
+    owned = λ m t u x is. owned' m t u x is (cases_eq x.doc.0 d);
+    apart = λ doc other e f is js same. entered.apart doc other e f (before doc e is) (before other f js) same;
+  }
     where
       gone_out : (doc : ℕ) (e : Document) → held after doc ≡ Some e → doc ≡ d → ⊥
       gone_out doc e is own = none_document e (sym (at doc ∙ ap (λ b. cond b None (held documents doc)) (tied d doc (sym own))) ∙ is)
+
       before : (doc : ℕ) (e : Document) → held after doc ≡ Some e → held documents doc ≡ Some e
       before doc e is = ap (λ b. cond b None (held documents doc)) (sym (untied d doc (λ same. gone_out doc e is (sym same)))) ∙ sym (at doc) ∙ is
+
       shown' : (doc : ℕ) (e : Document) → held after doc ≡ Some e → (m : List ℕ) (t : ℕ) → (doc ≡ d) ⊎ (doc ≡ d → ⊥) → Shows doc (λ k. Contains e.exports (export_of m t k)) (filled (slot_at n m (t, e.uri)))
       shown' doc e is m t (inl own) = absurd (gone_out doc e is own)
       shown' doc e is m t (inr other) =
           subst (Shows doc (λ k. Contains e.exports (export_of m t k)))
           (sym (ap filled (slots m (t, e.uri) ∙ others_stay (λ _. swept) doc e (before doc e is) other m t _ ∙ others_stay (λ _. emptied) doc e (before doc e is) other m t _)))
           (entered.shown doc e (before doc e is) m t)
+
       stood : (m : List ℕ) (t : ℕ) (u : List ℕ) (x : Target) → filled (slot_at n m (t, u)) ≡ Some x → filled (out m (t, u) (slot_at names m (t, u))) ≡ Some x
       stood m t u x is = sym (ap filled (slots m (t, u)) ∙ swept_alike left m (t, u) (out m (t, u) (slot_at names m (t, u))) gone) ∙ is
+
       owned' : (m : List ℕ) (t : ℕ) (u : List ℕ) (x : Target) → filled (slot_at n m (t, u)) ≡ Some x → (x.doc.0 ≡ d) ⊎ (x.doc.0 ≡ d → ⊥) → option_map (λ (e : Document). e.uri) (held after x.doc.0) ≡ Some u
       owned' m t u x is (inl own) = absurd (no_target x (sym (own_emptied m t u x (slot_at names m (t, u)) (emptied_only_frees left m (t, u) (slot_at names m (t, u)) gone x (stood m t u x is)) own) ∙ stood m t u x is))
       owned' m t u x is (inr other) =
@@ -154,19 +159,23 @@ module _ (documents : Documents) (names : Names) (entered : AreEntered documents
     pub entered_with : (after : Documents) (n : Names) → ((q : ℕ) → held after q ≡ cond (eq_by_cmp nat_cmp d q) (Some new) (held documents q))
         → ((m : List ℕ) (p : Place) → slot_at n m p ≡ turned (λ _. swept) left m p (offers m p (turned (λ _. emptied) left m p (ready m p) gone)) gone) → AreEntered after n
     entered_with after n at slots = record {
-          shown = λ k e is m t. shown' k e is m t (cases_eq k d);
-          owned = λ m t u x is. owned' m t u x is (eq_by_cmp name_cmp new.uri u) refl (cases_eq x.doc.0 d);
-          apart = λ k other e f is js same. apart' k other e f is js same (cases_eq k d) (cases_eq other d);
-        }
+      shown = λ k e is m t. shown' k e is m t (cases_eq k d);
+      owned = λ m t u x is. owned' m t u x is (eq_by_cmp name_cmp new.uri u) refl (cases_eq x.doc.0 d);
+      apart = λ k other e f is js same. apart' k other e f is js same (cases_eq k d) (cases_eq other d);
+    }
       where
         here : held after d ≡ Some new
         here = at d ∙ ap (λ b. cond b (Some new) (held documents d)) (tied d d refl)
+
         else : (k : ℕ) → (k ≡ d → ⊥) → held after k ≡ held documents k
         else k other = at k ∙ ap (λ b. cond b (Some new) (held documents k)) (untied d k (λ same. other (sym same)))
+
         own : (k : ℕ) (e : Document) → held after k ≡ Some e → k ≡ d → e ≡ new
         own k e is same = same_document e new (sym is ∙ ap (held after) same ∙ here)
+
         stands : (m : List ℕ) (p : Place) → filled (slot_at n m p) ≡ filled (offers m p (out m p (ready m p)))
         stands m p = ap filled (slots m p) ∙ swept_alike left m p (offers m p (out m p (ready m p))) gone
+
         shown' : (k : ℕ) (e : Document) → held after k ≡ Some e → (m : List ℕ) (t : ℕ) → (k ≡ d) ⊎ (k ≡ d → ⊥) → Shows k (λ j. Contains e.exports (export_of m t j)) (filled (slot_at n m (t, e.uri)))
         shown' k e is m t (inl same) =
             subst (λ k. Shows k (λ j. Contains e.exports (export_of m t j)) (filled (slot_at n m (t, e.uri)))) (sym same)
@@ -177,12 +186,13 @@ module _ (documents : Documents) (names : Names) (entered : AreEntered documents
             subst (Shows k (λ j. Contains e.exports (export_of m t j)))
             (sym (stands m (t, e.uri) ∙ ap filled (other_places m t e.uri (λ same. other (free k e js (sym same))) ∙ others_stay (λ _. emptied) k e js other m t _)))
             (entered.shown k e js m t)
+
         owned' : (m : List ℕ) (t : ℕ) (u : List ℕ) (x : Target) → filled (slot_at n m (t, u)) ≡ Some x → (b : Bool) → eq_by_cmp name_cmp new.uri u ≡ b → (x.doc.0 ≡ d) ⊎ (x.doc.0 ≡ d → ⊥)
             → option_map (λ (e : Document). e.uri) (held after x.doc.0) ≡ Some u
         owned' m t u x is true e c =
             let same = same_name new.uri u e in
             let shown : Shows d (λ j. Contains new.exports (export_of m t j)) (Some x) =
-                subst (Shows d (λ j. Contains new.exports (export_of m t j))) (ap (λ v. filled (offers m (t, v) (out m (t, v) (ready m (t, v))))) same ∙ sym (stands m (t, u)) ∙ is) (own_shown m t) in
+            subst (Shows d (λ j. Contains new.exports (export_of m t j))) (ap (λ v. filled (offers m (t, v) (out m (t, v) (ready m (t, v))))) same ∙ sym (stands m (t, u)) ∙ is) (own_shown m t) in
             ap (option_map (λ (e : Document). e.uri)) (ap (held after) shown.doc_is ∙ here) ∙ ap Some same
         owned' m t u x is false e c =
             let other : new.uri ≡ u → ⊥ = λ same. false≢true (sym e ∙ ap (eq_by_cmp name_cmp new.uri) (sym same) ∙ itself_name new.uri) in
@@ -192,6 +202,7 @@ module _ (documents : Documents) (names : Names) (entered : AreEntered documents
               | inl own ↦ absurd (no_target x (sym (own_emptied m t u x (slot_at names m (t, u)) was_is own) ∙ out_is))
               | inr not_own ↦ ap (option_map (λ (e : Document). e.uri)) (else x.doc.0 not_own) ∙ entered.owned m t u x was_is
             ]
+
         apart' : (k other : ℕ) (e f : Document) → held after k ≡ Some e → held after other ≡ Some f → e.uri ≡ f.uri → (k ≡ d) ⊎ (k ≡ d → ⊥) → (other ≡ d) ⊎ (other ≡ d → ⊥) → k ≡ other
         apart' k other e f is js same (inl a) (inl b) = a ∙ sym b
         apart' k other e f is js same (inl a) (inr b) = absurd (b (free other f (sym (else other b) ∙ js) (sym same ∙ ap (λ (e : Document). e.uri) (own k e is a))))
@@ -201,17 +212,17 @@ module _ (documents : Documents) (names : Names) (entered : AreEntered documents
 -- reserved slots, and swept ones, are nothing that is seen
 pub entered_alike : (documents : Documents) (names n : Names) → AreFilledAlike names n → AreEntered documents names → AreEntered documents n
 entered_alike documents names n alike entered = record {
-      shown = λ doc d is m t. subst (Shows doc (λ k. Contains d.exports (export_of m t k))) (sym (alike m (t, d.uri))) (entered.shown doc d is m t);
-      owned = λ m t u x is. entered.owned m t u x (sym (alike m (t, u)) ∙ is);
-      apart = entered.apart;
-    }
+  shown = λ doc d is m t. subst (Shows doc (λ k. Contains d.exports (export_of m t k))) (sym (alike m (t, d.uri))) (entered.shown doc d is m t);
+  owned = λ m t u x is. entered.owned m t u x (sym (alike m (t, u)) ∙ is);
+  apart = entered.apart;
+}
 
 pub entered_same : (documents after : Documents) (names : Names) → after.entries ≡ documents.entries → AreEntered documents names → AreEntered after names
 entered_same documents after names same entered = record {
-      shown = λ doc d is. entered.shown doc d (sym (look doc) ∙ is);
-      owned = λ m t u x is. ap (option_map (λ (e : Document). e.uri)) (look x.doc.0) ∙ entered.owned m t u x is;
-      apart = λ doc other d e is js. entered.apart doc other d e (sym (look doc) ∙ is) (sym (look other) ∙ js);
-    }
-    where
-      look : (doc : ℕ) → held after doc ≡ held documents doc
-      look doc = ap (λ es. lookup (is_at (nat_cmp doc)) es) same
+  shown = λ doc d is. entered.shown doc d (sym (look doc) ∙ is);
+  owned = λ m t u x is. ap (option_map (λ (e : Document). e.uri)) (look x.doc.0) ∙ entered.owned m t u x is;
+  apart = λ doc other d e is js. entered.apart doc other d e (sym (look doc) ∙ is) (sym (look other) ∙ js);
+}
+  where
+    look : (doc : ℕ) → held after doc ≡ held documents doc
+    look doc = ap (λ es. lookup (is_at (nat_cmp doc)) es) same

@@ -10,3 +10,4 @@ pub mod Entering
 pub mod View
 pub mod Asked
 pub mod Exchanged
+pub mod LetteredLemmas

@@ -37,8 +37,10 @@ turns_unnamed turn name place names n stays none at = λ m p. at m p ∙ by m p 
     both : (b : Bool) → None ≡ cond b (turn None) None
     both true = sym stays
     both false = refl
+
     nothing : (m : List ℕ) (p : Place) → eq_by_cmp name_cmp name m ≡ true → slot_at names m p ≡ None
     nothing m p e = ap (λ k. slot_at names k p) (sym (same_name name m e)) ∙ ap (option_and_then (λ es. slot_in es p)) none
+
     by : (m : List ℕ) (p : Place) (b : Bool) → eq_by_cmp name_cmp name m ≡ b
         → slot_at names m p ≡ cond (b && eq_by_cmp place_cmp place p) (turn (slot_at names m p)) (slot_at names m p)
     by m p true e = let gone = nothing m p e in gone ∙ both (eq_by_cmp place_cmp place p) ∙ ap (λ s. cond (eq_by_cmp place_cmp place p) (turn s) s) (sym gone)

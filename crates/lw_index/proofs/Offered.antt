@@ -20,9 +20,9 @@ use Rattle.lw_index.proofs.Orders.{same_name, same_place, itself_name, itself_pl
 
 pub contains_cases : (x : Export) (xs : List Export) (y : Export) → Contains (x ∷ xs) y → (x ≡ y) ⊎ Contains xs y
 contains_cases x xs y c = elim (Contains-append_cases (x ∷ []) xs y c) [
-      | inl one ↦ elim (Contains-push_cases [] x y one) [ inl none ↦ absurd (omega (arith, none.1)) | inr is ↦ inl is ]
-      | inr more ↦ inr more
-    ]
+  | inl one ↦ elim (Contains-push_cases [] x y one) [ inl none ↦ absurd (omega (arith, none.1)) | inr is ↦ inl is ]
+  | inr more ↦ inr more
+]
 
 pub contains_more : (x : Export) (xs : List Export) (y : Export) → Contains xs y → Contains (x ∷ xs) y
 contains_more x xs y c = Contains-append_right (x ∷ []) xs y c
@@ -112,9 +112,9 @@ pub emptied_where_exported : (uri : List ℕ) (n : List ℕ) (t m : ℕ) (slot :
 unfolding turned
 emptied_where_exported uri n t m slot [] c = absurd (none_contained _ c)
 emptied_where_exported uri n t m slot (x ∷ xs) c = elim (contains_cases x xs (export_of n t m) c) [
-      | inl is ↦ emptied_stays_free uri n (t, uri) (cond (is_spot x.name (x.type_id.0, uri) n (t, uri)) (emptied slot) slot) xs (ap (λ b. filled (cond b (emptied slot) slot)) (export_spot x uri n t m is) ∙ emptied_free slot)
-      | inr more ↦ emptied_where_exported uri n t m (cond (is_spot x.name (x.type_id.0, uri) n (t, uri)) (emptied slot) slot) xs more
-    ]
+  | inl is ↦ emptied_stays_free uri n (t, uri) (cond (is_spot x.name (x.type_id.0, uri) n (t, uri)) (emptied slot) slot) xs (ap (λ b. filled (cond b (emptied slot) slot)) (export_spot x uri n t m is) ∙ emptied_free slot)
+  | inr more ↦ emptied_where_exported uri n t m (cond (is_spot x.name (x.type_id.0, uri) n (t, uri)) (emptied slot) slot) xs more
+]
 
 emptied_before : (b : Bool) (s : Option Slot) (x : Target) → filled (cond b (emptied s) s) ≡ Some x → filled s ≡ Some x
 emptied_before true s x e = let h : None ≡ Some x = sym (emptied_free s) ∙ e in cc
@@ -153,9 +153,9 @@ pub reserved_where_exported : (doc : DocId) (uri : List ℕ) (n : List ℕ) (t m
 unfolding turned
 reserved_where_exported doc uri n t m slot [] c = absurd (none_contained _ c)
 reserved_where_exported doc uri n t m slot (x ∷ xs) c = elim (contains_cases x xs (export_of n t m) c) [
-      | inl is ↦ reserved_stays_there doc uri n (t, uri) (cond (is_spot x.name (x.type_id.0, uri) n (t, uri)) (reserved doc slot) slot) xs (ap (λ b. is_some (cond b (reserved doc slot) slot)) (export_spot x uri n t m is))
-      | inr more ↦ reserved_where_exported doc uri n t m (cond (is_spot x.name (x.type_id.0, uri) n (t, uri)) (reserved doc slot) slot) xs more
-    ]
+  | inl is ↦ reserved_stays_there doc uri n (t, uri) (cond (is_spot x.name (x.type_id.0, uri) n (t, uri)) (reserved doc slot) slot) xs (ap (λ b. is_some (cond b (reserved doc slot) slot)) (export_spot x uri n t m is))
+  | inr more ↦ reserved_where_exported doc uri n t m (cond (is_spot x.name (x.type_id.0, uri) n (t, uri)) (reserved doc slot) slot) xs more
+]
 
 -- ---- what is offered is the least node
 
@@ -168,9 +168,9 @@ Also holds k m = holds m ⊎ (m ≡ k)
 
 min_of : (holds : ℕ → Type 0) (a b : ℕ) → holds a → Also holds b (min a b)
 min_of holds a b h = elim (cases_lt b a) [
-      | inl less ↦ inr (omega arith)
-      | inr up ↦ inl (let e : a ≡ min a b = omega arith in subst holds e h)
-    ]
+  | inl less ↦ inr (omega arith)
+  | inr up ↦ inl (let e : a ≡ min a b = omega arith in subst holds e h)
+]
 
 offered_least : (doc : DocId) (x : Export) (holds : ℕ → Type 0) (s : Slot) → Shows doc.0 holds (filled (Some s)) → Shows doc.0 (Also holds x.node.0) (filled (offered doc x.node (Some s)))
 offered_least doc x holds s h = by s.node h
@@ -178,10 +178,10 @@ offered_least doc x holds s h = by s.node h
     by : (node : Option NodeId) → Shows doc.0 holds (filled (Some (record { doc = s.doc; node = node }))) → Shows doc.0 (Also holds x.node.0) (filled (offered doc x.node (Some (record { doc = s.doc; node = node }))))
     by None none = record { doc_is = refl; here = inr refl; least = λ m e. elim e [ inl p ↦ absurd (none m p) | inr is ↦ omega arith ] }
     by (Some k) least = record {
-        doc_is = refl;
-        here = min_of holds k.0 x.node.0 least.here;
-        least = λ m e. elim e [ inl p ↦ (let le = least.least m p in omega arith) | inr is ↦ omega arith ];
-      }
+      doc_is = refl;
+      here = min_of holds k.0 x.node.0 least.here;
+      least = λ m e. elim e [ inl p ↦ (let le = least.least m p in omega arith) | inr is ↦ omega arith ];
+    }
 
 some_offered : (doc : DocId) (x : Export) (holds : ℕ → Type 0) (slot : Option Slot) → IsSome slot → Shows doc.0 holds (filled slot) → Shows doc.0 (Also holds x.node.0) (filled (offered doc x.node slot))
 some_offered doc x holds None there h = absurd (false≢true there)

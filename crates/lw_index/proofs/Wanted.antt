@@ -37,31 +37,31 @@ module _ (P Q : List ℕ → Target → Type 0) where
 
   first_least : (a b : Found) → IsLeastOf P a → IsLeastOf Q b → IsNotAfter a b → IsLeastOf Either a
   first_least a b h k le = record {
-      here = inl h.here;
-      least = λ u x e. elim e [ inl p ↦ h.least u x p | inr q ↦ behind_chain (a.0, a.1.node.0) (b.0, b.1.node.0) (u, x.node.0) le (k.least u x q) ];
-    }
+    here = inl h.here;
+    least = λ u x e. elim e [ inl p ↦ h.least u x p | inr q ↦ behind_chain (a.0, a.1.node.0) (b.0, b.1.node.0) (u, x.node.0) le (k.least u x q) ];
+  }
 
   second_least : (a b : Found) → IsLeastOf P a → IsLeastOf Q b → IsNotAfter b a → IsLeastOf Either b
   second_least a b h k le = record {
-      here = inr k.here;
-      least = λ u x e. elim e [ inl p ↦ behind_chain (b.0, b.1.node.0) (a.0, a.1.node.0) (u, x.node.0) le (h.least u x p) | inr q ↦ k.least u x q ];
-    }
+    here = inr k.here;
+    least = λ u x e. elim e [ inl p ↦ behind_chain (b.0, b.1.node.0) (a.0, a.1.node.0) (u, x.node.0) le (h.least u x p) | inr q ↦ k.least u x q ];
+  }
 
   -- the lesser of the least of two kinds is the least of both
   pub joined_least : (a b f : Option Found) → IsLeastFound P a → IsLeastFound Q b → IsLesserOf a b f → IsLeastFound Either f
   joined_least None None f h k is = subst (IsLeastFound Either) (sym is) (λ u x e. elim e [ inl p ↦ h u x p | inr q ↦ k u x q ])
   joined_least None (Some b) f h k is = subst (IsLeastFound Either) (sym is) (record {
-      here = inr k.here;
-      least = λ u x e. elim e [ inl p ↦ absurd (h u x p) | inr q ↦ k.least u x q ];
-    })
+    here = inr k.here;
+    least = λ u x e. elim e [ inl p ↦ absurd (h u x p) | inr q ↦ k.least u x q ];
+  })
   joined_least (Some a) None f h k is = subst (IsLeastFound Either) (sym is) (record {
-      here = inl h.here;
-      least = λ u x e. elim e [ inl p ↦ h.least u x p | inr q ↦ absurd (k u x q) ];
-    })
+    here = inl h.here;
+    least = λ u x e. elim e [ inl p ↦ h.least u x p | inr q ↦ absurd (k u x q) ];
+  })
   joined_least (Some a) (Some b) f h k is = elim is [
-      | inl w ↦ subst (IsLeastFound Either) (sym w.0) (first_least a b h k w.1)
-      | inr w ↦ subst (IsLeastFound Either) (sym w.0) (second_least a b h k w.1)
-    ]
+    | inl w ↦ subst (IsLeastFound Either) (sym w.0) (first_least a b h k w.1)
+    | inr w ↦ subst (IsLeastFound Either) (sym w.0) (second_least a b h k w.1)
+  ]
 
 module _ (es : Exporters) (types : set.FinSet nat_cmp) where
   -- in a slot of a wanted type
@@ -84,12 +84,12 @@ module _ (es : Exporters) (types : set.FinSet nat_cmp) where
   -- a type below the next one was below the one before, or is the one that was found
   split_at : (from found t : ℕ) (u : List ℕ) (x : Target) → from ≤ found → NoSlots from found → t < found + 1 → filled (slot_in es (t, u)) ≡ Some x → (t < from) ⊎ (t ≡ found)
   split_at from found t u x le none lt some = elim (cases_lt t from) [
-      | inl below ↦ inl below
-      | inr above ↦ elim (cases_lt t found) [
-        | inl within ↦ absurd (nothing_at (t, u) x (none t u above within) some)
-        | inr at ↦ inr (omega arith)
-        ]
+    | inl below ↦ inl below
+    | inr above ↦ elim (cases_lt t found) [
+      | inl within ↦ absurd (nothing_at (t, u) x (none t u above within) some)
+      | inr at ↦ inr (omega arith)
     ]
+  ]
 
   pub none_below : IsLeastFound (IsBelow 0) None
   none_below u x w = absurd (omega (arith, w.1))

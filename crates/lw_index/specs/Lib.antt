@@ -6,3 +6,4 @@ pub mod Slots
 pub mod Turns
 pub mod Least
 pub mod Entered
+pub mod Lettered

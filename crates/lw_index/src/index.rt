@@ -78,12 +78,7 @@ impl Index {
 
     /// Gives a document this URI and these exports, in place of all that it exported before, which is handed back. Where memory is
     /// refused nothing changes. The time is that of a few look-ups for each old and each new export.
-    pub fn set(
-        &mut self,
-        doc: DocId,
-        uri: &Name,
-        exports: Vec<Export>,
-    ) -> Result<Delta, NoMemory>
+    pub fn set(&mut self, doc: DocId, uri: &Name, exports: Vec<Export>) -> Result<Delta, NoMemory>
         requires { IsFreeFor self.old doc.0 uri.now }
         ensures ok { OnOk result (self.new ≡ map.insert self.old doc.0 (record { uri = uri.now; exports = exports.items })) }
         ensures gone { IfOk result (λ delta. (delta.doc ≡ doc) × (delta.gone ≡ exports_in self.old doc.0)) }

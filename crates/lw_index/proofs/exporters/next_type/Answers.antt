@@ -16,9 +16,10 @@ returns-in-Some c =
     let is = c.in-Some.ensures.steps in
     let empty : c.from_string.result ≡ [] = c.from_string.ensures ∙ c.new.ensures.bytes in
     let first : IsEntryInRange place_cmp (Included start) Unbounded es (c.in-Some.place.now, c.in-Some.field-0-1.now) = All-head (IsEntryInRange place_cmp (Included start) Unbounded es) _ _ (subst (All (IsEntryInRange place_cmp (Included start) Unbounded es)) is range.0) in
-    let least : (q : Place) → IsLeBy place_cmp start q → IsSome (slot_in es q) → IsLeBy place_cmp c.in-Some.place.now q = λ q from some. subst (λ r. IfSome (slice_get r 0) (λ e. IsLeBy place_cmp e.0 q)) is (range.2 q (from, tt) some) in
-    (types_rise start c.in-Some.place.now first.0.0,
-     λ t u from lt. none_unless _ (λ some. omega (arith, types_rise c.in-Some.place.now (t, u) (least (t, u) (subst (λ v. IsLeBy place_cmp (c.args.from, v) (t, u)) (sym empty) (start_first c.args.from t u from)) some))))
+    let least : (q : Place) → IsLeBy place_cmp start q → IsSome (slot_in es q) → IsLeBy place_cmp c.in-Some.place.now q = λ q from some. subst (λ r. IfSome (slice_get r 0) (λ e. IsLeBy place_cmp e.0 q)) is (range.2 q (from, tt) some) in (
+      types_rise start c.in-Some.place.now first.0.0,
+      λ t u from lt. none_unless _ (λ some. omega (arith, types_rise c.in-Some.place.now (t, u) (least (t, u) (subst (λ v. IsLeBy place_cmp (c.args.from, v) (t, u)) (sym empty) (start_first c.args.from t u from)) some))),
+    )
 
 pub returns-in-None : goal.returns-in-None
 returns-in-None c =

@@ -8,7 +8,7 @@ use Rattle.lw_index.proofs.exporters.offer.Goals as goal
 pub returns-in-Some : goal.returns-in-Some
 returns-in-Some c =
     let is : Some c.in-Some.slot.now ≡ slot_in c.args.exporters.now c.args.place.now = c.in-Some.ensures.value in
-    turns_written (offered c.args.doc c.args.node) c.args.place.now c.args.exporters.now (c.get_mut.follows.lender (record {doc = c.args.doc; node = Some c.lesser_node-least.result})) (Some (record {doc = c.args.doc; node = Some c.lesser_node-least.result})) (ap (offered c.args.doc c.args.node) (sym is) ∙ ap (λ n. Some (record {doc = c.args.doc; node = Some (record {0 = n})})) (sym c.lesser_node-least.ensures)) ((c.get_mut.follows.holds (record {doc = c.args.doc; node = Some c.lesser_node-least.result})).3 (subst IsSome is refl)).0
+    turns_written (offered c.args.doc c.args.node) c.args.place.now c.args.exporters.now (c.get_mut.follows.lender (record { doc = c.args.doc; node = Some c.lesser_node-least.result })) (Some (record { doc = c.args.doc; node = Some c.lesser_node-least.result })) (ap (offered c.args.doc c.args.node) (sym is) ∙ ap (λ n. Some (record { doc = c.args.doc; node = Some (record { 0 = n }) })) (sym c.lesser_node-least.ensures)) ((c.get_mut.follows.holds (record { doc = c.args.doc; node = Some c.lesser_node-least.result })).3 (subst IsSome is refl)).0
 
 pub returns-in_default : goal.returns-in_default
 returns-in_default c =

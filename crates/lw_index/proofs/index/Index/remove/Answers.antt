@@ -13,7 +13,7 @@ invariant_of-self c =
     let names = c.self.inside.names in
     let out : TurnsAll (λ _. emptied) old.uri old.exports names c.withdraw_all.new.names = turns_known (λ _. emptied) old.uri old.uri c.as_slice.result.now old.exports names c.withdraw_all.new.names refl c.as_slice.ensures c.withdraw_all.ensures.turned in
     let away : TurnsAll (λ _. swept) old.uri old.exports c.withdraw_all.new.names c.sweep_all.new.names =
-        turns_known (λ _. swept) c.withdraw_all.new.place.1 old.uri c.as_slice-2.result.now old.exports c.withdraw_all.new.names c.sweep_all.new.names c.withdraw_all.ensures.uri c.as_slice-2.ensures c.sweep_all.ensures.turned in
+    turns_known (λ _. swept) c.withdraw_all.new.place.1 old.uri c.as_slice-2.result.now old.exports c.withdraw_all.new.names c.sweep_all.new.names c.withdraw_all.ensures.uri c.as_slice-2.ensures c.sweep_all.ensures.turned in
     entered_without c.self.inside.documents names c.self.invariant c.args.doc.0 old.uri old.exports (was_there _ _ old c.remove-old.ensures.value c.or_nothing-uri.ensures) c.remove-old.new.self c.sweep_all.new.names
     c.remove-old.ensures.updates.0 (emptied_and_swept old.uri old.exports names c.withdraw_all.new.names c.sweep_all.new.names out away)
 

@@ -43,14 +43,14 @@ invariant_of-self-in-Ok c =
     let after = c.sweep_all-in-Ok.new.names in
     let uri : c.in_ok-copy.field-0 ≡ new.uri = c.in_ok-copy.ensures ∙ sym c.in_ok-own.ensures in
     let made : TurnsAll (λ _. reserved c.args.doc) new.uri new.exports names ready = turns_known (λ _. reserved c.args.doc) c.in_ok-copy.field-0 new.uri c.as_slice.result.now new.exports names ready uri (c.as_slice.ensures.value ∙ sym c.from_vec.ensures)
-        (on_ok_is c.reserve_all-reserved.result (sym c.is_err.ensures.value ∙ c.if-is_err.false) c.reserve_all-reserved.ensures.made) in
+    (on_ok_is c.reserve_all-reserved.result (sym c.is_err.ensures.value ∙ c.if-is_err.false) c.reserve_all-reserved.ensures.made) in
     let out : TurnsAll (λ _. emptied) old.uri old.exports ready free = turns_known (λ _. emptied) old.uri old.uri c.as_slice-in-Ok.result.now old.exports ready free refl c.as_slice-in-Ok.ensures c.withdraw_all.ensures.turned in
     let away : TurnsAll (λ _. swept) old.uri old.exports full after = turns_known (λ _. swept) c.withdraw_all.new.place.1 old.uri c.as_slice-in-Ok-2.result.now old.exports full after c.withdraw_all.ensures.uri c.as_slice-in-Ok-2.ensures c.sweep_all-in-Ok.ensures.turned in
     elim c.match-get.branch [
       | in-Some w ↦ (
           let document : w.in-Some.document.now ≡ new = same_document w.in-Some.document.now new (w.in-Some.ensures.value ∙ c.in-Ok.ensures.updates.1) in
           let filled_in : TurnsAll (λ x. offered c.args.doc x.node) new.uri new.exports free w.offer_all.new.names = turns_known (λ x. offered c.args.doc x.node) c.reserve_all-reserved.new.place.1 new.uri w.as_slice-in-Some.result.now new.exports free w.offer_all.new.names
-              (c.reserve_all-reserved.ensures.uri ∙ uri) (w.as_slice-in-Some.ensures ∙ ap (λ (d : Document). d.exports) document) w.offer_all.ensures.turned in
+          (c.reserve_all-reserved.ensures.uri ∙ uri) (w.as_slice-in-Some.ensures ∙ ap (λ (d : Document). d.exports) document) w.offer_all.ensures.turned in
           let offers : TurnsAll (λ x. offered c.args.doc x.node) new.uri new.exports free full = subst (λ s. TurnsAll (λ x. offered c.args.doc x.node) new.uri new.exports free s.names) (sym w.self-inside-is) filled_in in
           entered_with documents names c.self.invariant c.args.doc.0 old.uri old.exports (was_there c.in-Ok.old _ old c.in-Ok.ensures.old c.or_nothing-uri.ensures) c.args.doc refl new
           (λ other e is same. c.requires other e (ap (λ v. map.get v other) (sym c.self.view_is) ∙ shown_get documents other ∙ is) (same ∙ c.in_ok-own.ensures))
