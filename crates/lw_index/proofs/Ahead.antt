@@ -2,10 +2,9 @@
 use Rattle.std.proofs.Common.{◌≡◌, ◌≢◌, ℕ, ◌<◌, ◌≤◌, List, [], ◌∷◌, Bool, true, false, cond, ◌&&◌, Option, Some, None, refl, sym, ap, subst, ◌∙◌, ◌⊎◌, inl, inr, arith}
 use Rattle.std.specs.declared.cmp.Ordering.{Ordering}
 use Rattle.std.specs.declared.cmp.Ordering.TheVariants.{Less, Equal, Greater}
-use Rattle.std.specs.declared.ops.Bound.{Bound}
 use Rattle.std.specs.declared.ops.Bound.TheVariants.{Included, Unbounded}
-use Rattle.std.specs.Ordering.{nat_cmp, ordering_then, ordering_reverse, is_eq, is_gt, is_lt, is_le}
-use Rattle.std.specs.Cmp.{IsTotalOrder, ranked, eq_by_cmp_equiv}
+use Rattle.std.specs.Ordering.{nat_cmp, ordering_then, ordering_reverse, is_eq, is_gt, is_le}
+use Rattle.std.specs.Cmp.{ranked, eq_by_cmp_equiv}
 use Rattle.std.specs.Cmp.Lexicographic.{slice_cmp}
 use Rattle.std.specs.List.{All, filter, slice_index_or}
 use Rattle.std.specs.List.Sorted.{IsStrictlySortedBy}
@@ -27,7 +26,7 @@ use Rattle.lw_index.specs.declared.parts.Target.{Target}
 use Rattle.lw_index.specs.Slots.{Place, place_cmp, Exporters, slot_in, filled, target_in}
 use Rattle.lw_index.specs.Least.{IsLeastOf}
 use Rattle.lw_index.proofs.Orders.{name_cmp_total, place_cmp_total, same_place, itself_place, by_uri, by_node}
-use Rattle.lw_index.proofs.Starts.{start_first, types_rise, none_unless}
+use Rattle.lw_index.proofs.Starts.{start_first, types_rise}
 
 abbrev Entries : Type 0
 Entries = List (Place × Slot)

@@ -1,6 +1,5 @@
 -- What the tables of an index answer, told of its documents.
-use Rattle.std.proofs.Common.{◌≡◌, ◌≢◌, ℕ, ◌≤◌, List, [], Bool, true, false, Option, Some, None, refl, sym, ap, ◌∙◌, subst}
-use Rattle.std.specs.Prelude.{IsTrue}
+use Rattle.std.proofs.Common.{◌≡◌, ◌≢◌, ℕ, ◌≤◌, List, [], false, Option, Some, None, refl, sym, ap, ◌∙◌, subst}
 use Rattle.std.specs.List.{Contains}
 use Rattle.std.specs.declared.cmp.Ordering.{Ordering}
 use Rattle.std.specs.declared.cmp.Ordering.TheVariants.{Less, Equal, Greater}
@@ -10,16 +9,14 @@ use Rattle.std.specs.Option.{option_and_then, option_map_or, unwrap_or}
 use Rattle.std.specs.BTreeMap as tree
 use Rattle.std.specs.FinMap as map
 use Rattle.std.specs.FinSet as set
-use Rattle.std.proofs.lemmas.Bool.{false≢true}
 use Rattle.std.proofs.lemmas.Cmp.{tied_itself}
 use Rattle.lw_base.specs.declared.numbers.DocId.{DocId}
 use Rattle.lw_index.specs.declared.parts.Document.{Document}
-use Rattle.lw_index.specs.declared.parts.Export.{Export}
 use Rattle.lw_index.specs.declared.parts.Target.{Target}
 use Rattle.lw_index.specs.Indexed.{Indexed, exports_in}
 use Rattle.lw_index.specs.Exported.{export_of, IsExported}
-use Rattle.lw_index.specs.Firsts.{IsNotBehind, IsWanted, IsFirstExport, NoneWanted}
-use Rattle.lw_index.specs.Rivals.{IsRival, IsLeastRival, HasNoRival}
+use Rattle.lw_index.specs.Firsts.{IsNotBehind, IsFirstExport, NoneWanted}
+use Rattle.lw_index.specs.Rivals.{IsLeastRival, HasNoRival}
 use Rattle.lw_index.specs.Entered.{Shows, AreEntered}
 use Rattle.lw_index.specs.Least.{Found, IsLeastOf}
 use Rattle.lw_index.specs.Slots.{Place, Exporters, Names, name_cmp, slot_in, slot_at, filled}

@@ -2,7 +2,7 @@
 use Rattle.std.proofs.Common.{◌≡◌, ℕ, List, [], Bool, true, false, cond, Option, Some, None, refl, sym, ap, ◌∙◌, subst, ◌⊎◌, inl, inr, eq-eqb}
 use Rattle.std.specs.Prelude.{MatchOption}
 use Rattle.std.specs.List.{Contains}
-use Rattle.std.specs.Option.{option_map, option_and_then}
+use Rattle.std.specs.Option.{option_map}
 use Rattle.std.specs.Ordering.{eq_by_cmp, nat_cmp}
 use Rattle.std.specs.Cmp.{unsigned_tied}
 use Rattle.std.specs.BTreeMap as tree
@@ -15,8 +15,8 @@ use Rattle.lw_index.specs.declared.parts.Document.{Document}
 use Rattle.lw_index.specs.declared.parts.Export.{Export}
 use Rattle.lw_index.specs.declared.parts.Target.{Target}
 use Rattle.lw_index.specs.Exported.{export_of}
-use Rattle.lw_index.specs.Entered.{IsLeastNode, Shows, AreEntered}
-use Rattle.lw_index.specs.Slots.{Place, Names, name_cmp, slot_in, slot_at, filled}
+use Rattle.lw_index.specs.Entered.{Shows, AreEntered}
+use Rattle.lw_index.specs.Slots.{Place, Names, name_cmp, slot_at, filled}
 use Rattle.lw_index.specs.Turns.{Turn, reserved, emptied, offered, swept, turned, AreFilledAlike}
 use Rattle.lw_index.proofs.Orders.{same_name, itself_name}
 use Rattle.lw_index.proofs.AllTurns.{reserved_alike}

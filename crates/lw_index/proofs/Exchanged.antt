@@ -1,9 +1,8 @@
 -- What becomes of slots where all exports of one document are turned after those of another.
-use Rattle.std.proofs.Common.{◌≡◌, ℕ, List, Bool, true, false, Option, Some, None, refl, sym, ap, ◌∙◌, subst}
+use Rattle.std.proofs.Common.{◌≡◌, ℕ, List, true, false, sym, ap, ◌∙◌, subst}
 use Rattle.std.specs.Prelude.{Result, Ok, Err, OnOk, OnErr, is_err}
 use Rattle.std.proofs.lemmas.Bool.{false≢true}
 use Rattle.lw_base.specs.declared.numbers.DocId.{DocId}
-use Rattle.lw_index.specs.declared.exporters.Slot.{Slot}
 use Rattle.lw_index.specs.declared.parts.Export.{Export}
 use Rattle.lw_index.specs.Slots.{Place, Names, slot_at, filled}
 use Rattle.lw_index.specs.Turns.{Turn, reserved, emptied, offered, swept, turned, TurnsAll, AreFilledAlike}

@@ -1,5 +1,5 @@
 -- What the slot of a name at a place holds once all exports of a document have turned theirs.
-use Rattle.std.proofs.Common.{◌≡◌, ◌≢◌, ℕ, ◌+◌, ◌<◌, ◌≤◌, min, List, [], ◌∷◌, ◌++◌, Bool, true, false, cond, ◌&&◌, Option, Some, None, refl, sym, ap, ◌∙◌, subst, ◌⊎◌, inl, inr, arith}
+use Rattle.std.proofs.Common.{◌≡◌, ℕ, min, List, [], ◌∷◌, Bool, true, false, cond, ◌&&◌, Option, Some, None, refl, sym, ap, ◌∙◌, subst, ◌⊎◌, inl, inr, arith}
 use Rattle.std.specs.List.{Contains}
 use Rattle.std.specs.Option.{IsSome, is_some}
 use Rattle.std.specs.Ordering.{eq_by_cmp}
@@ -11,7 +11,7 @@ use Rattle.lw_index.specs.declared.exporters.Slot.{Slot}
 use Rattle.lw_index.specs.declared.parts.Export.{Export}
 use Rattle.lw_index.specs.declared.parts.Target.{Target}
 use Rattle.lw_index.specs.Exported.{export_of}
-use Rattle.lw_index.specs.Entered.{IsLeastNode, Shows}
+use Rattle.lw_index.specs.Entered.{Shows}
 use Rattle.lw_index.specs.Slots.{Place, name_cmp, place_cmp, filled}
 use Rattle.lw_index.specs.Turns.{Turn, reserved, emptied, offered, swept, is_spot, turned}
 use Rattle.lw_index.proofs.Orders.{same_name, same_place, itself_name, itself_place}

@@ -4,13 +4,12 @@ use Rattle.std.specs.Map.{lookup}
 use Rattle.std.specs.Ordering.{eq_by_cmp, nat_cmp}
 use Rattle.std.specs.Cmp.{eq_by_cmp_equiv}
 use Rattle.std.specs.BTreeMap as tree
-use Rattle.std.specs.BTreeMap.{BTreeMap, is_at, Updates}
+use Rattle.std.specs.BTreeMap.{BTreeMap, is_at}
 use Rattle.std.specs.FinMap as map
 use Rattle.std.specs.FinMap.{find, get-from_entries, get-insert, get-remove, same_map, nat_cmp-IsAntisymmetric}
 use Rattle.std.proofs.lemmas.Cmp.{nat_cmp_total}
 use Rattle.lw_index.specs.declared.parts.Document.{Document}
-use Rattle.lw_index.specs.declared.parts.Export.{Export}
-use Rattle.lw_index.specs.Indexed.{Indexed, exports_in}
+use Rattle.lw_index.specs.Indexed.{Indexed}
 
 abbrev pub shown_of : BTreeMap ℕ Document → Indexed
 shown_of documents = map.from_entries {R = nat_cmp} documents.entries

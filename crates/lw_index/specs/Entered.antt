@@ -5,7 +5,6 @@ use Rattle.std.specs.Ordering.{nat_cmp}
 use Rattle.std.specs.BTreeMap as tree
 use Rattle.std.specs.BTreeMap.{BTreeMap}
 use Rattle.lw_index.specs.declared.parts.Document.{Document}
-use Rattle.lw_index.specs.declared.parts.Export.{Export}
 use Rattle.lw_index.specs.declared.parts.Target.{Target}
 use Rattle.lw_index.specs.Exported.{export_of}
 use Rattle.lw_index.specs.Slots.{Names, slot_at, filled}

@@ -1,13 +1,11 @@
 -- What the tables of an index hold: for each name and place, a slot, and the target in it.
-use Rattle.std.specs.Prelude.{◌≡◌, ℕ, List, Option, Some, None, option_and_then}
+use Rattle.std.specs.Prelude.{ℕ, List, Option, option_and_then}
 use Rattle.std.specs.Option.{option_map}
 use Rattle.std.specs.declared.cmp.Ordering.{Ordering}
 use Rattle.std.specs.Ordering.{nat_cmp, ordering_then}
 use Rattle.std.specs.Cmp.Lexicographic.{slice_cmp}
 use Rattle.std.specs.BTreeMap as tree
 use Rattle.std.specs.BTreeMap.{BTreeMap}
-use Rattle.lw_base.specs.declared.numbers.DocId.{DocId}
-use Rattle.lw_base.specs.declared.numbers.NodeId.{NodeId}
 use Rattle.lw_index.specs.declared.exporters.Slot.{Slot}
 use Rattle.lw_index.specs.declared.parts.Target.{Target}
 

@@ -1,8 +1,8 @@
-use Rattle.std.proofs.Common.{◌≡◌, ◌≤◌, List, [], ◌∷◌, Some, refl, sym, ap, subst, ◌∙◌, rules}
+use Rattle.std.proofs.Common.{◌≡◌, [], ◌∷◌, sym, ap, subst, ◌∙◌, rules}
 use Rattle.std.specs.declared.ops.Bound.TheVariants.{Included, Unbounded}
 use Rattle.std.specs.BTreeMap.Range.{IsRangeOf, entries_between}
 use Rattle.lw_index.specs.declared.exporters.Slot.{Slot}
-use Rattle.lw_index.specs.Slots.{Place, place_cmp, target_in}
+use Rattle.lw_index.specs.Slots.{Place, place_cmp}
 use Rattle.lw_index.proofs.Ahead.{Ahead, ahead_of_range, ahead_behind, none_beyond, least_here}
 use Rattle.lw_index.proofs.exporters.first_of_type.Goals as goal
 

@@ -1,6 +1,6 @@
-use Rattle.std.proofs.Common.{◌≡◌, ◌+◌, refl, sym, subst, ◌∙◌, arith}
+use Rattle.std.proofs.Common.{◌+◌, sym, subst, ◌∙◌, arith}
 use Rattle.lw_index.specs.Least.{seen, IsLeastFound}
-use Rattle.lw_index.proofs.Wanted.{IsBelow, none_below, passed_over, taken_in, all_below}
+use Rattle.lw_index.proofs.Wanted.{IsBelow, passed_over, taken_in, all_below}
 use Rattle.lw_index.proofs.exporters.first_wanted.Goals as goal
 use Rattle.lw_index.proofs.exporters.first_wanted.Goals.{then-holds, else-holds}
 

@@ -1,5 +1,4 @@
 use Rattle.std.proofs.Common.{arith}
-use Rattle.lw_index.specs.Slots.{slot_in}
 use Rattle.lw_index.proofs.Starts.{types_fall, none_unless}
 use Rattle.lw_index.proofs.exporters.last_type.Goals as goal
 

@@ -1,4 +1,4 @@
-use Rattle.std.proofs.Common.{◌≡◌, Some, None, not, sym, ap, refl, ◌∙◌}
+use Rattle.std.proofs.Common.{◌≡◌, None, not, sym, ap, refl, ◌∙◌}
 use Rattle.std.proofs.lemmas.Bool.{false≢true}
 use Rattle.lw_index.specs.Slots.{slot_in}
 use Rattle.lw_index.specs.Turns.{swept}

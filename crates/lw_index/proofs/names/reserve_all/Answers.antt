@@ -1,4 +1,4 @@
-use Rattle.std.proofs.Common.{◌≡◌, take, refl, subst, ap, sym, ◌∙◌}
+use Rattle.std.proofs.Common.{take, refl, subst, ap, ◌∙◌}
 use Rattle.lw_index.specs.Slots.{filled}
 use Rattle.lw_index.specs.Turns.{reserved, TurnsOf}
 use Rattle.lw_index.proofs.AllTurns.{all_none, all_more, all_reserved_alike, on_err}

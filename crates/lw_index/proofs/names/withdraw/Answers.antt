@@ -1,4 +1,4 @@
-use Rattle.std.proofs.Common.{◌≡◌, Some, None, subst, sym, ap, refl, ◌∙◌}
+use Rattle.std.proofs.Common.{subst, sym, ap, refl}
 use Rattle.std.specs.Option.{IsSome}
 use Rattle.lw_index.specs.Slots.{slot_at}
 use Rattle.lw_index.specs.Turns.{emptied}

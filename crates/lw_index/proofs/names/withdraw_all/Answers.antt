@@ -1,4 +1,4 @@
-use Rattle.std.proofs.Common.{◌≡◌, refl, subst, ap, sym, ◌∙◌}
+use Rattle.std.proofs.Common.{refl, subst}
 use Rattle.lw_index.specs.Turns.{emptied, TurnsOf}
 use Rattle.lw_index.proofs.AllTurns.{all_none, all_more}
 use Rattle.lw_index.proofs.names.withdraw_all.Goals as goal

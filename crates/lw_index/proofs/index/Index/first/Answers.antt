@@ -1,4 +1,4 @@
-use Rattle.std.proofs.Common.{◌≡◌, None, subst, sym}
+use Rattle.std.proofs.Common.{subst, sym}
 use Rattle.std.specs.Prelude.{MatchOption}
 use Rattle.lw_index.specs.Firsts.{NoneWanted, IsFirstExport}
 use Rattle.lw_index.proofs.Asked.{none_named, none_wanted, first_wanted_is}

@@ -1,4 +1,4 @@
-use Rattle.std.proofs.Common.{◌≡◌, None, subst, sym}
+use Rattle.std.proofs.Common.{subst, sym}
 use Rattle.std.specs.Prelude.{MatchOption}
 use Rattle.lw_index.specs.Rivals.{HasNoRival, IsLeastRival}
 use Rattle.lw_index.proofs.Asked.{no_rival_named, no_rival_found, least_rival_is}

@@ -1,4 +1,4 @@
-use Rattle.std.proofs.Common.{◌≡◌, refl, sym, ap, ◌∙◌}
+use Rattle.std.proofs.Common.{refl, ap, ◌∙◌}
 use Rattle.std.specs.FinMap as map
 use Rattle.lw_index.specs.Turns.{emptied, swept, TurnsAll}
 use Rattle.lw_index.proofs.Entering.{entered_without}

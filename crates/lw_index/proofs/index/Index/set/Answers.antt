@@ -1,9 +1,8 @@
-use Rattle.std.proofs.Common.{◌≡◌, ℕ, List, cond, Some, None, refl, sym, ap, subst, ◌∙◌}
+use Rattle.std.proofs.Common.{◌≡◌, ℕ, cond, Some, refl, sym, ap, subst, ◌∙◌}
 use Rattle.std.specs.Ordering.{eq_by_cmp, nat_cmp}
 use Rattle.std.specs.BTreeMap as tree
 use Rattle.std.specs.FinMap as map
 use Rattle.lw_index.specs.declared.parts.Document.{Document}
-use Rattle.lw_index.specs.Entered.{AreEntered}
 use Rattle.lw_index.specs.Turns.{reserved, emptied, offered, swept, TurnsAll, AreFilledAlike}
 use Rattle.lw_index.proofs.AllTurns.{all_reserved_alike}
 use Rattle.lw_index.proofs.Entering.{entered_with, entered_alike, entered_same, same_document, none_document as no_document}
