@@ -1,0 +1,13 @@
+pub mod Orders
+pub mod Starts
+pub mod OneTurn
+pub mod Ahead
+pub mod Wanted
+pub mod NameTurn
+pub mod AllTurns
+pub mod Offered
+pub mod Entering
+pub mod View
+pub mod Asked
+pub mod Exchanged
+pub mod LetteredLemmas

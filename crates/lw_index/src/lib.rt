@@ -1,0 +1,31 @@
+//! Which documents export which names.
+//!
+//! A document exports some of its nodes: each such [`Export`] has a name, the type of its node, and the node. An [`Index`] keeps the
+//! exports of all documents, so that whoever looks for a name finds the document that has it.
+//!
+//! Its model is the map of the documents by number, each with its URI and its exports (`specs/Indexed.antt`). Nothing else is seen of
+//! it. Numbers and URIs of documents are one to one: a document may be set under a number only where no other number has its URI. A
+//! number that is removed may be given again, and a document may be set anew under another URI.
+//!
+//! It promises that [`Index::set`] and [`Index::remove`] change that one document and hand back what it exported; that
+//! [`Index::first`] answers the first fitting export over all documents, by the bytes of URIs and then by nodes, and none only where
+//! none fits, and counts one step; that [`Index::others`] answers the least URI of another document with an export of the name and the
+//! very type; and that nothing changes where memory is refused.
+//!
+//! Beside the documents it keeps an ordered map from each name to the documents that export it, which are ordered by type and URI, each
+//! with the least of its nodes. So no call goes through all exports or all documents: [`Index::first`] looks up the name, and then goes
+//! by the types that are there and not by the documents; [`Index::others`] takes the first document of a type or the one behind it;
+//! [`Index::set`] and [`Index::remove`] do a few look-ups for each old and each new export. A name that nobody exports any more goes
+//! out of the map. Each name takes a node of a tree for its documents, some 700 bytes, which is most of the room of an index.
+#![tactic(auto)]
+
+mod exporters;
+mod index;
+mod names;
+mod parts;
+
+pub use index::Index;
+pub use parts::{Answer, Delta, Document, Export, Target};
+
+#[cfg(test)]
+mod tests;
