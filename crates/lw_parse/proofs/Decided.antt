@@ -1,5 +1,5 @@
 -- Decisions of a run, and how states of it follow one another.
-use Rattle.std.proofs.Common.{◌≡◌, ℕ, ◌+◌, ◌-◌, ◌<◌, suc, List, [], ◌∷◌, ◌++◌, Option, None, Some, option_map, reverse, slice_get, refl, sym, ap, ap₂, ◌∙◌, subst, append_assoc, append-nil, arith}
+use Rattle.std.proofs.Common.{◌≡◌, ℕ, ◌+◌, ◌-◌, ◌<◌, suc, List, [], ◌∷◌, ◌++◌, Option, None, Some, option_map, reverse, slice_get, sym, ap, ap₂, ◌∙◌, subst, append_assoc, append-nil, arith}
 use Rattle.std.proofs.lemmas.List.{reverse-append}
 use Rattle.lw_base.specs.declared.numbers.KindId.{KindId}
 use Rattle.lw_program.specs.declared.instr.Instr.{Instr}

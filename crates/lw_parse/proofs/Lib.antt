@@ -6,3 +6,4 @@ pub mod Decided
 pub mod Searching
 pub mod Parsed
 pub mod Tabled
+pub mod Reading

@@ -1,17 +1,16 @@
 -- The tree of the only sentence.
-use Rattle.std.proofs.Common.{◌≡◌, List, [], ◌∷◌, refl, sym, ◌∙◌, subst}
+use Rattle.std.proofs.Common.{◌≡◌, List, [], ◌∷◌, Option, Some, MatchOption, refl, sym, subst}
 use Rattle.lw_base.specs.declared.token.Token.{Token}
 use Rattle.lw_grammar.specs.declared.fault.GrammarFault.{GrammarFault}
 use Rattle.lw_grammar.specs.declared.grammar.Grammar.{Grammar}
 use Rattle.lw_grammar.specs.Kinds.{Kinds}
 use Rattle.lw_faults.specs.Faults.{IsCheckFault, IsTypeFault}
-use Rattle.lw_sentences.specs.Marks.{Mark}
+use Rattle.lw_sentences.specs.Sentences.{IsWhole}
 use Rattle.lw_tree.specs.Parts.{Parts}
-use Rattle.lw_marks.specs.Brackets.{Bracket, Root}
+use Rattle.lw_marks.specs.Brackets.{Root}
 use Rattle.lw_marks.specs.Follows.{FollowsMarks, Closes}
 use Rattle.lw_marks.specs.Follows as follows
-use Rattle.lw_marks.specs.Grown.{Grown}
-use Rattle.lw_marks.specs.Trees.{IsTree, IsOpenedTree}
+use Rattle.lw_marks.specs.Trees.{IsOpenedTree}
 use Rattle.lw_rooted.specs.Growing.{GrowsRoot}
 use Rattle.lw_rooted.proofs.OneTree.{one_follows, one_close}
 use Rattle.lw_rooted.proofs.Rootable.{is_rootable}
@@ -20,6 +19,14 @@ use Rattle.lw_recipes.specs.declared.mark.TreeMark.{TreeMark}
 use Rattle.lw_builder.specs.Built.{visible_of}
 use Rattle.lw_parse.specs.Marked.{MeanOnlySentence}
 use Rattle.lw_parse.specs.Outcomes.{kinds_seen, IsOnlyTree}
+
+-- what was found for the tokens that were lent is so for the tokens
+pub meant_by : {V : Type 0} (g : Grammar) (kinds : Kinds) (lent tokens : List Token) (found : Option V) (marks : V) (items : V → List TreeMark) → found ≡ Some marks →
+    lent ≡ tokens → MatchOption found (¬ IsWhole g kinds (kinds_seen lent)) (λ marks. MeanOnlySentence g kinds (kinds_seen lent) (items marks)) →
+    MeanOnlySentence g kinds (kinds_seen tokens) (items marks)
+meant_by g kinds lent tokens found marks items is same mean =
+    subst (λ ts. MeanOnlySentence g kinds (kinds_seen ts) (items marks)) same
+    (subst (λ found. MatchOption found (¬ IsWhole g kinds (kinds_seen lent)) (λ marks. MeanOnlySentence g kinds (kinds_seen lent) (items marks))) is mean)
 
 module _ (g : Grammar) (kinds : Kinds) (types : (f : GrammarFault) → ¬ IsTypeFault g f) (checks : (f : GrammarFault) → ¬ IsCheckFault g f) (text : List _)
     (tokens : List Token) {marks : List TreeMark} (mean : MeanOnlySentence g kinds (kinds_seen tokens) marks) where

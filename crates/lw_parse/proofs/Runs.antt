@@ -1,11 +1,12 @@
 -- A run of the parser from its start to its end: its marks and what is to be done are those of a parser that looks ahead.
-use Rattle.std.proofs.Common.{◌≡◌, ◌≢◌, ◌↔◌, ℕ, List, [], ◌∷◌, ◌++◌, Option, Some, true, slice_get, refl, sym, ap, ◌∙◌, subst, append_assoc, append-nil}
+use Rattle.std.proofs.Common.{◌≡◌, ◌≢◌, ◌↔◌, ℕ, List, [], ◌∷◌, ◌++◌, Option, None, Some, MatchOption, true, reverse, slice_get, refl, sym, ap, ap₂, ◌∙◌, subst, append_assoc, append-nil}
+use Rattle.std.proofs.lemmas.List.{reverse-append}
 use Rattle.lw_grammar.specs.declared.grammar.Grammar.{Grammar}
 use Rattle.lw_grammar.specs.declared.rule.Rule.{Rule}
 use Rattle.lw_grammar.specs.Kinds.{Kinds}
 use Rattle.lw_grammar.specs.Reached as reached
 use Rattle.lw_sentences.specs.Marks.{Mark, kinds_of}
-use Rattle.lw_sentences.specs.Sentences.{IsSentence, IsWhole}
+use Rattle.lw_sentences.specs.Sentences.{IsWhole}
 use Rattle.lw_sentences.proofs.Joined.{kinds_join}
 use Rattle.lw_look.specs.Supplied.{ChoicesHaveParts}
 use Rattle.lw_look.specs.Things.{Thing}
@@ -23,6 +24,7 @@ use Rattle.lw_parse.specs.Marked.{MeanOnlySentence}
 use Rattle.lw_parse.specs.Parsers.{ParserParts, TellWays, IsParserOf}
 use Rattle.lw_parse.specs.Running.{RunState, went_on, Entered, NotEntered, TurnsTo, GivesUp}
 use Rattle.lw_parse.specs.Running as run
+use Rattle.lw_parse.proofs.Decided.{stacked}
 use Rattle.lw_parse.proofs.ToDo.{AreToDo, to_do_joined, settled}
 use Rattle.lw_parse.proofs.ToDo as todo
 use Rattle.lw_parse.proofs.Steps.{entered_rule, turn_moves}
@@ -31,6 +33,18 @@ use Rattle.lw_parse.proofs.Stuck.{turn_stuck}
 -- the state before this place was taken off
 abbrev pub before : ℕ → RunState → RunState
 before p state = record { parser = state.parser; unread = state.unread; to_do = p ∷ state.to_do; marks = state.marks }
+
+pub popped : (parser : ParserParts) (unread : List ℕ) (marks : List TreeMark) (old new : List ℕ) (p : ℕ) → old ≡ new ++ p ∷ [] →
+    stacked parser unread old marks ≡ before p (stacked parser unread new marks)
+popped parser unread marks old new p is =
+    ap (λ ps. record { parser = parser; unread = unread; to_do = ps; marks = marks }) (ap reverse is ∙ reverse-append new (p ∷ []))
+
+-- where nothing was to be done and no mark was left
+pub began : (parser : ParserParts) (unread : List ℕ) (items : List ℕ) (none marks : List TreeMark) (places ls : List ℕ) → items ≡ [] → none ≡ [] →
+    went_on (stacked parser unread items none) marks places ls ≡ record { parser = parser; unread = ls; to_do = places; marks = marks }
+began parser unread items none marks places ls no_place no_mark =
+    ap₂ (λ ps ms. record { parser = parser; unread = ls; to_do = places ++ reverse ps; marks = ms ++ marks }) no_place no_mark
+    ∙ ap (λ ps. record { parser = parser; unread = ls; to_do = ps; marks = marks }) (append-nil places)
 
 module _ (g : Grammar) (kinds : Kinds) (k : ℕ) (parser : ParserParts) (is : IsParserOf g kinds k parser) where
   abbrev tasks : List Task
@@ -74,7 +88,7 @@ module _ (g : Grammar) (kinds : Kinds) (k : ℕ) (parser : ParserParts) (is : Is
   pub run_begins : {all : List ℕ} → NotEntered parser all (Some (Call parser.entry)) → ⊥
   run_begins (run.no_start none) =
       let (start, at, starts) = is.known.program.reached parser.entry is.rule (reached.entry is.rule is.entry) is.entry.there in none start at
-  run_begins (run.no_call i calls) = calls
+  run_begins (run.no_call i not_token not_call) = not_call _ refl
 
   -- ---- a turn
 
@@ -158,3 +172,9 @@ module _ (g : Grammar) (kinds : Kinds) (k : ℕ) (parser : ParserParts) (is : Is
 
   pub run_is_too_long : {all : List ℕ} {now : RunState} → IsRunning all now → now.to_do ≡ [] → now.unread ≢ [] → ¬ IsWhole g kinds all
   run_is_too_long {now} running done more = subst (λ ks. ¬ IsWhole g kinds ks) running.read (too_long now.unread (all_done running done) more)
+
+  pub run_ends : {all : List ℕ} {now : RunState} {V : Type 0} (items : V → List TreeMark) → IsRunning all now → now.to_do ≡ [] → (found : Option V) →
+      MatchOption found (now.unread ≢ []) (λ marks. (now.unread ≡ []) × (items marks ≡ now.marks)) →
+      MatchOption found (¬ IsWhole g kinds all) (λ marks. MeanOnlySentence g kinds all (items marks))
+  run_ends items running done None more = run_is_too_long running done more
+  run_ends {all} items running done (Some marks) (none, same) = subst (MeanOnlySentence g kinds all) (sym same) (run_is_whole running done none)

@@ -1,13 +1,14 @@
 -- The search for the first token that cannot stand, token by token.
-use Rattle.std.proofs.Common.{◌≡◌, ◌↔◌, ℕ, ◌+◌, ◌<◌, ◌⊎◌, List, [], ◌∷◌, ◌++◌, Bool, true, false, IsTrue, not, cond, All, Some, length, get_or, map, take, slice_get, refl, sym, ap, ◌∙◌, subst, append-nil, inl, inr}
+use Rattle.std.proofs.Common.{◌≡◌, ℕ, ◌+◌, ◌<◌, ◌⊎◌, List, [], ◌∷◌, ◌++◌, true, false, not, cond, All, length, get_or, map, take, sym, ap, ◌∙◌, subst, append-nil}
 use Rattle.std.proofs.lemmas.List.{map-append}
 use Rattle.std.proofs.lemmas.List.Elements.{filter_more, All-contains, Contains-get_or}
 use Rattle.std.proofs.lemmas.Option.{slice_get-get_or}
 use Rattle.lw_base.specs.declared.token.Token.{Token}
 use Rattle.lw_grammar.specs.declared.grammar.Grammar.{Grammar}
-use Rattle.lw_grammar.specs.Kinds.{Kinds, kind_count}
+use Rattle.lw_grammar.specs.Kinds.{Kinds}
 use Rattle.lw_sentences.specs.Sentences.{Starts}
 use Rattle.lw_builder.specs.Built.{visible_of}
+use Rattle.lw_viable.specs.Fronts.{seen}
 use Rattle.lw_parse.specs.Outcomes.{kinds_seen, CanStand, IsFirstImpossible}
 
 module _ (tokens : List Token) (i : ℕ) (d : Token) (inside : i < length tokens) where
@@ -26,6 +27,9 @@ module _ (tokens : List Token) (i : ℕ) (d : Token) (inside : i < length tokens
   pub shown_kinds : here.hidden ≡ false → kinds_seen (take (i + 1) tokens) ≡ kinds_seen (take i tokens) ++ here.kind.0 ∷ []
   shown_kinds shown = ap (map (λ t. t.kind.0)) (shown_seen shown) ∙ map-append (λ t. t.kind.0) (visible_of (take i tokens)) (here ∷ [])
 
+  pub seen_shown : (ks : List ℕ) → here.hidden ≡ false → seen ks here ≡ ks ++ here.kind.0 ∷ []
+  seen_shown ks shown = ap (λ b. cond b ks (ks ++ here.kind.0 ∷ [])) shown
+
   pub of_kind : (n : ℕ) → All (λ t. t.kind.0 < n) tokens → here.kind.0 < n
   of_kind n all = All-contains (λ t. t.kind.0 < n) tokens here all (Contains-get_or tokens i d inside)
 
@@ -33,11 +37,8 @@ module _ (tokens : List Token) (i : ℕ) (d : Token) (inside : i < length tokens
     pub can_stand_past : here.hidden ≡ true → CanStand g kinds (take i tokens) → CanStand g kinds (take (i + 1) tokens)
     can_stand_past hidden = subst (λ visible. (visible ≡ []) ⊎ Starts g kinds (map (λ t. t.kind.0) visible)) (sym (hidden_seen hidden))
 
-    pub is_first : here.hidden ≡ false → CanStand g kinds (take i tokens) → ¬ Starts g kinds (kinds_seen (take i tokens) ++ here.kind.0 ∷ []) →
-        IsFirstImpossible g kinds tokens i here
-    is_first shown follows cannot = record {
-      there = slice_get-get_or tokens i d inside;
-      shown = shown;
-      follows = follows;
-      cannot = cannot;
-    }
+    pub is_first : (n : ℕ) → n ≡ i → here.hidden ≡ false → CanStand g kinds (take i tokens) → ¬ Starts g kinds (kinds_seen (take i tokens) ++ here.kind.0 ∷ []) →
+        IsFirstImpossible g kinds tokens n here
+    is_first n same shown follows cannot =
+        subst (λ n. IsFirstImpossible g kinds tokens n here) (sym same)
+        (record { there = slice_get-get_or tokens i d inside; shown = shown; follows = follows; cannot = cannot })

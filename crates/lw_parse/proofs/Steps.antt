@@ -1,5 +1,5 @@
 -- What is done at a place is one move of the parser that looks ahead.
-use Rattle.std.proofs.Common.{◌≡◌, ◌↔◌, ℕ, ◌+◌, ◌<◌, List, [], ◌∷◌, ◌++◌, Option, Some, Bool, true, false, length, slice_get, refl, sym, ap, ◌∙◌, subst, append-nil, inl, inr, arith}
+use Rattle.std.proofs.Common.{◌≡◌, ◌↔◌, ℕ, ◌+◌, ◌<◌, List, [], ◌∷◌, ◌++◌, Option, Some, Bool, true, false, slice_get, refl, sym, ap, ◌∙◌, subst, append-nil, inl, inr, arith}
 use Rattle.std.proofs.lemmas.Option.{same_Some, slice_get_cases}
 use Rattle.lw_base.specs.declared.numbers.KindId.{KindId}
 use Rattle.lw_base.specs.declared.numbers.PointId.{PointId}
@@ -16,7 +16,6 @@ use Rattle.lw_grammar.specs.Named.{IsRule}
 use Rattle.lw_grammar.specs.Reached.{IsReached}
 use Rattle.lw_sentences.specs.Marks.{Mark, kinds_of}
 use Rattle.lw_sentences.specs.Marks as mark
-use Rattle.lw_look.specs.Choices.{choice_sites}
 use Rattle.lw_look.specs.Looks.{Look, window}
 use Rattle.lw_look.specs.Sites.{PartSite, rule_of, body, ◌▸◌, Body, Value, IsPartAt, ElementAt, ValueAt, RepeatedAt, OptionalAt, ValueCallsAt}
 use Rattle.lw_look.specs.Sites as site
@@ -27,7 +26,7 @@ use Rattle.lw_look.specs.Parses as parse
 use Rattle.lw_look.proofs.Reaching.{calls_reach}
 use Rattle.lw_look.proofs.Standing.{way_stands, option_stands, repeated_stands}
 use Rattle.lw_program.specs.declared.instr.Instr.{Instr}
-use Rattle.lw_program.specs.declared.instr.Instr.TheVariants.{Token, Choice, Loop, Call}
+use Rattle.lw_program.specs.declared.instr.Instr.TheVariants.{Token, Call}
 use Rattle.lw_program.specs.ProgramOf.{IsProgramOf, StartsRuleAt}
 use Rattle.lw_program.specs.Says.{Task, Does, Reads, thing_of, CallsBy, IsPoint, StandFrom, SaysTask}
 use Rattle.lw_program.specs.Says as say

@@ -1,7 +1,6 @@
 -- Where nothing can be done at a place, no sentence has the kinds.
-use Rattle.std.proofs.Common.{◌≡◌, ◌↔◌, ℕ, ◌+◌, ◌<◌, ◌≤◌, ◌⊎◌, List, [], ◌∷◌, ◌++◌, Option, None, Some, true, length, slice_get, refl, sym, ap, ◌∙◌, subst, inl, inr, arith}
+use Rattle.std.proofs.Common.{◌≡◌, ◌↔◌, ℕ, ◌+◌, ◌<◌, ◌≤◌, ◌⊎◌, List, [], ◌∷◌, ◌++◌, Option, Some, true, length, slice_get, refl, sym, ap, ◌∙◌, subst, inl, inr, arith}
 use Rattle.std.proofs.lemmas.Option.{slice_get_within}
-use Rattle.lw_base.specs.declared.numbers.KindId.{KindId}
 use Rattle.lw_base.specs.declared.numbers.PointId.{PointId}
 use Rattle.lw_base.specs.declared.token.Span.{Span}
 use Rattle.lw_grammar.specs.declared.grammar.Grammar.{Grammar}
@@ -33,7 +32,7 @@ use Rattle.lw_look.proofs.Parsing.{parse_other_token, parse_no_way}
 use Rattle.lw_look.proofs.Reaching.{calls_reach}
 use Rattle.lw_look.proofs.Standing.{one_stands, no_body_is_value}
 use Rattle.lw_program.specs.declared.instr.Instr.{Instr}
-use Rattle.lw_program.specs.declared.instr.Instr.TheVariants.{Token, Choice, Loop, Call}
+use Rattle.lw_program.specs.declared.instr.Instr.TheVariants.{Loop}
 use Rattle.lw_program.specs.ProgramOf.{IsProgramOf}
 use Rattle.lw_program.specs.Says.{Task, Does, Reads, thing_of, CallsBy, IsPoint, StandFrom, SaysTask}
 use Rattle.lw_program.specs.Says as say
@@ -169,15 +168,15 @@ module _ (g : Grammar) (kinds : Kinds) (are : AreKinds g kinds) (choices : Choic
         NotEntered parser ks (Some i) → NotWhole
     not_entered parses none (say.terminal {k} kind) reach steps (run.other_token differ) =
         let (l, xs, step, read) = steps k.0 (t.terminal kind) in other_token parses none step read differ
-    not_entered parses none (say.terminal kind) reach steps (run.no_call i calls) = absurd calls
+    not_entered parses none (say.terminal kind) reach steps (run.no_call i not_token not_call) = absurd (not_token _ refl)
     not_entered parses none (say.rule_ {r} {rule} names) reach steps (run.no_start starts) = absurd (has_start (reach r rule names) names.first.there starts)
-    not_entered parses none (say.rule_ names) reach steps (run.no_call i calls) = absurd calls
+    not_entered parses none (say.rule_ names) reach steps (run.no_call i not_token not_call) = absurd (not_call _ refl)
 
     value_stuck : {property : List ℕ} {op : Op} {s : PartSite} {i : Instr} → SaysTask g kinds is.tasks (Reads s) i → IsReached g (rule_of s) →
         Parses g kinds parser.k m ks (Assigned property op s ∷ rest) → NotEntered parser ks (Some i) → NotWhole
     value_stuck (say.reads_keyword at kind) reached parses (run.other_token differ) =
         other_token parses (quiet_value g kinds at tt) (t.keyword_value at kind) refl differ
-    value_stuck (say.reads_keyword at kind) reached parses (run.no_call i calls) = absurd calls
+    value_stuck (say.reads_keyword at kind) reached parses (run.no_call i not_token not_call) = absurd (not_token _ refl)
     value_stuck (say.reads_call at by) reached parses not =
         not_entered parses (quiet_call g kinds at) by (λ r rule names. calls_reach g (site.reads at names) reached)
         (λ j entering. (_, _, t.called_value at entering, refl)) not
@@ -209,7 +208,7 @@ module _ (g : Grammar) (kinds : Kinds) (are : AreKinds g kinds) (choices : Choic
         GivesUp parser ks (Some i) → NotWhole
     says_stuck (say.keyword at kind) placed parses (run.not_read (run.other_token differ)) =
         other_token parses (quiet_element g kinds at tt) (t.keyword at kind) refl differ
-    says_stuck (say.keyword at kind) placed parses (run.not_read (run.no_call i calls)) = absurd calls
+    says_stuck (say.keyword at kind) placed parses (run.not_read (run.no_call i not_token not_call)) = absurd (not_token _ refl)
     says_stuck (say.called at (say.terminal kind)) (place.element stands reached) parses (run.not_read not) =
         not_entered parses (quiet_element g kinds at tt) (say.terminal kind) (λ r rule names. calls_reach g (site.calls at names) reached)
         (λ j entering. (_, _, t.called at entering, refl)) not

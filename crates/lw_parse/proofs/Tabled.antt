@@ -1,5 +1,5 @@
 -- The tables of a parser and their plain parts.
-use Rattle.std.proofs.Common.{◌≡◌, ℕ, List, Option, Some, length, map, slice_get, option_map, sym, ◌∙◌}
+use Rattle.std.proofs.Common.{ℕ, map, sym, ◌∙◌}
 use Rattle.std.proofs.lemmas.List.{length-map}
 use Rattle.std.proofs.lemmas.Option.{slice_get-map}
 use Rattle.lw_grammar.specs.declared.grammar.Grammar.{Grammar}

@@ -1,6 +1,6 @@
 -- How a run of the parser goes on, in words of the code: what is done at a place of the program, and where it gives up.
 -- Held against the textbooks' predictive parser, whose stack has what is still to be read.
-use Rattle.std.specs.Prelude.{ℕ, ◌≡◌, ◌≢◌, ◌↔◌, ◌+◌, ◌-◌, ◌<◌, ◌≤◌, List, [], ◌∷◌, ◌++◌, Option, Some, None, Bool, true, false, map, reverse, slice_get}
+use Rattle.std.specs.Prelude.{ℕ, ◌≡◌, ◌≢◌, ◌↔◌, ◌+◌, ◌-◌, ◌<◌, ◌≤◌, List, [], ◌∷◌, ◌++◌, Option, Some, None, map, reverse, slice_get}
 use Rattle.lw_base.specs.declared.numbers.KindId.{KindId}
 use Rattle.lw_base.specs.declared.numbers.PointId.{PointId}
 use Rattle.lw_grammar.specs.declared.grammar.Grammar.{Grammar}
@@ -42,17 +42,6 @@ went_on state marks places unread = record {
   marks = state.marks ++ marks;
 }
 
--- the run went on so, or it gives up
-abbrev pub HasGone : RunState → RunState → (List TreeMark → List ℕ → List ℕ → Type 0) → Type 0 → Bool → Type 0
-HasGone old new goes stays true = (marks : List TreeMark) × (places : List ℕ) × (unread : List ℕ) × goes marks places unread × (new ≡ went_on old marks places unread)
-HasGone old new goes stays false = stays
-
--- no token is read here, and no rule is called
-abbrev pub CallsNothing : Option Instr → Type 0
-CallsNothing (Some (Token k)) = ⊥
-CallsNothing (Some (Call r)) = ⊥
-CallsNothing _ = Unit {0}
-
 module _ (parser : ParserParts) (ks : List ℕ) where
   -- by the tables of any grammar that these are, this is the way that the window of these kinds comes next at
   abbrev pub IsWayBy : PointId → Option ℕ → Type 0
@@ -69,7 +58,7 @@ module _ (parser : ParserParts) (ks : List ℕ) where
   pub data NotEntered : Option Instr → Type 0 where
     other_token : {k : KindId} → ((ls : List ℕ) → ks ≢ k.0 ∷ ls) → NotEntered (Some (Token k))
     no_start : {r : ℕ} → ((start : ℕ) → slice_get parser.program.starts r ≢ Some (Some start)) → NotEntered (Some (Call r))
-    no_call : (i : Option Instr) → CallsNothing i → NotEntered i
+    no_call : (i : Option Instr) → ((k : KindId) → i ≢ Some (Token k)) → ((r : ℕ) → i ≢ Some (Call r)) → NotEntered i
 
   -- what is done at the place p, where this stands there
   pub data TurnsTo (p : ℕ) : Option Instr → List TreeMark → List ℕ → List ℕ → Type 0 where

@@ -22,8 +22,8 @@ ghost use Rattle.lw_parse.specs.Outcomes.{IsOnlyTree, IsParseFault, kinds_seen};
 ghost use Rattle.lw_parse.specs.Parsers.{AreOfKinds, IsParserOf, ParsesFaultless, TellWays};
 
 use crate::ParseFault;
-use crate::search::first_impossible;
 use crate::run::marks_of;
+use crate::search::first_impossible;
 use lw_base::{KindId, Name, NoMemory, PointId, RuleId, Token};
 use lw_begins::Begins;
 use lw_builder::tree_of;
@@ -92,12 +92,7 @@ impl Parser {
     }
 
     /// The tree of the only sentence that the visible tokens of the text are, or the first fault.
-    pub fn parse(
-        &self,
-        alloc: Global,
-        text: &Name,
-        tokens: Vec<Token>,
-    ) -> Result<Tree, ParseFault>
+    pub fn parse(&self, alloc: Global, text: &Name, tokens: Vec<Token>) -> Result<Tree, ParseFault>
         requires known { (g : Grammar) × (kinds : Kinds) × (k : ℕ) × ParsesFaultless g kinds k self.now × AreOfKinds kinds tokens.items }
         requires tile { Tile 0 tokens.items }
         requires parts { ArePartsOf text.now tokens.items }

@@ -8,10 +8,7 @@ pub(crate) enum Places {
     One(u32),
     Two(u32, u32),
     /// Those from the first up to the end.
-    Row {
-        first: u32,
-        end: u32,
-    },
+    Row { first: u32, end: u32 },
 }
 
 /// A mark that is left, if any, and the places that are then to be done. A token that is marked is read.
@@ -25,9 +22,5 @@ pub(crate) struct Step {
 #[derive(Clone, Copy, Debug)]
 pub(crate) enum Turn {
     Plain(Step),
-    Value {
-        number: u32,
-        end: u32,
-        step: Step,
-    },
+    Value { number: u32, end: u32, step: Step },
 }
