@@ -228,7 +228,7 @@ Opens-did_open d m same =
       },
     )
 
-edited-parts : (uri : Option (List ℕ)) (version : Option ℤ) (changes : Option (List Change)) (m : Message) → params.edited uri version changes ≡ Some m
+edited-parts : (uri : Option (List ℕ)) (version : Option ℤ) (changes : Option (List Change)) (m : Message) → params.edit_by uri version changes ≡ Some m
     → (u : List ℕ) × (v : ℤ) × (c : List Change) × (uri ≡ Some u) × (version ≡ Some v) × (changes ≡ Some c) × (m ≡ DidChange u v c)
 edited-parts (Some u) (Some v) (Some c) m same = (u, v, c, refl, refl, refl, cc)
 edited-parts (Some u) (Some v) None m same = absurd (cc)

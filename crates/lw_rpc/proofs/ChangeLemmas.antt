@@ -6,16 +6,16 @@ use Rattle.serde_json.specs.Find.{get, as_str, as_number, as_u64}
 use Rattle.lw_text.specs.declared.change.Change.{Change}
 use Rattle.lw_text.specs.declared.place.Pos.{Pos}
 use Rattle.lw_rpc.specs.Causes.{HasCount, IsPos, HasPos, IsRange, HasRange, IsChange, AreChanges, none, next}
-use Rattle.lw_rpc.specs.ChangeParams.{as_u32, count_of, placed, position_of, ranged, range_of, optional_range, replacing, change_of, followed, changes_of}
+use Rattle.lw_rpc.specs.ChangeParams.{as_u32, u32_of, at_place, position_of, ranged, range_of, optional_range, replacing, change_of, followed, changes_of}
 use Rattle.lw_rpc.proofs.Found.{str_of}
 
 -- ---- from the rules to the shape
 
-count_of-HasCount : (key : List ℕ) (d : Data) (n : ℕ) → HasCount key d n → option_and_then count_of (get key d) ≡ Some n
-count_of-HasCount key d n has = let small : nat_lt n (2 ^ 32) ≡ true = lt-ltb n (2 ^ 32) has.1 in rw (has.0, small) refl
+u32_of-HasCount : (key : List ℕ) (d : Data) (n : ℕ) → HasCount key d n → option_and_then u32_of (get key d) ≡ Some n
+u32_of-HasCount key d n has = let small : nat_lt n (2 ^ 32) ≡ true = lt-ltb n (2 ^ 32) has.1 in rw (has.0, small) refl
 
 position_of-IsPos : (d : Data) (at : Pos) → IsPos d at → position_of d ≡ Some at
-position_of-IsPos d at is = rw (count_of-HasCount (codes "line") d at.line is.has_line, count_of-HasCount (codes "character") d at.character is.has_character) refl
+position_of-IsPos d at is = rw (u32_of-HasCount (codes "line") d at.line is.has_line, u32_of-HasCount (codes "character") d at.character is.has_character) refl
 
 position_of-HasPos : (key : List ℕ) (d : Data) (at : Pos) → HasPos key d at → option_and_then position_of (get key d) ≡ Some at
 position_of-HasPos key d at has = ap (option_and_then position_of) has.1 ∙ position_of-IsPos has.0 at has.2
@@ -42,28 +42,28 @@ as_u32-parts : (n m : ℕ) (small : Bool) → nat_lt n (2 ^ 32) ≡ small → (i
 as_u32-parts n m true is same = (cc, ltb-true n (2 ^ 32) is)
 as_u32-parts n m false is same = absurd (cc)
 
-count_of-parts : (d : Data) (n : ℕ) → count_of d ≡ Some n → (d ≡ number (unsigned n)) × (n < 2 ^ 32)
-count_of-parts null n same = absurd (cc)
-count_of-parts (boolean b) n same = absurd (cc)
-count_of-parts (number (unsigned m)) n same = let parts = as_u32-parts m n (nat_lt m (2 ^ 32)) refl same in (ap (λ k. number (unsigned k)) parts.0, rw parts.0 at parts.1)
-count_of-parts (number (negative z)) n same = absurd (cc)
-count_of-parts (number (float x)) n same = absurd (cc)
-count_of-parts (string s) n same = absurd (cc)
-count_of-parts (array items) n same = absurd (cc)
-count_of-parts (object _) n same = absurd (cc)
+u32_of-parts : (d : Data) (n : ℕ) → u32_of d ≡ Some n → (d ≡ number (unsigned n)) × (n < 2 ^ 32)
+u32_of-parts null n same = absurd (cc)
+u32_of-parts (boolean b) n same = absurd (cc)
+u32_of-parts (number (unsigned m)) n same = let parts = as_u32-parts m n (nat_lt m (2 ^ 32)) refl same in (ap (λ k. number (unsigned k)) parts.0, rw parts.0 at parts.1)
+u32_of-parts (number (negative z)) n same = absurd (cc)
+u32_of-parts (number (float x)) n same = absurd (cc)
+u32_of-parts (string s) n same = absurd (cc)
+u32_of-parts (array items) n same = absurd (cc)
+u32_of-parts (object _) n same = absurd (cc)
 
-HasCount-found : (key : List ℕ) (d : Data) (found : Option Data) (n : ℕ) → get key d ≡ found → option_and_then count_of found ≡ Some n → HasCount key d n
-HasCount-found key d (Some w) n is same = let parts = count_of-parts w n same in (is ∙ ap Some parts.0, parts.1)
+HasCount-found : (key : List ℕ) (d : Data) (found : Option Data) (n : ℕ) → get key d ≡ found → option_and_then u32_of found ≡ Some n → HasCount key d n
+HasCount-found key d (Some w) n is same = let parts = u32_of-parts w n same in (is ∙ ap Some parts.0, parts.1)
 HasCount-found key d None n is same = absurd (cc)
 
-placed-parts : (line character : Option ℕ) (at : Pos) → placed line character ≡ Some at → (line ≡ Some at.line) × (character ≡ Some at.character)
-placed-parts (Some line) (Some character) at same = let e : record { line = line; character = character } ≡ at = cc in (ap (λ (p : Pos). Some p.line) e, ap (λ (p : Pos). Some p.character) e)
-placed-parts (Some line) None at same = absurd (cc)
-placed-parts None character at same = absurd (cc)
+at_place-parts : (line character : Option ℕ) (at : Pos) → at_place line character ≡ Some at → (line ≡ Some at.line) × (character ≡ Some at.character)
+at_place-parts (Some line) (Some character) at same = let e : record { line = line; character = character } ≡ at = cc in (ap (λ (p : Pos). Some p.line) e, ap (λ (p : Pos). Some p.character) e)
+at_place-parts (Some line) None at same = absurd (cc)
+at_place-parts None character at same = absurd (cc)
 
 IsPos-position_of : (d : Data) (at : Pos) → position_of d ≡ Some at → IsPos d at
 IsPos-position_of d at same =
-    let parts = placed-parts _ _ at same in
+    let parts = at_place-parts _ _ at same in
     record { has_line = HasCount-found (codes "line") d _ at.line refl parts.0; has_character = HasCount-found (codes "character") d _ at.character refl parts.1 }
 
 HasPos-found : (key : List ℕ) (d : Data) (found : Option Data) (at : Pos) → get key d ≡ found → option_and_then position_of found ≡ Some at → HasPos key d at

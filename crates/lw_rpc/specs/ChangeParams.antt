@@ -11,17 +11,17 @@ abbrev pub as_u32 : ℕ → Option ℕ
 as_u32 n = if nat_lt n (2 ^ 32) then Some n else None
 
 -- the whole number from 0 to 4,294,967,295 that a value is; `1.0`, `1e2` and `-0` are none
-abbrev pub count_of : Data → Option ℕ
-count_of value = option_and_then as_u32 (option_and_then as_u64 (as_number value))
+abbrev pub u32_of : Data → Option ℕ
+u32_of value = option_and_then as_u32 (option_and_then as_u64 (as_number value))
 
-abbrev pub placed : Option ℕ → Option ℕ → Option Pos
-placed (Some line) (Some character) = Some (record { line = line; character = character })
-placed (Some line) None = None
-placed None character = None
+abbrev pub at_place : Option ℕ → Option ℕ → Option Pos
+at_place (Some line) (Some character) = Some (record { line = line; character = character })
+at_place (Some line) None = None
+at_place None character = None
 
 -- a position: its line and its character
 abbrev pub position_of : Data → Option Pos
-position_of value = placed (option_and_then count_of (get (codes "line") value)) (option_and_then count_of (get (codes "character") value))
+position_of value = at_place (option_and_then u32_of (get (codes "line") value)) (option_and_then u32_of (get (codes "character") value))
 
 abbrev pub ranged : Option Pos → Option Pos → Option (Pos × Pos)
 ranged (Some start) (Some end) = Some (start, end)

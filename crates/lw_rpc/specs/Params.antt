@@ -39,16 +39,16 @@ did_open params = opened_document (member_at (codes "textDocument") params)
 abbrev pub changes_at : List ℕ → Option Data → Option (List Change)
 changes_at key value = option_and_then changes_of (option_and_then as_array (member_at key value))
 
-abbrev pub edited : Option (List ℕ) → Option ℤ → Option (List Change) → Option Message
-edited (Some uri) (Some version) (Some changes) = Some (DidChange uri version changes)
-edited (Some uri) (Some version) None = None
-edited (Some uri) None changes = None
-edited None version changes = None
+abbrev pub edit_by : Option (List ℕ) → Option ℤ → Option (List Change) → Option Message
+edit_by (Some uri) (Some version) (Some changes) = Some (DidChange uri version changes)
+edit_by (Some uri) (Some version) None = None
+edit_by (Some uri) None changes = None
+edit_by None version changes = None
 
 -- a document with its address and its version, and what is changed in it
-abbrev pub edited_document : Option Data → Option (List Change) → Option Message
-edited_document document changes = edited (text_at (codes "uri") document) (whole_at (codes "version") document) changes
+abbrev pub document_edit : Option Data → Option (List Change) → Option Message
+document_edit document changes = edit_by (text_at (codes "uri") document) (whole_at (codes "version") document) changes
 
 -- `textDocument/didChange`: such a document under `textDocument`, and a list of changes under `contentChanges`, which may be empty
 abbrev pub did_change : Option Data → Option Message
-did_change params = edited_document (member_at (codes "textDocument") params) (changes_at (codes "contentChanges") params)
+did_change params = document_edit (member_at (codes "textDocument") params) (changes_at (codes "contentChanges") params)

@@ -79,7 +79,7 @@ fn position(value: Value) -> Option<Pos>
 
 /// The whole number of 32 bits that the value is.
 fn count(value: Value) -> Option<u32>
-    ensures { result ≡ shape.count_of (view value) }
+    ensures { result ≡ shape.u32_of (view value) }
 {
     u32::try_from(value.as_u64()?).ok()
 }

@@ -59,7 +59,7 @@ fn edited(alloc: Global, params: Value) -> Result<Option<Message>, NoMemory>
 
 /// The document that the value names is changed so.
 fn edited_document(document: Option<Value>, changes: Items<Change>) -> Option<Message>
-    ensures { result ≡ shape.edited_document (option_map view document) (Some changes) }
+    ensures { result ≡ shape.document_edit (option_map view document) (Some changes) }
 {
     match document? {
         Value::Object(identifier) => edited_by(identifier, changes),
@@ -69,7 +69,7 @@ fn edited_document(document: Option<Value>, changes: Items<Change>) -> Option<Me
 
 /// The document of these members is changed so.
 fn edited_by(mut identifier: Map<String, Value>, changes: Items<Change>) -> Option<Message>
-    ensures { result ≡ shape.edited_document (Some (object (members_view identifier.entries))) (Some changes) }
+    ensures { result ≡ shape.document_edit (Some (object (members_view identifier.entries))) (Some changes) }
 {
     let uri = taken_text(taken_value(&mut identifier, "uri")?)?;
     let version = taken_value(&mut identifier, "version")?.as_i64()?;
