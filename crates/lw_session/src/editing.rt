@@ -50,7 +50,11 @@ fn changed(alloc: Global, text: &TextDoc, changes: &[Change]) -> Result<TextDoc,
     ensures made { IfOk result (λ doc. Changes Encoding.Utf16 text.now changes.now (Ok doc)) }
     ensures fault { IfErr result (λ fault. (fault ≡ EditFault.NoMemory) ⊎ Changes Encoding.Utf16 text.now changes.now (Err fault)) }
 {
-    let mut doc = TextDoc::new(alloc, text.text(alloc)?)?;
+    let copy = text.text(alloc)?;
+    let Ok(mut doc) = TextDoc::new(alloc, copy) else {
+        // A text that is held is not too long.
+        return Err(EditFault::NoMemory);
+    };
     doc.apply(alloc, changes, Encoding::Utf16)?;
     Ok(doc)
 }
