@@ -180,3 +180,38 @@ fn the_lifecycle_is_kept(rt: HostRuntime) -> Result<(), Fail> {
     assert_eq!(rt; ran.out.as_slice(), replies.as_slice());
     Ok(())
 }
+
+#[test]
+fn edits_are_taken(rt: HostRuntime) -> Result<(), Fail> {
+    let bytes = framed(
+        rt.alloc(),
+        &[
+            INITIALIZE,
+            "{\"jsonrpc\":\"2.0\",\"method\":\"textDocument/didChange\",\"params\":{\"textDocument\":{\"uri\":\"file:///m.s\",\"version\":1},\"contentChanges\":[]}}",
+            OPEN,
+            "{\"jsonrpc\":\"2.0\",\"method\":\"textDocument/didChange\",\"params\":{\"textDocument\":{\"uri\":\"file:///m.s\",\"version\":2},\"contentChanges\":[{\"text\":\"model a😀\\r\\nb\"}]}}",
+            "{\"jsonrpc\":\"2.0\",\"method\":\"textDocument/didChange\",\"params\":{\"textDocument\":{\"uri\":\"file:///m.s\",\"version\":3},\"contentChanges\":[{\"range\":{\"start\":{\"line\":0,\"character\":7},\"end\":{\"line\":1,\"character\":0}},\"text\":\"\"},{\"range\":{\"start\":{\"line\":5,\"character\":0},\"end\":{\"line\":5,\"character\":0}},\"text\":\"c\"}]}}",
+            "{\"jsonrpc\":\"2.0\",\"method\":\"textDocument/didChange\",\"params\":{\"textDocument\":{\"uri\":\"file:///m.s\",\"version\":4},\"contentChanges\":[{\"range\":{\"start\":{\"line\":0,\"character\":2},\"end\":{\"line\":0,\"character\":1}},\"text\":\"y\"}]}}",
+            "{\"jsonrpc\":\"2.0\",\"method\":\"textDocument/didChange\",\"params\":{\"textDocument\":{\"uri\":\"file:///m.s\",\"version\":5},\"contentChanges\":[{\"range\":{\"start\":{\"line\":0,\"character\":9},\"end\":{\"line\":0,\"character\":9}},\"text\":\"\\rd\"}]}}",
+            SHUTDOWN,
+            EXIT,
+        ],
+    )?;
+    let replies = framed(
+        rt.alloc(),
+        &[
+            HELLO_BODY,
+            "{\"jsonrpc\":\"2.0\",\"method\":\"window/logMessage\",\"params\":{\"message\":\"unknown document: file:///m.s\",\"type\":1}}",
+            "{\"jsonrpc\":\"2.0\",\"method\":\"textDocument/publishDiagnostics\",\"params\":{\"diagnostics\":[],\"uri\":\"file:///m.s\",\"version\":1}}",
+            "{\"jsonrpc\":\"2.0\",\"method\":\"textDocument/publishDiagnostics\",\"params\":{\"diagnostics\":[{\"code\":1,\"message\":\"Unexpected character.\",\"range\":{\"end\":{\"character\":9,\"line\":0},\"start\":{\"character\":7,\"line\":0}},\"severity\":1}],\"uri\":\"file:///m.s\",\"version\":2}}",
+            "{\"jsonrpc\":\"2.0\",\"method\":\"textDocument/publishDiagnostics\",\"params\":{\"diagnostics\":[],\"uri\":\"file:///m.s\",\"version\":3}}",
+            "{\"jsonrpc\":\"2.0\",\"method\":\"window/logMessage\",\"params\":{\"message\":\"bad range in change 0 of file:///m.s\",\"type\":1}}",
+            "{\"jsonrpc\":\"2.0\",\"method\":\"textDocument/publishDiagnostics\",\"params\":{\"diagnostics\":[{\"code\":2,\"message\":\"Unexpected ID.\",\"range\":{\"end\":{\"character\":1,\"line\":1},\"start\":{\"character\":0,\"line\":1}},\"severity\":1}],\"uri\":\"file:///m.s\",\"version\":5}}",
+            "{\"id\":2,\"jsonrpc\":\"2.0\",\"result\":null}",
+        ],
+    )?;
+    let ran = run_over(rt.alloc(), &serving(&[], 0, 0), &bytes)?;
+    assert_eq!(rt; ran.code, 0);
+    assert_eq!(rt; ran.out.as_slice(), replies.as_slice());
+    Ok(())
+}

@@ -1,19 +1,25 @@
 -- No message breaks what holds of the documents at every moment, and behind each nothing is left to do.
-use Rattle.std.proofs.Common.{◌≡◌, ℕ, ℤ, List, [], ◌∷◌, true, false, Some, None, sym, ◌∙◌, true≢false}
-use Rattle.std.specs.FinMap.{empty}
+use Rattle.std.proofs.Common.{◌≡◌, ℕ, ℤ, List, [], ◌∷◌, true, false, Some, None, Ok, sym, ◌∙◌, true≢false}
+use Rattle.std.specs.FinMap.{empty, insert}
 use Rattle.lw_grammar.specs.declared.grammar.Grammar.{Grammar}
 use Rattle.lw_io.specs.declared.store.Found.{Found}
 use Rattle.lw_rpc.specs.Messages.{message_of}
 use Rattle.lw_rpc.specs.declared.message.Message.{Message}
 use Rattle.lw_rpc.specs.declared.reply.Reply.{Reply}
+use Rattle.lw_text.specs.Changes.{AreMade, Changes, made}
+use Rattle.lw_text.specs.declared.change.Change.{Change}
+use Rattle.lw_text.specs.declared.units.Encoding.TheVariants.{Utf16}
 use Rattle.lw_machine.specs.Documents.{Documents}
-use Rattle.lw_machine.specs.Events.{put}
+use Rattle.lw_machine.specs.Events.{put, edited}
 use Rattle.lw_machine.specs.Events as event
 use Rattle.lw_machine.specs.Validity.{IsValid, AreCurrent}
 use Rattle.lw_machine.proofs.Validity.{begins_valid, stays_valid, end_is_valid, end_is_current}
 use Rattle.lw_conversation.specs.Standing.{Standing, beginning, with_texts}
 use Rattle.lw_conversation.specs.Opening.{OpensDocument, too_long, too_many, puts}
+use Rattle.lw_conversation.specs.Editing.{EditsDocument, unknown, bad_range}
+use Rattle.lw_conversation.specs.Editing as editing
 use Rattle.lw_conversation.specs.Effects.{TakesEffect, opens, asks}
+use Rattle.lw_conversation.specs.Effects as effects
 use Rattle.lw_conversation.specs.Answered.{Answered, stops, passes}
 use Rattle.lw_conversation.specs.Sessions.{Handles, Serves, unbuilt, built, waits, ends, goes_on}
 use Rattle.lw_conversation.specs.declared.ended.Ended.{Ended}
@@ -32,9 +38,21 @@ module _ (g : Grammar) where
   opening_valid m address version text n replies (too_many short full) valid = valid
   opening_valid m address version text n replies (puts short room) valid = put_valid m address text (Some version) true valid
 
+  are_made : (text new : List ℕ) (changes : List Change) → Changes Utf16 text changes (Ok new) → AreMade Utf16 text changes new
+  are_made text new changes (made are) = are
+
+  editing_valid : (m : Documents) (address : List ℕ) (version : ℤ) (changes : List Change) (n : Documents) (replies : List Reply) →
+      EditsDocument m address version changes n replies → IsValid g m → IsValid g n
+  editing_valid m address version changes n replies (unknown closed) valid = valid
+  editing_valid m address version changes n replies (bad_range here fault) valid = valid
+  editing_valid m address version changes n replies (editing.too_long here fault) valid = valid
+  editing_valid m address version changes n replies (editing.edits {d = d} {text = t} here does) valid =
+      stays_valid g m (insert m address (edited d t version)) [] valid (event.edits address d changes version here.held (are_made d.text t changes does))
+
   effect_valid : (m : Documents) (message : Message) (found : List Found) (n : Documents) (replies : List Reply) → TakesEffect g m message found n replies →
       IsValid g m → IsValid g n
   effect_valid m message found n replies (opens {address = a} {text = t} {version = v} does) valid = opening_valid m a v t n replies does valid
+  effect_valid m message found n replies (effects.edits {address = a} {version = v} {changes = c} does) valid = editing_valid m a v c n replies does valid
   effect_valid m message found n replies (asks p reply builds replied) valid = end_is_valid g m n p valid builds
 
   pub answered_valid : (s : Standing) (m : Message) (found : List Found) (t : Standing) (replies : List Reply) (ended : Ended) →

@@ -1,18 +1,29 @@
 -- What a session does with the bodies of a stream is settled, since a build has one outcome.
-use Rattle.std.proofs.Common.{◌≡◌, ℕ, ℤ, ◌≤◌, ◌<◌, List, [], ◌∷◌, ◌++◌, map, length, true, false, inl, inr, sym, refl, ap, ap₂, ◌∙◌, subst, true≢false, arith}
+use Rattle.std.proofs.Common.{◌≡◌, ℕ, ℤ, ◌≤◌, ◌<◌, List, [], ◌∷◌, ◌++◌, map, length, true, false, Some, Result, Ok, Err, codes, decimal, inl, inr, sym, refl, ap, ap₂, ◌∙◌, subst, true≢false, arith}
 use Rattle.lw_grammar.specs.declared.grammar.Grammar.{Grammar}
 use Rattle.lw_io.specs.declared.store.Found.{Found}
 use Rattle.lw_reading.specs.Laws.{IsReadOneWay}
 use Rattle.lw_rpc.specs.Messages.{message_of}
 use Rattle.lw_rpc.specs.declared.message.Message.{Message}
 use Rattle.lw_rpc.specs.declared.reply.Reply.{Reply}
+use Rattle.lw_rpc.specs.declared.reply.Reply.TheVariants.{Log}
 use Rattle.lw_machine.specs.Building.{BuildsToEnd}
-use Rattle.lw_machine.specs.Documents.{Documents}
+use Rattle.std.specs.FinMap.{insert}
+use Rattle.lw_text.specs.Changes.{Changes}
+use Rattle.lw_text.specs.declared.change.Change.{Change}
+use Rattle.lw_text.specs.declared.change.EditFault.{EditFault}
+use Rattle.lw_text.specs.declared.units.Encoding.TheVariants.{Utf16}
+use Rattle.lw_text.proofs.Outcomes.{Changes-only}
+use Rattle.lw_machine.specs.Documents.{Document, Documents}
+use Rattle.lw_machine.specs.Events.{edited}
 use Rattle.lw_machine.proofs.OneBuild.{one_build}
 use Rattle.lw_conversation.specs.Standing.{Standing, with_documents, with_phase}
 use Rattle.lw_conversation.specs.Gate.{Stops, Passes, gate}
 use Rattle.lw_conversation.specs.Opening.{HasRoom, IsFull, OpensDocument, too_long, too_many, puts, most_documents}
+use Rattle.lw_conversation.specs.Editing.{IsOpenAt, IsUnknown, EditsDocument, unknown, bad_range, edits}
+use Rattle.lw_conversation.specs.Editing as editing
 use Rattle.lw_conversation.specs.Effects.{TakesEffect, opens, asks, as_reply}
+use Rattle.lw_conversation.specs.Effects as effects
 use Rattle.lw_conversation.specs.Answered.{Answered, stops, passes}
 use Rattle.lw_conversation.specs.Sessions.{Handles, Serves, unbuilt, built, waits, ends, goes_on}
 use Rattle.lw_conversation.specs.declared.ended.Ended.{Ended}
@@ -35,10 +46,53 @@ one_opening m address version text n o p q (puts short room) (too_long long) = a
 one_opening m address version text n o p q (puts short room) (too_many also full) = never_both m address full room
 one_opening m address version text n o p q (puts short room) (puts also too) = (refl, refl)
 
+-- what a document that is open is told apart by, and what its changes come to
+module _ (m : Documents) (address : List ℕ) (version : ℤ) (changes : List Change) where
+  same_open : (d e : Document) → IsOpenAt m address d → IsOpenAt m address e → d ≡ e
+  same_open d e here there = let same : Some d ≡ Some e = sym here.held ∙ there.held in cc
+
+  never_unknown : {A : Type 0} (d : Document) → IsUnknown m address → IsOpenAt m address d → A
+  never_unknown d closed is = absurd (true≢false (sym is.is_open ∙ closed d is.held))
+
+  one_result : (d e : Document) (a b : Result (List ℕ) EditFault) → IsOpenAt m address d → IsOpenAt m address e → Changes Utf16 d.text changes a →
+      Changes Utf16 e.text changes b → a ≡ b
+  one_result d e a b here there first second =
+      Changes-only Utf16 d.text changes a b first
+      (subst (λ (x : Document). Changes Utf16 x.text changes b) (sym (same_open d e here there)) second)
+
+  one_editing : (n o : Documents) (p q : List Reply) → EditsDocument m address version changes n p → EditsDocument m address version changes o q → (n ≡ o) × (p ≡ q)
+  one_editing n o p q (unknown closed) (unknown also) = (refl, refl)
+  one_editing n o p q (unknown closed) (bad_range {d = e} there second) = never_unknown e closed there
+  one_editing n o p q (unknown closed) (editing.too_long {d = e} there second) = never_unknown e closed there
+  one_editing n o p q (unknown closed) (edits {d = e} there second) = never_unknown e closed there
+  one_editing n o p q (bad_range {d = d} here first) (unknown closed) = never_unknown d closed here
+  one_editing n o p q (bad_range {d = d} {number = i} here first) (bad_range {d = e} {number = j} there second) =
+      let same = one_result d e _ _ here there first second in
+      let numbers : i ≡ j = cc in
+      (refl, ap (λ k. Log (codes "bad range in change " ++ decimal k ++ codes " of " ++ address) ∷ []) numbers)
+  one_editing n o p q (bad_range {d = d} here first) (editing.too_long {d = e} there second) =
+      absurd (let same = one_result d e _ _ here there first second in cc)
+  one_editing n o p q (bad_range {d = d} here first) (edits {d = e} there second) = absurd (let same = one_result d e _ _ here there first second in cc)
+  one_editing n o p q (editing.too_long {d = d} here first) (unknown closed) = never_unknown d closed here
+  one_editing n o p q (editing.too_long {d = d} here first) (bad_range {d = e} there second) =
+      absurd (let same = one_result d e _ _ here there first second in cc)
+  one_editing n o p q (editing.too_long here first) (editing.too_long there second) = (refl, refl)
+  one_editing n o p q (editing.too_long {d = d} here first) (edits {d = e} there second) =
+      absurd (let same = one_result d e _ _ here there first second in cc)
+  one_editing n o p q (edits {d = d} here first) (unknown closed) = never_unknown d closed here
+  one_editing n o p q (edits {d = d} here first) (bad_range {d = e} there second) = absurd (let same = one_result d e _ _ here there first second in cc)
+  one_editing n o p q (edits {d = d} here first) (editing.too_long {d = e} there second) =
+      absurd (let same = one_result d e _ _ here there first second in cc)
+  one_editing n o p q (edits {d = d} {text = t} here first) (edits {d = e} {text = u} there second) =
+      let same = one_result d e _ _ here there first second in
+      let texts : t ≡ u = cc in
+      (ap₂ (λ (x : Document) (y : List ℕ). insert m address (edited x y version)) (same_open d e here there) texts, refl)
+
 -- no message that is known reads the store
 module _ (g : Grammar) where
   effect_reads : (m : Documents) (message : Message) (found : List Found) (n : Documents) (p : List Reply) → TakesEffect g m message found n p → found ≡ []
   effect_reads m message found n p (opens does) = refl
+  effect_reads m message found n p (effects.edits does) = refl
   effect_reads m message found n p (asks published reply builds replies) = refl
 
   answered_reads : (s : Standing) (m : Message) (found : List Found) (t : Standing) (p : List Reply) (e : Ended) → Answered g s m found t p e → found ≡ []
@@ -54,6 +108,8 @@ module _ (g : Grammar) (one_way : IsReadOneWay g) where
       TakesEffect g m message found o q → (n ≡ o) × (p ≡ q)
   one_effect m message found n o p q (opens {address = a} {text = t} {version = v} first) (opens second) = one_opening m a v t n o p q first second
   one_effect m message found n o p q (opens first) (asks published reply builds replies) = absurd replies
+  one_effect m message found n o p q (effects.edits {address = a} {version = v} {changes = c} first) (effects.edits second) = one_editing m a v c n o p q first second
+  one_effect m message found n o p q (effects.edits first) (asks published reply builds replies) = absurd replies
   one_effect m message found n o p q (asks published reply builds replies) second = absurd replies
 
   abbrev AreOne : Standing → List Reply → Ended → Standing → List Reply → Ended → Type 0

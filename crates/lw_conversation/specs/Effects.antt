@@ -5,13 +5,15 @@ use Rattle.std.specs.Prelude.{ℕ, ℤ, List, [], ◌∷◌, ◌++◌, map}
 use Rattle.lw_grammar.specs.declared.grammar.Grammar.{Grammar}
 use Rattle.lw_io.specs.declared.store.Found.{Found}
 use Rattle.lw_rpc.specs.declared.message.Message.{Message}
-use Rattle.lw_rpc.specs.declared.message.Message.TheVariants.{DidOpen}
+use Rattle.lw_rpc.specs.declared.message.Message.TheVariants.{DidOpen, DidChange}
 use Rattle.lw_rpc.specs.declared.reply.Reply.{Reply}
 use Rattle.lw_rpc.specs.declared.reply.Reply.TheVariants.{Publish}
+use Rattle.lw_text.specs.declared.change.Change.{Change}
 use Rattle.lw_machine.specs.Building.{BuildsToEnd}
 use Rattle.lw_machine.specs.Documents.{Documents}
 use Rattle.lw_machine.specs.declared.published.Published.{Published}
 use Rattle.lw_conversation.specs.Opening.{OpensDocument}
+use Rattle.lw_conversation.specs.Editing.{EditsDocument}
 
 -- a list of diagnostics is told by a publication
 abbrev pub as_reply : Published → Reply
@@ -26,6 +28,8 @@ module _ (g : Grammar) where
   pub data TakesEffect (m : Documents) : Message → List Found → Documents → List Reply → Type 0 where
     opens : {address text : List ℕ} {version : ℤ} {n : Documents} {replies : List Reply} → OpensDocument m address version text n replies →
         TakesEffect m (DidOpen address version text) [] n replies
+    edits : {address : List ℕ} {version : ℤ} {changes : List Change} {n : Documents} {replies : List Reply} → EditsDocument m address version changes n replies →
+        TakesEffect m (DidChange address version changes) [] n replies
     -- a question: the build runs to its end before it, and the reply comes behind what that publishes
     asks : {message : Message} {n : Documents} (published : List Published) (reply : Reply) → BuildsToEnd g m n published → RepliesTo n message reply →
         TakesEffect m message [] n (map as_reply published ++ reply ∷ [])

@@ -7,7 +7,7 @@
 //! - `Standing.antt`: a session between two messages, and the one that begins once texts were put.
 //! - `Gate.antt`: what the life of the session makes of a message: it is answered at once, or it has its effect.
 //! - `Effects.antt`: what a message that passes the gate makes of the documents, one relation for each method
-//!   (`Opening.antt`), with what the store answered at each of its reads. The build stands before the reply to a
+//!   (`Opening.antt`, `Editing.antt`), with what the store answered at each of its reads. The build stands before the reply to a
 //!   question.
 //! - `Answered.antt`: both together, and what may stand where memory is refused at a message.
 //! - `Sessions.antt`: the build stands behind every message once `initialize` was answered, and so on through all

@@ -5,19 +5,23 @@ use Rattle.std.proofs.lemmas.Slice.Eq.{bytes_eq-Decides}
 use Rattle.std.proofs.lemmas.Str.{IsUtf8-from_is_utf8, is_utf8-from_IsUtf8}
 use Rattle.std.specs.Prelude.{IsSome}
 use Rattle.std.specs.Str.{bytes_eq, is_utf8}
-use Rattle.serde_json.specs.Data.{Data, Num, null, boolean, number, string, array, object}
+use Rattle.serde_json.specs.Data.{Data, Num, null, boolean, number, string, array, object, Items}
 use Rattle.serde_json.specs.Find.{get, as_str, as_number, as_i64}
 use Rattle.serde_json.specs.Read.{read}
 use Rattle.lw_rpc.specs.Calls.{Call, request, notification, neither, is_version, id_of, id_from, request_with, named, with_method, without_method, call_from, call_of}
 use Rattle.lw_rpc.specs.Calls as call
-use Rattle.lw_rpc.specs.Causes.{HasValue, IsId, text_id, whole_id, HasId, IsCall, IsResponse, IsKnown, Opens, IsMessage, bad_json, bad_request, response, unknown, initialize, shutdown, exit, opened, not_opened}
+use Rattle.lw_rpc.specs.Causes.{HasValue, IsId, text_id, whole_id, HasId, IsCall, IsResponse, IsKnown, Opens, Edits, AreChanges, IsMessage, bad_json, bad_request, response, unknown, initialize, shutdown, exit, opened, not_opened, edited, not_edited}
 use Rattle.lw_rpc.specs.Messages.{call_message, value_message, read_value_message, value_of_body, message_of}
 use Rattle.lw_rpc.specs.Params as params
-use Rattle.lw_rpc.specs.Params.{did_open, member_at, text_at, whole_at}
+use Rattle.lw_rpc.specs.ChangeParams.{changes_of}
+use Rattle.lw_rpc.specs.Params.{did_open, did_change, member_at, text_at, whole_at, changes_at}
+use Rattle.lw_text.specs.declared.change.Change.{Change}
+use Rattle.lw_rpc.proofs.ChangeLemmas.{changes_of-AreChanges, AreChanges-changes_of}
+use Rattle.lw_rpc.proofs.Found.{str_of, whole_of, list_of, inside, found_in}
 use Rattle.lw_rpc.specs.declared.message.Id.{Id}
 use Rattle.lw_rpc.specs.declared.message.Id.TheVariants.{Whole, Words}
 use Rattle.lw_rpc.specs.declared.message.Message.{Message}
-use Rattle.lw_rpc.specs.declared.message.Message.TheVariants.{BadJson, BadRequest, Response, Unknown, BadParams, Initialize, Shutdown, Exit, DidOpen}
+use Rattle.lw_rpc.specs.declared.message.Message.TheVariants.{BadJson, BadRequest, Response, Unknown, BadParams, Initialize, Shutdown, Exit, DidOpen, DidChange}
 
 false-and-true : {b : Bool} → b ≡ false → b ≡ true → ⊥
 false-and-true e f = absurd (cc)
@@ -70,6 +74,10 @@ value_of_body-HasValue body d has =
 did_open-Opens : (d : Data) (uri : List ℕ) (version : ℤ) (text : List ℕ) → Opens d uri version text → did_open (get (codes "params") d) ≡ Some (DidOpen uri version text)
 did_open-Opens d uri version text is = rw (is.has_params, is.has_document, is.has_uri, is.has_version, is.has_text, is.is_whole) refl
 
+did_change-Edits : (d : Data) (uri : List ℕ) (version : ℤ) (changes : List Change) → Edits d uri version changes → did_change (get (codes "params") d) ≡ Some (DidChange uri version changes)
+did_change-Edits d uri version changes is =
+    rw (is.has_params, is.has_document, is.has_uri, is.has_version, is.is_whole, is.has_changes, changes_of-AreChanges is.values changes is.are_changes) refl
+
 value_message-call : (d : Data) (id : Option Id) (method : List ℕ) → IsCall d id method → value_message d ≡ call_message (the_call id method) (get (codes "params") d)
 value_message-call d id method is = ap (λ c. call_message c (get (codes "params") d)) (call_of-IsCall d id method is)
 
@@ -84,28 +92,11 @@ unknown_message (Some id) method params not_known =
     rw (first, second) refl
 unknown_message None method params not_known =
     let first : bytes_eq method (codes "exit") ≡ false = bytes_eq-other _ _ (λ e. not_known (inl e)) in
-    let second : bytes_eq method (codes "textDocument/didOpen") ≡ false = bytes_eq-other _ _ (λ e. not_known (inr e)) in
-    rw (first, second) refl
+    let second : bytes_eq method (codes "textDocument/didOpen") ≡ false = bytes_eq-other _ _ (λ e. not_known (inr (inl e))) in
+    let third : bytes_eq method (codes "textDocument/didChange") ≡ false = bytes_eq-other _ _ (λ e. not_known (inr (inr e))) in
+    rw (first, second, third) refl
 
 -- ---- from the definition to a rule
-
-str_of : (found : Option Data) (text : List ℕ) → option_and_then as_str found ≡ Some text → found ≡ Some (string text)
-str_of None text same = cc
-str_of (Some null) text same = cc
-str_of (Some (boolean b)) text same = cc
-str_of (Some (number n)) text same = cc
-str_of (Some (string s)) text same = cc
-str_of (Some (array items)) text same = cc
-str_of (Some (object _)) text same = cc
-
-whole_of : (found : Option Data) (z : ℤ) → option_and_then as_i64 (option_and_then as_number found) ≡ Some z → (n : Num) × (found ≡ Some (number n)) × (as_i64 n ≡ Some z)
-whole_of None z same = absurd (cc)
-whole_of (Some null) z same = absurd (cc)
-whole_of (Some (boolean b)) z same = absurd (cc)
-whole_of (Some (number n)) z same = (n, refl, same)
-whole_of (Some (string s)) z same = absurd (cc)
-whole_of (Some (array items)) z same = absurd (cc)
-whole_of (Some (object _)) z same = absurd (cc)
 
 said_version : (said : Option (List ℕ)) → is_version said ≡ true → said ≡ Some (codes "2.0")
 said_version (Some text) same = ap Some ((bytes_eq-Decides text (codes "2.0")).0 same)
@@ -202,14 +193,6 @@ IsResponse-call_of d same =
     call_from-response (get (codes "jsonrpc") d) (get (codes "id") d) (get (codes "method") d) same in
     record { has_version = parts.0; has_id = parts.1; no_method = parts.2 }
 
--- what a look-up in a found value found
-inside : (look : Data → Option Data) (value : Option Data) (found : Data) → option_and_then look value ≡ Some found → (w : Data) × (value ≡ Some w) × (look w ≡ Some found)
-inside look (Some w) found same = (w, refl, same)
-inside look None found same = absurd (cc)
-
-found_in : (value : Option Data) (w found : Data) (key : List ℕ) → value ≡ Some w → member_at key value ≡ Some found → get key w ≡ Some found
-found_in value w found key e same = ap (option_and_then (get key)) (sym e) ∙ same
-
 opened-parts : (uri : Option (List ℕ)) (version : Option ℤ) (text : Option (List ℕ)) (m : Message) → params.opened uri version text ≡ Some m
     → (u : List ℕ) × (v : ℤ) × (t : List ℕ) × (uri ≡ Some u) × (version ≡ Some v) × (text ≡ Some t) × (m ≡ DidOpen u v t)
 opened-parts (Some u) (Some v) (Some t) m same = (u, v, t, refl, refl, refl, cc)
@@ -245,6 +228,45 @@ Opens-did_open d m same =
       },
     )
 
+edited-parts : (uri : Option (List ℕ)) (version : Option ℤ) (changes : Option (List Change)) (m : Message) → params.edit_by uri version changes ≡ Some m
+    → (u : List ℕ) × (v : ℤ) × (c : List Change) × (uri ≡ Some u) × (version ≡ Some v) × (changes ≡ Some c) × (m ≡ DidChange u v c)
+edited-parts (Some u) (Some v) (Some c) m same = (u, v, c, refl, refl, refl, cc)
+edited-parts (Some u) (Some v) None m same = absurd (cc)
+edited-parts (Some u) None changes m same = absurd (cc)
+edited-parts None version changes m same = absurd (cc)
+
+Edits-did_change : (d : Data) (m : Message) → did_change (get (codes "params") d) ≡ Some m → (u : List ℕ) × (v : ℤ) × (c : List Change) × (m ≡ DidChange u v c) × Edits d u v c
+Edits-did_change d m same =
+    let given : Option Data = get (codes "params") d in
+    let document : Option Data = member_at (codes "textDocument") given in
+    let parts : (u : List ℕ) × (v : ℤ) × (c : List Change) × (text_at (codes "uri") document ≡ Some u) × (whole_at (codes "version") document ≡ Some v) × (changes_at (codes "contentChanges") given ≡ Some c) × (m ≡ DidChange u v c) =
+    edited-parts (text_at (codes "uri") document) (whole_at (codes "version") document) (changes_at (codes "contentChanges") given) m same in
+    let uri : (w : Data) × (document ≡ Some w) × (get (codes "uri") w ≡ Some (string parts.0)) =
+    inside (get (codes "uri")) document (string parts.0) (str_of _ _ parts.3) in
+    let holder : (w : Data) × (given ≡ Some w) × (get (codes "textDocument") w ≡ Some uri.0) =
+    inside (get (codes "textDocument")) given uri.0 uri.1 in
+    let version : (n : Num) × (member_at (codes "version") document ≡ Some (number n)) × (as_i64 n ≡ Some parts.1) = whole_of _ _ parts.4 in
+    let list : (values : Items) × (member_at (codes "contentChanges") given ≡ Some (array values)) × (changes_of values ≡ Some parts.2) =
+    list_of changes_of (member_at (codes "contentChanges") given) parts.2 parts.5 in (
+      parts.0,
+      parts.1,
+      parts.2,
+      parts.6,
+      record {
+        params = holder.0;
+        document = uri.0;
+        number_of = version.0;
+        values = list.0;
+        has_params = holder.1;
+        has_document = holder.2;
+        has_uri = uri.2;
+        has_version = found_in document uri.0 (number version.0) (codes "version") uri.1 version.1;
+        is_whole = version.2;
+        has_changes = found_in given holder.0 (array list.0) (codes "contentChanges") holder.1 list.1;
+        are_changes = AreChanges-changes_of list.0 parts.2 list.2;
+      },
+    )
+
 -- ---- the rule that a body meets
 
 module _ (body : List ℕ) (d : Data) (has : HasValue body d) where
@@ -261,18 +283,39 @@ module _ (body : List ℕ) (d : Data) (has : HasValue body d) where
       subst (IsMessage body) (sym parts.3) (opened d has is parts.4)
   did_open-met None is e = not_opened d has is (λ u v t opens. none-and-some e (did_open-Opens d u v t opens))
 
-  notification-met : (method : List ℕ) (first second : Bool) → IsCall d None method → bytes_eq method (codes "exit") ≡ first → bytes_eq method (codes "textDocument/didOpen") ≡ second
-      → IsMessage body (if first then Exit else (if second then unwrap_or (did_open (get (codes "params") d)) (BadParams None method) else Unknown None method))
-  notification-met method true second is e f = exit d has (subst (IsCall d None) ((bytes_eq-Decides _ _).0 e) is)
-  notification-met method false true is e f =
+  did_change-met : (found : Option Message) → IsCall d None (codes "textDocument/didChange") → did_change (get (codes "params") d) ≡ found
+      → IsMessage body (unwrap_or found (BadParams None (codes "textDocument/didChange")))
+  did_change-met (Some m) is e =
+      let parts : (u : List ℕ) × (v : ℤ) × (c : List Change) × (m ≡ DidChange u v c) × Edits d u v c = Edits-did_change d m e in
+      subst (IsMessage body) (sym parts.3) (edited d has is parts.4)
+  did_change-met None is e = not_edited d has is (λ u v c edits. none-and-some e (did_change-Edits d u v c edits))
+
+  notification-met : (method : List ℕ) (first second third : Bool) → IsCall d None method → bytes_eq method (codes "exit") ≡ first → bytes_eq method (codes "textDocument/didOpen") ≡ second
+      → bytes_eq method (codes "textDocument/didChange") ≡ third
+      → IsMessage body (if first then Exit else (if second then unwrap_or (did_open (get (codes "params") d)) (BadParams None method)
+      else (if third then unwrap_or (did_change (get (codes "params") d)) (BadParams None method) else Unknown None method)))
+  notification-met method true second third is e f h = exit d has (subst (IsCall d None) ((bytes_eq-Decides _ _).0 e) is)
+  notification-met method false true third is e f h =
       let same : method ≡ codes "textDocument/didOpen" = (bytes_eq-Decides _ _).0 f in
       subst (λ name. IsMessage body (unwrap_or (did_open (get (codes "params") d)) (BadParams None name))) (sym same)
       (did_open-met (did_open (get (codes "params") d)) (subst (IsCall d None) same is) refl)
-  notification-met method false false is e f = unknown d has is (λ known. elim known [ inl same ↦ false-and-true e ((bytes_eq-Decides _ _).1 same) | inr same ↦ false-and-true f ((bytes_eq-Decides _ _).1 same) ])
+  notification-met method false false true is e f h =
+      let same : method ≡ codes "textDocument/didChange" = (bytes_eq-Decides _ _).0 h in
+      subst (λ name. IsMessage body (unwrap_or (did_change (get (codes "params") d)) (BadParams None name))) (sym same)
+      (did_change-met (did_change (get (codes "params") d)) (subst (IsCall d None) same is) refl)
+  notification-met method false false false is e f h =
+      unknown d has is
+      (λ known. elim known [
+        | inl same ↦ false-and-true e ((bytes_eq-Decides _ _).1 same)
+        | inr other ↦ elim other [
+          | inl same ↦ false-and-true f ((bytes_eq-Decides _ _).1 same)
+          | inr same ↦ false-and-true h ((bytes_eq-Decides _ _).1 same)
+        ]
+      ])
 
   call-met : (c : Call) → call_of d ≡ c → IsMessage body (call_message c (get (codes "params") d))
   call-met (request id method) same = request-met id method _ _ (IsCall-call_of d (Some id) method same) refl refl
-  call-met (notification method) same = notification-met method _ _ (IsCall-call_of d None method same) refl refl
+  call-met (notification method) same = notification-met method _ _ _ (IsCall-call_of d None method same) refl refl refl
   call-met call.response same = response d has (IsResponse-call_of d same)
   call-met neither same = bad_request d has (λ is. neither-and-response same (call_of-IsResponse d is)) (λ id method is. neither-the_call id method (sym same ∙ call_of-IsCall d id method is))
 
@@ -304,6 +347,12 @@ no_opens d (Some m) same closed =
     absurd (closed parts.0 parts.1 parts.2 parts.4)
 no_opens d None same closed = refl
 
+no_edits : (d : Data) (found : Option Message) → did_change (get (codes "params") d) ≡ found → ((u : List ℕ) (v : ℤ) (c : List Change) → ¬ Edits d u v c) → found ≡ None
+no_edits d (Some m) same closed =
+    let parts : (u : List ℕ) × (v : ℤ) × (c : List Change) × (m ≡ DidChange u v c) × Edits d u v c = Edits-did_change d m same in
+    absurd (closed parts.0 parts.1 parts.2 parts.4)
+no_edits d None same closed = refl
+
 pub message_of-IsMessage : (body : List ℕ) (m : Message) → IsMessage body m → message_of body ≡ m
 message_of-IsMessage body BadJson (bad_json none_has) = unfold message_of in no_value body _ _ refl refl none_has
 message_of-IsMessage body BadRequest (bad_request d has unlike uncalled) = message_of-value body d has ∙ no_call d _ refl unlike uncalled
@@ -318,4 +367,10 @@ message_of-IsMessage body (DidOpen u v t) (opened d has is opens) =
 message_of-IsMessage body (BadParams None _) (not_opened d has is closed) =
     message_of-value body d has ∙ value_message-call d None (codes "textDocument/didOpen") is
     ∙ ap (λ found. unwrap_or found (BadParams None (codes "textDocument/didOpen"))) (no_opens d _ refl closed)
+message_of-IsMessage body (DidChange u v c) (edited d has is edits) =
+    message_of-value body d has ∙ value_message-call d None (codes "textDocument/didChange") is
+    ∙ ap (λ found. unwrap_or found (BadParams None (codes "textDocument/didChange"))) (did_change-Edits d u v c edits)
+message_of-IsMessage body (BadParams None _) (not_edited d has is closed) =
+    message_of-value body d has ∙ value_message-call d None (codes "textDocument/didChange") is
+    ∙ ap (λ found. unwrap_or found (BadParams None (codes "textDocument/didChange"))) (no_edits d _ refl closed)
 message_of-IsMessage body (BadParams (Some _) _) rule = elim rule [ ]

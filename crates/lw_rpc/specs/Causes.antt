@@ -1,13 +1,16 @@
 -- When a body is which message, one rule for each. JSON-RPC 2.0, "Request object", "Notification" and "Response object"; Language Server
--- Protocol 3.17, "Base types", "Request Message", "DidOpenTextDocumentParams" and "TextDocumentItem".
-use Rattle.std.specs.Prelude.{◌≡◌, ◌⊎◌, ℕ, ℤ, List, codes, Option, Some, None, IsSome, IsUtf8}
-use Rattle.serde_json.specs.Data.{Data, Num, string, number}
+-- Protocol 3.17, "Base types", "Request Message", "DidOpenTextDocumentParams", "TextDocumentItem", "DidChangeTextDocumentParams" and
+-- "TextDocumentContentChangeEvent".
+use Rattle.std.specs.Prelude.{◌≡◌, ◌⊎◌, ◌<◌, ◌^◌, ℕ, ℤ, List, [], ◌∷◌, codes, Option, Some, None, IsSome, IsUtf8}
+use Rattle.serde_json.specs.Data.{Data, Num, Items, no_items, item, unsigned, string, number, array}
 use Rattle.serde_json.specs.Find.{get, as_i64}
 use Rattle.serde_json.specs.Read.{read}
+use Rattle.lw_text.specs.declared.change.Change.{Change}
+use Rattle.lw_text.specs.declared.place.Pos.{Pos}
 use Rattle.lw_rpc.specs.declared.message.Id.{Id}
 use Rattle.lw_rpc.specs.declared.message.Id.TheVariants.{Whole, Words}
 use Rattle.lw_rpc.specs.declared.message.Message.{Message}
-use Rattle.lw_rpc.specs.declared.message.Message.TheVariants.{BadJson, BadRequest, Response, Unknown, BadParams, Initialize, Shutdown, Exit, DidOpen}
+use Rattle.lw_rpc.specs.declared.message.Message.TheVariants.{BadJson, BadRequest, Response, Unknown, BadParams, Initialize, Shutdown, Exit, DidOpen, DidChange}
 
 -- the body is UTF-8 and reads as the value
 pub record HasValue (body : List ℕ) (d : Data) : Type 0 where
@@ -39,7 +42,7 @@ pub record IsResponse (d : Data) : Type 0 where
 -- the methods of requests, and those of notifications
 abbrev pub IsKnown : Option Id → List ℕ → Type 0
 IsKnown (Some id) method = (method ≡ codes "initialize") ⊎ (method ≡ codes "shutdown")
-IsKnown None method = (method ≡ codes "exit") ⊎ (method ≡ codes "textDocument/didOpen")
+IsKnown None method = (method ≡ codes "exit") ⊎ ((method ≡ codes "textDocument/didOpen") ⊎ (method ≡ codes "textDocument/didChange"))
 
 -- the parameters of `textDocument/didOpen`
 pub record Opens (d : Data) (uri : List ℕ) (version : ℤ) (text : List ℕ) : Type 0 where
@@ -53,6 +56,53 @@ pub record Opens (d : Data) (uri : List ℕ) (version : ℤ) (text : List ℕ) :
   pub is_whole : as_i64 number_of ≡ Some version
   pub has_text : get (codes "text") document ≡ Some (string text)
 
+-- the object has the whole number, from 0 to 4,294,967,295, under the key
+abbrev pub HasCount : List ℕ → Data → ℕ → Type 0
+HasCount key d n = (get key d ≡ Some (number (unsigned n))) × (n < 2 ^ 32)
+
+-- the value is the position
+pub record IsPos (d : Data) (at : Pos) : Type 0 where
+  pub has_line : HasCount (codes "line") d at.line
+  pub has_character : HasCount (codes "character") d at.character
+
+-- the object has the position under the key
+abbrev pub HasPos : List ℕ → Data → Pos → Type 0
+HasPos key d at = (value : Data) × (get key d ≡ Some value) × IsPos value at
+
+-- the value is the range
+pub record IsRange (d : Data) (range : Pos × Pos) : Type 0 where
+  pub has_start : HasPos (codes "start") d range.0
+  pub has_end : HasPos (codes "end") d range.1
+
+-- the object has the range, or no member `range`
+abbrev pub HasRange : Data → Option (Pos × Pos) → Type 0
+HasRange d (Some range) = (value : Data) × (get (codes "range") d ≡ Some value) × IsRange value range
+HasRange d None = get (codes "range") d ≡ None
+
+-- the value is the change
+pub record IsChange (d : Data) (change : Change) : Type 0 where
+  pub has_range : HasRange d change.range
+  pub has_text : get (codes "text") d ≡ Some (string change.text)
+
+-- the values are the changes, one each
+pub data AreChanges : Items → List Change → Type 0 where
+  none : AreChanges no_items []
+  next : {d : Data} {others : Items} {change : Change} {changes : List Change} → IsChange d change → AreChanges others changes → AreChanges (item d others) (change ∷ changes)
+
+-- the parameters of `textDocument/didChange`
+pub record Edits (d : Data) (uri : List ℕ) (version : ℤ) (changes : List Change) : Type 0 where
+  pub params : Data
+  pub document : Data
+  pub number_of : Num
+  pub values : Items
+  pub has_params : get (codes "params") d ≡ Some params
+  pub has_document : get (codes "textDocument") params ≡ Some document
+  pub has_uri : get (codes "uri") document ≡ Some (string uri)
+  pub has_version : get (codes "version") document ≡ Some (number number_of)
+  pub is_whole : as_i64 number_of ≡ Some version
+  pub has_changes : get (codes "contentChanges") params ≡ Some (array values)
+  pub are_changes : AreChanges values changes
+
 -- The rules. Each body meets the rule of exactly one message.
 pub data IsMessage (body : List ℕ) : Message → Type 0 where
   bad_json : ((d : Data) → ¬ HasValue body d) → IsMessage body BadJson
@@ -64,3 +114,5 @@ pub data IsMessage (body : List ℕ) : Message → Type 0 where
   exit : (d : Data) → HasValue body d → IsCall d None (codes "exit") → IsMessage body Exit
   opened : (d : Data) {uri : List ℕ} {version : ℤ} {text : List ℕ} → HasValue body d → IsCall d None (codes "textDocument/didOpen") → Opens d uri version text → IsMessage body (DidOpen uri version text)
   not_opened : (d : Data) → HasValue body d → IsCall d None (codes "textDocument/didOpen") → ((uri : List ℕ) (version : ℤ) (text : List ℕ) → ¬ Opens d uri version text) → IsMessage body (BadParams None (codes "textDocument/didOpen"))
+  edited : (d : Data) {uri : List ℕ} {version : ℤ} {changes : List Change} → HasValue body d → IsCall d None (codes "textDocument/didChange") → Edits d uri version changes → IsMessage body (DidChange uri version changes)
+  not_edited : (d : Data) → HasValue body d → IsCall d None (codes "textDocument/didChange") → ((uri : List ℕ) (version : ℤ) (changes : List Change) → ¬ Edits d uri version changes) → IsMessage body (BadParams None (codes "textDocument/didChange"))

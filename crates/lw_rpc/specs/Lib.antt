@@ -1,4 +1,5 @@
 pub mod Calls
+pub mod ChangeParams
 pub mod Params
 pub mod Messages
 pub mod Values

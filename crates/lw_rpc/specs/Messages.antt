@@ -6,7 +6,7 @@ use Rattle.serde_json.specs.Data.{Data}
 use Rattle.serde_json.specs.Find.{get}
 use Rattle.serde_json.specs.Read.{read}
 use Rattle.lw_rpc.specs.Calls.{Call, request, notification, response, neither, call_of}
-use Rattle.lw_rpc.specs.Params.{did_open}
+use Rattle.lw_rpc.specs.Params.{did_open, did_change}
 use Rattle.lw_rpc.specs.declared.message.Id.{Id}
 use Rattle.lw_rpc.specs.declared.message.Message.{Message}
 use Rattle.lw_rpc.specs.declared.message.Message.TheVariants.{BadJson, BadRequest, Response, Unknown, BadParams, Initialize, Shutdown, Exit}
@@ -23,7 +23,8 @@ abbrev pub notification_message : List ℕ → Option Data → Message
 notification_message method params =
     if bytes_eq method (codes "exit") then Exit
     else (if bytes_eq method (codes "textDocument/didOpen") then unwrap_or (did_open params) (BadParams None method)
-    else Unknown None method)
+    else (if bytes_eq method (codes "textDocument/didChange") then unwrap_or (did_change params) (BadParams None method)
+    else Unknown None method))
 
 -- by the kind of the message and its parameters
 abbrev pub call_message : Call → Option Data → Message

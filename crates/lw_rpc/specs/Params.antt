@@ -1,10 +1,13 @@
--- What the parameters of a method must have, and what they say. Language Server Protocol 3.17, "DidOpenTextDocumentParams" and
--- "TextDocumentItem". Further keys are ignored, and of a key that stands twice the last value counts.
+-- What the parameters of a method must have, and what they say. Language Server Protocol 3.17, "DidOpenTextDocumentParams",
+-- "TextDocumentItem", "DidChangeTextDocumentParams" and "VersionedTextDocumentIdentifier". Further keys are ignored, and of a key that stands
+-- twice the last value counts.
 use Rattle.std.specs.Prelude.{ℕ, ℤ, List, codes, Option, Some, None, option_and_then}
 use Rattle.serde_json.specs.Data.{Data}
-use Rattle.serde_json.specs.Find.{get, as_str, as_number, as_i64}
+use Rattle.serde_json.specs.Find.{get, as_str, as_number, as_array, as_i64}
+use Rattle.lw_text.specs.declared.change.Change.{Change}
+use Rattle.lw_rpc.specs.ChangeParams.{changes_of}
 use Rattle.lw_rpc.specs.declared.message.Message.{Message}
-use Rattle.lw_rpc.specs.declared.message.Message.TheVariants.{DidOpen}
+use Rattle.lw_rpc.specs.declared.message.Message.TheVariants.{DidOpen, DidChange}
 
 -- the member under the key, where there is a value and it is an object with the key
 abbrev pub member_at : List ℕ → Option Data → Option Data
@@ -31,3 +34,21 @@ opened_document document = opened (text_at (codes "uri") document) (whole_at (co
 -- `textDocument/didOpen`: such a document under `textDocument`
 abbrev pub did_open : Option Data → Option Message
 did_open params = opened_document (member_at (codes "textDocument") params)
+
+-- the changes under the key, which is a list of them
+abbrev pub changes_at : List ℕ → Option Data → Option (List Change)
+changes_at key value = option_and_then changes_of (option_and_then as_array (member_at key value))
+
+abbrev pub edit_by : Option (List ℕ) → Option ℤ → Option (List Change) → Option Message
+edit_by (Some uri) (Some version) (Some changes) = Some (DidChange uri version changes)
+edit_by (Some uri) (Some version) None = None
+edit_by (Some uri) None changes = None
+edit_by None version changes = None
+
+-- a document with its address and its version, and what is changed in it
+abbrev pub document_edit : Option Data → Option (List Change) → Option Message
+document_edit document changes = edit_by (text_at (codes "uri") document) (whole_at (codes "version") document) changes
+
+-- `textDocument/didChange`: such a document under `textDocument`, and a list of changes under `contentChanges`, which may be empty
+abbrev pub did_change : Option Data → Option Message
+did_change params = document_edit (member_at (codes "textDocument") params) (changes_at (codes "contentChanges") params)

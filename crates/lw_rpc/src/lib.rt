@@ -4,7 +4,8 @@
 //! Its model: a body is its list of bytes. `specs/Messages.antt` is a function from a body to its
 //! [`Message`], by way of the JSON value that `serde_json` reads, the kind of the value by its keys
 //! (`specs/Calls.antt`) and the shape of its parameters (`specs/Params.antt`); `specs/Causes.antt` says the
-//! same as rules, one for each message. `specs/Replies.antt` gives the bytes of a [`Reply`], and
+//! same as rules, one for each message. The changes of a text are `lw_text`'s, and their shape is in
+//! `specs/ChangeParams.antt`. `specs/Replies.antt` gives the bytes of a [`Reply`], and
 //! `specs/Values.antt` the JSON value that they are.
 //!
 //! It promises that [`read_message`] gives exactly that message, each refusal by its own rule alone; that
@@ -15,6 +16,7 @@
 //! a further reply one in `specs/Replies.antt`, `specs/Values.antt` and `src/writing.rt`.
 #![tactic(auto)]
 
+mod changes;
 mod hello;
 mod members;
 mod message;

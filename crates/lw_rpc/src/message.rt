@@ -1,5 +1,6 @@
 // What a body says.
-use lw_base::Name;
+use lw_base::{Items, Name};
+use lw_text::Change;
 
 /// The id of a request (JSON-RPC 2.0, "Request object").
 #[derive(Debug, PartialEq, Eq, Drop)]
@@ -11,7 +12,7 @@ pub enum Id {
 }
 
 /// What a message body says.
-#[derive(Debug, PartialEq, Eq, Drop)]
+#[derive(Debug, Drop)]
 pub enum Message {
     /// It has no JSON reading.
     BadJson,
@@ -20,16 +21,37 @@ pub enum Message {
     /// A response. Nothing is asked of an editor, so there is nothing in it to look at.
     Response,
     /// A request (with an id) or a notification whose method is not known.
-    Unknown { id: Option<Id>, method: Name },
+    Unknown {
+        id: Option<Id>,
+        method: Name,
+    },
     /// A request (with an id) or a notification whose method is known, and whose parameters are not of the
     /// shape that the method asks for.
-    BadParams { id: Option<Id>, method: Name },
+    BadParams {
+        id: Option<Id>,
+        method: Name,
+    },
     /// The request `initialize`.
-    Initialize { id: Id },
+    Initialize {
+        id: Id,
+    },
     /// The request `shutdown`.
-    Shutdown { id: Id },
+    Shutdown {
+        id: Id,
+    },
     /// The notification `exit`.
     Exit,
     /// The notification `textDocument/didOpen`: the document's address, its version and its text.
-    DidOpen { uri: Name, version: i64, text: Name },
+    DidOpen {
+        uri: Name,
+        version: i64,
+        text: Name,
+    },
+    /// The notification `textDocument/didChange`: the document's address, the version that it has behind the
+    /// changes, and the changes in their order, of which there may be none.
+    DidChange {
+        uri: Name,
+        version: i64,
+        changes: Items<Change>,
+    },
 }

@@ -1,12 +1,13 @@
 // The methods: one case for each, in the order of `specs/Messages.antt`.
-ghost use Rattle.std.specs.Prelude.{◌≡◌, option_map};
+ghost use Rattle.std.specs.Prelude.{◌≡◌, None, IfOk, option_map, unwrap_or};
 ghost use Rattle.serde_json.specs.View.{view};
 ghost use Rattle.lw_rpc.specs.Messages.{request_message, notification_message};
 
-use crate::params::did_open;
+use crate::params::{did_change, did_open};
 use crate::{Id, Message};
-use lw_base::Name;
+use lw_base::{Name, NoMemory};
 use serde_json::Value;
+use std::alloc::Global;
 
 /// The message of a request.
 pub fn request(id: Id, method: Name) -> Message
@@ -23,15 +24,20 @@ pub fn request(id: Id, method: Name) -> Message
 }
 
 /// The message of a notification.
-pub fn notification(method: Name, params: Option<Value>) -> Message
-    ensures { result ≡ notification_message method (option_map view params) }
+pub fn notification(alloc: Global, method: Name, params: Option<Value>) -> Result<Message, NoMemory>
+    ensures { IfOk result (λ message. message ≡ notification_message method (option_map view params)) }
 {
     match method.text() {
-        "exit" => Message::Exit,
-        "textDocument/didOpen" => match did_open(params) {
-            Some(message) => message,
-            None => Message::BadParams { id: None, method },
-        },
-        _ => Message::Unknown { id: None, method },
+        "exit" => Ok(Message::Exit),
+        "textDocument/didOpen" => Ok(or_bad_params(did_open(params), method)),
+        "textDocument/didChange" => Ok(or_bad_params(did_change(alloc, params)?, method)),
+        _ => Ok(Message::Unknown { id: None, method }),
     }
+}
+
+/// What a notification says, where its parameters are of the shape that its method asks for.
+fn or_bad_params(message: Option<Message>, method: Name) -> Message
+    ensures { result ≡ unwrap_or message (Message.BadParams None method) }
+{
+    message.unwrap_or(Message::BadParams { id: None, method })
 }

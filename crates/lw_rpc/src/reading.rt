@@ -37,7 +37,7 @@ fn text_message(alloc: Global, text: &str) -> Result<Message, NoMemory>
     ensures { IfOk result (λ message. message ≡ read_value_message (read text.now)) }
 {
     match Value::from_str(alloc, text) {
-        Ok(value) => Ok(json_message(value)),
+        Ok(value) => json_message(alloc, value),
         Err(fault) => {
             if fault.is_memory() {
                 return Err(NoMemory);
@@ -47,25 +47,25 @@ fn text_message(alloc: Global, text: &str) -> Result<Message, NoMemory>
     }
 }
 
-fn json_message(value: Value) -> Message
-    ensures { result ≡ value_message (view value) }
+fn json_message(alloc: Global, value: Value) -> Result<Message, NoMemory>
+    ensures { IfOk result (λ message. message ≡ value_message (view value)) }
 {
     match value {
-        Value::Object(members) => object_message(members),
+        Value::Object(members) => object_message(alloc, members),
         // A value that is no object has no members.
-        _ => Message::BadRequest,
+        _ => Ok(Message::BadRequest),
     }
 }
 
-fn object_message(mut members: Map<String, Value>) -> Message
-    ensures { result ≡ value_message (object (members_view members.entries)) }
+fn object_message(alloc: Global, mut members: Map<String, Value>) -> Result<Message, NoMemory>
+    ensures { IfOk result (λ message. message ≡ value_message (object (members_view members.entries))) }
 {
     let version = taken_value(&mut members, "jsonrpc");
     let id = taken_value(&mut members, "id");
     let params = taken_value(&mut members, "params");
     match taken_value(&mut members, "method") {
-        Some(method) => with_method(version, id, method, params),
-        None => without_method(version, id),
+        Some(method) => with_method(alloc, version, id, method, params),
+        None => Ok(without_method(version, id)),
     }
 }
 
@@ -80,25 +80,26 @@ fn without_method(version: Option<Value>, id: Option<Value>) -> Message
 }
 
 fn with_method(
+    alloc: Global,
     version: Option<Value>,
     id: Option<Value>,
     method: Value,
     params: Option<Value>,
-) -> Message
-    ensures { result ≡ call_message (call.call_from (option_map view version) (option_map view id) (Some (view method))) (option_map view params) }
+) -> Result<Message, NoMemory>
+    ensures { IfOk result (λ message. message ≡ call_message (call.call_from (option_map view version) (option_map view id) (Some (view method))) (option_map view params)) }
 {
     let Some(method) = taken_text(method) else {
-        return Message::BadRequest;
+        return Ok(Message::BadRequest);
     };
     if !is_version(version) {
-        return Message::BadRequest;
+        return Ok(Message::BadRequest);
     }
     let Some(id) = id else {
-        return notification(method, params);
+        return notification(alloc, method, params);
     };
     match read_id(id) {
-        Some(id) => request(id, method),
-        None => Message::BadRequest,
+        Some(id) => Ok(request(id, method)),
+        None => Ok(Message::BadRequest),
     }
 }
 

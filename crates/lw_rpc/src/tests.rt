@@ -74,7 +74,7 @@ const IDS: [Row; 16] = [
 ];
 
 /// The members of a body beside its version: each method in its own kind of message.
-const METHODS: [Row; 9] = [
+const METHODS: [Row; 12] = [
     (
         r#""id":1,"method":"initialize""#,
         "Initialize { id: Whole(1) }",
@@ -108,9 +108,20 @@ const METHODS: [Row; 9] = [
         r#"Unknown { id: Some(Whole(1)), method: Name { text: "textDocument/didOpen" } }"#,
     ),
     (r#""method":"textDocument/didOpen""#, BAD),
+    (
+        r#""id":1,"method":"textDocument/didChange""#,
+        r#"Unknown { id: Some(Whole(1)), method: Name { text: "textDocument/didChange" } }"#,
+    ),
+    (
+        r#""method":"textDocument/DidChange""#,
+        r#"Unknown { id: None, method: Name { text: "textDocument/DidChange" } }"#,
+    ),
+    (r#""method":"textDocument/didChange""#, BAD_EDIT),
 ];
 
 const BAD: &str = r#"BadParams { id: None, method: Name { text: "textDocument/didOpen" } }"#;
+
+const BAD_EDIT: &str = r#"BadParams { id: None, method: Name { text: "textDocument/didChange" } }"#;
 
 const OPENED: &str =
     r#"DidOpen { uri: Name { text: "u" }, version: -9223372036854775808, text: Name { text: "" } }"#;
@@ -160,6 +171,74 @@ const PARAMS: [Row; 17] = [
     ),
 ];
 
+/// The parameters of `textDocument/didChange`.
+const EDITS: [Row; 7] = [
+    (
+        r#"{"textDocument":{"uri":"u","version":9223372036854775807},"contentChanges":[]}"#,
+        r#"DidChange { uri: Name { text: "u" }, version: 9223372036854775807, changes: Items { items: [] } }"#,
+    ),
+    (
+        r#"{"a":1,"contentChanges":7,"contentChanges":[{"text":7,"rangeLength":"b","text":"t"}],"textDocument":{"languageId":[],"uri":"u","version":0}}"#,
+        r#"DidChange { uri: Name { text: "u" }, version: 0, changes: Items { items: [Change { range: None, text: Name { text: "t" } }] } }"#,
+    ),
+    (r#"{"textDocument":{"uri":"u","version":1}}"#, BAD_EDIT),
+    (r#"{"contentChanges":[]}"#, BAD_EDIT),
+    (
+        r#"{"textDocument":{"uri":"u","version":1},"contentChanges":{"text":""}}"#,
+        BAD_EDIT,
+    ),
+    (
+        r#"{"textDocument":{"uri":"u"},"contentChanges":[]}"#,
+        BAD_EDIT,
+    ),
+    (r#"[{"uri":"u","version":1},[]]"#, BAD_EDIT),
+];
+
+/// A further change, behind one of the whole text.
+const CHANGES: [Row; 14] = [
+    (
+        r#"{"text":"","range":{"start":{"line":0,"character":4294967295},"end":{"character":2,"line":1}}}"#,
+        r#"DidChange { uri: Name { text: "u" }, version: 1, changes: Items { items: [Change { range: None, text: Name { text: "t" } }, Change { range: Some((Pos { line: 0, character: 4294967295 }, Pos { line: 1, character: 2 })), text: Name { text: "" } }] } }"#,
+    ),
+    ("7", BAD_EDIT),
+    ("{}", BAD_EDIT),
+    (r#"{"text":null}"#, BAD_EDIT),
+    (r#"{"text":"","range":null}"#, BAD_EDIT),
+    (r#"{"text":"","range":[]}"#, BAD_EDIT),
+    (
+        r#"{"text":"","range":{"start":{"line":0,"character":0}}}"#,
+        BAD_EDIT,
+    ),
+    (
+        r#"{"text":"","range":{"end":{"line":0,"character":0}}}"#,
+        BAD_EDIT,
+    ),
+    (
+        r#"{"text":"","range":{"start":{"line":0},"end":{"line":0,"character":0}}}"#,
+        BAD_EDIT,
+    ),
+    (
+        r#"{"text":"","range":{"start":{"line":0,"character":0},"end":{"character":0}}}"#,
+        BAD_EDIT,
+    ),
+    (
+        r#"{"text":"","range":{"start":{"line":0,"character":-1},"end":{"line":0,"character":0}}}"#,
+        BAD_EDIT,
+    ),
+    (
+        r#"{"text":"","range":{"start":{"line":-0,"character":0},"end":{"line":0,"character":0}}}"#,
+        BAD_EDIT,
+    ),
+    (
+        r#"{"text":"","range":{"start":{"line":0,"character":1.0},"end":{"line":2,"character":0}}}"#,
+        BAD_EDIT,
+    ),
+    (
+        r#"{"text":"","range":{"start":{"line":0,"character":0},"end":{"line":4294967296,"character":0}}}"#,
+        BAD_EDIT,
+    ),
+];
+
 /// The message that a body is, as it is printed.
 fn printed(alloc: Global, body: &[u8]) -> Result<String, NoMemory> {
     let message = read_message(alloc, body)?;
@@ -199,6 +278,16 @@ fn messages_have_ids_methods_and_parameters(rt: HostRuntime) -> Result<(), Fail>
     are_messages(&rt, rt.alloc(), r#"{"jsonrpc":"2.0","#, "}", &METHODS)?;
     let front = r#"{"jsonrpc":"2.0","method":"textDocument/didOpen","params":"#;
     are_messages(&rt, rt.alloc(), front, "}", &PARAMS)?;
+    Ok(())
+}
+
+#[test]
+fn changes_have_texts_and_ranges(rt: HostRuntime) -> Result<(), Fail> {
+    let front = r#"{"jsonrpc":"2.0","method":"textDocument/didChange","params":"#;
+    are_messages(&rt, rt.alloc(), front, "}", &EDITS)?;
+    let front =
+        r#"{"jsonrpc":"2.0","method":"textDocument/didChange","params":{"textDocument":{"uri":"u","version":1},"contentChanges":[{"text":"t"},"#;
+    are_messages(&rt, rt.alloc(), front, "]}}", &CHANGES)?;
     Ok(())
 }
 

@@ -1,16 +1,18 @@
 -- What a session does with a message, by what the message makes of it and the build behind it.
-use Rattle.std.proofs.Common.{◌≡◌, Bool, true, false, List, [], ◌++◌, map, Result, Ok, Err, OnErr, refl, subst, append-nil, inl}
+use Rattle.std.proofs.Common.{◌≡◌, Bool, true, false, ℕ, List, [], ◌∷◌, ◌++◌, map, Result, Ok, Err, OnErr, refl, sym, subst, append-nil, inl}
 use Rattle.lw_grammar.specs.declared.grammar.Grammar.{Grammar}
 use Rattle.lw_rpc.specs.declared.message.Message.{Message}
+use Rattle.lw_rpc.specs.declared.reply.Reply.TheVariants.{Log}
 use Rattle.lw_machine.specs.Building as building
 use Rattle.lw_machine.specs.Documents.{Documents, IsBuilt}
 use Rattle.lw_conversation.specs.Answered as answer
 use Rattle.lw_conversation.specs.Answered.{Answered, IsCutShort}
-use Rattle.lw_conversation.specs.Gate.{gate}
+use Rattle.lw_conversation.specs.Gate.{Passes, gate}
+use Rattle.lw_conversation.specs.Effects.{TakesEffect}
 use Rattle.lw_conversation.specs.Sessions as session
 use Rattle.lw_conversation.specs.Sessions.{Handles}
 use Rattle.lw_conversation.specs.Standing.{Standing}
-use Rattle.lw_session.specs.Lifecycle.{passage_of}
+use Rattle.lw_session.specs.Lifecycle.{passage_of, telling}
 use Rattle.lw_session.specs.declared.lifecycle.Told.{Told}
 
 -- where memory is refused before anything has changed, what stands is what stood
@@ -40,3 +42,10 @@ module _ (g : Grammar) (s : Standing) (all : IsBuilt s.documents) (message : Mes
   -- what stops at the gate
   pub stops : (told : Told) → gate s.phase message ≡ passage_of told → Becomes told
   stops told is = stays told (answer.stops is)
+
+  -- what passes the gate, and is told by a line for the log alone
+  pub logged : (line : List ℕ) (told : Told) → gate s.phase message ≡ Passes → TakesEffect g s.documents message [] s.documents (Log line ∷ []) →
+      told ≡ telling s.phase (Log line ∷ []) → Becomes told
+  logged line told through effect is =
+      stays told
+      (subst (λ (t : Told). Answered g s message [] (record s { phase = t.phase }) t.replies t.ended) (sym is) (answer.passes through effect))

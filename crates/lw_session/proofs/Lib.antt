@@ -1,3 +1,4 @@
 pub mod Alone
 pub mod Handling
 pub mod Opens
+pub mod Edits

@@ -4,6 +4,7 @@ use Rattle.std.specs.Cmp.Lexicographic.{nat_list_cmp_total}
 use Rattle.std.specs.FinMap.{empty, get, get-empty, insert, len, len-empty, len-insert, contains_key}
 use Rattle.lw_base.specs.declared.limits.TheConstants.{LONGEST_TEXT}
 use Rattle.lw_grammar.specs.declared.grammar.Grammar.{Grammar}
+use Rattle.lw_rpc.specs.declared.message.Message.TheVariants.{DidOpen}
 use Rattle.lw_rpc.specs.declared.reply.Reply.TheVariants.{Log}
 use Rattle.lw_scopes.specs.Diagnostics.{IsList}
 use Rattle.lw_machine.specs.declared.published.Published.{Published}
@@ -21,9 +22,11 @@ use Rattle.lw_conversation.specs.Sessions as session
 use Rattle.lw_conversation.specs.Sessions.{Handles}
 use Rattle.lw_conversation.specs.Standing.{Standing}
 use Rattle.lw_conversation.specs.declared.phase.Phase.{Phase}
-use Rattle.lw_session.specs.Keeping.{held_document, documents_of, HoldsAnother, held_list, unlisted, IsListTold}
+use Rattle.lw_session.specs.Keeping.{held_document, documents_of, documents_after, standing_after, HoldsAnother, held_list, unlisted, IsListTold, IsBuiltNext, IsHandled}
 use Rattle.lw_session.specs.Lifecycle.{IsLive, opened_message, telling}
 use Rattle.lw_session.specs.declared.held.Held.{Held}
+use Rattle.lw_session.specs.declared.building.Next.{Next}
+use Rattle.lw_session.specs.declared.held.Identifier.{Identifier}
 use Rattle.lw_session.specs.declared.held.Opened.{Opened}
 use Rattle.lw_session.specs.declared.lifecycle.Told.{Told}
 use Rattle.lw_session.proofs.Alone as alone
@@ -44,10 +47,10 @@ module _ (h : Held) where
       len-insert nat_list_cmp_total empty h.id.address (held_document h)
       ∙ (let none : contains_key (documents_of None) h.id.address ≡ false = ap is_some (get-empty order h.id.address) in rw (none, len-empty order Document) refl)
 
-  held_here : get (documents_of (Some h)) h.id.address ≡ Some (held_document h)
+  pub held_here : get (documents_of (Some h)) h.id.address ≡ Some (held_document h)
   held_here = put_here empty h.id.address (held_document h)
 
-  held_elsewhere : (address : List ℕ) → h.id.address ≢ address → get (documents_of (Some h)) address ≡ None
+  pub held_elsewhere : (address : List ℕ) → h.id.address ≢ address → get (documents_of (Some h)) address ≡ None
   held_elsewhere address apart = (alone.alone_first h.id.address (held_document h)).elsewhere address (λ same. apart (sym same))
 
 -- another is held, or none is but for this one
@@ -72,10 +75,7 @@ module _ (g : Grammar) (document : Option Held) (phase : Phase) (live : IsLive p
   IsLogged line = (told : Told) → told ≡ telling phase (Log line ∷ []) → Handles g s (opened_message opened) [] (record s { phase = told.phase }) told.replies told.ended
 
   logged : (line : List ℕ) → opening.OpensDocument (documents_of document) opened.id.address opened.id.version opened.text (documents_of document) (Log line ∷ []) → IsLogged line
-  logged line opens told is =
-      handling.stays g s (all_built document) (opened_message opened) told
-      (subst (λ (t : Told). answer.Answered g s (opened_message opened) [] (record s { phase = t.phase }) t.replies t.ended) (sym is)
-      (answer.passes (passes phase live opened) (effect.opens opens)))
+  logged line opens told is = handling.logged g s (all_built document) (opened_message opened) line told (passes phase live opened) (effect.opens opens) is
 
   pub too_long : LONGEST_TEXT < length opened.text → IsLogged (codes "text too long: " ++ opened.id.address)
   too_long long = logged _ (opening.too_long long)
@@ -123,3 +123,18 @@ module _ (h : Held) where
         (session.built (answer.passes (passes phase live said) (effect.opens (opening.puts short (room before h.id.address free)))) live.0
         (alone.builds h.id.address g h.text (Some h.id.version) true (held_list before) (now_put before) (option_map (λ b. b.text) before)
         h.list lists (put_over before free) is_list publishes))
+
+-- the text that is put is built behind it
+pub puts : (g : Grammar) (document : Option Held) (phase : Phase) → IsLive phase → (o : Opened) → length o.text ≤ LONGEST_TEXT → ¬ (HoldsAnother document o.id.address) →
+    (next : Next) → IsBuiltNext g phase document o.id o.text next → IsHandled g (record { documents = documents_of document; phase = phase }) (opened_message o) next
+puts g document phase live o short free next is =
+    let h : Held = is.held in
+    let s : Standing = record { documents = documents_of document; phase = phase } in
+    let free_here : ¬ (HoldsAnother document h.id.address) = subst (λ (id : Identifier). ¬ (HoldsAnother document id.address)) (sym is.same_id) free in
+    let short_here : length h.text ≤ LONGEST_TEXT = subst (λ (text : List ℕ). length text ≤ LONGEST_TEXT) (sym is.same_text) short in
+    let built : Handles g s (opened_message (said h)) [] (record { documents = documents_of (Some h); phase = next.told.phase }) next.told.replies next.told.ended =
+    opened h g document phase live short_here free_here is.is_list next.told is.told in
+    subst (λ (id : Identifier). Handles g s (DidOpen id.address id.version o.text) [] (standing_after s next) next.told.replies next.told.ended) is.same_id
+    (subst (λ (text : List ℕ). Handles g s (DidOpen h.id.address h.id.version text) [] (standing_after s next) next.told.replies next.told.ended) is.same_text
+    (subst (λ (put : Option Held). Handles g s (opened_message (said h)) [] (record { documents = documents_after s.documents put; phase = next.told.phase })
+    next.told.replies next.told.ended) (sym is.put) built))

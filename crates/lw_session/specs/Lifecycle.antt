@@ -2,12 +2,13 @@
 -- Language Server Protocol 3.17, "Server lifecycle".
 use Rattle.std.specs.Prelude.{◌≡◌, List, true, false}
 use Rattle.lw_rpc.specs.declared.message.Message.{Message}
-use Rattle.lw_rpc.specs.declared.message.Message.TheVariants.{DidOpen}
+use Rattle.lw_rpc.specs.declared.message.Message.TheVariants.{DidOpen, DidChange}
 use Rattle.lw_rpc.specs.declared.reply.Reply.{Reply}
 use Rattle.lw_conversation.specs.Gate.{Passage, gate}
 use Rattle.lw_conversation.specs.Gate as at_gate
 use Rattle.lw_conversation.specs.declared.ended.Ended.TheVariants.{No}
 use Rattle.lw_conversation.specs.declared.phase.Phase.{Phase}
+use Rattle.lw_session.specs.declared.held.Edited.{Edited}
 use Rattle.lw_session.specs.declared.held.Opened.{Opened}
 use Rattle.lw_session.specs.declared.lifecycle.Told.{Told}
 use Rattle.lw_session.specs.declared.lifecycle.Step.{Step}
@@ -29,7 +30,12 @@ IsLive phase = (phase.initialized ≡ true) × (phase.shut_down ≡ false)
 abbrev pub opened_message : Opened → Message
 opened_message opened = DidOpen opened.id.address opened.id.version opened.text
 
--- the step for a message: it stops at the gate, or it opens a document in a session that is live
+-- the message that says this of a document's changes
+abbrev pub edited_message : Edited → Message
+edited_message edited = DidChange edited.id.address edited.id.version edited.changes
+
+-- the step for a message: it stops at the gate, or it opens or changes a document in a session that is live
 abbrev pub IsStep : Phase → Message → Step → Type 0
 IsStep phase message (step.Stops told) = gate phase message ≡ passage_of told
 IsStep phase message (step.Opens opened) = (message ≡ opened_message opened) × IsLive phase
+IsStep phase message (step.Edits edited) = (message ≡ edited_message edited) × IsLive phase

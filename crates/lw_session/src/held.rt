@@ -1,9 +1,9 @@
 // The document that a session holds.
-ghost use Rattle.std.specs.Prelude.{◌≡◌, ◌↔◌, IsTrue, IfOk, Some};
-ghost use Rattle.lw_session.specs.Keeping.{HoldsAnother, held_list};
+ghost use Rattle.std.specs.Prelude.{◌≡◌, ◌↔◌, IsTrue, IfOk, Some, MatchOption};
+ghost use Rattle.lw_session.specs.Keeping.{HoldsAnother, HoldsNone, IsHeldAt, held_list};
 
 use lw_base::{Items, Name, NoMemory};
-use lw_text::{Shown, TextDoc};
+use lw_text::{Change, Shown, TextDoc};
 use std::alloc::Global;
 
 /// The address and the version of a document (Language Server Protocol 3.17,
@@ -21,6 +21,13 @@ pub(crate) struct Opened {
     pub text: Name,
 }
 
+/// What an editor says of a document that it changes.
+#[derive(Drop)]
+pub(crate) struct Edited {
+    pub id: Identifier,
+    pub changes: Items<Change>,
+}
+
 /// An open document, built, with the list that was published last.
 #[derive(Drop)]
 pub(crate) struct Held {
@@ -36,6 +43,22 @@ pub(crate) fn holds_another(document: &Option<Held>, address: &Name) -> bool
     match document {
         Some(held) => held.id.address != *address,
         None => false,
+    }
+}
+
+/// The document that is held at the address.
+pub(crate) fn held_at<'a>(document: &'a Option<Held>, address: &Name) -> Option<&'a Held>
+    ensures { MatchOption result (HoldsNone document.now address.now) (λ held. IsHeldAt document.now address.now held.now) }
+{
+    match document {
+        Some(held) => {
+            if held.id.address == *address {
+                Some(held)
+            } else {
+                None
+            }
+        }
+        None => None,
     }
 }
 

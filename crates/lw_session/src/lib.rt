@@ -11,12 +11,15 @@
 //! may be in the middle of the message. The grammar stays, and so do the files of the store.
 //!
 //! How it is made: `lifecycle` decides a message by the two facts of a session alone; `opening` puts a
-//! text, computes its diagnostics (`lw_check`) and tells them; nothing of the session changes before all
-//! replies are there as bytes (`texts`). The session holds one document, which is always built (`held`,
+//! text, `editing` makes the changes of one, and `building` computes the diagnostics of the new text
+//! (`lw_check`) and tells them; nothing of the session changes before all replies are there as bytes
+//! (`texts`). The session holds one document, which is always built (`held`,
 //! `specs/Keeping.antt`), so the six steps that the machine takes from its new text to its last state are
 //! one computation here (`proofs/Alone.antt`).
 #![tactic(auto)]
 
+mod building;
+mod editing;
 mod held;
 mod lifecycle;
 mod opening;

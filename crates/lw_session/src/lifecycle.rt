@@ -3,9 +3,9 @@ ghost use Rattle.std.specs.Prelude.{◌≡◌, [], ◌∷◌, ◌++◌, IfOk, So
 ghost use Rattle.lw_conversation.specs.Gate.{gate, refuses, request as at_request};
 ghost use Rattle.lw_rpc.specs.declared.message.Message.TheVariants as message_;
 ghost use Rattle.lw_rpc.specs.declared.reply.Reply.TheVariants as reply_;
-ghost use Rattle.lw_session.specs.Lifecycle.{IsStep, passage_of, telling};
+ghost use Rattle.lw_session.specs.Lifecycle.{IsStep, edited_message, opened_message, passage_of, telling};
 
-use crate::held::{Identifier, Opened};
+use crate::held::{Edited, Identifier, Opened};
 use lw_base::{Items, Name, NoMemory};
 use lw_conversation::{
     Ended, INVALID_PARAMS, INVALID_REQUEST, METHOD_NOT_FOUND, PARSE_ERROR, Phase,
@@ -29,6 +29,8 @@ pub(crate) enum Step {
     Stops(Told),
     /// It opens a document, in a session that is live.
     Opens(Opened),
+    /// It changes a document, in a session that is live.
+    Edits(Edited),
 }
 
 /// The step for a message.
@@ -53,16 +55,43 @@ pub(crate) fn decide(alloc: Global, phase: Phase, message: Message) -> Result<St
             alloc, phase, id, &method,
         )?)),
         Message::DidOpen { uri, version, text } => {
-            if is_live(phase) {
-                let id = Identifier {
-                    address: uri,
-                    version,
-                };
-                Ok(Step::Opens(Opened { id, text }))
-            } else {
-                Ok(Step::Stops(keeps_silent(alloc, phase)))
-            }
+            let id = Identifier {
+                address: uri,
+                version,
+            };
+            Ok(opens(alloc, phase, Opened { id, text }))
         }
+        Message::DidChange {
+            uri,
+            version,
+            changes,
+        } => {
+            let id = Identifier {
+                address: uri,
+                version,
+            };
+            Ok(edits(alloc, phase, Edited { id, changes }))
+        }
+    }
+}
+
+fn opens(alloc: Global, phase: Phase, opened: Opened) -> Step
+    ensures { IsStep phase (opened_message opened) result }
+{
+    if is_live(phase) {
+        Step::Opens(opened)
+    } else {
+        Step::Stops(keeps_silent(alloc, phase))
+    }
+}
+
+fn edits(alloc: Global, phase: Phase, edited: Edited) -> Step
+    ensures { IsStep phase (edited_message edited) result }
+{
+    if is_live(phase) {
+        Step::Edits(edited)
+    } else {
+        Step::Stops(keeps_silent(alloc, phase))
     }
 }
 

@@ -6,9 +6,11 @@ ghost use Rattle.lw_conversation.specs.Sessions.{HandlesBody};
 ghost use Rattle.lw_conversation.specs.Standing.{beginning};
 ghost use Rattle.lw_session.specs.Keeping.{IsHandled, standing_after};
 
+use crate::building::Next;
+use crate::editing::edit;
 use crate::held::Held;
 use crate::lifecycle::{Step, decide};
-use crate::opening::{Next, open};
+use crate::opening::open;
 use crate::texts::texts_of;
 use lw_base::{Items, Name, NoMemory, Steps};
 use lw_conversation::{Ended, Phase};
@@ -85,14 +87,16 @@ impl Session {
     /// JSON-RPC 2.0, and builds what it leaves to build.
     ///
     /// A document that is opened has its diagnostics published, unless they are those that were published
-    /// last of it; positions in them are zero-based, in UTF-16 units. At most one document is held, and a
-    /// text has at most 67,108,864 bytes: what goes beyond is refused by a line for the editor's log.
+    /// last of it; so has one that is changed. Positions are zero-based, in UTF-16 units. At most one document
+    /// is held, and a text has at most 67,108,864 bytes: what goes beyond is refused by a line for the
+    /// editor's log, and so are changes of a document that no editor has open, or whose range ends before it
+    /// starts. A list of changes that is refused changes nothing.
     ///
     /// Where memory is refused ([`NoMemory`]) the replies are lost. The texts are then those after some of the
     /// message's changes, from the first on, none to all of them, and the phase is the one before the message
     /// or the one behind it.
     ///
-    /// It takes time linear in the length of the body.
+    /// It takes time linear in the length of the body, and, for each change, in that of the text.
     pub fn handle<F: Store, L: Ledger>(
         &mut self,
         body: &[u8],
@@ -125,6 +129,13 @@ impl Session {
                 &self.document,
                 self.phase,
                 opened,
+            ),
+            Step::Edits(edited) => edit(
+                self.alloc,
+                &self.language,
+                &self.document,
+                self.phase,
+                edited,
             ),
         }
     }

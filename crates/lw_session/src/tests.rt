@@ -228,3 +228,83 @@ fn lists_are_told_where_they_differ(rt: HostRuntime) -> Result<(), Fail> {
     )?;
     Ok(())
 }
+
+// Behind a refused list of changes the text and the version are those before it: the next change is made in
+// that text.
+#[test]
+fn changes_are_made_all_or_none(rt: HostRuntime) -> Result<(), Fail> {
+    play(
+        &rt,
+        rt.alloc(),
+        &[
+            (
+                "{\"jsonrpc\":\"2.0\",\"method\":\"textDocument/didChange\",\"params\":{\"textDocument\":{\"uri\":\"u\",\"version\":1},\"contentChanges\":[]}}",
+                "",
+                Ended::No,
+            ),
+            (INITIALIZE, HELLO, Ended::No),
+            (
+                "{\"jsonrpc\":\"2.0\",\"method\":\"textDocument/didChange\",\"params\":{\"textDocument\":{\"uri\":\"u\",\"version\":1},\"contentChanges\":[]}}",
+                "{\"jsonrpc\":\"2.0\",\"method\":\"window/logMessage\",\"params\":{\"message\":\"unknown document: u\",\"type\":1}}\n",
+                Ended::No,
+            ),
+            (
+                "{\"jsonrpc\":\"2.0\",\"method\":\"textDocument/didOpen\",\"params\":{\"textDocument\":{\"uri\":\"u\",\"version\":1,\"text\":\"model a😀b\"}}}",
+                "{\"jsonrpc\":\"2.0\",\"method\":\"textDocument/publishDiagnostics\",\"params\":{\"diagnostics\":[{\"code\":1,\"message\":\"Unexpected character.\",\"range\":{\"end\":{\"character\":9,\"line\":0},\"start\":{\"character\":7,\"line\":0}},\"severity\":1}],\"uri\":\"u\",\"version\":1}}\n",
+                Ended::No,
+            ),
+            (
+                "{\"jsonrpc\":\"2.0\",\"method\":\"textDocument/didChange\",\"params\":{\"textDocument\":{\"uri\":\"u\",\"version\":2},\"contentChanges\":[{\"range\":{\"start\":{\"line\":0,\"character\":8},\"end\":{\"line\":0,\"character\":9}},\"text\":\"c\\r\\nd\"}]}}",
+                "{\"jsonrpc\":\"2.0\",\"method\":\"textDocument/publishDiagnostics\",\"params\":{\"diagnostics\":[{\"code\":2,\"message\":\"Unexpected ID.\",\"range\":{\"end\":{\"character\":2,\"line\":1},\"start\":{\"character\":0,\"line\":1}},\"severity\":1}],\"uri\":\"u\",\"version\":2}}\n",
+                Ended::No,
+            ),
+            (
+                "{\"jsonrpc\":\"2.0\",\"method\":\"textDocument/didChange\",\"params\":{\"textDocument\":{\"uri\":\"u\",\"version\":3},\"contentChanges\":[{\"range\":{\"start\":{\"line\":0,\"character\":8},\"end\":{\"line\":1,\"character\":0}},\"text\":\"\"},{\"range\":{\"start\":{\"line\":0,\"character\":6},\"end\":{\"line\":0,\"character\":99}},\"text\":\"m\"}]}}",
+                "{\"jsonrpc\":\"2.0\",\"method\":\"textDocument/publishDiagnostics\",\"params\":{\"diagnostics\":[],\"uri\":\"u\",\"version\":3}}\n",
+                Ended::No,
+            ),
+            (
+                "{\"jsonrpc\":\"2.0\",\"method\":\"textDocument/didChange\",\"params\":{\"textDocument\":{\"uri\":\"u\",\"version\":4},\"contentChanges\":[{\"text\":\"model\"},{\"range\":{\"start\":{\"line\":0,\"character\":2},\"end\":{\"line\":0,\"character\":1}},\"text\":\"y\"},{\"range\":{\"start\":{\"line\":0,\"character\":3},\"end\":{\"line\":0,\"character\":2}},\"text\":\"\"}]}}",
+                "{\"jsonrpc\":\"2.0\",\"method\":\"window/logMessage\",\"params\":{\"message\":\"bad range in change 1 of u\",\"type\":1}}\n",
+                Ended::No,
+            ),
+            (
+                "{\"jsonrpc\":\"2.0\",\"method\":\"textDocument/didChange\",\"params\":{\"textDocument\":{\"uri\":\"u\",\"version\":4},\"contentChanges\":[]}}",
+                "",
+                Ended::No,
+            ),
+            (
+                "{\"jsonrpc\":\"2.0\",\"method\":\"textDocument/didChange\",\"params\":{\"textDocument\":{\"uri\":\"u\",\"version\":-5},\"contentChanges\":[{\"range\":{\"start\":{\"line\":7,\"character\":0},\"end\":{\"line\":9,\"character\":0}},\"text\":\" x\"}]}}",
+                "{\"jsonrpc\":\"2.0\",\"method\":\"textDocument/publishDiagnostics\",\"params\":{\"diagnostics\":[{\"code\":2,\"message\":\"Unexpected ID.\",\"range\":{\"end\":{\"character\":9,\"line\":0},\"start\":{\"character\":8,\"line\":0}},\"severity\":1}],\"uri\":\"u\",\"version\":-5}}\n",
+                Ended::No,
+            ),
+            (
+                "{\"jsonrpc\":\"2.0\",\"method\":\"textDocument/didChange\",\"params\":{\"textDocument\":{\"uri\":\"v\",\"version\":1},\"contentChanges\":[{\"text\":\"\"}]}}",
+                "{\"jsonrpc\":\"2.0\",\"method\":\"window/logMessage\",\"params\":{\"message\":\"unknown document: v\",\"type\":1}}\n",
+                Ended::No,
+            ),
+            (
+                "{\"jsonrpc\":\"2.0\",\"method\":\"textDocument/didChange\",\"params\":{\"textDocument\":{\"uri\":\"u\",\"version\":7},\"contentChanges\":[{\"text\":\"\",\"range\":null}]}}",
+                "{\"jsonrpc\":\"2.0\",\"method\":\"window/logMessage\",\"params\":{\"message\":\"bad params: textDocument/didChange\",\"type\":1}}\n",
+                Ended::No,
+            ),
+            (
+                "{\"jsonrpc\":\"2.0\",\"method\":\"textDocument/didChange\",\"params\":{\"textDocument\":{\"uri\":\"u\",\"version\":8},\"contentChanges\":[{\"text\":\"model\"},{\"range\":{\"start\":{\"line\":0,\"character\":5},\"end\":{\"line\":0,\"character\":5}},\"text\":\" m\"}]}}",
+                "{\"jsonrpc\":\"2.0\",\"method\":\"textDocument/publishDiagnostics\",\"params\":{\"diagnostics\":[],\"uri\":\"u\",\"version\":8}}\n",
+                Ended::No,
+            ),
+            (
+                SHUTDOWN,
+                "{\"id\":2,\"jsonrpc\":\"2.0\",\"result\":null}\n",
+                Ended::No,
+            ),
+            (
+                "{\"jsonrpc\":\"2.0\",\"method\":\"textDocument/didChange\",\"params\":{\"textDocument\":{\"uri\":\"v\",\"version\":1},\"contentChanges\":[]}}",
+                "",
+                Ended::No,
+            ),
+            (EXIT, "", Ended::Clean),
+        ],
+    )?;
+    Ok(())
+}

@@ -1,19 +1,21 @@
-use Rattle.std.proofs.Common.{◌≡◌, ℕ, ◌<◌, ◌≤◌, List, length, Some, Err, inl, inr, refl, sym, ap, true≢false, subst, arith}
+use Rattle.std.proofs.Common.{◌≡◌, ℕ, ◌<◌, ◌≤◌, List, length, Err, inl, inr, refl, sym, ap, true≢false, subst, arith}
+use Rattle.std.proofs.lemmas.Result.{IfOk-weaker}
 use Rattle.lw_base.specs.declared.limits.TheConstants.{LONGEST_TEXT}
-use Rattle.lw_rpc.specs.declared.message.Message.TheVariants.{DidOpen}
-use Rattle.lw_session.specs.Keeping.{IsHandled, documents_of}
-use Rattle.lw_session.specs.declared.held.Held.{Held}
+use Rattle.lw_session.specs.Keeping.{IsBuiltNext}
 use Rattle.lw_session.proofs.Opens as opening
 use Rattle.lw_session.proofs.opening.open.Goals as goal
 
 pub returns : goal.returns
 returns c =
-    let h : Held = record { id = c.args.opened.id; text = c.in-Ok.text; list = c.in_ok-list.list } in
-    let short : length c.in-Ok.text ≤ LONGEST_TEXT = omega (arith, ap length c.text.view_is, c.text.invariant.fits) in
-    subst (λ (text : List ℕ). IsHandled c.args.language.now.grammar (record { documents = documents_of c.args.document.now; phase = c.args.phase })
-    (DidOpen c.args.opened.id.address c.args.opened.id.version text) (record { told = c.in_ok-told-2.told; put = Some h })) c.in-Ok.ensures.text
-    (opening.opened h c.args.language.now.grammar c.args.document.now c.args.phase c.requires short
-    (λ another. true≢false (sym (c.if-holds_another.ensures.1 another))) c.in_ok-list.ensures c.in_ok-told-2.told c.in_ok-told-2.ensures)
+    let g = c.args.language.now.grammar in
+    let document = c.args.document.now in
+    let opened = c.args.opened in
+    let short : length opened.text ≤ LONGEST_TEXT = omega (arith, ap length c.in-Ok.ensures.text, ap length c.text.view_is, c.text.invariant.fits) in
+    IfOk-weaker c.build.result _ _
+    (λ next is.
+    opening.puts g document c.args.phase c.requires opened short (λ another. true≢false (sym (c.if-holds_another.ensures.1 another))) next
+    (subst (λ (text : List ℕ). IsBuiltNext g c.args.phase document opened.id text next) c.in-Ok.ensures.text is))
+    c.build.ensures
 
 pub returns-in-Err-TooLong : goal.returns-in-Err-TooLong
 returns-in-Err-TooLong c =
@@ -23,6 +25,6 @@ returns-in-Err-TooLong c =
 
 pub returns-then-holds_another : goal.returns-then-holds_another
 returns-then-holds_another c =
-    let short : length c.args.opened.text ≤ LONGEST_TEXT = omega (arith, ap length c.text.view_is, ap length c.in-Ok.ensures.text, c.text.invariant.fits) in
+    let short : length c.args.opened.text ≤ LONGEST_TEXT = omega (arith, ap length c.in-Ok.ensures.text, ap length c.text.view_is, c.text.invariant.fits) in
     opening.refused c.args.language.now.grammar c.args.document.now c.args.phase c.requires c.args.opened short (c.if-holds_another.ensures.0 refl) c.in_ok-told.told
     c.in_ok-told.ensures

@@ -5,7 +5,7 @@ use Rattle.lw_rpc.specs.declared.reply.Reply.TheVariants.{Publish}
 use Rattle.lw_machine.specs.Building as building
 use Rattle.lw_machine.specs.Building.{publication}
 use Rattle.lw_session.specs.Lifecycle.{telling}
-use Rattle.lw_session.proofs.opening.publish.Goals as goal
+use Rattle.lw_session.proofs.building.publish.Goals as goal
 
 pub returns-then-has_published : goal.returns-then-has_published
 returns-then-has_published c = ([], building.same (c.if-has_published.ensures.0 refl ∙ ap Some c.as_slice.ensures), c.keeps_silent.ensures)

@@ -1,0 +1,85 @@
+// The changes of a text, out of the values that say them.
+ghost use Rattle.std.specs.Prelude.{◌≡◌, IfOk, option_map, option_and_then};
+ghost use Rattle.serde_json.specs.Data.{object};
+ghost use Rattle.serde_json.specs.Find.{as_array};
+ghost use Rattle.serde_json.specs.View.{view, items_view, members_view};
+ghost use Rattle.lw_rpc.specs.ChangeParams as shape;
+
+use crate::members::{taken_text, taken_value};
+use lw_base::{Items, NoMemory};
+use lw_text::{Change, Pos};
+use serde_json::{Map, Value};
+use std::alloc::Global;
+
+/// The changes that a value lists, or None where it is no list or has an item that is no change.
+pub fn taken_changes(alloc: Global, value: Option<Value>) -> Result<Option<Items<Change>>, NoMemory>
+    ensures { IfOk result (λ changes. changes ≡ option_and_then shape.changes_of (option_and_then as_array (option_map view value))) }
+{
+    match value {
+        Some(Value::Array(values)) => changes(alloc, values),
+        _ => Ok(None),
+    }
+}
+
+fn changes(alloc: Global, values: Vec<Value>) -> Result<Option<Items<Change>>, NoMemory>
+    ensures { IfOk result (λ changes. changes ≡ shape.changes_of (items_view values.items)) }
+{
+    let mut changes = Items::new(alloc);
+    'values: for value in values {
+        let Some(change) = change(value) else {
+            return Ok(None);
+        };
+        changes.push(change)?;
+    }
+    Ok(Some(changes))
+}
+
+fn change(value: Value) -> Option<Change>
+    ensures { result ≡ shape.change_of (view value) }
+{
+    match value {
+        Value::Object(members) => change_of(members),
+        _ => None,
+    }
+}
+
+/// The change that an object of these members is.
+fn change_of(mut members: Map<String, Value>) -> Option<Change>
+    ensures { result ≡ shape.change_of (object (members_view members.entries)) }
+{
+    let range = match taken_value(&mut members, "range") {
+        Some(range) => Some(range_of(range)?),
+        None => None,
+    };
+    let text = taken_text(taken_value(&mut members, "text")?)?;
+    Some(Change { range, text })
+}
+
+fn range_of(value: Value) -> Option<(Pos, Pos)>
+    ensures { result ≡ shape.range_of (view value) }
+{
+    let Value::Object(mut members) = value else {
+        return None;
+    };
+    let start = position(taken_value(&mut members, "start")?)?;
+    let end = position(taken_value(&mut members, "end")?)?;
+    Some((start, end))
+}
+
+fn position(value: Value) -> Option<Pos>
+    ensures { result ≡ shape.position_of (view value) }
+{
+    let Value::Object(mut members) = value else {
+        return None;
+    };
+    let line = count(taken_value(&mut members, "line")?)?;
+    let character = count(taken_value(&mut members, "character")?)?;
+    Some(Pos { line, character })
+}
+
+/// The whole number of 32 bits that the value is.
+fn count(value: Value) -> Option<u32>
+    ensures { result ≡ shape.u32_of (view value) }
+{
+    u32::try_from(value.as_u64()?).ok()
+}
