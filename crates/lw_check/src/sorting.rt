@@ -18,7 +18,10 @@ pub(crate) struct KeyedDiagnostic {
 }
 
 /// What is told of a tree, in its order, each once. It takes time linear in the values of the tree, and n log n for n diagnostics.
-pub(crate) fn sorted_diagnostics(alloc: Global, tree: &Tree) -> Result<Vec<KeyedDiagnostic>, NoMemory>
+pub(crate) fn sorted_diagnostics(
+    alloc: Global,
+    tree: &Tree,
+) -> Result<Vec<KeyedDiagnostic>, NoMemory>
     ensures { IfOk result (λ diagnostics. AreDiagnosticsOf tree.now (diagnostics_of diagnostics.items)) }
 {
     let mut diagnostics = all_diagnostics(alloc, tree)?;
@@ -39,7 +42,11 @@ fn all_diagnostics(alloc: Global, tree: &Tree) -> Result<Vec<KeyedDiagnostic>, N
 }
 
 /// Tells a number that is out of range.
-fn diagnose(alloc: Global, value: &Value, diagnostics: &mut Vec<KeyedDiagnostic>) -> Result<(), NoMemory>
+fn diagnose(
+    alloc: Global,
+    value: &Value,
+    diagnostics: &mut Vec<KeyedDiagnostic>,
+) -> Result<(), NoMemory>
     ensures { OnOk result (Finds (IsDiagnosticOfValue value.now) (diagnostics_of diagnostics.old.items) (diagnostics_of diagnostics.new.items)) }
 {
     match value {

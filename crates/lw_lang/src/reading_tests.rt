@@ -11,16 +11,19 @@ use std::process::Abort;
 use std::test::Fail;
 
 /// The state language.
-const STATES: &str = "grammar S entry Model: 'model' name=ID states+=State*; State: 'state' name=ID ('to' next+=[State:ID])* 'end'; hidden terminal WS: /\\s+/; terminal ID: /[_a-zA-Z][\\w_]*/;";
+const STATES: &str =
+    "grammar S entry Model: 'model' name=ID states+=State*; State: 'state' name=ID ('to' next+=[State:ID])* 'end'; hidden terminal WS: /\\s+/; terminal ID: /[_a-zA-Z][\\w_]*/;";
 
 /// Two ways that begin and end alike.
 const ALIKE: &str = "grammar E entry A: 'a' b='b' 'c' | 'a' d='d' 'c';";
 
 /// A value of each kind.
-const VALUES: &str = "grammar V entry A: k='k'? i=ID? s=STRING? n+=N* f?='!' d=D? ('@' r=[A:D])?; D: '.' ID ',' ID; terminal ID: /\\^?[a-j]+/; terminal STRING: /\"(\\\\.|[^\"])*\"/; terminal N returns number: /[+-]?[0-9]+(\\.[0-9]+)?/; hidden terminal WS: /\\s+/;";
+const VALUES: &str =
+    "grammar V entry A: k='k'? i=ID? s=STRING? n+=N* f?='!' d=D? ('@' r=[A:D])?; D: '.' ID ',' ID; terminal ID: /\\^?[a-j]+/; terminal STRING: /\"(\\\\.|[^\"])*\"/; terminal N returns number: /[+-]?[0-9]+(\\.[0-9]+)?/; hidden terminal WS: /\\s+/;";
 
 /// Sums, with the sum so far at the left of the next.
-const SUMS: &str = "grammar P entry E: P ({infer Sum.left=current} '+' right=P)*; P infers E: '(' E ')' | {infer Num} v=N; terminal N returns number: /[0-9]+/;";
+const SUMS: &str =
+    "grammar P entry E: P ({infer Sum.left=current} '+' right=P)*; P infers E: '(' E ')' | {infer Num} v=N; terminal N returns number: /[0-9]+/;";
 
 fn language(rt: &impl Abort, alloc: Global, grammar: &str) -> Result<Language, NoMemory> {
     let root = Name::from_text(alloc, "g.langium")?;
@@ -157,10 +160,7 @@ const ROWS: [(&str, &[(&str, &str)]); 4] = [
                 "0:0-57 'a\n\"' 7 -9223372036854775808 huge (1.5) true",
             ),
             ("! . a , b", "0:0-9 true '.a,b'"),
-            (
-                "! .a,b @ .^c , d",
-                "0:0-16 true '.a,b' @0 0->.^c,d:9-16",
-            ),
+            ("! .a,b @ .^c , d", "0:0-16 true '.a,b' @0 0->.^c,d:9-16"),
         ],
     ),
     (

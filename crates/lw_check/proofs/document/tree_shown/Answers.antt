@@ -11,9 +11,12 @@ diagnostic_shown-requires c =
 
 pub returns : goal.returns
 returns c =
-    let end : into_iter_items c.showing.diagnostic-iterator ≡ [] = grind (arith, common_steps, c.in-None.ensures.steps.0) in
-    (_, c.in_ok-diagnostic-items.ensures, shown_all c.args.text.now c.showing.yielded _ _ c.showing.list
-    (c.showing.invariant.left ∙ c.into_iter-diagnostic-iterator.ensures.into_iter_gives.0) end c.showing.invariant.shown)
+    let end : into_iter_items c.showing.diagnostic-iterator ≡ [] = grind (arith, common_steps, c.in-None.ensures.steps.0) in (
+      _,
+      c.in_ok-diagnostic-items.ensures,
+      shown_all c.args.text.now c.showing.yielded _ _ c.showing.list
+          (c.showing.invariant.left ∙ c.into_iter-diagnostic-iterator.ensures.into_iter_gives.0) end c.showing.invariant.shown,
+    )
 
 pub showing-preserved : goal.showing-preserved
 showing-preserved c = record {
