@@ -34,7 +34,6 @@ module _ (g : Grammar) (texts : List (List ℕ)) where
   judged_causes k refused (fault.Faults told) is = is
   judged_causes k refused fault.NoMemory is = tt
   judged_causes k refused (fault.Load found) is = absurd is
-  judged_causes k refused fault.Unbuilt is = absurd is
   judged_causes k refused (fault.Term found) is = absurd is
   judged_causes k refused (fault.Look found) is = absurd is
 
@@ -43,7 +42,6 @@ module _ (g : Grammar) (texts : List (List ℕ)) where
   judged_counts T n (fault.Faults told) is = refl
   judged_counts T n fault.NoMemory is = refl
   judged_counts T n (fault.Load found) is = absurd is
-  judged_counts T n fault.Unbuilt is = absurd is
   judged_counts T n (fault.Term found) is = absurd is
   judged_counts T n (fault.Look found) is = absurd is
 
@@ -51,6 +49,5 @@ module _ (g : Grammar) (texts : List (List ℕ)) where
   judged_keeps T last (fault.Faults told) is = refl
   judged_keeps T last fault.NoMemory is = refl
   judged_keeps T last (fault.Load found) is = absurd is
-  judged_keeps T last fault.Unbuilt is = absurd is
   judged_keeps T last (fault.Term found) is = absurd is
   judged_keeps T last (fault.Look found) is = absurd is

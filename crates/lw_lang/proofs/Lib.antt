@@ -2,6 +2,7 @@ pub mod JudgeLemmas
 pub mod CutPlaces
 pub mod ReadLemmas
 pub mod ParsedLemmas
+pub mod ParserLemmas
 pub mod Lists
 pub mod BuildLemmas
 pub mod FirstPlaces

@@ -1,5 +1,5 @@
 -- What the tokens of a text read as, from what the parser answers.
-use Rattle.std.proofs.Common.{◌≡◌, ℕ, zero, suc, ◌+◌, ◌<◌, ◌≤◌, ◌⊎◌, inl, inr, List, [], ◌∷◌, ◌++◌, Some, None, Bool, true, false, not, length, map, take, drop, filter, slice_get, All, Result, Ok, Err, IfOk, refl, sym, ap, ◌∙◌, subst, arith, length-append}
+use Rattle.std.proofs.Common.{◌≡◌, if◌then◌else◌, ℕ, zero, suc, ◌+◌, ◌<◌, ◌≤◌, ◌⊎◌, inl, inr, List, [], ◌∷◌, ◌++◌, Some, None, Bool, true, false, not, length, map, take, drop, filter, slice_get, All, Result, Ok, Err, IfOk, refl, sym, ap, ◌∙◌, subst, arith, length-append}
 use Rattle.std.proofs.lemmas.List.{map-append, length-map}
 use Rattle.std.proofs.lemmas.List.Elements.{All-head, All-tail, filter-append}
 use Rattle.std.proofs.lemmas.Option.{none-some, same_Some}
@@ -47,7 +47,7 @@ length-texts_of of = simp (length-append, length-map) refl
 
 -- ---- a list cut at a place
 
-cut_at : {X : Type 0} (xs : List X) (n : ℕ) (x : X) → slice_get xs n ≡ Some x → xs ≡ take n xs ++ x ∷ drop (n + 1) xs
+cut_at : {X : Type 0} (xs : List X) (n : ℕ) (x : X) → slice_get xs n ≡ Some x → xs ≡ take n xs ++ x ∷ drop (suc n) xs
 cut_at [] n x is = absurd (none-some x is)
 cut_at (y ∷ ys) zero x is = ap (λ z. z ∷ ys) (same_Some y x is)
 cut_at (y ∷ ys) (suc n) x is = ap (λ zs. y ∷ zs) (cut_at ys n x is)
@@ -78,12 +78,12 @@ module _ (g : Grammar) (of : Kinds) (lexicon : Lexicon) (parser : ParserParts) (
   first_unexpected : (number : ℕ) (t : Token) → IsFirstImpossible g of tokens number t → IsFirstUnexpected g of (visible tokens) t
   first_unexpected number t is =
       let before = visible (take number tokens) in
-      let after = visible (drop (number + 1) tokens) in
+      let after = visible (drop (suc number) tokens) in
       record {
         before = before;
         after = after;
-        parts = ap visible (cut_at tokens number t is.there) ∙ filter-append (λ (x : Token). not x.hidden) (take number tokens) (t ∷ drop (number + 1) tokens)
-            ∙ ap (λ ts. before ++ ts) (shown_first t (drop (number + 1) tokens) is.shown);
+        parts = ap visible (cut_at tokens number t is.there) ∙ filter-append (λ (x : Token). not x.hidden) (take number tokens) (t ∷ drop (suc number) tokens)
+            ∙ ap (λ ts. before ++ ts) (shown_first t (drop (suc number) tokens) is.shown);
         follows = is.follows;
         cannot = λ starts. is.cannot (subst (Starts g of) (map-append (λ (x : Token). x.kind.0) before (t ∷ [])) starts);
       }

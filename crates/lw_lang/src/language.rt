@@ -109,13 +109,13 @@ fn parsed(
 ) -> Result<Parsed, NoMemory>
     requires short { length text.now ≤ LONGEST_DOCUMENT }
     requires cut { (g : Grammar) × (kinds : Kinds) × (lexicon : Lexicon) × CanParse g kinds lexicon parser.now text.now tokens.items }
-    ensures reads { (g : Grammar) (kinds : Kinds) (lexicon : Lexicon) → CanParse g kinds lexicon parser.now text.now tokens.entry.items →
+    ensures reads { (g : Grammar) (kinds : Kinds) (lexicon : Lexicon) → CanParse g kinds lexicon parser.now text.now tokens.items →
         IfOk result (ReadsBy g kinds lexicon text.now) }
-    ensures named { (g : Grammar) (kinds : Kinds) (lexicon : Lexicon) → CanParse g kinds lexicon parser.now text.now tokens.entry.items →
+    ensures named { (g : Grammar) (kinds : Kinds) (lexicon : Lexicon) → CanParse g kinds lexicon parser.now text.now tokens.items →
         IfOk result (λ parsed. IfBroken parsed (IsNamed (texts_of kinds))) }
-    ensures within { (g : Grammar) (kinds : Kinds) (lexicon : Lexicon) → CanParse g kinds lexicon parser.now text.now tokens.entry.items →
+    ensures within { (g : Grammar) (kinds : Kinds) (lexicon : Lexicon) → CanParse g kinds lexicon parser.now text.now tokens.items →
         IfOk result (λ parsed. IfBroken parsed (IsIssueWithin text.now)) }
-    ensures stands { (g : Grammar) (kinds : Kinds) (lexicon : Lexicon) → CanParse g kinds lexicon parser.now text.now tokens.entry.items →
+    ensures stands { (g : Grammar) (kinds : Kinds) (lexicon : Lexicon) → CanParse g kinds lexicon parser.now text.now tokens.items →
         IfOk result (λ parsed. IfWhole parsed (StandsInText text.now)) }
 {
     match parser.parse(alloc, text, tokens) {
