@@ -23,5 +23,5 @@ pub parses : (g h : Grammar) → h ≡ g → (kinds : Kinds) → AreKinds g kind
 parses g h is kinds are faultless supplied k tables tabled n entry (Err e) of = tt
 parses g h is kinds are faultless supplied k tables tabled n entry (Ok parser) of =
     let known : (kinds : Kinds) (rule : Rule) → AreKinds g kinds → AreTables g kinds k tables → IsEntry g n rule → IsParserOf g kinds k parser =
-        subst (λ h. (kinds : Kinds) (rule : Rule) → AreKinds h kinds → AreTables h kinds k tables → IsEntry h n rule → IsParserOf h kinds k parser) is of in
+    subst (λ h. (kinds : Kinds) (rule : Rule) → AreKinds h kinds → AreTables h kinds k tables → IsEntry h n rule → IsParserOf h kinds k parser) is of in
     record { parser = known kinds entry.0 are tabled entry.1; types = faultless.types; checks = faultless.checks; supplied = supplied }

@@ -6,9 +6,11 @@ use Rattle.lw_lang.proofs.language.parsed.Goals as goal
 
 pub parse-requires-clause-known : goal.parse-requires-clause-known
 parse-requires-clause-known c =
-    let can = c.requires.cut.3 in
-    (
-      c.requires.cut.0, c.requires.cut.1, can.depth, can.parses,
+    let can = c.requires.cut.3 in (
+      c.requires.cut.0,
+      c.requires.cut.1,
+      can.depth,
+      can.parses,
       of_kinds c.requires.cut.0 c.requires.cut.1 c.requires.cut.2 c.args.parser.now c.args.text.now c.args.tokens.items can,
     )
 
