@@ -1,3 +1,4 @@
 pub mod InOrder
 pub mod Gathered
 pub mod Showing
+pub mod Listed
