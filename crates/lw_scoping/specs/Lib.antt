@@ -1,2 +1,5 @@
 pub mod Symbols
+pub mod Outward
 pub mod Links
+pub mod Alike
+pub mod Worked

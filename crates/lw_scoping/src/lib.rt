@@ -1,2 +1,6 @@
 //! What the symbols of trees are, and which of them a reference leads to.
 #![tactic(auto)]
+
+mod laws;
+
+pub use laws::{links_follow_from_tables, one_link, one_way_leads_out};

@@ -1,0 +1,4 @@
+pub mod Places
+pub mod Paths
+pub mod Once
+pub mod Tables
