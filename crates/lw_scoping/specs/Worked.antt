@@ -1,5 +1,5 @@
 -- Small trees that are written out, of models with parts and events. Their types are Model, Part and Event, their properties name, parts and uses.
-use Rattle.std.specs.Prelude.{ℕ, List, [], ◌∷◌, Option, Some, None, codes, if◌then◌else◌}
+use Rattle.std.specs.Prelude.{ℕ, ◌==◌, Bool, List, [], ◌∷◌, Option, Some, None, codes, if◌then◌else◌}
 use Rattle.std.specs.Str.{bytes_eq}
 use Rattle.lw_base.specs.declared.token.Span.{Span}
 use Rattle.lw_base.specs.declared.numbers.NodeId.{NodeId}
@@ -14,6 +14,10 @@ use Rattle.lw_scoping.specs.Links.{Trees}
 -- where something stands does not matter here
 abbrev pub somewhere : Span
 somewhere = record { start = 0; end = 0 }
+
+-- no type is below another
+abbrev pub is_same_type : ℕ → ℕ → Bool
+is_same_type type want = type == want
 
 abbrev pub the_model : Node
 the_model = record { type_id = record { 0 = 0 }; container = None; prop = None; span = somewhere }
@@ -46,11 +50,11 @@ other_type =
     tree_with (the_model ∷ among_parts 0 1 ∷ among_parts 1 2 ∷ among_parts 1 1 ∷ [])
     (called 1 (codes "x") ∷ called 2 (codes "x") ∷ called 3 (codes "y") ∷ []) (uses 3 1 (codes "x") ∷ [])
 
--- `part x; event x; part x`: two of one name and type stand side by side
+-- `part x; event x; part x`, where the model uses a part x and an event x: two of one name and type stand side by side
 abbrev pub doubled : Parts
 doubled =
     tree_with (the_model ∷ among_parts 0 1 ∷ among_parts 0 2 ∷ among_parts 0 1 ∷ [])
-    (called 1 (codes "x") ∷ called 2 (codes "x") ∷ called 3 (codes "x") ∷ []) (uses 0 1 (codes "x") ∷ [])
+    (called 1 (codes "x") ∷ called 2 (codes "x") ∷ called 3 (codes "x") ∷ []) (uses 0 1 (codes "x") ∷ uses 0 2 (codes "x") ∷ [])
 
 -- a model that has the part x and no name
 abbrev pub exporting : Parts

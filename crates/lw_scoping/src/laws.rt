@@ -4,7 +4,7 @@ ghost use Rattle.lw_tree.specs.Parts.{Parts};
 ghost use Rattle.lw_scoping.specs.Alike.{HaveSameTables};
 ghost use Rattle.lw_scoping.specs.Links.{AreLinksOver, ByTest, Link, Trees};
 ghost use Rattle.lw_scoping.specs.Outward.{ContainersComeFirst, LeadsOut};
-ghost use Rattle.lw_scoping.specs.Worked.{doubled, exporting, importing, other_type, self_using, shadowing, three};
+ghost use Rattle.lw_scoping.specs.Worked.{doubled, exporting, importing, is_same_type, other_type, self_using, shadowing, three};
 
 /// A document has at most one list of links.
 pub fn one_link()
@@ -22,4 +22,22 @@ pub fn links_follow_from_tables()
 pub fn one_way_leads_out()
     ensures once { (tree : Parts) (n : ℕ) (path other : List ℕ) → LeadsOut tree n path → LeadsOut tree n other → path ≡ other }
     ensures there { (tree : Parts) → ContainersComeFirst tree → (n : ℕ) → n < length tree.nodes → (path : List ℕ) × LeadsOut tree n path }
+{}
+
+/// A symbol of an inner node shadows one further out, so does the first of two side by side the second, and what is not wanted by its type
+/// shadows nothing, neither further out nor side by side.
+pub fn inner_symbols_shadow_outer_ones()
+    ensures shadows { (trees : Trees) (address : List ℕ) → trees address ≡ Some shadowing →
+        AreLinksOver (ByTest is_same_type) trees address (Some (address, 2) ∷ []) }
+    ensures unwanted { (trees : Trees) (address : List ℕ) → trees address ≡ Some other_type →
+        AreLinksOver (ByTest is_same_type) trees address (Some (address, 1) ∷ []) }
+    ensures first { (trees : Trees) (address : List ℕ) → trees address ≡ Some doubled →
+        AreLinksOver (ByTest is_same_type) trees address (Some (address, 1) ∷ Some (address, 2) ∷ []) }
+{}
+
+/// Of two exports that fit, the one of the smaller address is taken; where none fits, a reference leads nowhere. The root is an export of its
+/// document and no symbol of a node, so that of a document of a smaller address goes before it.
+pub fn smaller_addresses_come_first()
+    ensures exports { AreLinksOver (ByTest is_same_type) (three exporting exporting importing) (codes "c") (Some (codes "a", 1) ∷ None ∷ []) }
+    ensures roots { AreLinksOver (ByTest is_same_type) (three exporting self_using self_using) (codes "c") (Some (codes "b", 0) ∷ []) }
 {}

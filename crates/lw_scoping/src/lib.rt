@@ -3,4 +3,7 @@
 
 mod laws;
 
-pub use laws::{links_follow_from_tables, one_link, one_way_leads_out};
+pub use laws::{
+    inner_symbols_shadow_outer_ones, links_follow_from_tables, one_link, one_way_leads_out,
+    smaller_addresses_come_first,
+};
