@@ -1,14 +1,15 @@
 -- Which exports references lead to, over documents that are written out.
-use Rattle.std.proofs.Common.{ℕ, zero, suc, ◌≡◌, ◌≤◌, Bool, true, false, ◌⊎◌, inl, inr, List, [], ◌∷◌, Option, Some, None, Contains, slice_get, codes, refl, sym, ap, subst, ◌∙◌, arith}
+use Rattle.std.proofs.Common.{ℕ, zero, suc, ◌≡◌, Bool, true, false, List, [], ◌∷◌, Some, None, Contains, codes, refl, sym, subst, arith}
 use Rattle.std.specs.Prelude.{if◌then◌else◌}
 use Rattle.std.specs.Str.{bytes_eq}
 use Rattle.std.proofs.lemmas.Option.{same_Some}
 use Rattle.std.proofs.lemmas.Slice.Eq.{bytes_eq-Decides}
 use Rattle.lw_tree.specs.declared.node.Reference.{Reference}
 use Rattle.lw_tree.specs.Parts.{Parts}
-use Rattle.lw_scoping.specs.Symbols.{exports, IsNamedNode}
-use Rattle.lw_scoping.specs.Outward.{LeadsOut, outermost, inner}
-use Rattle.lw_scoping.specs.Links.{Trees, ByTest, StandsNoLater, by_address, by_node, Fits, FitsThere, IsOwn, none, LinksTo, out, nowhere, AreLinksOver, whole}
+use Rattle.lw_scoping.specs.Symbols.{exports}
+use Rattle.lw_scoping.specs.Firsts.{none}
+use Rattle.lw_scoping.specs.Outward.{outermost}
+use Rattle.lw_scoping.specs.Links.{ByTest, StandsNoLater, by_address, by_node, Fits, FitsThere, IsOwn, out, nowhere, AreLinksOver, whole}
 use Rattle.lw_scoping.specs.Worked.{somewhere, is_same_type, the_model, among_parts, uses, exporting, importing, self_using, three}
 use Rattle.lw_scoping.proofs.Unfit.{wrong_name, none_in_nothing}
 
@@ -48,7 +49,7 @@ abbrev part : List ℕ → Reference
 part name = uses 0 1 name
 
 no_part : (name : List ℕ) → IsOwn (ByTest is_same_type) importing (part name) None
-no_part name = none (outermost refl refl) (λ n has fits. none_in_nothing has)
+no_part name = record { path = 0 ∷ []; leads = outermost refl refl; first = none (λ n has fits. none_in_nothing has) }
 
 x_at_a : FitsThere (ByTest is_same_type) (three exporting exporting importing) (part (codes "x")) (codes "a", 1)
 x_at_a = (exporting, refl, (0, omega arith, refl), (1, record { span = somewhere; named = refl; node = among_parts 0 1; there = refl; typed = refl }, refl))
@@ -84,7 +85,7 @@ abbrev model_m : Reference
 model_m = uses 0 0 (codes "m")
 
 no_symbol : IsOwn (ByTest is_same_type) self_using model_m None
-no_symbol = none (outermost refl refl) (λ n has fits. none_in_nothing has)
+no_symbol = record { path = 0 ∷ []; leads = outermost refl refl; first = none (λ n has fits. none_in_nothing has) }
 
 m_at_b : FitsThere (ByTest is_same_type) (three exporting self_using self_using) model_m (codes "b", 0)
 m_at_b = (self_using, refl, (0, omega arith, refl), (0, record { span = somewhere; named = refl; node = the_model; there = refl; typed = refl }, refl))

@@ -1,18 +1,17 @@
 -- A document has one list of links.
-use Rattle.std.proofs.Common.{ℕ, ◌≡◌, ◌≤◌, List, [], ◌∷◌, Option, Some, None, Contains, slice_get, refl, sym, ap, ap₂, subst, ◌∙◌, arith}
+use Rattle.std.proofs.Common.{ℕ, ◌≡◌, List, [], ◌∷◌, Option, Some, None, refl, sym, ap, ap₂, subst, ◌∙◌, arith}
 use Rattle.std.specs.List.{AllZip, flat_map}
 use Rattle.std.specs.Cmp.Lexicographic.{slice_cmp}
 use Rattle.std.specs.Ordering.{nat_cmp, ordering_reverse}
 use Rattle.std.specs.declared.cmp.Ordering.TheVariants.{Less, Greater}
 use Rattle.std.proofs.lemmas.Cmp.{nat_list_cmp_total}
 use Rattle.std.proofs.lemmas.Option.{same_Some}
-use Rattle.lw_grammar.specs.Named.{IsFirst}
 use Rattle.lw_grammar.proofs.FirstLemmas.{first_item}
 use Rattle.lw_tree.specs.declared.node.Reference.{Reference}
 use Rattle.lw_tree.specs.Parts.{Parts}
 use Rattle.lw_scoping.specs.Symbols.{locals}
-use Rattle.lw_scoping.specs.Outward.{LeadsOut}
-use Rattle.lw_scoping.specs.Links.{Trees, Link, StandsNoLater, by_address, by_node, Fits, IsOwn, found, none, FitsThere, LinksTo, own, out, nowhere, AreLinksOver, treeless, whole}
+use Rattle.lw_scoping.specs.Firsts.{IsFirstIn, found, none}
+use Rattle.lw_scoping.specs.Links.{Trees, Link, StandsNoLater, by_address, by_node, Fits, IsOwn, LinksTo, own, out, nowhere, AreLinksOver, treeless, whole}
 use Rattle.lw_scoping.proofs.Paths.{leads_once}
 use Rattle.lw_scoping.proofs.Places.{among}
 
@@ -39,22 +38,22 @@ one_place one other (by_node same _) (by_address b) = absurd (not_before_itself 
 one_place one other (by_node same a) (by_node _ b) =
     let number : one.1 ≡ other.1 = omega (arith, a, b) in λ i. (same i, number i)
 
+-- ---- the first
+
+one_first : {X : Type 0} {passes : X → Type 0} {xs : List X} {one other : Option X} → IsFirstIn passes xs one → IsFirstIn passes xs other → one ≡ other
+one_first (found is) (found was) = ap Some (first_item is was)
+one_first {xs = xs} (found {i = i} {x = x} is) (none misses) = absurd (misses x (among xs i x is.there) is.does)
+one_first {xs = xs} (none misses) (found {i = i} {x = x} is) = absurd (misses x (among xs i x is.there) is.does)
+one_first (none _) (none _) = refl
+
 -- ---- links
 
 module _ (below : ℕ → ℕ → Type 0) where
   module _ (tree : Parts) (r : Reference) where
-    not_found : {path other : List ℕ} {i n : ℕ} → LeadsOut tree r.owner.0 path → LeadsOut tree r.owner.0 other →
-        IsFirst (Fits below tree r) (flat_map (locals tree) path) i n → ((k : ℕ) → Contains (flat_map (locals tree) other) k → ¬ Fits below tree r k) → ⊥
-    not_found {path} {other} {i} {n} leads also first misses =
-        let has : Contains (flat_map (locals tree) path) n = among (flat_map (locals tree) path) i n first.there in
-        misses n (subst (λ p. Contains (flat_map (locals tree) p) n) (leads_once tree leads also) has) first.does
-
     pub one_own : (one other : Option ℕ) → IsOwn below tree r one → IsOwn below tree r other → one ≡ other
-    one_own one other (found {i = i} {n = n} leads first) (found {path = p} leads' first') =
-        ap Some (first_item (subst (λ q. IsFirst (Fits below tree r) (flat_map (locals tree) q) i n) (leads_once tree leads leads') first) first')
-    one_own one other (found leads first) (none leads' misses) = absurd (not_found leads leads' first misses)
-    one_own one other (none leads misses) (found leads' first) = absurd (not_found leads' leads first misses)
-    one_own one other (none leads misses) (none leads' misses') = refl
+    one_own one other is was =
+        let P : List ℕ → Type 0 = λ path. IsFirstIn (Fits below tree r) (flat_map (locals tree) path) one in
+        one_first (subst P (leads_once tree is.leads was.leads) is.first) was.first
 
     not_some : {n : ℕ} → IsOwn below tree r (Some n) → IsOwn below tree r None → ⊥
     not_some {n} is was = differ (one_own (Some n) None is was)

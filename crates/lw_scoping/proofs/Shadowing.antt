@@ -1,13 +1,13 @@
 -- Which symbols of their own trees references lead to, over trees that are written out.
-use Rattle.std.proofs.Common.{ℕ, zero, suc, ◌≡◌, ◌<◌, List, [], ◌∷◌, Option, Some, None, Contains, slice_get, codes, refl, sym, ap, subst, ◌∙◌, arith}
-use Rattle.std.specs.List.{flat_map}
+use Rattle.std.proofs.Common.{ℕ, zero, suc, ◌≡◌, ◌<◌, List, [], ◌∷◌, Some, slice_get, codes, refl, sym, subst, arith}
 use Rattle.std.proofs.lemmas.Option.{same_Some}
 use Rattle.lw_grammar.specs.Named.{IsFirst}
 use Rattle.lw_tree.specs.declared.node.Reference.{Reference}
 use Rattle.lw_tree.specs.Parts.{Parts, name_of}
-use Rattle.lw_scoping.specs.Symbols.{locals, IsNamedNode}
-use Rattle.lw_scoping.specs.Outward.{LeadsOut, outermost, inner}
-use Rattle.lw_scoping.specs.Links.{Trees, ByTest, Fits, IsOwn, found, LinksTo, own, AreLinksOver, whole}
+use Rattle.lw_scoping.specs.Symbols.{IsNamedNode}
+use Rattle.lw_scoping.specs.Firsts.{found}
+use Rattle.lw_scoping.specs.Outward.{outermost, inner}
+use Rattle.lw_scoping.specs.Links.{Trees, ByTest, IsOwn, own, AreLinksOver, whole}
 use Rattle.lw_scoping.specs.Worked.{somewhere, is_same_type, among_parts, uses, shadowing, other_type, doubled}
 use Rattle.lw_scoping.proofs.Unfit.{wrong_type, wrong_name}
 
@@ -30,22 +30,40 @@ later {passes} x {xs} {i} {n} misses first = record { there = first.there; does 
 abbrev x_for : ℕ → ℕ → Reference
 x_for owner type = uses owner type (codes "x")
 
+-- out of the part y, and of the model
+abbrev out_of_y : List ℕ
+out_of_y = 3 ∷ 1 ∷ 0 ∷ []
+
 shadowed : IsOwn (ByTest is_same_type) shadowing (x_for 3 1) (Some 2)
-shadowed = found (inner 1 refl refl (inner 0 refl refl (outermost refl refl))) (at_once 2 (3 ∷ 1 ∷ []) (1, is_x shadowing 2 1 1 refl refl, refl))
+shadowed = record {
+  path = out_of_y;
+  leads = inner 1 refl refl (inner 0 refl refl (outermost refl refl));
+  first = found (at_once 2 (3 ∷ 1 ∷ []) (1, is_x shadowing 2 1 1 refl refl, refl));
+}
 
 unwanted : IsOwn (ByTest is_same_type) other_type (x_for 3 1) (Some 1)
-unwanted =
-    found (inner 1 refl refl (inner 0 refl refl (outermost refl refl)))
-    (later 2 (wrong_type other_type (x_for 3 1) 2 (among_parts 1 2) refl refl)
-    (later 3 (wrong_name other_type (x_for 3 1) 3 (codes "y") somewhere refl refl) (at_once 1 [] (1, is_x other_type 1 1 0 refl refl, refl))))
+unwanted = record {
+  path = out_of_y;
+  leads = inner 1 refl refl (inner 0 refl refl (outermost refl refl));
+  first = found
+      (later 2 (wrong_type other_type (x_for 3 1) 2 (among_parts 1 2) refl refl)
+      (later 3 (wrong_name other_type (x_for 3 1) 3 (codes "y") somewhere refl refl) (at_once 1 [] (1, is_x other_type 1 1 0 refl refl, refl))));
+}
 
 part_x : IsOwn (ByTest is_same_type) doubled (x_for 0 1) (Some 1)
-part_x = found (outermost refl refl) (at_once 1 (2 ∷ 3 ∷ []) (1, is_x doubled 1 1 0 refl refl, refl))
+part_x = record {
+  path = 0 ∷ [];
+  leads = outermost refl refl;
+  first = found (at_once 1 (2 ∷ 3 ∷ []) (1, is_x doubled 1 1 0 refl refl, refl));
+}
 
 event_x : IsOwn (ByTest is_same_type) doubled (x_for 0 2) (Some 2)
-event_x =
-    found (outermost refl refl)
-    (later 1 (wrong_type doubled (x_for 0 2) 1 (among_parts 0 1) refl refl) (at_once 2 (3 ∷ []) (2, is_x doubled 2 2 0 refl refl, refl)))
+event_x = record {
+  path = 0 ∷ [];
+  leads = outermost refl refl;
+  first = found
+      (later 1 (wrong_type doubled (x_for 0 2) 1 (among_parts 0 1) refl refl) (at_once 2 (3 ∷ []) (2, is_x doubled 2 2 0 refl refl, refl)));
+}
 
 module _ (trees : Trees) (address : List ℕ) where
   pub shadows : trees address ≡ Some shadowing → AreLinksOver (ByTest is_same_type) trees address (Some (address, 2) ∷ [])

@@ -1,19 +1,18 @@
 -- Trees with the same tables have the same symbols, and their references lead to the same ones.
-use Rattle.std.proofs.Common.{ℕ, ◌≡◌, List, [], ◌∷◌, Option, Some, None, Contains, slice_get, filter, map, refl, sym, ap, ap₂, subst, ◌∙◌}
+use Rattle.std.proofs.Common.{ℕ, ◌≡◌, List, [], ◌∷◌, Option, Some, None, Contains, slice_get, filter, map, refl, sym, ap, subst, ◌∙◌}
 use Rattle.std.specs.List.{AllZip, flat_map}
 use Rattle.std.proofs.lemmas.Option.{same_Some}
 use Rattle.std.proofs.lemmas.List.Elements.{filter_agree}
 use Rattle.std.specs.Option.{is_some}
-use Rattle.lw_base.specs.declared.token.Span.{Span}
 use Rattle.lw_base.specs.declared.numbers.PropId.{PropId}
-use Rattle.lw_grammar.specs.Named.{IsFirst}
 use Rattle.lw_tree.specs.declared.node.Node.{Node}
 use Rattle.lw_tree.specs.declared.node.Reference.{Reference}
-use Rattle.lw_tree.specs.Parts.{Parts, SameTables, children_of, last_text, name_by, name_of, values_at}
+use Rattle.lw_tree.specs.Parts.{Parts, SameTables, children_of, last_text, name_by, name_of}
 use Rattle.lw_scoping.specs.Symbols.{is_named_node, child_numbers, locals, exports, IsNamedNode}
 use Rattle.lw_scoping.specs.Outward.{LeadsOut, outermost, inner}
+use Rattle.lw_scoping.specs.Firsts.{IsFirstIn, found, none}
 use Rattle.lw_scoping.specs.Alike.{AreAlike, both, neither, HaveSameTables}
-use Rattle.lw_scoping.specs.Links.{Trees, Link, StandsNoLater, Fits, IsOwn, found, none, FitsThere, LinksTo, own, out, nowhere, AreLinksOver, treeless, whole}
+use Rattle.lw_scoping.specs.Links.{Trees, Link, Fits, IsOwn, FitsThere, LinksTo, own, out, nowhere, AreLinksOver, treeless, whole}
 
 pub turned : {one other : Parts} → SameTables one other → SameTables other one
 turned same = record {
@@ -68,17 +67,21 @@ module _ {one other : Parts} (same : SameTables one other) (below : ℕ → ℕ 
   same_levels : (path : List ℕ) → flat_map (locals one) path ≡ flat_map (locals other) path
   same_levels path = ap (λ (f : ℕ → List ℕ). flat_map f path) (λ i n. same_locals same n i)
 
-  pub same_own : {n : Option ℕ} → IsOwn below one r n → IsOwn below other r n
-  same_own (found {path = path} {i = i} {n = n} leads first) =
+  same_first : (path : List ℕ) {n : Option ℕ} → IsFirstIn (Fits below one r) (flat_map (locals one) path) n →
+      IsFirstIn (Fits below other r) (flat_map (locals other) path) n
+  same_first path (found {i = i} {x = n} first) =
       let at : slice_get (flat_map (locals other) path) i ≡ Some n = ap (λ (xs : List ℕ). slice_get xs i) (sym (same_levels path)) ∙ first.there in
-      found (led same leads) (record {
+      found (record {
         there = at;
         does = same_fits same below r first.does;
         none_before = λ j y lt is fits.
             first.none_before j y lt (ap (λ (xs : List ℕ). slice_get xs j) (same_levels path) ∙ is) (same_fits (turned same) below r fits);
       })
-  same_own (none {path = path} leads misses) =
-      none (led same leads) (λ n has fits. misses n (subst (λ xs. Contains xs n) (sym (same_levels path)) has) (same_fits (turned same) below r fits))
+  same_first path (none misses) =
+      none (λ n has fits. misses n (subst (λ xs. Contains xs n) (sym (same_levels path)) has) (same_fits (turned same) below r fits))
+
+  pub same_own : {n : Option ℕ} → IsOwn below one r n → IsOwn below other r n
+  same_own is = record { path = is.path; leads = led same is.leads; first = same_first is.path is.first }
 
 -- ---- documents
 

@@ -1,5 +1,5 @@
 -- What a symbol may lack.
-use Rattle.std.proofs.Common.{ℕ, ◌≡◌, ◌==◌, Bool, true, false, List, [], ◌∷◌, Option, Some, None, Contains, slice_get, length, refl, sym, ap, subst, ◌∙◌, true≢false, arith}
+use Rattle.std.proofs.Common.{ℕ, ◌≡◌, ◌==◌, false, List, [], Some, Contains, slice_get, sym, ap, ◌∙◌, true≢false, arith}
 use Rattle.std.specs.Str.{bytes_eq}
 use Rattle.std.proofs.lemmas.Option.{same_Some}
 use Rattle.std.proofs.lemmas.Slice.Eq.{bytes_eq-Decides}
@@ -7,7 +7,6 @@ use Rattle.lw_base.specs.declared.token.Span.{Span}
 use Rattle.lw_tree.specs.declared.node.Node.{Node}
 use Rattle.lw_tree.specs.declared.node.Reference.{Reference}
 use Rattle.lw_tree.specs.Parts.{Parts, name_of}
-use Rattle.lw_scoping.specs.Symbols.{IsNamedNode}
 use Rattle.lw_scoping.specs.Links.{ByTest, Fits}
 use Rattle.lw_scoping.specs.Worked.{is_same_type}
 

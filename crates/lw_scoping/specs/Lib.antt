@@ -1,4 +1,5 @@
 pub mod Symbols
+pub mod Firsts
 pub mod Outward
 pub mod Links
 pub mod Alike

@@ -6,10 +6,10 @@ use Rattle.std.specs.List.{AllZip, flat_map}
 use Rattle.std.specs.Cmp.Lexicographic.{slice_cmp}
 use Rattle.std.specs.Ordering.{nat_cmp}
 use Rattle.std.specs.declared.cmp.Ordering.TheVariants.{Less}
-use Rattle.lw_grammar.specs.Named.{IsFirst}
 use Rattle.lw_tree.specs.declared.node.Reference.{Reference}
 use Rattle.lw_tree.specs.Parts.{Parts}
-use Rattle.lw_scoping.specs.Symbols.{locals, exports, IsNamedNode}
+use Rattle.lw_scoping.specs.Firsts.{IsFirstIn}
+use Rattle.lw_scoping.specs.Symbols.{locals, exports, IsNamedOf}
 use Rattle.lw_scoping.specs.Outward.{LeadsOut}
 
 -- the tree of the document at each address, where there is one
@@ -33,12 +33,13 @@ ByTest test type want = test type want ≡ true
 module _ (below : ℕ → ℕ → Type 0) (tree : Parts) (r : Reference) where
   -- a node of this tree has the name, and a type that is wanted
   abbrev pub Fits : ℕ → Type 0
-  Fits n = (type : ℕ) × IsNamedNode tree n r.name type × below type r.want.0
+  Fits n = IsNamedOf tree r.name (λ type. below type r.want.0) n
 
   -- the symbol of its own tree that it leads to, where there is one among the symbols of the node that it stands in and of the containers
-  pub data IsOwn : Option ℕ → Type 0 where
-    found : {path : List ℕ} {i n : ℕ} → LeadsOut tree r.owner.0 path → IsFirst Fits (flat_map (locals tree) path) i n → IsOwn (Some n)
-    none : {path : List ℕ} → LeadsOut tree r.owner.0 path → ((n : ℕ) → Contains (flat_map (locals tree) path) n → ¬ Fits n) → IsOwn None
+  pub record IsOwn (found : Option ℕ) : Type 0 where
+    pub path : List ℕ
+    pub leads : LeadsOut tree r.owner.0 path
+    pub first : IsFirstIn Fits (flat_map (locals tree) path) found
 
 -- the document at an address exports this node, which has the name, and a type that is wanted
 abbrev pub FitsThere : (ℕ → ℕ → Type 0) → Trees → Reference → List ℕ × ℕ → Type 0

@@ -1,7 +1,7 @@
 -- The symbols of a tree are its named nodes. What a document exports are its root, where that is named, and the named nodes directly in the
 -- root; the symbols of a node are the named nodes directly in it.
 -- Held against Langium's default scope computation, "Exported Symbols" and "Local Symbols"; that the root counts as exported is this profile's.
-use Rattle.std.specs.Prelude.{ℕ, ◌≡◌, List, [], ◌∷◌, Some, Bool, filter, map, slice_get}
+use Rattle.std.specs.Prelude.{ℕ, ◌≡◌, List, ◌∷◌, Some, Bool, filter, map, slice_get}
 use Rattle.std.specs.Option.{is_some}
 use Rattle.lw_base.specs.declared.token.Span.{Span}
 use Rattle.lw_tree.specs.declared.node.Node.{Node}
@@ -29,3 +29,7 @@ pub record IsNamedNode (tree : Parts) (n : ℕ) (name : List ℕ) (type : ℕ) :
   pub node : Node
   pub there : slice_get tree.nodes n ≡ Some node
   pub typed : node.type_id.0 ≡ type
+
+-- the node of this number has this name, and a type that is wanted
+abbrev pub IsNamedOf : Parts → List ℕ → (ℕ → Type 0) → ℕ → Type 0
+IsNamedOf tree name wanted n = (type : ℕ) × IsNamedNode tree n name type × wanted type

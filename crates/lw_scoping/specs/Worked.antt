@@ -1,5 +1,5 @@
 -- Small trees that are written out, of models with parts and events. Their types are Model, Part and Event, their properties name, parts and uses.
-use Rattle.std.specs.Prelude.{ℕ, ◌==◌, Bool, List, [], ◌∷◌, Option, Some, None, codes, if◌then◌else◌}
+use Rattle.std.specs.Prelude.{ℕ, ◌==◌, Bool, List, [], ◌∷◌, Some, None, codes, if◌then◌else◌}
 use Rattle.std.specs.Str.{bytes_eq}
 use Rattle.lw_base.specs.declared.token.Span.{Span}
 use Rattle.lw_base.specs.declared.numbers.NodeId.{NodeId}
