@@ -5,3 +5,4 @@ pub mod Tables
 pub mod Unfit
 pub mod Shadowing
 pub mod Addresses
+pub mod Relations

@@ -1,8 +1,9 @@
 // What a reader may expect of links, and which they are over small trees.
-ghost use Rattle.std.specs.Prelude.{◌≡◌, ◌<◌, ℕ, Bool, List, [], ◌∷◌, Some, None, codes, length};
+ghost use Rattle.std.specs.Prelude.{◌≡◌, ◌<◌, ℕ, Bool, List, [], ◌∷◌, Option, Some, None, codes, length};
 ghost use Rattle.lw_tree.specs.Parts.{Parts};
+ghost use Rattle.lw_tree.specs.declared.node.Reference.{Reference};
 ghost use Rattle.lw_scoping.specs.Alike.{HaveSameTables};
-ghost use Rattle.lw_scoping.specs.Links.{AreLinksOver, ByTest, Link, Trees};
+ghost use Rattle.lw_scoping.specs.Links.{AreLinksOver, ByTest, IsOwn, Link, Trees};
 ghost use Rattle.lw_scoping.specs.Outward.{ContainersComeFirst, LeadsOut};
 ghost use Rattle.lw_scoping.specs.Worked.{doubled, exporting, importing, is_same_type, other_type, self_using, shadowing, three};
 
@@ -40,4 +41,10 @@ pub fn inner_symbols_shadow_outer_ones()
 pub fn smaller_addresses_come_first()
     ensures exports { AreLinksOver (ByTest is_same_type) (three exporting exporting importing) (codes "c") (Some (codes "a", 1) ∷ None ∷ []) }
     ensures roots { AreLinksOver (ByTest is_same_type) (three exporting self_using self_using) (codes "c") (Some (codes "b", 0) ∷ []) }
+{}
+
+/// Which symbol of its own tree a reference leads to depends on the types that it wants, and on no other pair of types.
+pub fn own_symbols_follow_from_wanted_types()
+    ensures { (is_below is_under : ℕ → ℕ → Bool) (tree : Parts) (r : Reference) → ((type : ℕ) → is_below type r.want.0 ≡ is_under type r.want.0) →
+        (n : Option ℕ) → IsOwn (ByTest is_below) tree r n → IsOwn (ByTest is_under) tree r n }
 {}

@@ -7,7 +7,8 @@
 //! is another or below it.
 //!
 //! The laws: a document has one list of links ([`one_link`]), which depends on nothing but the tables of the trees
-//! ([`links_follow_from_tables`]); one way leads outwards from each node of a tree in which containers have smaller numbers than what
+//! ([`links_follow_from_tables`]); what it finds in its own tree depends on the types that it wants alone
+//! ([`own_symbols_follow_from_wanted_types`]); one way leads outwards from each node of a tree in which containers have smaller numbers than what
 //! stands in them ([`one_way_leads_out`]). [`inner_symbols_shadow_outer_ones`] and [`smaller_addresses_come_first`] show over trees that
 //! are written out what this comes to: what is of a type that is not wanted hides nothing, and a root is no symbol of a node, so that its
 //! own document finds it among the exports only.
@@ -19,5 +20,5 @@ mod laws;
 
 pub use laws::{
     inner_symbols_shadow_outer_ones, links_follow_from_tables, one_link, one_way_leads_out,
-    smaller_addresses_come_first,
+    own_symbols_follow_from_wanted_types, smaller_addresses_come_first,
 };
