@@ -1,11 +1,11 @@
 -- What a reference leads to in its own tree, by relations of types that agree on what it wants.
-use Rattle.std.proofs.Common.{ℕ, ◌≡◌, List, Option}
+use Rattle.std.proofs.Common.{ℕ, List, Option}
 use Rattle.std.specs.List.{flat_map}
 use Rattle.lw_tree.specs.declared.node.Reference.{Reference}
 use Rattle.lw_tree.specs.Parts.{Parts}
 use Rattle.lw_scoping.specs.Firsts.{IsFirstIn, found, none}
 use Rattle.lw_scoping.specs.Symbols.{locals}
-use Rattle.lw_scoping.specs.Links.{Fits, IsOwn}
+use Rattle.lw_scoping.specs.Links.{IsOwn}
 
 pub first_as : {X : Type 0} {passes others : X → Type 0} {xs : List X} {result : Option X} → ((x : X) → passes x → others x) → ((x : X) → others x → passes x) →
     IsFirstIn passes xs result → IsFirstIn others xs result

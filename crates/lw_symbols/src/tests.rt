@@ -93,7 +93,10 @@ fn finds_symbols_by_name_and_type(rt: HostRuntime) -> Result<(), Fail> {
     let parts = only(alloc, PART)?;
     let events = only(alloc, EVENT)?;
     assert_eq!(rt; locals.first_named(&tree, NodeId(1), &x, &parts), None);
-    assert_eq!(rt; locals.first_named(&tree, NodeId(1), &x, &events), Some(NodeId(2)));
+    assert_eq!(rt;
+        locals.first_named(&tree, NodeId(1), &x, &events),
+        Some(NodeId(2))
+    );
     assert!(rt; locals.of(NodeId(1)) == [NodeId(2), NodeId(3)].as_slice());
     Ok(())
 }
@@ -111,7 +114,10 @@ fn goes_outwards(rt: HostRuntime) -> Result<(), Fail> {
         name: Name::from_text(alloc, "x")?,
         span: SOMEWHERE,
     };
-    assert_eq!(rt; own_answer(&tree, &locals, &reference, &parts), Some(NodeId(1)));
+    assert_eq!(rt;
+        own_answer(&tree, &locals, &reference, &parts),
+        Some(NodeId(1))
+    );
     let exported = exports(alloc, &tree)?;
     assert!(rt; exported.as_slice() == [NodeId(0), NodeId(1)].as_slice());
     Ok(())
