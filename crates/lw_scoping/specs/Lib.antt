@@ -1,0 +1,6 @@
+pub mod Symbols
+pub mod Firsts
+pub mod Outward
+pub mod Links
+pub mod Alike
+pub mod Worked

@@ -1,0 +1,12 @@
+pub mod Order
+pub mod Children
+pub mod Rising
+pub mod Leasts
+pub mod RunLemmas
+pub mod Sorting
+pub mod Filtered
+pub mod Table
+pub mod Wanted
+pub mod Firsts
+pub mod Levels
+pub mod Listing

@@ -1,0 +1,6 @@
+pub mod Hashes
+pub mod Families
+pub mod Symbols
+pub mod Least
+pub mod Runs
+pub mod Locals

@@ -1,0 +1,123 @@
+// The least node of some symbols, found by halving.
+ghost use Rattle.std.specs.Prelude.{ℕ, ◌≡◌, ◌<◌, ◌≤◌, Contains, MatchOption, Some, false, length, slice_get, slice_index_or, true};
+ghost use Rattle.std.specs.FinSet as set;
+ghost use Rattle.lw_symbols.specs.Symbols.{AreSymbolsOf, IsInOrder};
+ghost use Rattle.lw_symbols.specs.Least.{IsCalled, IsInGroup, IsInRun, IsLeastNode, IsWanted, lesser_node};
+ghost use Rattle.lw_symbols.specs.Runs.{BeginsRun, IsNextRun, before_type};
+ghost use Rattle.lw_symbols.specs.declared.symbol.Symbol.{Symbol};
+
+use crate::symbol::Symbol;
+use lw_base::{Name, NodeId, TypeSet};
+use lw_tree::Tree;
+
+/// Whether a symbol stands before all of a container, whose names have this number, and of a type from this one on.
+fn is_before(s: &Symbol, container: u32, hash: u32, low: u32) -> bool
+    ensures { result ≡ before_type container hash low s.now }
+{
+    s.container.0 < container
+        || (s.container.0 == container
+            && (s.hash < hash || (s.hash == hash && (s.type_id.0 as u32) < low)))
+}
+
+/// How many symbols stand before all of a container, whose names have this number, and of a type from this one on. Logarithmic time.
+fn first_from(symbols: &[Symbol], container: u32, hash: u32, low: u32) -> usize
+    requires { IsInOrder symbols.now }
+    ensures bound { result ≤ length symbols.now }
+    ensures before { (k : ℕ) (d : Symbol) → k < result → before_type container hash low (slice_index_or symbols.now k d) ≡ true }
+    ensures behind { (k : ℕ) (d : Symbol) → result ≤ k → k < length symbols.now → before_type container hash low (slice_index_or symbols.now k d) ≡ false }
+{
+    symbols.partition_point(|s| is_before(s, container, hash, low))
+}
+
+/// The first of a container, whose name has this number, and which is of a type from this one on, and where it stands. Logarithmic time.
+fn next_run(symbols: &[Symbol], container: u32, hash: u32, low: u32) -> Option<(usize, Symbol)>
+    requires { IsInOrder symbols.now }
+    ensures { MatchOption result
+        ((s : Symbol) → Contains symbols.now s → IsInGroup container hash s → s.type_id.0 < low)
+        (λ found. IsNextRun container hash low symbols.now found.0 found.1) }
+{
+    let place = first_from(symbols, container, hash, low);
+    match symbols.get(place) {
+        None => None,
+        Some(s) => {
+            if s.container.0 == container && s.hash == hash {
+                Some((place, *s))
+            } else {
+                None
+            }
+        }
+    }
+}
+
+/// Whether the node of a symbol has this name.
+fn is_called(tree: &Tree, s: &Symbol, name: &Name) -> bool
+    requires { s.now.node.0 < length tree.now.nodes }
+    ensures yes { result ≡ true → IsCalled tree.now name.now s.now }
+    ensures no { result ≡ false → ¬ IsCalled tree.now name.now s.now }
+{
+    match tree.name(s.node) {
+        None => false,
+        Some((found, _)) => found == name,
+    }
+}
+
+/// Of the symbols that begin with one at a place, up to where the container, the number of the name or the type changes, the first of this
+/// name.
+fn first_called(
+    symbols: &[Symbol],
+    tree: &Tree,
+    from: usize,
+    run: Symbol,
+    name: &Name,
+) -> Option<NodeId>
+    requires symbols { AreSymbolsOf tree.now symbols.now }
+    requires there { slice_get symbols.now from ≡ Some run }
+    requires begins { BeginsRun symbols.now from run }
+    ensures { IsLeastNode (λ s. IsInRun run s × IsCalled tree.now name.now s) symbols.now result }
+{
+    for place in from..symbols.len() {
+        let s = symbols[place];
+        if s.container.0 != run.container.0 || s.hash != run.hash || s.type_id.0 != run.type_id.0 {
+            return None;
+        }
+        if is_called(tree, &s, name) {
+            return Some(s.node);
+        }
+    }
+    None
+}
+
+/// Of two nodes the lesser.
+fn lesser(one: Option<NodeId>, other: Option<NodeId>) -> Option<NodeId>
+    ensures { result ≡ lesser_node one other }
+{
+    match (one, other) {
+        (Some(n), Some(k)) => { if n.0 <= k.0 { Some(n) } else { Some(k) } }
+        (Some(n), None) => Some(n),
+        (None, found) => found,
+    }
+}
+
+/// Of the symbols of a container, whose names have this number, the least node that has this name and a type of the set. It takes
+/// logarithmic time for each type that such symbols have.
+pub(crate) fn first_wanted(
+    symbols: &[Symbol],
+    tree: &Tree,
+    container: u32,
+    hash: u32,
+    name: &Name,
+    fits: &TypeSet,
+) -> Option<NodeId>
+    requires { AreSymbolsOf tree.now symbols.now }
+    ensures { IsLeastNode (λ s. IsInGroup container hash s × IsWanted tree.now name.now fits.now s) symbols.now result }
+{
+    let mut best = None;
+    let mut low = 0;
+    while let Some((place, run)) = next_run(symbols, container, hash, low) {
+        if fits.holds(run.type_id) {
+            best = lesser(best, first_called(symbols, tree, place, run, name));
+        }
+        low = run.type_id.0 as u32 + 1;
+    }
+    best
+}
