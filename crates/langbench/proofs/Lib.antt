@@ -10,3 +10,4 @@ pub mod Done
 pub mod Conversing
 pub mod JoinedTexts
 pub mod WordLemmas
+pub mod Counting
