@@ -68,6 +68,9 @@ by_outcome P ok write memory (Ok verdict) stops = ok verdict
 by_outcome P ok write memory (Err e) (inl is) = subst P (sym is) write
 by_outcome P ok write memory (Err e) (inr is) = subst P (sym is) memory
 
+pub printed_words : (r : Result Verdict Stop) → StopsWriting r → ¬ (r ≡ Err stop.Words)
+printed_words r stops = by_outcome (λ (r : Result Verdict Stop). ¬ (r ≡ Err stop.Words)) (λ verdict is. cc) (λ is. cc) (λ is. cc) r stops
+
 pub printed_cause : (told : Option Files) (path : List ℕ) (k : ℕ) (refused : Option (List ℕ)) (r : Result Verdict Stop) → StopsWriting r → IsCaused told path k refused r
 printed_cause told path k refused r stops = by_outcome (IsCaused told path k refused) (λ verdict. tt) tt tt r stops
 

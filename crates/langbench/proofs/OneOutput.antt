@@ -1,10 +1,10 @@
 -- The bytes of a document have one output.
-use Rattle.std.proofs.Common.{◌≡◌, ℕ, ◌+◌, ◌≤◌, List, [], Some, length, refl, ap, arith}
+use Rattle.std.proofs.Common.{◌≡◌, ℕ, ◌+◌, ◌≤◌, List, [], length, refl, ap, arith}
 use Rattle.lw_grammar.specs.declared.grammar.Grammar.{Grammar}
 use Rattle.lw_text.specs.declared.shown.Shown.{Shown}
 use Rattle.lw_reading.specs.Laws.{IsReadOneWay}
 use Rattle.lw_base.specs.declared.limits.TheConstants.{LONGEST_DOCUMENT}
-use Rattle.lw_scopes.specs.Diagnostics.{IsList}
+use Rattle.lw_scopes.specs.Diagnostics.{IsListAlone, alone_at}
 use Rattle.lw_scopes.proofs.OneList.{one_list}
 use Rattle.langbench.specs.Checked.{Checked, too_large, not_text, listed, list_lines}
 
@@ -13,10 +13,8 @@ few : (bytes : List ℕ) → length bytes ≡ LONGEST_DOCUMENT + 1 → length by
 few bytes more short = omega (arith, more, short)
 
 module _ (g : Grammar) (one_way : IsReadOneWay g) (bytes : List ℕ) where
-  same_lines : (list other : List Shown) → IsList g bytes list → IsList g bytes other → list_lines list ≡ list_lines other
-  same_lines list other is was =
-      ap list_lines
-      (one_list g one_way (λ _. Some bytes) [] list other (record { text = bytes; is_shown = refl; is_list = is }) (record { text = bytes; is_shown = refl; is_list = was }))
+  same_lines : (list other : List Shown) → IsListAlone g [] bytes list → IsListAlone g [] bytes other → list_lines list ≡ list_lines other
+  same_lines list other is was = ap list_lines (one_list g one_way (alone_at [] bytes) [] list other is was)
 
   pub one_output : (output other : List ℕ) → Checked g bytes output → Checked g bytes other → output ≡ other
   one_output output other (too_large more) (too_large also) = refl

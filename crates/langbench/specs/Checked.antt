@@ -7,7 +7,7 @@ use Rattle.lw_grammar.specs.declared.grammar.Grammar.{Grammar}
 use Rattle.lw_text.specs.declared.place.Pos.{Pos}
 use Rattle.lw_text.specs.declared.shown.Shown.{Shown}
 use Rattle.lw_base.specs.declared.limits.TheConstants.{LONGEST_DOCUMENT}
-use Rattle.lw_scopes.specs.Diagnostics.{IsList}
+use Rattle.lw_scopes.specs.Diagnostics.{IsListAlone}
 use Rattle.lw_scopes.specs.Faults.{too_large_shown}
 
 -- a line and its end
@@ -34,8 +34,8 @@ list_lines [] = ok_line
 list_lines (first ∷ others) = flat_map diagnostic_line (first ∷ others)
 
 -- What is printed for so many first bytes of a document, which are all of it, or one more than may be read: the diagnostics of the
--- text that they are. Where there is one more the size alone decides, whatever the bytes are.
+-- text that they are, where no other document is. Where there is one more the size alone decides, whatever the bytes are.
 pub data Checked (g : Grammar) (bytes : List ℕ) : List ℕ → Type 0 where
   too_large : length bytes ≡ LONGEST_DOCUMENT + 1 → Checked g bytes (diagnostic_line too_large_shown)
   not_text : length bytes ≤ LONGEST_DOCUMENT → ¬ (IsUtf8 bytes) → Checked g bytes not_text_line
-  listed : {list : List Shown} → length bytes ≤ LONGEST_DOCUMENT → IsUtf8 bytes → IsList g bytes list → Checked g bytes (list_lines list)
+  listed : {list : List Shown} → length bytes ≤ LONGEST_DOCUMENT → IsUtf8 bytes → IsListAlone g [] bytes list → Checked g bytes (list_lines list)

@@ -1,4 +1,4 @@
-// The examples that users meet first, as `examples/` has them: each grammar reads its good document, and tells where the broken one breaks.
+// The examples that users meet first, as `examples/` has them: each grammar reads its good document, and tells what is wrong with another.
 use crate::tests::{NOTHING, Setting, ends_as};
 use std::test::Fail;
 
@@ -12,6 +12,8 @@ const DOORS: &str =
     "model doors\nstate open to closed end\nstate closed to open to locked end\nstate locked to closed end // ask for a key\n";
 
 const BROKEN_DOORS: &str = "model doors\nstate open to end\n";
+
+const UNLINKED_DOORS: &str = "model doors\nstate open to shut end\nstate open to open end\n";
 
 const ARITHMETIC: &str =
     "// Named sums and products of numbers. Precedence comes from the order of the rules, and what stands to the left\n// of an operator goes into the node of the operation by an action.\ngrammar Arithmetic\n\nentry Program: definitions+=Definition*;\n\nDefinition: 'let' name=ID '=' value=Sum ';';\n\nSum infers Expression: Product ({infer Operation.left=current} operator=('+' | '-') right=Product)*;\n\nProduct infers Expression: Primary ({infer Operation.left=current} operator=('*' | '/') right=Primary)*;\n\nPrimary infers Expression: '(' Sum ')' | {infer Literal} value=NUMBER | {infer Use} definition=[Definition:ID];\n\nhidden terminal WS: /\\s+/;\nhidden terminal COMMENT: /\\/\\/[^\\n\\r]*/;\nterminal ID: /[_a-zA-Z][\\w_]*/;\nterminal NUMBER returns number: /[0-9]+(\\.[0-9]+)?/;\n";
@@ -29,12 +31,18 @@ const BOOKS: &str =
 
 const BROKEN_BOOKS: &str = "datatype Text\n\nentity Person {\n    name Text\n}\n";
 
-const ROWS: [(&str, &str, &str, &str); 3] = [
+const ROWS: [(&str, &str, &str, &str); 4] = [
     (
         STATES,
         DOORS,
         BROKEN_DOORS,
         "2:15: error 2: Unexpected 'end'.\n",
+    ),
+    (
+        STATES,
+        DOORS,
+        UNLINKED_DOORS,
+        "2:15: error 3: Could not resolve reference to State named 'shut'.\n3:7: error 4: Duplicate State named 'open'.\n",
     ),
     (
         ARITHMETIC,

@@ -6,8 +6,9 @@ ghost use Rattle.langbench.specs.Checked.{diagnostic_line};
 ghost use Rattle.langbench.specs.Reports.{IsReport};
 
 use crate::place::printed;
+use lw_alone::diagnostics;
 use lw_base::{LONGEST_DOCUMENT, Name, NoMemory};
-use lw_check::{diagnostics, too_large};
+use lw_check::too_large;
 use lw_lang::Language;
 use lw_text::{Shown, TextDoc};
 use std::alloc::Global;

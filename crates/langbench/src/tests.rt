@@ -28,6 +28,16 @@ const QUOTIENTS: &str =
 /// Two ways that begin and end alike.
 const ALIKE: &str = "grammar E entry A: 'a' b='b' 'c' | 'a' d='d' 'c';";
 
+const MODELS: &str =
+    "grammar S entry Model: 'model' name=ID states+=State*; State: 'state' name=ID ('to' next+=[State:ID])* 'end'; hidden terminal WS: /\\s+/; terminal ID: /[_a-zA-Z][\\w_]*/;";
+
+const GREETINGS: &str =
+    "grammar HelloWorld entry Model: (persons+=Person | greetings+=Greeting)*; Person: 'person' name=ID; Greeting: 'Hello' person=[Person:ID] '!'; hidden terminal WS: /\\s+/; terminal ID: /[_a-zA-Z][\\w_]*/; terminal INT returns number: /[0-9]+/; hidden terminal SL_COMMENT: /\\/\\/[^\\n\\r]*/;";
+
+/// A root that a reference of its own may lead to.
+const ROOTED: &str =
+    "grammar R entry Model: 'model' name=ID 'uses' used=[Model:ID]; hidden terminal WS: /\\s+/; terminal ID: /[a-z]+/;";
+
 const IMPORTS: &str = "grammar I import './j' entry A: 'a' b=B;";
 
 const ABSENT: &[u8] = b"";
@@ -254,6 +264,33 @@ fn documents_have_their_lines(rt: HostRuntime) -> Result<(), Fail> {
             b"9223372036854775808 /\n99999999999999999999",
             1,
             "1:1: error 6: Number is out of range.\n2:1: error 6: Number is out of range.\n",
+        ),
+        (
+            MODELS,
+            b"model m state a end state a end",
+            1,
+            "1:27: error 4: Duplicate State named 'a'.\n",
+        ),
+        (
+            MODELS,
+            b"model m state a to m to a end",
+            1,
+            "1:20: error 3: Could not resolve reference to State named 'm'.\n",
+        ),
+        (GREETINGS, b"person John Hello John! // hi", 0, "ok\n"),
+        (
+            GREETINGS,
+            b"Hello Jane!",
+            1,
+            "1:7: error 3: Could not resolve reference to Person named 'Jane'.\n",
+        ),
+        (GREETINGS, b"", 0, "ok\n"),
+        (ROOTED, b"model m uses m", 0, "ok\n"),
+        (
+            ROOTED,
+            b"model m uses n",
+            1,
+            "1:14: error 3: Could not resolve reference to Model named 'n'.\n",
         ),
     ] {
         let setting = setting_of(&["check", PATH], Some(grammar));

@@ -162,3 +162,6 @@ fn said_by(alloc: Global, form: TextForm, text: &Name, tokens: &[Token]) -> Resu
     let text = joined_texts(alloc, text, tokens)?;
     said_in(alloc, form, text)
 }
+
+#[cfg(test)]
+mod tests;

@@ -2,6 +2,7 @@
 ghost use Rattle.std.specs.Prelude.{◌≡◌, ◌-◌, ◌≤◌, ◌↔◌, IfOk, IsTrue, EachIndex, length, take, drop, chars, encode_utf8_all, slice_index, string_bytes};
 ghost use Rattle.std.specs.Int.{IsInRange};
 ghost use Rattle.std.specs.Str.Parse.{IsNumeral, without_leading_sign};
+ghost use Rattle.lw_gramread.specs.Values.{word_name};
 ghost use Rattle.lw_marks.specs.Grown.{Plain, as_value};
 ghost use Rattle.lw_marks.specs.Values.{NumberMeans, unquoted};
 ghost use Rattle.lw_builder.specs.Contents.{said_in};
@@ -18,9 +19,19 @@ pub(crate) fn said_in(alloc: Global, form: TextForm, text: Name) -> Result<Name,
 {
     match form {
         TextForm::Plain => Ok(text),
-        TextForm::Identifier => Name::from_text(alloc, word_name(text.text())),
+        TextForm::Identifier => without_caret(alloc, text),
         TextForm::Quoted => unquoted(alloc, text),
     }
+}
+
+/// The text behind a caret. A text that does not begin with one is kept.
+fn without_caret(alloc: Global, text: Name) -> Result<Name, NoMemory>
+    ensures { IfOk result (λ said. said ≡ word_name text) }
+{
+    if !text.text().starts_with('^') {
+        return Ok(text);
+    }
+    Name::from_text(alloc, word_name(text.text()))
 }
 
 /// What stands between the first and the last character, with its escapes read. A text of fewer than two characters is kept.

@@ -98,11 +98,31 @@ pub fn tree_of(
         IfOk result (IsOpenedTree g text.now m (visible_of tokens.items) tokens.items) }
 {
     let visible = visible_of(alloc, tokens.as_slice())?;
-    let mut builder = Builder::new(alloc, recipes, text, visible.as_slice());
+    let mut builder = with_room(alloc, recipes, text, visible.as_slice(), marks)?;
     'marks: for mark in marks {
         builder.mark(*mark)?;
     }
     builder.tree(tokens)
+}
+
+/// Nothing is built yet of the text with these visible tokens. There is room for the nodes and the values of these marks, so that what was
+/// built is not moved.
+fn with_room<'a>(
+    alloc: Global,
+    recipes: &'a Recipes,
+    text: &'a Name,
+    visible: &'a [Token],
+    marks: &[TreeMark],
+) -> Result<Builder<'a>, NoMemory>
+    ensures nothing { (g : Grammar) → AreRecipesOf g recipes.now → ArePartsOf text.now visible.now → IfOk result (HasFollowed g [] []) }
+    ensures over { IfOk result (λ builder. (builder.text.now ≡ text.now) × (builder.visible.now ≡ visible.now) × (builder.recipes.now ≡ recipes.now)) }
+{
+    let mut builder = Builder::new(alloc, recipes, text, visible);
+    let nodes = marks.iter().filter(|mark| matches!(mark, TreeMark::Shut));
+    builder.finished.reserve(nodes.count())?;
+    let values = marks.iter().filter(|mark| matches!(mark, TreeMark::End));
+    builder.kept.reserve(values.count())?;
+    Ok(builder)
 }
 
 /// The tokens that are not hidden.

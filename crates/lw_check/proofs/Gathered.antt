@@ -1,17 +1,35 @@
--- What is gathered from the values of a tree, one after another, is what is told of it.
-use Rattle.std.proofs.Common.{◌≡◌, ◌↔◌, ℕ, zero, suc, ◌==◌, ◌&&◌, Bool, true, false, List, [], ◌∷◌, ◌⊎◌, inl, inr, Contains, map, refl, sym, subst, arith}
+-- What is gathered of a tree, code by code, is what is told of its document.
+use Rattle.std.proofs.Common.{◌≡◌, ℕ, zero, suc, ◌==◌, ◌&&◌, Bool, true, false, List, [], ◌∷◌, ◌⊎◌, inl, inr, Some, None, Result, Ok, Err, IfOk, Contains, map, slice_get, refl, sym, ap, subst, ◌∙◌, arith}
+use Rattle.std.specs.FinMap.{empty, get, get-empty}
+use Rattle.std.specs.List.{AllZip}
+use Rattle.std.specs.Ordering.{nat_cmp}
 use Rattle.std.specs.Prelude.{if◌then◌else◌}
 use Rattle.std.proofs.lemmas.Bool.Decides.{nat_tests}
-use Rattle.lw_base.specs.declared.numbers.NodeId.{NodeId}
-use Rattle.lw_base.specs.declared.numbers.PropId.{PropId}
-use Rattle.lw_findings.specs.Finding.{Finds, OfSome}
-use Rattle.lw_scopes.specs.TreeDiagnostics.{Diagnostic, IsDiagnosticOf, number, out_of_range}
+use Rattle.std.proofs.lemmas.Option.{none-some, slice_get-get_or, slice_get_within}
+use Rattle.lw_grammar.specs.declared.grammar.Grammar.{Grammar}
+use Rattle.lw_index.specs.declared.parts.Answer.{Answer}
+use Rattle.lw_index.specs.declared.parts.Answer.TheVariants.{Missing}
+use Rattle.lw_index.specs.declared.parts.Document.{Document}
+use Rattle.lw_index.specs.Indexed.{Indexed}
+use Rattle.lw_index.specs.Rivals.{IsLeastRival}
+use Rattle.lw_link.specs.Alone.{link_at}
+use Rattle.lw_link.specs.Indexed.{IsDocumentOf, IsIndexOf, link_of}
+use Rattle.lw_scoping.specs.Doubles.{IsLeastOther}
+use Rattle.lw_scoping.specs.Links.{Link, LinksTo, Trees}
+use Rattle.lw_scoping.proofs.Places.{among}
+use Rattle.lw_scopes.proofs.AloneAt.{alone_elsewhere}
+use Rattle.lw_scopes.specs.Diagnostics.{alone_at}
+use Rattle.lw_scopes.specs.Links.{IsNumberBelow}
+use Rattle.lw_scopes.specs.TreeDiagnostics.{Diagnostic, AreDiagnosticsOf, IsDiagnosticOf, unresolved, duplicate, also_exported, number}
 use Rattle.lw_tree.specs.Keyed.{Entries, values_of}
 use Rattle.lw_tree.specs.Parts.{Parts, values_at}
 use Rattle.lw_tree.specs.declared.node.Value.{Value}
 use Rattle.lw_tree.specs.declared.node.Value.TheVariants.{Text, Number, Huge, Raw, Truth, Child, Refers}
-use Rattle.lw_check.specs.declared.sorting.KeyedDiagnostic.{KeyedDiagnostic}
-use Rattle.lw_check.specs.Sorting.{diagnostics_of, IsDiagnosticOfValue, TellAll}
+use Rattle.lw_text.specs.declared.shown.Shown.{Shown}
+use Rattle.lw_check.specs.Sorting.{AreShown}
+use Rattle.lw_check.specs.Telling.{AreTold, AreToldAndShown, IsTold, TellsValue}
+use Rattle.lw_check.proofs.Answered.{leads_nowhere, is_missing, missing, missing_alone}
+use Rattle.lw_check.proofs.Others.{least_other, least_rival}
 
 pub there : {X : Type 0} (y : X) (xs : List X) (x : X) → Contains xs x → Contains (y ∷ xs) x
 there y xs x (k, inside, is) = (suc k, omega (arith, inside), is)
@@ -26,9 +44,13 @@ first_or_later x xs y (suc k, inside, is) = inr (k, omega (arith, inside), is)
 pub nothing : {X : Type 0} (x : X) → Contains [] x → ⊥
 nothing x (k, inside, is) = omega (arith, inside)
 
+pub of_nothing : {X : Type 0} (P : X → Type 0) (x : X) → Contains [] x ⊎ P x → P x
+of_nothing P x (inl none) = absurd (nothing x none)
+of_nothing P x (inr is) = is
+
 -- ---- the values of a tree, by node and property
 
-at_some : (xs : Entries) (v : Value) → Contains (values_of xs) v → (n : ℕ) × (p : ℕ) × Contains (values_at n p xs) v
+pub at_some : (xs : Entries) (v : Value) → Contains (values_of xs) v → (n : ℕ) × (p : ℕ) × Contains (values_at n p xs) v
 at_some [] v has = absurd (nothing v has)
 at_some (x ∷ xs) v has = by (first_or_later x.2 (values_of xs) v has) (at_some xs v)
   where
@@ -62,23 +84,118 @@ among_all n p (x ∷ xs) v has = by ((x.0.0 == n) && (x.1.0 == p)) has (among_al
 
 -- ---- what they tell
 
-of_value : (tree : Parts) (v : Value) (d : Diagnostic) → Contains (values_of tree.values) v → IsDiagnosticOfValue v d → IsDiagnosticOf tree d
-of_value tree (Huge s) d has is =
-    let found = at_some tree.values (Huge s) has in subst (IsDiagnosticOf tree) (sym is) (number found.0 found.1 found.2)
-of_value tree (Text name s) d has is = absurd is
-of_value tree (Number n s) d has is = absurd is
-of_value tree (Raw name s) d has is = absurd is
-of_value tree (Truth s) d has is = absurd is
-of_value tree (Child n) d has is = absurd is
-of_value tree (Refers r) d has is = absurd is
+-- `read` says where an answer leads; the least rivals of the index are the least other documents
+module _ (g : Grammar) (trees : Trees) (address : List ℕ) (tree : Parts) (answers : List Answer) (doc : ℕ) (index : Indexed) (read : Answer → Link)
+    (none : read Missing ≡ None) (only : (answer : Answer) → read answer ≡ None → answer ≡ Missing)
+    (other_of : (name : List ℕ) (type : ℕ) (uri : List ℕ) → IsLeastRival index doc name type uri → IsLeastOther trees name type address uri)
+    (rival_of : (name : List ℕ) (type : ℕ) (uri : List ℕ) → IsLeastOther trees name type address uri → IsLeastRival index doc name type uri)
+    (links : AllZip (LinksTo (IsNumberBelow g) trees address tree) tree.refs (map read answers)) where
+  of_value : (v : Value) (e : Diagnostic) → Contains (values_of tree.values) v → TellsValue v e → IsDiagnosticOf g trees address tree e
+  of_value (Huge s) e has is =
+      let found = at_some tree.values (Huge s) has in subst (IsDiagnosticOf g trees address tree) (sym is) (number found.0 found.1 found.2)
+  of_value (Text name s) e has is = absurd is
+  of_value (Number n s) e has is = absurd is
+  of_value (Raw name s) e has is = absurd is
+  of_value (Truth s) e has is = absurd is
+  of_value (Child n) e has is = absurd is
+  of_value (Refers r) e has is = absurd is
 
-of_tree : (tree : Parts) (values : List Value) → values ≡ values_of tree.values → {d : Diagnostic} → IsDiagnosticOf tree d → OfSome IsDiagnosticOfValue values d
-of_tree tree values are (number {s = s} node prop has) = (Huge s, subst (λ vs. Contains vs (Huge s)) (sym are) (among_all node prop tree.values (Huge s) has), refl)
+  of_told : (e : Diagnostic) → IsTold g tree answers doc index e → IsDiagnosticOf g trees address tree e
+  of_told e (inl (inl (inl (i, r, at, (answer, there, (missing, tells)))))) =
+      subst (IsDiagnosticOf g trees address tree) (sym tells.is)
+      (unresolved r (among tree.refs i r at) (leads_nowhere (IsNumberBelow g) trees address tree read answers links i r at none (there ∙ ap Some missing)) tells.numbered)
+  of_told e (inl (inl (inr (n, below, tells)))) =
+      subst (IsDiagnosticOf g trees address tree) (sym tells.is) (duplicate n tells.number tells.named tells.double tells.numbered)
+  of_told e (inl (inr (n, has, tells))) =
+      subst (IsDiagnosticOf g trees address tree) (sym tells.is)
+      (also_exported n tells.number has tells.named (other_of tells.name tells.number tells.other tells.rival)
+      tells.numbered)
+  of_told e (inr (v, has, is)) = of_value v e has is
 
-pub tell_all : (tree : Parts) (values : List Value) (diagnostics : List KeyedDiagnostic) → values ≡ values_of tree.values →
-    Finds (OfSome IsDiagnosticOfValue values) [] (diagnostics_of diagnostics) → TellAll tree diagnostics
-tell_all tree values diagnostics are finds d = (λ has. to ((finds.exact d).0 has), λ is. (finds.exact d).1 (inr (of_tree tree values are is)))
+  to_told : (e : Diagnostic) → IsDiagnosticOf g trees address tree e → IsTold g tree answers doc index e
+  to_told e (unresolved r {type = t} (i, inside, is) leads numbered) =
+      let at : slice_get tree.refs i ≡ Some r = slice_get-get_or tree.refs i r inside ∙ ap Some is in
+      inl (inl (inl (
+        i,
+        r,
+        at,
+        (
+          Missing,
+          is_missing (IsNumberBelow g) trees address tree read answers links i r at only leads,
+          (
+            refl,
+            record {
+              type = t;
+              numbered = numbered;
+              is = refl;
+            },
+          ),
+        ),
+      )))
+  to_told e (duplicate n t {type = type} {name = name} named double numbered) =
+      inl (inl (inr (
+        n,
+        slice_get_within tree.nodes n named.node named.there,
+        record {
+          number = t;
+          name = name;
+          named = named;
+          double = double;
+          type = type;
+          numbered = numbered;
+          is = refl;
+        },
+      )))
+  to_told e (also_exported n t {type = type} {name = name} {other = other} has named least numbered) =
+      inl (inr (
+        n,
+        has,
+        record {
+          number = t;
+          name = name;
+          named = named;
+          other = other;
+          rival = rival_of name t other least;
+          type = type;
+          numbered = numbered;
+          is = refl;
+        },
+      ))
+  to_told e (number {s = s} node prop has) = inr (Huge s, among_all node prop tree.values (Huge s) has, refl)
+
+  pub all_told : (diagnostics : List Diagnostic) → AreTold g tree answers doc index diagnostics → AreDiagnosticsOf g trees address tree diagnostics
+  all_told diagnostics are = record {
+    exact = λ e. (λ has. of_told e ((are.exact e).0 has), λ is. (are.exact e).1 (to_told e is));
+    ordered = are.ordered;
+  }
+
+  pub shown_too : (text : List ℕ) {E : Type 0} (r : Result (List Shown) E) → IfOk r (AreToldAndShown g tree answers doc index text) →
+      IfOk r (AreShown g trees address tree text)
+  shown_too text (Ok list) (diagnostics, are, shown) = (diagnostics, all_told diagnostics are, shown)
+  shown_too text (Err e) is = tt
+
+-- ---- over an index, and alone
+
+pub over_index : (g : Grammar) (trees : Trees) (address : List ℕ) (tree : Parts) (answers : List Answer) (doc : ℕ) (index : Indexed) → IsIndexOf trees index →
+    IsDocumentOf trees index doc address tree → AllZip (LinksTo (IsNumberBelow g) trees address tree) tree.refs (map (link_of index) answers) →
+    (text : List ℕ) {E : Type 0} (r : Result (List Shown) E) → IfOk r (AreToldAndShown g tree answers doc index text) → IfOk r (AreShown g trees address tree text)
+over_index g trees address tree answers doc index stands own links =
+    shown_too g trees address tree answers doc index (link_of index) refl (missing index) (least_other trees index doc address tree stands own)
+    (least_rival trees index doc address tree stands own) links
+
+-- no document is held, and no other has a tree
+pub all_alone : (g : Grammar) (address : List ℕ) (tree : Parts) (answers : List Answer) (doc : ℕ) (index : Indexed) → index ≡ empty →
+    AllZip (LinksTo (IsNumberBelow g) (alone_at address tree) address tree) tree.refs (map (link_at address) answers) →
+    (text : List ℕ) {E : Type 0} (r : Result (List Shown) E) → IfOk r (AreToldAndShown g tree answers doc index text) →
+    IfOk r (AreShown g (alone_at address tree) address tree text)
+all_alone g address tree answers doc index nothing_held links =
+    shown_too g (alone_at address tree) address tree answers doc index (link_at address) refl (missing_alone address) no_rival no_other links
   where
-    to : Contains [] d ⊎ OfSome IsDiagnosticOfValue values d → IsDiagnosticOf tree d
-    to (inl none) = absurd (nothing d none)
-    to (inr (v, inside, is)) = of_value tree v d (subst (λ vs. Contains vs v) are inside) is
+    none_held : (other : ℕ) (d : Document) → get index other ≡ Some d → ⊥
+    none_held other d is = none-some d (sym (ap (λ (m : Indexed). get m other) nothing_held ∙ get-empty nat_cmp other) ∙ is)
+
+    no_rival : (name : List ℕ) (type : ℕ) (uri : List ℕ) → IsLeastRival index doc name type uri → IsLeastOther (alone_at address tree) name type address uri
+    no_rival name type uri is = absurd (none_held is.rival.other is.rival.document is.rival.exported.held)
+
+    no_other : (name : List ℕ) (type : ℕ) (uri : List ℕ) → IsLeastOther (alone_at address tree) name type address uri → IsLeastRival index doc name type uri
+    no_other name type uri is = absurd (none-some is.exports_it.tree (sym (alone_elsewhere address tree uri is.another) ∙ is.exports_it.is_tree))

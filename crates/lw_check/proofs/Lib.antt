@@ -1,4 +1,11 @@
 pub mod InOrder
+pub mod Saying
+pub mod Once
+pub mod Known
+pub mod Earlier
+pub mod Others
+pub mod Pushed
+pub mod Answered
 pub mod Gathered
+pub mod Exported
 pub mod Showing
-pub mod Listed

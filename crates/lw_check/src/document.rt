@@ -1,56 +1,122 @@
 // The diagnostics of one document.
-ghost use Rattle.std.specs.Prelude.{◌≡◌, IfOk};
-ghost use Rattle.lw_syntax.specs.PlacesWithin.{IsWithin};
-ghost use Rattle.lw_lang.specs.Language.{IsNamed, IsIssueWithin};
+ghost use Rattle.std.specs.Prelude.{ℕ, ◌≡◌, ◌<◌, ◌≤◌, List, IfOk, length, map};
+ghost use Rattle.std.specs.List.{AllZip};
+ghost use Rattle.lw_grammar.specs.declared.grammar.Grammar.{Grammar};
+ghost use Rattle.lw_grammar.specs.KindTexts.{AreKindTexts};
+ghost use Rattle.lw_link.specs.Alone.{link_at};
+ghost use Rattle.lw_link.specs.Indexed.{IsDocumentOf, IsIndexOf, link_of};
+ghost use Rattle.lw_outwards.specs.Known.{HasKnownTypes};
+ghost use Rattle.lw_reading.specs.Issues.{IsNamed, IsIssueWithin};
 ghost use Rattle.lw_rooted.specs.Within.{StandsInText};
-ghost use Rattle.lw_scopes.specs.Diagnostics.{IsDiagnosticShown, IsList};
+ghost use Rattle.lw_scoping.specs.Links.{LinksTo, Trees};
+ghost use Rattle.lw_scopes.specs.Diagnostics.{IsDiagnosticShown, alone_at};
 ghost use Rattle.lw_scopes.specs.Faults.{IsFaultShown, IsShownAt, too_large_shown};
+ghost use Rattle.lw_scopes.specs.Links.{IsNumberBelow};
+ghost use Rattle.lw_symbols.specs.Locals.{AreLocalsOf};
+ghost use Rattle.lw_types.specs.Inferred.{AreTypesOf};
 ghost use Rattle.lw_check.specs.Sorting.{AreShown, diagnostic_of};
+ghost use Rattle.lw_check.specs.Telling.{AreToldAndShown};
 
 use crate::sorting::{KeyedDiagnostic, sorted_diagnostics};
-use lw_base::{Items, LONGEST_DOCUMENT, Name, NoMemory, Span};
-use lw_lang::{Issue, Language, Parsed};
+use lw_base::{DocId, Items, LONGEST_DOCUMENT, Name, NoMemory, Span};
+use lw_index::{Answer, Index};
+use lw_symbols::Locals;
+use lw_terminals::TokenSet;
 use lw_text::{Encoding, Pos, Shown, TextDoc};
-use lw_tree::Tree;
+use lw_tree::{Issue, Tree};
+use lw_types::Types;
 use std::alloc::Global;
 
-/// The list of a text: what is told of its tree where the grammar reads it whole, else its one fault. The one error is
-/// [`NoMemory`], want of memory.
+/// What is told of the document `doc`, which has this text and this tree, with its symbols and where each of its references leads. Want of
+/// memory is the only error.
 ///
-/// Positions are zero-based lines and UTF-16 units (Language Server Protocol 3.17, "Position"), found by the
-/// lines that the text knows. It takes time linear in the length of the text, and memory for its tokens and its tree.
+/// Positions are zero-based lines and UTF-16 units (Language Server Protocol 3.17, "Position"), found by the lines that the text knows. It
+/// takes a look-up for each node with a name and for each export, beside time linear in the tree, and n log n for n diagnostics.
 pub fn diagnostics(
     alloc: Global,
-    language: &Language,
     document: &TextDoc,
+    tree: &Tree,
+    locals: &Locals,
+    answers: &[Answer],
+    doc: DocId,
+    index: &Index,
+    types: &Types,
 ) -> Result<Items<Shown>, NoMemory>
-    ensures { IfOk result (IsList language.now.grammar document.now) }
+    requires stands { StandsInText document.now tree.now }
+    requires root { 0 < length tree.now.nodes }
+    requires locals { AreLocalsOf tree.now locals.now }
+    requires count { length answers.now ≡ length tree.now.refs }
+    requires known { (g : Grammar) × AreTypesOf g types.now × HasKnownTypes g tree.now }
+    ensures { (g : Grammar) (trees : Trees) (address : List ℕ) → AreTypesOf g types.now → IsIndexOf trees index.now →
+        IsDocumentOf trees index.now doc.0 address tree.now →
+        AllZip (LinksTo (IsNumberBelow g) trees address tree.now) tree.now.refs (map (link_of index.now) answers.now) →
+        IfOk result (AreShown g trees address tree.now document.now) }
 {
-    match language.read(alloc, document.as_name())? {
-        Parsed::Whole(tree) => tree_shown(alloc, document, &tree),
-        Parsed::Broken(issue) => {
-            let mut list = Items::new(alloc);
-            list.push(fault_shown(alloc, language, document, issue)?)?;
-            Ok(list)
-        }
-    }
+    told_shown(alloc, document, tree, locals, answers, doc, index, types)
 }
 
-// What is told of a tree, as it is shown.
-fn tree_shown(alloc: Global, text: &TextDoc, tree: &Tree) -> Result<Items<Shown>, NoMemory>
-    requires { StandsInText text.now tree.now }
-    ensures { IfOk result (AreShown text.now tree.now) }
+/// The same of a document that is alone: no other has a tree, and its references lead to nodes of its own or nowhere. Want of memory is the only
+/// error.
+pub fn diagnostics_alone(
+    alloc: Global,
+    document: &TextDoc,
+    tree: &Tree,
+    locals: &Locals,
+    answers: &[Answer],
+    types: &Types,
+) -> Result<Items<Shown>, NoMemory>
+    requires stands { StandsInText document.now tree.now }
+    requires root { 0 < length tree.now.nodes }
+    requires locals { AreLocalsOf tree.now locals.now }
+    requires count { length answers.now ≡ length tree.now.refs }
+    requires known { (g : Grammar) × AreTypesOf g types.now × HasKnownTypes g tree.now }
+    ensures { (g : Grammar) (address : List ℕ) → AreTypesOf g types.now →
+        AllZip (LinksTo (IsNumberBelow g) (alone_at address tree.now) address tree.now) tree.now.refs (map (link_at address) answers.now) →
+        IfOk result (AreShown g (alone_at address tree.now) address tree.now document.now) }
 {
+    let index = Index::new(alloc);
+    told_shown(
+        alloc,
+        document,
+        tree,
+        locals,
+        answers,
+        DocId(0),
+        &index,
+        types,
+    )
+}
+
+/// What is told of a document by its answers and an index, as it is shown.
+fn told_shown(
+    alloc: Global,
+    document: &TextDoc,
+    tree: &Tree,
+    locals: &Locals,
+    answers: &[Answer],
+    doc: DocId,
+    index: &Index,
+    types: &Types,
+) -> Result<Items<Shown>, NoMemory>
+    requires stands { StandsInText document.now tree.now }
+    requires root { 0 < length tree.now.nodes }
+    requires locals { AreLocalsOf tree.now locals.now }
+    requires count { length answers.now ≡ length tree.now.refs }
+    requires known { (g : Grammar) × AreTypesOf g types.now × HasKnownTypes g tree.now }
+    ensures { (g : Grammar) → AreTypesOf g types.now → IfOk result (AreToldAndShown g tree.now answers.now doc.0 index.now document.now) }
+{
+    let found = sorted_diagnostics(alloc, tree, locals, answers, doc, index, types)?;
     let mut list = Items::new(alloc);
-    'showing: for diagnostic in sorted_diagnostics(alloc, tree)? {
-        list.push(diagnostic_shown(text, diagnostic))?;
+    'showing: for diagnostic in found {
+        list.push(diagnostic_shown(document, diagnostic))?;
     }
     Ok(list)
 }
 
 // A diagnostic, as it is shown.
 fn diagnostic_shown(text: &TextDoc, diagnostic: KeyedDiagnostic) -> Shown
-    requires { IsWithin text.now (diagnostic_of diagnostic).span }
+    requires start { (diagnostic_of diagnostic).span.start ≤ length text.now }
+    requires end { (diagnostic_of diagnostic).span.end ≤ length text.now }
     ensures { IsDiagnosticShown text.now (diagnostic_of diagnostic) result }
 {
     let span = Span {
@@ -78,29 +144,30 @@ pub fn too_large(alloc: Global) -> Result<Shown, NoMemory>
     })
 }
 
-fn fault_shown(
+/// The one diagnostic of a text that is broken by this fault, by the kinds of the grammar. Want of memory is the only error.
+pub fn issue_diagnostic(
     alloc: Global,
-    language: &Language,
-    text: &TextDoc,
+    document: &TextDoc,
     issue: Issue,
+    tokens: &TokenSet,
 ) -> Result<Shown, NoMemory>
-    requires within { IsIssueWithin text.now issue }
-    requires named { IsNamed language.now.texts issue }
-    ensures { IfOk result (IsFaultShown language.now.grammar text.now issue) }
+    requires within { IsIssueWithin document.now issue }
+    requires named { IsNamed tokens.now.texts issue }
+    ensures { (g : Grammar) → AreKindTexts g tokens.now.texts → IfOk result (IsFaultShown g document.now issue) }
 {
     match issue {
         Issue::Lexical(span) => {
             let message = Name::from_text(alloc, "Unexpected character.")?;
-            Ok(shown_at(text, span, 1, message))
+            Ok(shown_at(document, span, 1, message))
         }
         Issue::Syntax(span, kind) => {
-            let kind = language.kind_text(kind);
+            let kind = tokens.kind_text(kind);
             let message = format!(in alloc; "Unexpected {kind}.")?;
-            Ok(shown_at(text, span, 2, Name::from_string(message)))
+            Ok(shown_at(document, span, 2, Name::from_string(message)))
         }
         Issue::End(at) => {
             let message = Name::from_text(alloc, "Unexpected end of text.")?;
-            Ok(shown_at(text, Span { start: at, end: at }, 2, message))
+            Ok(shown_at(document, Span { start: at, end: at }, 2, message))
         }
         Issue::TooLarge => too_large(alloc),
     }
@@ -108,7 +175,8 @@ fn fault_shown(
 
 // It is shown from the start of the span to its end.
 fn shown_at(text: &TextDoc, span: Span, code: u8, message: Name) -> Shown
-    requires { IsWithin text.now span }
+    requires start { span.start ≤ length text.now }
+    requires end { span.end ≤ length text.now }
     ensures { IsShownAt text.now span.start span.end code message result }
 {
     Shown {

@@ -1,19 +1,25 @@
 //! The diagnostics of a document.
 //!
 //! Its model: a document is its text, and what it is told is a list of [`Shown`](lw_text::Shown), each
-//! with where it begins and ends, its code and its message. Which list a text has is defined in
-//! `specs/Diagnostics.antt` of `lw_scopes`: what is told of the tree of a text that is read whole in `specs/TreeDiagnostics.antt`
-//! there, and how a fault is shown in `specs/Faults.antt`.
+//! with where it begins and ends, its code and its message. Which diagnostics a document has that is read whole is defined in
+//! `specs/TreeDiagnostics.antt` of `lw_scopes`, over the trees of all documents, and how the fault of one that is not in
+//! `specs/Faults.antt` there.
 //!
-//! It promises that [`diagnostics`] answers exactly that list. [`too_large`] is the one entry of a document
-//! that is not read, which a caller may know before it has the whole text. The one error of both calls is want
-//! of memory. What a command line prints of a document and what an editor is told of it both come from here.
+//! [`diagnostics`] is given the tree of a document, its symbols, where each of its references leads (`lw_link`), the index of what all
+//! documents export, and the types of the grammar. It promises exactly the list that the definition says, for all trees and addresses
+//! that the index stands for. [`issue_diagnostic`] shows the one fault of a text that is broken, and [`too_large`] is the one entry of
+//! a document that is not read, which a caller may know before it has the whole text. The one error of all calls is want of memory.
+//! What a command line prints of a document and what an editor is told of it both come from here.
 #![tactic(auto)]
 
 mod document;
+mod duplicates;
+mod numbers;
+mod rivals;
 mod sorting;
+mod unresolved;
 
-pub use document::{diagnostics, too_large};
+pub use document::{diagnostics, diagnostics_alone, issue_diagnostic, too_large};
 
 #[cfg(test)]
 mod tests;

@@ -1,14 +1,25 @@
-// What is told of a tree, before it is shown.
-ghost use Rattle.std.specs.Prelude.{◌≡◌, [], IfOk, OnOk};
-ghost use Rattle.lw_findings.specs.Finding.{Finds, OfSome};
-ghost use Rattle.lw_scopes.specs.TreeDiagnostics.{AreDiagnosticsOf, out_of_range};
-ghost use Rattle.lw_check.specs.Sorting.{IsDiagnosticOfValue, TellAll, diagnostics_of, diagnostic_of};
+// What is told of a document, before it is shown.
+ghost use Rattle.std.specs.Prelude.{◌≡◌, ◌<◌, [], IfOk, length};
+ghost use Rattle.lw_findings.specs.Finding.{Finds};
+ghost use Rattle.lw_grammar.specs.declared.grammar.Grammar.{Grammar};
+ghost use Rattle.lw_outwards.specs.Known.{HasKnownTypes};
+ghost use Rattle.lw_symbols.specs.Locals.{AreLocalsOf};
+ghost use Rattle.lw_types.specs.Inferred.{AreTypesOf};
+ghost use Rattle.lw_check.specs.Sorting.{diagnostic_of, diagnostics_of};
+ghost use Rattle.lw_check.specs.Telling.{AreTold, IsTold};
 
-use lw_base::{Name, NoMemory, Span};
-use lw_tree::{Tree, Value};
+use crate::duplicates::tell_duplicates;
+use crate::numbers::tell_numbers;
+use crate::rivals::tell_rivals;
+use crate::unresolved::tell_unresolved;
+use lw_base::{DocId, Name, NoMemory, Span};
+use lw_index::{Answer, Index};
+use lw_symbols::Locals;
+use lw_tree::Tree;
+use lw_types::Types;
 use std::alloc::Global;
 
-/// A diagnostic of a tree, its parts in the order in which they are compared. Places are byte offsets.
+/// A diagnostic of a document, its parts in the order in which they are compared. Places are byte offsets.
 #[derive(Drop, PartialEq, Eq, PartialOrd, Ord)]
 pub(crate) struct KeyedDiagnostic {
     pub(crate) start: u32,
@@ -17,52 +28,62 @@ pub(crate) struct KeyedDiagnostic {
     pub(crate) message: Name,
 }
 
-/// What is told of a tree, in its order, each once. It takes time linear in the values of the tree, and n log n for n diagnostics.
+/// The diagnostic of this code and message at a place.
+pub(crate) fn keyed(span: Span, code: u8, message: Name) -> KeyedDiagnostic
+    ensures { diagnostic_of result ≡ record { span = span; code = code; message = message } }
+{
+    KeyedDiagnostic {
+        start: span.start,
+        code,
+        end: span.end,
+        message,
+    }
+}
+
+/// What is told of a document, in its order, each once.
 pub(crate) fn sorted_diagnostics(
     alloc: Global,
     tree: &Tree,
+    locals: &Locals,
+    answers: &[Answer],
+    doc: DocId,
+    index: &Index,
+    types: &Types,
 ) -> Result<Vec<KeyedDiagnostic>, NoMemory>
-    ensures { IfOk result (λ diagnostics. AreDiagnosticsOf tree.now (diagnostics_of diagnostics.items)) }
+    requires root { 0 < length tree.now.nodes }
+    requires locals { AreLocalsOf tree.now locals.now }
+    requires count { length answers.now ≡ length tree.now.refs }
+    requires known { (g : Grammar) × AreTypesOf g types.now × HasKnownTypes g tree.now }
+    ensures { (g : Grammar) → AreTypesOf g types.now →
+        IfOk result (λ diagnostics. AreTold g tree.now answers.now doc.0 index.now (diagnostics_of diagnostics.items)) }
 {
-    let mut diagnostics = all_diagnostics(alloc, tree)?;
+    let mut diagnostics = all_diagnostics(alloc, tree, locals, answers, doc, index, types)?;
     diagnostics.sort_unstable();
     diagnostics.dedup();
     Ok(diagnostics)
 }
 
-/// What is told of a tree, value by value.
-fn all_diagnostics(alloc: Global, tree: &Tree) -> Result<Vec<KeyedDiagnostic>, NoMemory>
-    ensures { IfOk result (λ diagnostics. TellAll tree.now diagnostics.items) }
+/// What is told of a document, code by code.
+fn all_diagnostics(
+    alloc: Global,
+    tree: &Tree,
+    locals: &Locals,
+    answers: &[Answer],
+    doc: DocId,
+    index: &Index,
+    types: &Types,
+) -> Result<Vec<KeyedDiagnostic>, NoMemory>
+    requires root { 0 < length tree.now.nodes }
+    requires locals { AreLocalsOf tree.now locals.now }
+    requires count { length answers.now ≡ length tree.now.refs }
+    requires known { (g : Grammar) × AreTypesOf g types.now × HasKnownTypes g tree.now }
+    ensures { (g : Grammar) → AreTypesOf g types.now →
+        IfOk result (λ diagnostics. Finds (IsTold g tree.now answers.now doc.0 index.now) [] (diagnostics_of diagnostics.items)) }
 {
     let mut diagnostics = Vec::new(alloc);
-    for value in tree.all_values() {
-        diagnose(alloc, value, &mut diagnostics)?;
-    }
+    tell_unresolved(alloc, tree, answers, types, &mut diagnostics)?;
+    tell_duplicates(alloc, tree, locals, types, &mut diagnostics)?;
+    tell_rivals(alloc, tree, doc, index, types, &mut diagnostics)?;
+    tell_numbers(alloc, tree, &mut diagnostics)?;
     Ok(diagnostics)
-}
-
-/// Tells a number that is out of range.
-fn diagnose(
-    alloc: Global,
-    value: &Value,
-    diagnostics: &mut Vec<KeyedDiagnostic>,
-) -> Result<(), NoMemory>
-    ensures { OnOk result (Finds (IsDiagnosticOfValue value.now) (diagnostics_of diagnostics.old.items) (diagnostics_of diagnostics.new.items)) }
-{
-    match value {
-        Value::Huge(span) => Ok(diagnostics.push(out_of_range(alloc, *span)?)?),
-        _ => Ok(()),
-    }
-}
-
-/// That a number is out of range.
-fn out_of_range(alloc: Global, span: Span) -> Result<KeyedDiagnostic, NoMemory>
-    ensures { IfOk result (λ diagnostic. diagnostic_of diagnostic ≡ out_of_range span) }
-{
-    Ok(KeyedDiagnostic {
-        start: span.start,
-        code: 6,
-        end: span.end,
-        message: Name::from_text(alloc, "Number is out of range.")?,
-    })
 }

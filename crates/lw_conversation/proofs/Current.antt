@@ -9,6 +9,7 @@ use Rattle.lw_rpc.specs.declared.reply.Reply.{Reply}
 use Rattle.lw_text.specs.Changes.{AreMade, Changes, made}
 use Rattle.lw_text.specs.declared.change.Change.{Change}
 use Rattle.lw_text.specs.declared.units.Encoding.TheVariants.{Utf16}
+use Rattle.lw_reading.specs.Laws.{IsReadOneWay}
 use Rattle.lw_machine.specs.Documents.{Documents}
 use Rattle.lw_machine.specs.Events.{put, edited}
 use Rattle.lw_machine.specs.Events as event
@@ -24,9 +25,9 @@ use Rattle.lw_conversation.specs.Answered.{Answered, stops, passes}
 use Rattle.lw_conversation.specs.Sessions.{Handles, Serves, unbuilt, built, waits, ends, goes_on}
 use Rattle.lw_conversation.specs.declared.ended.Ended.{Ended}
 
-module _ (g : Grammar) where
+module _ (g : Grammar) (one_way : IsReadOneWay g) where
   put_valid : (m : Documents) (address text : List ℕ) (version : _) (is_open : _) → IsValid g m → IsValid g (put m address text version is_open)
-  put_valid m address text version is_open valid = stays_valid g m (put m address text version is_open) [] valid (event.puts address text version is_open)
+  put_valid m address text version is_open valid = stays_valid g one_way m (put m address text version is_open) [] valid (event.puts address text version is_open)
 
   texts_valid : (m : Documents) (files : List (List ℕ × List ℕ)) → IsValid g m → IsValid g (with_texts m files)
   texts_valid m [] valid = valid
@@ -47,13 +48,13 @@ module _ (g : Grammar) where
   editing_valid m address version changes n replies (bad_range here fault) valid = valid
   editing_valid m address version changes n replies (editing.too_long here fault) valid = valid
   editing_valid m address version changes n replies (editing.edits {d = d} {text = t} here does) valid =
-      stays_valid g m (insert m address (edited d t version)) [] valid (event.edits address d changes version here.held (are_made d.text t changes does))
+      stays_valid g one_way m (insert m address (edited d t version)) [] valid (event.edits address d changes version here.held (are_made d.text t changes does))
 
   effect_valid : (m : Documents) (message : Message) (found : List Found) (n : Documents) (replies : List Reply) → TakesEffect g m message found n replies →
       IsValid g m → IsValid g n
   effect_valid m message found n replies (opens {address = a} {text = t} {version = v} does) valid = opening_valid m a v t n replies does valid
   effect_valid m message found n replies (effects.edits {address = a} {version = v} {changes = c} does) valid = editing_valid m a v c n replies does valid
-  effect_valid m message found n replies (asks p reply builds replied) valid = end_is_valid g m n p valid builds
+  effect_valid m message found n replies (asks p reply builds replied) valid = end_is_valid g one_way m n p valid builds
 
   pub answered_valid : (s : Standing) (m : Message) (found : List Found) (t : Standing) (replies : List Reply) (ended : Ended) →
       Answered g s m found t replies ended → IsValid g s.documents → IsValid g t.documents
@@ -73,7 +74,7 @@ module _ (g : Grammar) where
   }
   handled s m found t replies ended (built {t = u} {replies = r} {n = n} {published = p} answered since builds) kept =
       let valid = answered_valid s m found u r ended answered kept.valid in
-      record { valid = end_is_valid g u.documents n p valid builds; current = λ _. end_is_current g u.documents n p valid builds }
+      record { valid = end_is_valid g one_way u.documents n p valid builds; current = λ _. end_is_current g one_way u.documents n p valid builds }
 
   served : (s t : Standing) (bodies : List (List ℕ)) (found : List (List Found)) (replies : List Reply) (ended : Ended) → Serves g s bodies found t replies ended →
       IsKept s → IsKept t

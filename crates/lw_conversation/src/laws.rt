@@ -16,11 +16,11 @@ pub fn one_outcome()
         Serves g s bodies found t p e → Serves g s bodies found u q f → (t ≡ u) × (p ≡ q) × (e ≡ f) }
 {}
 
-/// Whatever texts were put before and whatever bodies come, what holds of documents at every moment holds behind each body, and once `initialize` was
-/// answered with a result nothing is left to do for any document.
+/// By a grammar by which a text is read in one way, whatever texts were put before and whatever bodies come, what holds of documents at every moment
+/// holds behind each body, and once `initialize` was answered with a result nothing is left to do for any document.
 pub fn sessions_stay_current()
-    ensures valid { (g : Grammar) (files : List (List ℕ × List ℕ)) (bodies : List (List ℕ)) (found : List (List Found)) (t : Standing) (replies : List Reply)
-        (ended : Ended) → Serves g (beginning files) bodies found t replies ended → IsValid g t.documents }
-    ensures current { (g : Grammar) (files : List (List ℕ × List ℕ)) (bodies : List (List ℕ)) (found : List (List Found)) (t : Standing) (replies : List Reply)
-        (ended : Ended) → Serves g (beginning files) bodies found t replies ended → t.phase.initialized ≡ true → AreCurrent g t.documents }
+    ensures valid { (g : Grammar) → IsReadOneWay g → (files : List (List ℕ × List ℕ)) (bodies : List (List ℕ)) (found : List (List Found)) (t : Standing)
+        (replies : List Reply) (ended : Ended) → Serves g (beginning files) bodies found t replies ended → IsValid g t.documents }
+    ensures current { (g : Grammar) → IsReadOneWay g → (files : List (List ℕ × List ℕ)) (bodies : List (List ℕ)) (found : List (List Found)) (t : Standing)
+        (replies : List Reply) (ended : Ended) → Serves g (beginning files) bodies found t replies ended → t.phase.initialized ≡ true → AreCurrent g t.documents }
 {}

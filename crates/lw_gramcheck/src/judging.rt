@@ -2,25 +2,25 @@
 ghost use Rattle.std.specs.Prelude.{◌≡◌, ◌≢◌, ◌≤◌, [], IfErr, IfOk, OnOk};
 ghost use Rattle.lw_gramcheck.specs.declared.fault.JudgeFault.TheVariants.{Faults};
 ghost use Rattle.lw_grammar.specs.Size.{size};
-ghost use Rattle.lw_faults.specs.Faults.{AreCheckFaults};
-ghost use Rattle.lw_types.specs.Inferred.{CausesNoTypes, HasNoTypeFault};
+ghost use Rattle.lw_types.specs.Inferred.{AreTypesOf, HasNoTypeFault};
 ghost use Rattle.lw_gramcheck.specs.Judging.{IsFaultless, CausesNoUse};
 
 use crate::checking::check;
 use crate::fault::JudgeFault;
 use lw_base::Items;
 use lw_grammar::{Grammar, GrammarFault};
-use lw_types::{TypeFaults, infer};
+use lw_types::{TypeFaults, Types, infer};
 use std::alloc::Global;
 
-/// Looks for faults of a grammar, and answers all of the first phase that has any.
-pub fn judge(alloc: Global, g: &Grammar) -> Result<(), JudgeFault>
+/// The types of a grammar in which nothing is wrong, or all faults of the first phase that has any.
+pub fn judge(alloc: Global, g: &Grammar) -> Result<Types, JudgeFault>
     requires { size g.now ≤ 65535 }
+    ensures types { IfOk result (AreTypesOf g.now) }
     ensures faultless { OnOk result (IsFaultless g.now) }
     ensures faults { IfErr result (CausesNoUse g.now) }
 {
-    match check_inferred(alloc, g) {
-        Ok(found) => none_of(found),
+    match infer(alloc, g) {
+        Ok(types) => checked(alloc, g, types),
         Err(TypeFaults::Faults(found)) => Err(JudgeFault::Faults(found)),
         Err(TypeFaults::NoMemory) => Err(JudgeFault::NoMemory),
     }
@@ -37,16 +37,27 @@ fn none_of(found: Items<GrammarFault>) -> Result<(), JudgeFault>
     Err(JudgeFault::Faults(found))
 }
 
-/// The faults of the second phase, where the first has none.
-fn check_inferred(alloc: Global, g: &Grammar) -> Result<Items<GrammarFault>, TypeFaults>
-    requires { size g.now ≤ 65535 }
-    ensures checks { IfOk result (AreCheckFaults g.now) }
-    ensures none { OnOk result (HasNoTypeFault g.now) }
-    ensures types { IfErr result (CausesNoTypes g.now) }
+/// The types, where the second phase has no fault either, else all of its faults.
+fn checked(alloc: Global, g: &Grammar, types: Types) -> Result<Types, JudgeFault>
+    requires types { AreTypesOf g.now types }
+    requires none { HasNoTypeFault g.now }
+    ensures types { IfOk result (AreTypesOf g.now) }
+    ensures faultless { OnOk result (IsFaultless g.now) }
+    ensures faults { IfErr result (CausesNoUse g.now) }
 {
-    let types = infer(alloc, g)?;
-    match check(alloc, g, &types) {
-        Ok(found) => Ok(found),
-        Err(_) => Err(TypeFaults::NoMemory),
+    match passes(alloc, g, &types) {
+        Ok(()) => Ok(types),
+        Err(fault) => Err(fault),
     }
+}
+
+/// That the second phase has no fault, where the first has none.
+fn passes(alloc: Global, g: &Grammar, types: &Types) -> Result<(), JudgeFault>
+    requires types { AreTypesOf g.now types.now }
+    requires none { HasNoTypeFault g.now }
+    ensures faultless { OnOk result (IsFaultless g.now) }
+    ensures faults { IfErr result (CausesNoUse g.now) }
+{
+    let found = check(alloc, g, types)?;
+    none_of(found)
 }

@@ -1,5 +1,5 @@
 -- A grammar that has a set of tokens, and what is made of it.
-use Rattle.std.proofs.Common.{◌≡◌, ◌+◌, ◌≤◌, ℕ, List, [], ◌∷◌, Result, Ok, Err, IfOk, length, sum_by, sym, subst, arith}
+use Rattle.std.proofs.Common.{◌≡◌, ◌+◌, ◌≤◌, ℕ, List, [], ◌∷◌, Option, Result, Ok, Err, IfOk, IfErr, length, sum_by, refl, sym, ap, ◌∙◌, subst, arith}
 use Rattle.std.proofs.lemmas.List.Elements.{All-weaker}
 use Rattle.std.proofs.lemmas.List.Sums.{sum_by-cons}
 use Rattle.lw_grammar.specs.declared.grammar.Grammar.{Grammar}
@@ -13,10 +13,14 @@ use Rattle.lw_terminals.specs.TokenKinds.{TokenKinds}
 use Rattle.lw_token_sets.specs.TokenSets.{IsTokenSetOf, HasTokens}
 use Rattle.lw_token_sets.proofs.Unlisted.{taken_unlisted}
 use Rattle.lw_token_sets.specs.Taken.{HasTaken}
-use Rattle.lw_lang.specs.Compiled.{HasSoundTokens, HasTables, IsClear}
+use Rattle.lw_lang.specs.Compiled.{HasSoundTokens, HasTables, IsClear, GrammarCauses, CountsPatterns}
 use Rattle.lw_lang.specs.Language.{LanguageView}
+use Rattle.lw_lang.specs.declared.fault.CompileFault.{CompileFault}
+use Rattle.lw_lang.specs.declared.fault.CompileFault.TheVariants.{NoMemory}
 use Rattle.lw_lang.specs.Prepared.{IsPrepared}
 use Rattle.lw_parse.specs.Parsers.{ParserParts, ParsesFaultless}
+use Rattle.lw_types.specs.Inferred.{AreTypesOf}
+use Rattle.lw_types.specs.declared.types.Types.{Types}
 
 -- ---- a grammar with a set of tokens has tokens
 
@@ -41,8 +45,8 @@ module _ (g : Grammar) (row : KindRow) (are : AreKindRowOf g row) where
     pub sound_tokens : HasSoundTokens g
     sound_tokens = record { faultless = faultless; tokens = has_tokens [] tokens is }
 
-    pub is_prepared : (k : ℕ) (parser : ParserParts) → ParsesFaultless g is.of k parser → IsPrepared g tokens parser
-    is_prepared k parser parses = record { of = is.of; kinds = is.are; lexicon = is.lexicon; texts = is.texts; depth = k; parses = parses }
+    pub is_prepared : (types : Types) → AreTypesOf g types → (k : ℕ) (parser : ParserParts) → ParsesFaultless g is.of k parser → IsPrepared g types tokens parser
+    is_prepared types typed k parser parses = record { typed = typed; of = is.of; kinds = is.are; lexicon = is.lexicon; texts = is.texts; depth = k; parses = parses }
 
     pub is_clear : (k : ℕ) → HasTables g k → IsClear g k
     is_clear k tables = record { sound = sound_tokens; tables = tables }
@@ -65,3 +69,16 @@ few g fits =
     let rules = each_counts (λ (rule : Rule). element_size rule.body) g.rules in
     let terminals = each_counts (λ (terminal : Terminal). term_size terminal.body) g.terminals in
     omega (arith, rules, terminals, fits)
+
+-- ---- want of memory
+
+refused_so : (r : Result LanguageView CompileFault) (fault : CompileFault) → r ≡ Err fault → fault ≡ NoMemory → r ≡ Err NoMemory
+refused_so r fault is want = is ∙ ap (λ (f : CompileFault). Err f) want
+
+pub want_causes : (g : Grammar) (texts : List (List ℕ)) (k : ℕ) (refused : Option (List ℕ)) (r : Result LanguageView CompileFault) (fault : CompileFault) → r ≡ Err fault →
+    fault ≡ NoMemory → IfErr r (GrammarCauses g texts k refused)
+want_causes g texts k refused r fault is want =
+    subst (λ (r : Result LanguageView CompileFault). IfErr r (GrammarCauses g texts k refused)) (sym (refused_so r fault is want)) tt
+
+pub want_counts : (count : ℕ) (r : Result LanguageView CompileFault) (fault : CompileFault) → r ≡ Err fault → fault ≡ NoMemory → CountsPatterns count count r
+want_counts count r fault is want = subst (λ (r : Result LanguageView CompileFault). CountsPatterns count count r) (sym (refused_so r fault is want)) refl

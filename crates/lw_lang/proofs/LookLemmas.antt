@@ -1,7 +1,6 @@
 -- What tables need to know of rules, and what is known of a grammar by them.
 use Rattle.std.proofs.Common.{◌≡◌, ℕ, zero, suc, List, [], ◌∷◌, Bool, true, false, Some, inl, inr, ◌⊎◌, slice_get, refl, subst}
 use Rattle.lw_grammar.specs.declared.grammar.Grammar.{Grammar}
-use Rattle.lw_grammar.specs.declared.rule.Rule.{Rule}
 use Rattle.lw_grammar.specs.Nodes.{MakesNodes}
 use Rattle.lw_grammar.specs.Kinds.{Kinds, AreKinds}
 use Rattle.lw_look.specs.Looks.{IsLL}

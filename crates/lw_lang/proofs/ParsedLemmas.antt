@@ -1,24 +1,21 @@
 -- What the tokens of a text read as, from what the parser answers.
-use Rattle.std.proofs.Common.{◌≡◌, if◌then◌else◌, ℕ, zero, suc, ◌+◌, ◌<◌, ◌≤◌, ◌⊎◌, inl, inr, List, [], ◌∷◌, ◌++◌, Some, None, Bool, true, false, not, length, map, take, drop, filter, slice_get, All, Result, Ok, Err, IfOk, refl, sym, ap, ◌∙◌, subst, arith, length-append}
+use Rattle.std.proofs.Common.{◌≡◌, if◌then◌else◌, ℕ, zero, suc, ◌+◌, ◌<◌, List, [], ◌∷◌, ◌++◌, Some, Bool, true, false, not, length, take, drop, slice_get, All, refl, sym, ap, ◌∙◌, subst, arith, length-append}
 use Rattle.std.proofs.lemmas.List.{map-append, length-map}
 use Rattle.std.proofs.lemmas.List.Elements.{All-head, All-tail, filter-append}
 use Rattle.std.proofs.lemmas.Option.{none-some, same_Some}
-use Rattle.lw_base.specs.declared.limits.TheConstants.{LONGEST_DOCUMENT}
 use Rattle.lw_base.specs.declared.token.Token.{Token}
 use Rattle.lw_grammar.specs.declared.grammar.Grammar.{Grammar}
 use Rattle.lw_grammar.specs.Kinds.{Kinds, kind_count}
 use Rattle.lw_grammar.specs.KindTexts.{texts_of}
-use Rattle.lw_sentences.specs.Sentences.{IsWhole, Starts}
+use Rattle.lw_sentences.specs.Sentences.{Starts}
 use Rattle.lw_lexer.specs.TokenPlaces.{IsTokenPlace}
-use Rattle.lw_parse.specs.declared.fault.ParseFault.{ParseFault}
-use Rattle.lw_parse.specs.declared.fault.ParseFault.TheVariants as fault
-use Rattle.lw_parse.specs.Outcomes.{IsOnlyTree, IsFirstImpossible, EndsShort, kinds_seen}
+use Rattle.lw_parse.specs.Outcomes.{IsOnlyTree, IsFirstImpossible, EndsShort}
 use Rattle.lw_parse.specs.Parsers.{ParserParts, AreOfKinds}
 use Rattle.lw_reading.specs.Reading as reading
 use Rattle.lw_reading.specs.Reading.{IsFirstUnexpected, EndsEarly, ReadsBy}
 use Rattle.lw_reading.specs.declared.parsed.Parsed.TheVariants.{Whole, Broken}
 use Rattle.lw_syntax.specs.PlacesWithin.{IsWithin}
-use Rattle.lw_tokens.specs.Cut.{visible, kinds}
+use Rattle.lw_tokens.specs.Cut.{visible}
 use Rattle.lw_tokens.specs.Lexicon.{Lexicon, IsLexicon, HasForm}
 use Rattle.lw_tree.specs.Parts.{Parts}
 use Rattle.lw_tree.specs.declared.issue.Issue.TheVariants.{Syntax, End}

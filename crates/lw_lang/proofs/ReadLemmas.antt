@@ -12,7 +12,8 @@ use Rattle.lw_reading.specs.declared.parsed.Parsed.TheVariants.{Broken}
 use Rattle.lw_reading.specs.Reading.{Reads, ReadsBy}
 use Rattle.lw_reading.specs.Reading as reading
 use Rattle.lw_syntax.specs.PlacesWithin.{IsWithin}
-use Rattle.lw_lang.specs.Language.{LanguageView, IfBroken, IsNamed}
+use Rattle.lw_lang.specs.Language.{LanguageView}
+use Rattle.lw_reading.specs.Issues.{IfBroken, IsNamed}
 use Rattle.lw_lang.specs.Parsing.{CanParse}
 use Rattle.lw_lang.specs.Ready.{seen_as, IsLanguageReady}
 use Rattle.lw_lang.specs.declared.language.Language.TheInside.{Inside}

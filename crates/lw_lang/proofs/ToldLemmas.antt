@@ -1,11 +1,10 @@
 -- Why a grammar has no set of tokens, as it is told: the cause, and what becomes of the patterns.
-use Rattle.std.proofs.Common.{◌≡◌, ℕ, List, [], Option, Ok, Err, Result, IfErr, refl, sym, subst}
+use Rattle.std.proofs.Common.{◌≡◌, ℕ, List, Option, Ok, Err, Result, IfErr, sym, subst}
 use Rattle.lw_grammar.specs.declared.grammar.Grammar.{Grammar}
 use Rattle.lw_grammar.specs.Kinds.{Kinds, AreKinds}
 use Rattle.lw_gramcheck.specs.Judging.{IsFaultless}
 use Rattle.lw_kinds.specs.Rows.{KindRow, AreKindRowOf}
 use Rattle.lw_token_sets.specs.declared.fault.TermFault.{TermFault}
-use Rattle.lw_token_sets.specs.declared.fault.TermFault.TheVariants.{NoMemory}
 use Rattle.lw_token_sets.specs.TokenSets as token
 use Rattle.lw_token_sets.proofs.Unlisted.{causes_unlisted}
 use Rattle.lw_lookahead.specs.Conflicts.{CausesNoTables}

@@ -1,5 +1,5 @@
 -- A terminal stands in the text of its file, and is told by its number.
-use Rattle.std.proofs.Common.{◌≡◌, ℕ, ◌+◌, ◌-◌, List, [], ◌∷◌, Some, All, length, slice_get, refl, arith}
+use Rattle.std.proofs.Common.{◌≡◌, ℕ, ◌-◌, List, [], ◌∷◌, Some, length, slice_get, refl, arith}
 use Rattle.std.proofs.lemmas.List.Elements.{All-contains, All-head, All-nil, All-cons}
 use Rattle.lw_base.specs.declared.numbers.RuleId.{RuleId}
 use Rattle.lw_grammar.specs.declared.grammar.Grammar.{Grammar}

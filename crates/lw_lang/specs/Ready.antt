@@ -7,4 +7,4 @@ abbrev pub seen_as : Inside → LanguageView
 seen_as l = record { grammar = l.grammar; texts = l.tokens.texts }
 
 abbrev pub IsLanguageReady : Inside → Type 0
-IsLanguageReady l = IsPrepared l.grammar l.tokens l.parser
+IsLanguageReady l = IsPrepared l.grammar l.types l.tokens l.parser

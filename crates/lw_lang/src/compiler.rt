@@ -16,6 +16,7 @@ ghost use Rattle.lw_grammar.specs.Kinds.{Kinds, AreKinds};
 ghost use Rattle.lw_lexicon.specs.Known.{IsKnownLexicon};
 ghost use Rattle.lw_lang.specs.ToldTerms.{CanBeTold, IsToldOr};
 ghost use Rattle.lw_lang.specs.ToldLooks.{CanLookBeTold, IsLookToldOr};
+ghost use Rattle.lw_types.specs.Inferred.{AreTypesOf};
 ghost use Rattle.lw_grammar.specs.KindTexts.{AreKindTexts};
 ghost use Rattle.lw_grammar.specs.Size.{size};
 
@@ -34,6 +35,7 @@ use lw_lookahead::{LookFault, Tables, tables};
 use lw_parse::Parser;
 use lw_terminals::TokenSet;
 use lw_token_sets::{NumberedKinds, TermFault, token_set};
+use lw_types::Types;
 use std::alloc::Global;
 
 /// Loads the root file of a grammar with all that it imports, and makes the grammar ready. `k` is how many
@@ -94,7 +96,7 @@ fn build<P: Patterns>(
     ensures last { KeepsPatterns (P.last_refused patterns.old) (P.last_refused patterns.new) result }
 {
     match judge_files(alloc, &grammar, texts) {
-        Ok(()) => build_faultless(alloc, grammar, texts, k, patterns),
+        Ok(types) => build_faultless(alloc, grammar, types, texts, k, patterns),
         Err(fault) => Err(fault),
     }
 }
@@ -103,11 +105,13 @@ fn build<P: Patterns>(
 fn build_faultless<P: Patterns>(
     alloc: Global,
     grammar: Grammar,
+    types: Types,
     texts: &[Name],
     k: u8,
     patterns: &mut P,
 ) -> Result<Language, CompileFault>
     requires faultless { IsFaultless grammar }
+    requires typed { AreTypesOf grammar types }
     requires fits { size grammar ≤ LARGEST_GRAMMAR }
     requires stand { Stands texts.now grammar }
     requires formed { IsWellFormed grammar }
@@ -129,7 +133,7 @@ fn build_faultless<P: Patterns>(
         &numbered.kinds,
         patterns,
     ) {
-        Ok(tokens) => build_sound(alloc, grammar, texts, k, &numbered, tokens),
+        Ok(tokens) => build_sound(alloc, grammar, types, texts, k, &numbered, tokens),
         Err(fault) => Err(fault_of(grammar, texts, fault)),
     }
 }
@@ -150,12 +154,14 @@ fn fault_of(grammar: Grammar, texts: &[Name], fault: TermFault) -> CompileFault
 fn build_sound(
     alloc: Global,
     grammar: Grammar,
+    types: Types,
     texts: &[Name],
     k: u8,
     numbered: &NumberedKinds,
     tokens: TokenSet,
 ) -> Result<Language, CompileFault>
     requires faultless { IsFaultless grammar }
+    requires typed { AreTypesOf grammar types }
     requires fits { size grammar ≤ LARGEST_GRAMMAR }
     requires stand { Stands texts.now grammar }
     requires formed { IsWellFormed grammar }
@@ -169,7 +175,7 @@ fn build_sound(
     ensures fault { IfErr result (IsBehindTokens grammar texts.now k) }
 {
     match tables(alloc, lexicon(&grammar, numbered), k as usize) {
-        Ok(tables) => language_of(alloc, grammar, k, numbered, tokens, tables),
+        Ok(tables) => language_of(alloc, grammar, types, k, numbered, tokens, tables),
         Err(fault) => Err(look_fault_of(grammar, texts, k, fault)),
     }
 }
@@ -208,12 +214,14 @@ fn look_fault_of(grammar: Grammar, texts: &[Name], k: u8, fault: LookFault) -> C
 fn language_of(
     alloc: Global,
     grammar: Grammar,
+    types: Types,
     k: u8,
     numbered: &NumberedKinds,
     tokens: TokenSet,
     tables: Tables,
 ) -> Result<Language, CompileFault>
     requires faultless { IsFaultless grammar }
+    requires typed { AreTypesOf grammar types }
     requires fits { size grammar ≤ LARGEST_GRAMMAR }
     requires most { k ≤ 3 }
     requires formed { IsWellFormed grammar }
@@ -228,7 +236,7 @@ fn language_of(
     ensures fault { IfErr result (λ fault. fault ≡ no_memory) }
 {
     match parser_of(alloc, &grammar, k, numbered, tables) {
-        Ok(parser) => Ok(Language::new(grammar, tokens, parser)),
+        Ok(parser) => Ok(Language::new(grammar, types, tokens, parser)),
         Err(NoMemory) => Err(CompileFault::NoMemory),
     }
 }

@@ -1,9 +1,10 @@
 // What is wrong with a grammar, told by the texts of its files.
-ghost use Rattle.std.specs.Prelude.{◌≤◌, ◌<◌, IfErr, OnOk, length};
+ghost use Rattle.std.specs.Prelude.{◌≤◌, ◌<◌, IfErr, IfOk, OnOk, length};
 ghost use Rattle.lw_grammar.specs.Size.{size};
 ghost use Rattle.lw_gramcheck.specs.Judging.{IsFaultless, AreFirstFaults};
 ghost use Rattle.lw_load.specs.declared.limits.TheConstants.{LARGEST_GRAMMAR};
 ghost use Rattle.lw_load.specs.Standing.{Stands};
+ghost use Rattle.lw_types.specs.Inferred.{AreTypesOf};
 ghost use Rattle.lw_lang.specs.Judged.{IsJudged};
 
 use crate::fault::CompileFault;
@@ -11,18 +12,20 @@ use lw_base::{Name, NoMemory};
 use lw_gramcheck::{JudgeFault, judge};
 use lw_grammar::{Grammar, GrammarFault};
 use lw_told::told_faults;
+use lw_types::Types;
 use std::alloc::Global;
 
-/// Looks for faults of a grammar, the texts of whose files are these.
-pub(crate) fn judge_files(alloc: Global, g: &Grammar, texts: &[Name]) -> Result<(), CompileFault>
+/// The types of a grammar in which nothing is wrong, or its faults, told by the texts of its files, which are these.
+pub(crate) fn judge_files(alloc: Global, g: &Grammar, texts: &[Name]) -> Result<Types, CompileFault>
     requires fits { size g.now ≤ LARGEST_GRAMMAR }
     requires root { 0 < length g.now.files }
     requires stand { Stands texts.now g.now }
+    ensures types { IfOk result (AreTypesOf g.now) }
     ensures faultless { OnOk result (IsFaultless g.now) }
     ensures faults { IfErr result (IsJudged g.now texts.now) }
 {
     match judge(alloc, g) {
-        Ok(()) => Ok(()),
+        Ok(types) => Ok(types),
         Err(JudgeFault::Faults(found)) => Err(told(alloc, g, texts, found.as_slice())),
         Err(JudgeFault::NoMemory) => Err(CompileFault::NoMemory),
     }

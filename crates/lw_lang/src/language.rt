@@ -1,22 +1,26 @@
 // A language: what a grammar was made into, and reading by it.
-ghost use Rattle.std.specs.Prelude.{◌≡◌, ◌≤◌, ◌<◌, IfOk, Some, length, slice_get};
+ghost use Rattle.std.specs.Prelude.{ℕ, ◌≡◌, ◌≤◌, ◌<◌, IfOk, Some, length, slice_get};
 ghost use Rattle.lw_base.specs.declared.limits.TheConstants.{LONGEST_DOCUMENT};
 ghost use Rattle.lw_grammar.specs.declared.grammar.Grammar.{Grammar};
-ghost use Rattle.lw_grammar.specs.Kinds.{Kinds};
+ghost use Rattle.lw_grammar.specs.Kinds.{AreKinds, Kinds};
 ghost use Rattle.lw_grammar.specs.KindTexts.{AreKindTexts, texts_of};
 ghost use Rattle.lw_reading.specs.Reading.{Reads, ReadsBy};
-ghost use Rattle.lw_tokens.specs.Lexicon.{Lexicon};
+ghost use Rattle.lw_parse.specs.Parsers.{TellWays, table_parts};
+ghost use Rattle.lw_tokens.specs.Lexicon.{IsLexicon, Lexicon};
+ghost use Rattle.lw_types.specs.Inferred.{AreTypesOf};
 ghost use Rattle.lw_rooted.specs.Within.{StandsInText};
-ghost use Rattle.lw_lang.specs.Language.{IfBroken, IfWhole, IsNamed, IsIssueWithin};
+ghost use Rattle.lw_reading.specs.Issues.{IfBroken, IfWhole, IsNamed, IsIssueWithin};
 ghost use Rattle.lw_lang.specs.Parsing.{CanParse};
 ghost use Rattle.lw_lang.specs.Prepared.{IsPrepared};
 
 use lw_base::{KindId, LONGEST_DOCUMENT, Name, NoMemory, Token};
 use lw_grammar::Grammar;
 use lw_lexer::{LexFault, lex};
+use lw_lookahead::Tables;
 use lw_parse::{ParseFault, Parser};
 use lw_reading::{Issue, Parsed};
 use lw_terminals::TokenSet;
+use lw_types::Types;
 use std::alloc::Global;
 use std::marker::Model;
 
@@ -25,6 +29,7 @@ use std::marker::Model;
 #[derive(Drop)]
 pub struct Language {
     grammar: Grammar,
+    types: Types,
     tokens: TokenSet,
     parser: Parser,
 }
@@ -50,12 +55,13 @@ impl Model for Language {
 
 impl Language {
     // The language of a grammar, by its kinds and what its texts are parsed by.
-    pub(crate) fn new(grammar: Grammar, tokens: TokenSet, parser: Parser) -> Language
-        requires { IsPrepared grammar tokens parser }
+    pub(crate) fn new(grammar: Grammar, types: Types, tokens: TokenSet, parser: Parser) -> Language
+        requires { IsPrepared grammar types tokens parser }
         ensures { result ≡ record { grammar = grammar; texts = tokens.texts } }
     {
         Language {
             grammar,
+            types,
             tokens,
             parser,
         }
@@ -66,6 +72,29 @@ impl Language {
         ensures { result.now ≡ self.now.grammar }
     {
         &self.grammar
+    }
+
+    /// Its types.
+    pub fn types(&self) -> &Types
+        ensures { AreTypesOf self.now.grammar result.now }
+    {
+        &self.types
+    }
+
+    /// By what its texts are cut into tokens.
+    pub fn tokens(&self) -> &TokenSet
+        ensures texts { result.now.texts ≡ self.now.texts }
+        ensures named { AreKindTexts self.now.grammar result.now.texts }
+        ensures lexicon { (kinds : Kinds) × AreKinds self.now.grammar kinds × IsLexicon self.now.grammar kinds result.now.lexicon }
+    {
+        &self.tokens
+    }
+
+    /// By what the next kinds of a text choose a way.
+    pub fn look(&self) -> &Tables
+        ensures { (kinds : Kinds) × AreKinds self.now.grammar kinds × (k : ℕ) × TellWays self.now.grammar kinds k (table_parts result.now) }
+    {
+        self.parser.tables()
     }
 
     /// How messages name a kind: a keyword in single quotes, a terminal by its name.

@@ -1,6 +1,6 @@
 // What texts read as: the tree of each, or the place of its one fault. Worked by hand.
 ghost use Rattle.std.specs.Prelude.{◌<◌, length};
-ghost use Rattle.lw_lang.specs.Language.{IsNamed};
+ghost use Rattle.lw_reading.specs.Issues.{IsNamed};
 
 use crate::{Issue, Language, Parsed, compile};
 use lw_base::{Name, NoMemory, NodeId, Span};

@@ -7,4 +7,6 @@ pub mod Validity
 pub mod Contents
 pub mod OneBuild
 pub mod News
+pub mod Decisions
+pub mod Settled
 pub mod HasEnd

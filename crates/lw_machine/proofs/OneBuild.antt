@@ -5,8 +5,8 @@ use Rattle.lw_grammar.specs.declared.grammar.Grammar.{Grammar}
 use Rattle.lw_text.specs.declared.shown.Shown.{Shown}
 use Rattle.lw_reading.specs.Laws.{IsReadOneWay}
 use Rattle.lw_machine.specs.declared.published.Published.{Published}
-use Rattle.lw_scopes.specs.Diagnostics.{Texts, AreDiagnostics}
-use Rattle.lw_scopes.specs.Links.{AreLinks}
+use Rattle.lw_scopes.specs.Diagnostics.{AreDiagnostics}
+use Rattle.lw_scopes.specs.Links.{Texts, AreLinks}
 use Rattle.lw_scopes.proofs.OneList.{one_list, one_list_of_links}
 use Rattle.lw_machine.specs.Documents.{Document, Documents, IsBuilt, rank, shown_texts}
 use Rattle.lw_machine.specs.Settling.{Differ, Agree, Settles, SettlesAt, IsSettled, links_differ, list_differs, list_agrees, links_agree, not_linked}
@@ -29,7 +29,7 @@ one_published address d list p q (other apart) (other also) = refl
 module _ (g : Grammar) (one_way : IsReadOneWay g) where
   module _ (before after : Texts) (address : List ℕ) where
     links : {A : Type 0} → Differ (AreLinks g before address) (AreLinks g after address) → Agree (AreLinks g before address) (AreLinks g after address) → A
-    links = never_both _ _ (one_list_of_links g before address) (one_list_of_links g after address)
+    links = never_both _ _ (one_list_of_links g one_way before address) (one_list_of_links g one_way after address)
 
     lists : {A : Type 0} → Differ (AreDiagnostics g before address) (AreDiagnostics g after address) →
         Agree (AreDiagnostics g before address) (AreDiagnostics g after address) → A

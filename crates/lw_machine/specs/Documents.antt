@@ -1,11 +1,11 @@
 -- A document, and the documents of a workspace by address.
 -- Held against Langium's document lifecycle, "Document states".
-use Rattle.std.specs.Prelude.{ℕ, ℤ, ◌≡◌, List, Bool, Option, Some, option_and_then}
+use Rattle.std.specs.Prelude.{ℕ, ℤ, ◌≡◌, List, Bool, Option, Some, option_and_then, option_map}
 use Rattle.std.specs.Cmp.Lexicographic.{slice_cmp}
 use Rattle.std.specs.FinMap.{FinMap, get}
 use Rattle.std.specs.Ordering.{nat_cmp}
 use Rattle.lw_text.specs.declared.shown.Shown.{Shown}
-use Rattle.lw_scopes.specs.Diagnostics.{Texts}
+use Rattle.lw_scopes.specs.Links.{Texts}
 use Rattle.lw_machine.specs.declared.state.State.{State}
 use Rattle.lw_machine.specs.declared.state.State.TheVariants.{Changed, Parsed, IndexedContent, ComputedScopes, Linked, IndexedReferences, Validated}
 
@@ -26,6 +26,10 @@ Documents = FinMap (slice_cmp nat_cmp) Document
 -- the shown text at each address
 abbrev pub shown_texts : Documents → Texts
 shown_texts m address = option_and_then (λ d. d.shown) (get m address)
+
+-- the present text at each address
+abbrev pub present_texts : Documents → Texts
+present_texts m address = option_map (λ d. d.text) (get m address)
 
 -- the place of a state in their order
 abbrev pub rank : State → ℕ

@@ -6,7 +6,7 @@ ghost use Rattle.lw_machine.specs.Building.{Builds, BuildsToEnd, IsNext};
 ghost use Rattle.lw_machine.specs.Documents.{Document, Documents, IsBuilt};
 ghost use Rattle.lw_machine.specs.Events.{Happens};
 ghost use Rattle.lw_machine.specs.Laws.{AreNews, Chain, GoesOn, most_steps};
-ghost use Rattle.lw_machine.specs.Validity.{AreCurrent, HaveLists, HaveSameContent, IsValid};
+ghost use Rattle.lw_machine.specs.Validity.{AreCurrent, HaveLinksAndLists, HaveSameContent, IsValid};
 ghost use Rattle.lw_machine.specs.declared.state.State.TheVariants.{Validated};
 ghost use Rattle.lw_reading.specs.Laws.{IsReadOneWay};
 ghost use Rattle.lw_machine.specs.declared.published.Published.{Published};
@@ -16,9 +16,10 @@ pub fn build_goes_on()
     ensures { (m : Documents) → GoesOn m }
 {}
 
-/// Where a document is not validated and each text has a list of diagnostics, a step can be taken: that of the document that is next.
+/// Where a document is not validated, and each document has links and a list of diagnostics whichever texts are shown, a step can be taken: that of
+/// the document that is next.
 pub fn a_step_can_be_taken()
-    ensures { (g : Grammar) (m : Documents) → IsValid g m → HaveLists g m → (address : List ℕ) (d : Document) → get m address ≡ Some d → d.state ≢ Validated →
+    ensures { (g : Grammar) (m : Documents) → IsValid g m → HaveLinksAndLists g m → (address : List ℕ) (d : Document) → get m address ≡ Some d → d.state ≢ Validated →
         (first : List ℕ) × (e : Document) × IsNext m first e × ((n : Documents) × (published : List Published) × Builds g m n published) }
 {}
 
@@ -27,22 +28,23 @@ pub fn build_ends()
     ensures { (g : Grammar) (steps : ℕ) (m n : Documents) → Chain g steps m n → steps ≤ most_steps m }
 {}
 
-/// Where each text has a list of diagnostics, a build can be run to its end.
+/// Where each document has links and a list of diagnostics whichever texts are shown, a build can be run to its end.
 pub fn build_has_end()
-    ensures { (g : Grammar) (m : Documents) → IsValid g m → HaveLists g m → (n : Documents) × (published : List Published) × BuildsToEnd g m n published }
+    ensures { (g : Grammar) (m : Documents) → IsValid g m → HaveLinksAndLists g m → (n : Documents) × (published : List Published) × BuildsToEnd g m n published }
 {}
 
-/// What holds of the documents of a session at every moment: it holds of none, and each event keeps it.
+/// What holds of the documents of a session at every moment: it holds of none, and each event keeps it, by a grammar by which a text is read in one
+/// way.
 pub fn stays_valid()
     ensures begins { (g : Grammar) → IsValid g empty }
-    ensures stays { (g : Grammar) (m n : Documents) (published : List Published) → IsValid g m → Happens g m n published → IsValid g n }
+    ensures stays { (g : Grammar) → IsReadOneWay g → (m n : Documents) (published : List Published) → IsValid g m → Happens g m n published → IsValid g n }
 {}
 
-/// At the end of a build every document is validated, others see its present text, and its list, over the texts that are seen then, is the one that was
-/// published last. No address, text, version or open flag has changed.
+/// At the end of a build every document is validated. By a grammar by which a text is read in one way others see its present text, and its list, over
+/// the texts that are seen then, is the one that was published last. No address, text, version or open flag has changed.
 pub fn built()
     ensures built { (g : Grammar) (m n : Documents) (published : List Published) → BuildsToEnd g m n published → IsBuilt n }
-    ensures current { (g : Grammar) (m n : Documents) (published : List Published) → IsValid g m → BuildsToEnd g m n published → AreCurrent g n }
+    ensures current { (g : Grammar) → IsReadOneWay g → (m n : Documents) (published : List Published) → IsValid g m → BuildsToEnd g m n published → AreCurrent g n }
     ensures content { (g : Grammar) (m n : Documents) (published : List Published) → BuildsToEnd g m n published → HaveSameContent m n }
 {}
 

@@ -1,1 +1,4 @@
 pub mod Enclosed
+pub mod Typed
+pub mod OfTexts
+pub mod OneRoot

@@ -1,7 +1,7 @@
 -- A parser of a grammar: the grammar's program with all that is told of it, what becomes of what is read, the tables by which ways are
 -- chosen, and the entry rule.
 -- Held against the textbooks' predictive parser for strong LL(k).
-use Rattle.std.specs.Prelude.{ℕ, ◌≡◌, ◌<◌, List, Some, All, length, slice_get}
+use Rattle.std.specs.Prelude.{ℕ, ◌≡◌, ◌<◌, List, Some, All, length, map, slice_get}
 use Rattle.lw_base.specs.declared.token.Token.{Token}
 use Rattle.lw_grammar.specs.declared.grammar.Grammar.{Grammar}
 use Rattle.lw_grammar.specs.declared.fault.GrammarFault.{GrammarFault}
@@ -17,12 +17,17 @@ use Rattle.lw_heads.specs.declared.head.Head.{Head}
 use Rattle.lw_look.specs.Choices.{choice_sites}
 use Rattle.lw_look.specs.Sites.{PartSite}
 use Rattle.lw_lookahead.specs.Tables.{AreEntriesAt}
+use Rattle.lw_lookahead.specs.declared.kept.Tables.{Tables}
 use Rattle.lw_viable.specs.Fronts.{IsKnownProgram}
 
 -- for how many kinds tables are, and for each choice, by its number, heads, each with its way
 pub record TableParts : Type 0 where
   pub depth : ℕ
   pub ways : List (List (Head × ℕ))
+
+-- the parts of tables
+abbrev pub table_parts : Tables → TableParts
+table_parts tables = record { depth = tables.k; ways = map (λ point. point.entries) tables.points.items }
 
 -- a program, what is told of it, what becomes of what is read, the tables for windows of k kinds, and the number of the entry rule
 pub record ParserParts : Type 0 where

@@ -28,7 +28,7 @@ pub record RunState : Type 0 where
 abbrev pub state_of : Run → RunState
 state_of run = record {
   parser = run.parser.now;
-  unread = map (λ t. t.kind.0) run.unread.now;
+  unread = map (λ kind. kind.0) run.unread.now;
   to_do = reverse run.to_do.items;
   marks = run.marks.items;
 }

@@ -47,7 +47,7 @@ impl Run<'_> {
         ensures { IsStepBy (state_of self.now) (Some (Instr.Token kind)) result }
     {
         let next = self.unread.first()?;
-        if next.kind != kind {
+        if *next != kind {
             return None;
         }
         Some(Step {
@@ -117,7 +117,7 @@ impl Run<'_> {
     {
         let mut seen = Window::new();
         for place in 0..self.parser.depth() {
-            seen.push(self.unread.get(place).map(|token| token.kind));
+            seen.push(self.unread.get(place).copied());
         }
         seen
     }

@@ -19,7 +19,7 @@ ghost use Rattle.lw_tree.specs.Parts.{Tile};
 ghost use Rattle.lw_builder.specs.Built.{ArePartsOf, visible_of as shown};
 ghost use Rattle.lw_parse.specs.Marked.{MeanOnlySentence};
 ghost use Rattle.lw_parse.specs.Outcomes.{IsOnlyTree, IsParseFault, kinds_seen};
-ghost use Rattle.lw_parse.specs.Parsers.{AreOfKinds, IsParserOf, ParsesFaultless, TellWays};
+ghost use Rattle.lw_parse.specs.Parsers.{AreOfKinds, IsParserOf, ParsesFaultless, TellWays, table_parts};
 
 use crate::ParseFault;
 use crate::run::marks_of;
@@ -48,12 +48,12 @@ pub struct Parser {
 }
 
 impl Model for Parser {
-    ghost use Rattle.std.specs.Prelude.{◌≤◌, map};
-    ghost use Rattle.lw_parse.specs.Parsers.{ParserParts};
+    ghost use Rattle.std.specs.Prelude.{◌≤◌};
+    ghost use Rattle.lw_parse.specs.Parsers.{ParserParts, table_parts};
 
     ghost Value = { ParserParts };
 
-    ghost view = { λ a. record { program = a.program; begins = a.begins; recipes = a.recipes; tables = record { depth = a.tables.k; ways = map (λ point. point.entries) a.tables.points.items }; k = a.k; entry = a.entry.0 } };
+    ghost view = { λ a. record { program = a.program; begins = a.begins; recipes = a.recipes; tables = table_parts a.tables; k = a.k; entry = a.entry.0 } };
 
     ghost invariant = { λ a. a.k ≤ 3 };
 }
@@ -91,6 +91,13 @@ impl Parser {
         })
     }
 
+    /// By what the next kinds choose a way.
+    pub fn tables(&self) -> &Tables
+        ensures { table_parts result.now ≡ self.now.tables }
+    {
+        &self.tables
+    }
+
     /// The tree of the only sentence that the visible tokens of the text are, or the first fault.
     pub fn parse(&self, alloc: Global, text: &Name, tokens: Vec<Token>) -> Result<Tree, ParseFault>
         requires known { (g : Grammar) × (kinds : Kinds) × (k : ℕ) × ParsesFaultless g kinds k self.now × AreOfKinds kinds tokens.items }
@@ -118,8 +125,8 @@ impl Parser {
         ensures { (g : Grammar) (kinds : Kinds) (k : ℕ) → IsParserOf g kinds k self.now → IsSupplied g kinds →
             IfOk result (λ found. MatchOption found (¬ IsWhole g kinds (kinds_seen tokens.now)) (λ marks. MeanOnlySentence g kinds (kinds_seen tokens.now) marks.items)) }
     {
-        let visible = visible_of(alloc, tokens)?;
-        marks_of(alloc, self, visible.as_slice())
+        let seen = seen_of(alloc, tokens)?;
+        marks_of(alloc, self, seen.as_slice())
     }
 
     /// The first fault of tokens that are no sentence.
@@ -193,14 +200,14 @@ impl Parser {
     }
 }
 
-/// The tokens that are not hidden.
-fn visible_of(alloc: Global, tokens: &[Token]) -> Result<Vec<Token>, NoMemory>
-    ensures { IfOk result (λ visible. visible.items ≡ shown tokens.now) }
+/// The kinds of the tokens that are not hidden.
+fn seen_of(alloc: Global, tokens: &[Token]) -> Result<Vec<KindId>, NoMemory>
+    ensures { IfOk result (λ seen. seen.items ≡ map (λ t. t.kind) (shown tokens.now)) }
 {
-    let visible = tokens
+    let seen = tokens
         .iter()
         .filter(|token| !token.hidden)
-        .copied()
+        .map(|token| token.kind)
         .collect(alloc)?;
-    Ok(visible)
+    Ok(seen)
 }

@@ -12,15 +12,15 @@ ghost use Rattle.lw_parse.specs.Running.{state_of, went_on};
 
 use crate::Parser;
 use crate::turn::{Places, Step, Turn};
-use lw_base::{NoMemory, Token};
+use lw_base::{KindId, NoMemory};
 use lw_recipes::TreeMark;
 use std::alloc::Global;
 
-/// The visible tokens that are unread, the places that are still to be done, the first last, and the marks that were left.
+/// The kinds of the visible tokens that are unread, the places that are still to be done, the first last, and the marks that were left.
 #[derive(Drop)]
 pub(crate) struct Run<'p> {
     pub(crate) parser: &'p Parser,
-    pub(crate) unread: &'p [Token],
+    pub(crate) unread: &'p [KindId],
     pub(crate) to_do: Vec<u32>,
     pub(crate) marks: Vec<TreeMark>,
 }
@@ -104,30 +104,30 @@ impl Run<'_> {
     }
 }
 
-/// All tokens but the first.
-fn behind_first(tokens: &[Token]) -> &[Token]
-    ensures { result.now ≡ drop 1 tokens.now }
+/// All kinds but the first.
+fn behind_first(kinds: &[KindId]) -> &[KindId]
+    ensures { result.now ≡ drop 1 kinds.now }
 {
-    match tokens.split_first() {
-        None => tokens,
+    match kinds.split_first() {
+        None => kinds,
         Some((_, behind)) => behind,
     }
 }
 
-/// The marks of the sentence that these visible tokens are, if they are one. How many turns that takes is not proved; after 2^64 - 1 of them
+/// The marks of the sentence that tokens of these kinds are, if they are one. How many turns that takes is not proved; after 2^64 - 1 of them
 /// the answer is that memory is wanting, which no text comes to.
 pub(crate) fn marks_of<'p>(
     alloc: Global,
     parser: &'p Parser,
-    visible: &'p [Token],
+    seen: &'p [KindId],
 ) -> Result<Option<Vec<TreeMark>>, NoMemory>
     ensures { (g : Grammar) (kinds : Kinds) (k : ℕ) → IsParserOf g kinds k parser.now → IsSupplied g kinds →
-        IfOk result (λ found. MatchOption found (¬ IsWhole g kinds (map (λ t. t.kind.0) visible.now))
-        (λ marks. MeanOnlySentence g kinds (map (λ t. t.kind.0) visible.now) marks.items)) }
+        IfOk result (λ found. MatchOption found (¬ IsWhole g kinds (map (λ kind. kind.0) seen.now))
+        (λ marks. MeanOnlySentence g kinds (map (λ kind. kind.0) seen.now) marks.items)) }
 {
     let mut run = Run {
         parser,
-        unread: visible,
+        unread: seen,
         to_do: Vec::new(alloc),
         marks: Vec::new(alloc),
     };

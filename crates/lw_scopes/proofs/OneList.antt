@@ -1,29 +1,34 @@
 -- A document has one list of diagnostics, and its references have one list of links.
-use Rattle.std.proofs.Common.{◌≡◌, ℕ, List, [], ◌∷◌, Contains, AllPairs, refl, sym, ap, ap₂, ◌∙◌, subst, arith}
+use Rattle.std.proofs.Common.{◌≡◌, ℕ, List, [], ◌∷◌, Option, Some, refl, sym, ap, ap₂, ◌∙◌, subst, subst₂, arith}
 use Rattle.std.specs.List.{AllZip}
 use Rattle.std.specs.Cmp.Lexicographic.{slice_cmp}
 use Rattle.std.specs.Ordering.{nat_cmp, ordering_reverse}
 use Rattle.std.specs.declared.cmp.Ordering.TheVariants.{Less, Greater}
 use Rattle.std.proofs.lemmas.Cmp.{nat_list_cmp_total}
-use Rattle.lw_faults.proofs.Sorted.{same_list}
 use Rattle.std.proofs.lemmas.Option.{same_Some}
+use Rattle.lw_faults.proofs.Sorted.{same_list}
 use Rattle.lw_grammar.specs.declared.grammar.Grammar.{Grammar}
 use Rattle.lw_text.specs.declared.shown.Shown.{Shown}
 use Rattle.lw_text.specs.declared.units.Encoding.TheVariants.{Utf16}
 use Rattle.lw_text.proofs.Positions.{IsPositionIn-only}
 use Rattle.lw_tree.specs.declared.issue.Issue.{Issue}
-use Rattle.lw_tree.specs.declared.node.Value.{Value}
-use Rattle.lw_tree.specs.declared.node.Value.TheVariants.{Huge}
-use Rattle.lw_tree.specs.Parts.{Parts, SameTables}
+use Rattle.lw_tree.specs.Parts.{Parts}
+use Rattle.lw_reading.specs.Reading.{Reads}
 use Rattle.lw_reading.specs.declared.parsed.Parsed.TheVariants.{Whole, Broken}
 use Rattle.lw_reading.specs.Laws as law
 use Rattle.lw_reading.specs.Laws.{IsReadOneWay, IsSameReading}
 use Rattle.lw_reading.proofs.OneKinds.{one_kind_text}
 use Rattle.lw_reading.proofs.OneReading.{one_reading}
+use Rattle.lw_scoping.specs.Links.{Trees, Link}
+use Rattle.lw_scoping.proofs.Once as once
+use Rattle.lw_scoping.proofs.Tables.{same_links}
 use Rattle.lw_scopes.specs.Faults.{IsShownAt, IsFaultShown, lexical, syntax_, end_, too_large, unexpected}
-use Rattle.lw_scopes.specs.TreeDiagnostics.{Diagnostic, DiagnosticPrecedes, by_start, by_code, by_end, by_message, IsDiagnosticOf, number, AreDiagnosticsOf}
-use Rattle.lw_scopes.specs.Diagnostics.{Texts, IsDiagnosticShown, IsList, AreDiagnostics, whole, broken}
-use Rattle.lw_scopes.specs.Links.{Link, AreLinks}
+use Rattle.lw_scopes.specs.TreeDiagnostics.{Diagnostic, DiagnosticPrecedes, by_start, by_code, by_end, by_message, AreDiagnosticsOf}
+use Rattle.lw_scopes.specs.Diagnostics.{IsDiagnosticShown, IsList, AreDiagnostics, whole, broken}
+use Rattle.lw_scopes.specs.Links as of_text
+use Rattle.lw_scopes.specs.Links.{Texts, IsTreeOfText, AreTreesOfTexts, AreLinks, IsNumberBelow}
+use Rattle.lw_scopes.proofs.SameTables.{alike_trees, told_too}
+use Rattle.lw_scopes.proofs.SameTexts.{not_both, same_tables}
 
 one_shown : (text : List ℕ) (from to code : ℕ) (message other : List ℕ) (s r : Shown) → message ≡ other → IsShownAt text from to code message s →
     IsShownAt text from to code other r → s ≡ r
@@ -60,25 +65,6 @@ strictly one other (by_message _ a _) (by_code _ b) = omega (arith, a, b)
 strictly one other (by_message a _ _) (by_end _ _ b) = omega (arith, ap (λ s. s.end) a, b)
 strictly one other (by_message _ _ a) (by_message _ _ b) = messages_strict one.message other.message a b
 
--- what is told of a tree is told of every one with its tables
-also_told : (tree other : Parts) → SameTables tree other → (e : Diagnostic) → IsDiagnosticOf tree e → IsDiagnosticOf other e
-also_told tree other same e (number {s = s} node prop has) =
-    let P : List Value → Type 0 = λ vs. Contains vs (Huge s) in number node prop (subst P (same.values node prop) has)
-
-turned_round : (tree other : Parts) → SameTables tree other → SameTables other tree
-turned_round tree other same = record {
-  nodes = sym same.nodes;
-  values = λ n p. sym (same.values n p);
-  refs = sym same.refs;
-  tokens = sym same.tokens;
-  name = sym same.name;
-}
-
-one_list_of_diagnostics : (tree other : Parts) → SameTables tree other → (xs ys : List Diagnostic) → AreDiagnosticsOf tree xs → AreDiagnosticsOf other ys → xs ≡ ys
-one_list_of_diagnostics tree other same xs ys is was =
-    same_list DiagnosticPrecedes strictly xs ys is.ordered was.ordered (λ e has. (was.exact e).1 (also_told tree other same e ((is.exact e).0 has)))
-    (λ e has. (is.exact e).1 (also_told other tree (turned_round tree other same) e ((was.exact e).0 has)))
-
 -- diagnostics are shown in one way
 one_list_shown : (text : List ℕ) (diagnostics : List Diagnostic) (list other : List Shown) → AllZip (IsDiagnosticShown text) diagnostics list → AllZip (IsDiagnosticShown text) diagnostics other →
     list ≡ other
@@ -90,6 +76,9 @@ one_list_shown text (e ∷ es) (s ∷ ss) [] is was = absurd was
 one_list_shown text (e ∷ es) (s ∷ ss) (r ∷ rs) is was =
     ap₂ (λ x xs. x ∷ xs) (one_shown text e.span.start e.span.end e.code _ _ s r refl is.0 was.0) (one_list_shown text es ss rs is.1 was.1)
 
+same_issues : {issue other : Issue} → IsSameReading (Broken issue) (Broken other) → issue ≡ other
+same_issues law.broken = refl
+
 module _ (g : Grammar) where
   one_fault_shown : (text : List ℕ) (issue : Issue) (s r : Shown) → IsFaultShown g text issue s → IsFaultShown g text issue r → s ≡ r
   one_fault_shown text issue s r (lexical {s = at} is) (lexical was) = one_shown text at.start at.end 1 _ _ s r refl is was
@@ -98,38 +87,52 @@ module _ (g : Grammar) where
   one_fault_shown text issue s r (end_ {at = at} is) (end_ was) = one_shown text at at 2 _ _ s r refl is was
   one_fault_shown text issue s r too_large too_large = refl
 
-  module _ (one_way : IsReadOneWay g) where
-    same_trees : {tree other : Parts} → IsSameReading (Whole tree) (Whole other) → SameTables tree other
-    same_trees (law.whole same) = same
+  read_whole : (text : List ℕ) (tree : Parts) (o : Option (List ℕ)) (p : Option Parts) → IsTreeOfText g o p → o ≡ Some text → p ≡ Some tree → Reads g text (Whole tree)
+  read_whole text tree o p of_text.no_text there is = absurd (let no = there in cc)
+  read_whole text tree o p (of_text.whole {text = read} {tree = found} reads) there is =
+      subst₂ (λ t u. Reads g t (Whole u)) (same_Some read text there) (same_Some found tree is) reads
+  read_whole text tree o p (of_text.broken _) there is = absurd (let no = is in cc)
 
-    same_issues : {issue other : Issue} → IsSameReading (Broken issue) (Broken other) → issue ≡ other
-    same_issues law.broken = refl
+  module _ (one_way : IsReadOneWay g) (texts : Texts) (address : List ℕ) where
+    one_list_of_diagnostics : (trees others : Trees) (tree other : Parts) → AreTreesOfTexts g texts trees → AreTreesOfTexts g texts others →
+        trees address ≡ Some tree → others address ≡ Some other → (xs ys : List Diagnostic) → AreDiagnosticsOf g trees address tree xs →
+        AreDiagnosticsOf g others address other ys → xs ≡ ys
+    one_list_of_diagnostics trees others tree other are were is was xs ys told telling =
+        let all = same_tables g one_way texts trees others are were in
+        let back = same_tables g one_way texts others trees were are in
+        let forth = told_too g all back address (alike_trees (all address) is was) in
+        let again = told_too g back all address (alike_trees (back address) was is) in
+        same_list DiagnosticPrecedes strictly xs ys told.ordered telling.ordered (λ e has. (telling.exact e).1 (forth e ((told.exact e).0 has)))
+        (λ e has. (told.exact e).1 (again e ((telling.exact e).0 has)))
 
-    not_both : {tree : Parts} {issue : Issue} → IsSameReading (Whole tree) (Broken issue) → ⊥
-    not_both is = elim is [ ]
+    whole_and_broken : {A : Type 0} (text : List ℕ) (trees : Trees) (tree : Parts) (issue : Issue) → texts address ≡ Some text →
+        AreTreesOfTexts g texts trees → trees address ≡ Some tree → Reads g text (Broken issue) → A
+    whole_and_broken text trees tree issue there are is reads =
+        let whole_too = read_whole text tree (texts address) (trees address) (are address) there is in
+        absurd (not_both (one_reading g one_way text (Whole tree) (Broken issue) whole_too reads))
 
-    not_either : {tree : Parts} {issue : Issue} → IsSameReading (Broken issue) (Whole tree) → ⊥
-    not_either is = elim is [ ]
-
-    one_list_of : (text : List ℕ) (list other : List Shown) → IsList g text list → IsList g text other → list ≡ other
-    one_list_of text list other (whole {tree = a} {diagnostics = xs} reads are shown) (whole {tree = b} {diagnostics = ys} also were told) =
-        let same = one_list_of_diagnostics a b (same_trees (one_reading g one_way text (Whole a) (Whole b) reads also)) xs ys are were in
-        one_list_shown text ys list other (subst (λ es. AllZip (IsDiagnosticShown text) es list) same shown) told
-    one_list_of text list other (whole {tree = a} reads are shown) (broken {issue = issue} also is) =
-        absurd (not_both (one_reading g one_way text (Whole a) (Broken issue) reads also))
-    one_list_of text list other (broken {issue = issue} reads is) (whole {tree = b} also were told) =
-        absurd (not_either (one_reading g one_way text (Broken issue) (Whole b) reads also))
-    one_list_of text list other (broken {issue = issue} {shown = s} reads is) (broken {issue = found} {shown = r} also was) =
+    one_list_of : (text : List ℕ) → texts address ≡ Some text → (list other : List Shown) → IsList g texts address text list →
+        IsList g texts address text other → list ≡ other
+    one_list_of text there list other (whole {tree = a} {diagnostics = xs} trees are is told shown)
+        (whole {tree = b} {diagnostics = ys} others were was telling shown_too) =
+        let same = one_list_of_diagnostics trees others a b are were is was xs ys told telling in
+        one_list_shown text ys list other (subst (λ es. AllZip (IsDiagnosticShown text) es list) same shown) shown_too
+    one_list_of text there list other (whole {tree = a} trees are is told shown) (broken {issue = issue} reads says) =
+        whole_and_broken text trees a issue there are is reads
+    one_list_of text there list other (broken {issue = issue} reads says) (whole {tree = b} others were was telling shown) =
+        whole_and_broken text others b issue there were was reads
+    one_list_of text there list other (broken {issue = issue} {shown = s} reads is) (broken {issue = found} {shown = r} also was) =
         let same = same_issues (one_reading g one_way text (Broken issue) (Broken found) reads also) in
         ap (λ x. x ∷ []) (one_fault_shown text found s r (subst (λ x. IsFaultShown g text x s) same is) was)
 
     -- a document has one list
-    pub one_list : (texts : Texts) (address : List ℕ) (list other : List Shown) → AreDiagnostics g texts address list → AreDiagnostics g texts address other →
-        list ≡ other
-    one_list texts address list other is was =
+    pub one_list : (list other : List Shown) → AreDiagnostics g texts address list → AreDiagnostics g texts address other → list ≡ other
+    one_list list other is was =
         let same = same_Some is.text was.text (sym is.is_shown ∙ was.is_shown) in
-        one_list_of was.text list other (subst (λ t. IsList g t list) same is.is_list) was.is_list
+        one_list_of was.text was.is_shown list other (subst (λ t. IsList g texts address t list) same is.is_list) was.is_list
 
-  -- and its references have one list of links
-  pub one_list_of_links : (texts : Texts) (address : List ℕ) (links other : List Link) → AreLinks g texts address links → AreLinks g texts address other → links ≡ other
-  one_list_of_links texts address links other is was = is ∙ sym was
+    -- and its references have one list of links
+    pub one_list_of_links : (links other : List Link) → AreLinks g texts address links → AreLinks g texts address other → links ≡ other
+    one_list_of_links links other is was =
+        let all = same_tables g one_way texts is.trees was.trees is.are_trees was.are_trees in
+        once.one_list (IsNumberBelow g) was.trees address links other (same_links (IsNumberBelow g) all address links is.are_links) was.are_links

@@ -1,4 +1,6 @@
 pub mod Faults
+pub mod Links
 pub mod TreeDiagnostics
 pub mod Diagnostics
-pub mod Links
+pub mod Laws
+pub mod Worked

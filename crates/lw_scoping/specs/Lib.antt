@@ -2,5 +2,6 @@ pub mod Symbols
 pub mod Firsts
 pub mod Outward
 pub mod Links
+pub mod Doubles
 pub mod Alike
 pub mod Worked

@@ -6,7 +6,9 @@ use Rattle.std.specs.FinMap.{empty, get, get-empty, insert}
 use Rattle.lw_grammar.specs.declared.grammar.Grammar.{Grammar}
 use Rattle.lw_text.specs.declared.shown.Shown.{Shown}
 use Rattle.lw_machine.specs.declared.published.Published.{Published}
-use Rattle.lw_scopes.specs.Diagnostics.{Texts, AreDiagnostics, IsList}
+use Rattle.lw_scopes.specs.Diagnostics.{AreDiagnostics, IsListAlone, alone_at}
+use Rattle.lw_scopes.specs.Links.{Texts}
+use Rattle.lw_scopes.proofs.AloneAt.{alone_here, alone_elsewhere}
 use Rattle.lw_machine.specs.declared.state.State.{State}
 use Rattle.lw_machine.specs.declared.state.State.TheVariants.{Changed, Parsed, IndexedContent, ComputedScopes, Linked, IndexedReferences, Validated}
 use Rattle.lw_machine.specs.Building as building
@@ -48,6 +50,17 @@ module _ (address : List ℕ) where
       by other (inl same) = ap (get m) same ∙ alone.here ∙ sym (put_here empty address d) ∙ ap (get (only d)) (sym same)
       by other (inr apart) = alone.elsewhere other apart ∙ sym ((alone_first d).elsewhere other apart)
 
+  -- the shown texts are those of this document alone
+  alone_shown : (m : Documents) (d : Document) (text : List ℕ) → Alone m d → d.shown ≡ Some text → (other : List ℕ) → alone_at address text other ≡ shown_texts m other
+  alone_shown m d text alone shown other = by (one_or_two other address)
+    where
+      here : alone_at address text address ≡ shown_texts m address
+      here = alone_here address text ∙ sym shown ∙ sym (ap (option_and_then (λ (x : Document). x.shown)) alone.here)
+
+      by : (other ≡ address) ⊎ (other ≢ address) → alone_at address text other ≡ shown_texts m other
+      by (inl same) = subst (λ (a : List ℕ). alone_at address text a ≡ shown_texts m a) (sym same) here
+      by (inr apart) = alone_elsewhere address text other apart ∙ sym (ap (option_and_then (λ (x : Document). x.shown)) (alone.elsewhere other apart))
+
   first : (d e : Document) (other : List ℕ) → other ≡ address → d ≡ e → ComesFirst address d other e
   first d e other same is =
       building.by_address (ap (λ (x : Document). rank x.state) is)
@@ -75,7 +88,7 @@ module _ (address : List ℕ) where
           subst (λ (o : Option Document). SettlesAt g before (shown_texts m) other o o) (sym (alone.elsewhere other apart)) settling.none;
     }
 
-    pub builds : (m : Documents) (shown : Option (List ℕ)) (list : List Shown) (published : List Published) → Alone m (at Changed shown) → IsList g text list →
+    pub builds : (m : Documents) (shown : Option (List ℕ)) (list : List Shown) (published : List Published) → Alone m (at Changed shown) → IsListAlone g address text list →
         Publishes address (at IndexedReferences (Some text)) list published → BuildsToEnd g m (insert empty address (validated (at IndexedReferences (Some text)) list)) published
     builds m shown list published alone is_list publishes =
         let shown_text : Option (List ℕ) = Some text in
@@ -98,7 +111,7 @@ module _ (address : List ℕ) where
         let a5 = alone_again m4 d4 d5 a4 in
         let a6 = alone_again m5 d5 d6 a5 in
         let are : AreDiagnostics g (shown_texts m5) address list =
-        record { text = text; is_shown = ap (option_and_then (λ (x : Document). x.shown)) a5.here; is_list = is_list } in
+        subst (λ (texts : Texts). AreDiagnostics g texts address list) (λ i other. alone_shown m5 d5 text a5 refl other i) is_list in
         let by_end : BuildsToEnd g m m6 (published ++ []) =
         building.step (next m (at Changed shown) alone (lit< tt)) (building.rises (next m (at Changed shown) alone (lit< tt)) (λ same. cc) (λ same. cc))
         (building.step (next m1 d1 a1 (lit< tt)) (building.shows (next m1 d1 a1 (lit< tt)) refl (settled (shown_texts m1) m2 d2 a2))

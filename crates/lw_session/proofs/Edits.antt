@@ -8,7 +8,7 @@ use Rattle.lw_text.specs.Changes.{Changes}
 use Rattle.lw_text.specs.declared.change.Change.{Change}
 use Rattle.lw_text.specs.declared.change.EditFault.TheVariants.{BadRange, TooLong}
 use Rattle.lw_text.specs.declared.units.Encoding.TheVariants.{Utf16}
-use Rattle.lw_scopes.specs.Diagnostics.{IsList}
+use Rattle.lw_scopes.specs.Diagnostics.{IsListAlone}
 use Rattle.lw_machine.specs.Documents.{Document, Documents}
 use Rattle.lw_machine.specs.Events as event
 use Rattle.lw_machine.proofs.Places.{order}
@@ -50,7 +50,7 @@ is_unknown (Some h) address none = λ d held. absurd (let no = sym (held_elsewhe
 
 -- the text of the document that is held becomes another, which is built
 module _ (g : Grammar) (phase : Phase) (live : IsLive phase) (b h : Held) (changes : List Change) (same : b.id.address ≡ h.id.address)
-    (does : Changes Utf16 b.text changes (Ok h.text)) (is_list : IsList g h.text h.list) where
+    (does : Changes Utf16 b.text changes (Ok h.text)) (is_list : IsListAlone g h.id.address h.text h.list) where
   abbrev before : Documents
   before = documents_of (Some b)
 

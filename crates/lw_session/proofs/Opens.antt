@@ -6,7 +6,7 @@ use Rattle.lw_base.specs.declared.limits.TheConstants.{LONGEST_TEXT}
 use Rattle.lw_grammar.specs.declared.grammar.Grammar.{Grammar}
 use Rattle.lw_rpc.specs.declared.message.Message.TheVariants.{DidOpen}
 use Rattle.lw_rpc.specs.declared.reply.Reply.TheVariants.{Log}
-use Rattle.lw_scopes.specs.Diagnostics.{IsList}
+use Rattle.lw_scopes.specs.Diagnostics.{IsListAlone}
 use Rattle.lw_machine.specs.declared.published.Published.{Published}
 use Rattle.lw_machine.specs.declared.state.State.TheVariants.{Changed}
 use Rattle.lw_machine.specs.Documents.{Document, Documents, IsBuilt}
@@ -112,7 +112,7 @@ module _ (h : Held) where
   said = record { id = h.id; text = h.text }
 
   module _ (g : Grammar) (before : Option Held) (phase : Phase) (live : IsLive phase) (short : length h.text ≤ LONGEST_TEXT)
-      (free : ¬ (HoldsAnother before h.id.address)) (is_list : IsList g h.text h.list) where
+      (free : ¬ (HoldsAnother before h.id.address)) (is_list : IsListAlone g h.id.address h.text h.list) where
     abbrev Becomes : Told → Type 0
     Becomes told = Handles g (record { documents = documents_of before; phase = phase }) (opened_message said) []
         (record { documents = documents_of (Some h); phase = told.phase }) told.replies told.ended

@@ -4,7 +4,7 @@ use Rattle.std.specs.FinMap.{empty, insert}
 use Rattle.lw_grammar.specs.declared.grammar.Grammar.{Grammar}
 use Rattle.lw_rpc.specs.declared.message.Message.{Message}
 use Rattle.lw_text.specs.declared.shown.Shown.{Shown}
-use Rattle.lw_scopes.specs.Diagnostics.{IsList}
+use Rattle.lw_scopes.specs.Diagnostics.{IsListAlone}
 use Rattle.lw_machine.specs.Building.{Publishes}
 use Rattle.lw_machine.specs.Documents.{Document, Documents}
 use Rattle.lw_machine.specs.declared.published.Published.{Published}
@@ -59,7 +59,7 @@ pub record IsBuiltNext (g : Grammar) (phase : Phase) (before : Option Held) (id 
   pub put : next.put ≡ Some held
   pub same_id : held.id ≡ id
   pub same_text : held.text ≡ text
-  pub is_list : IsList g held.text held.list
+  pub is_list : IsListAlone g held.id.address held.text held.list
   pub told : IsListTold phase before held next.told
 
 -- the documents once one is put in the place of the one that is held, if any is put

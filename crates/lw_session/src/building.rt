@@ -4,8 +4,8 @@ ghost use Rattle.lw_session.specs.Keeping.{IsBuiltNext, IsListTold};
 
 use crate::held::{Held, Identifier, copied, has_published};
 use crate::lifecycle::{Told, keeps_silent, tells};
+use lw_alone::diagnostics;
 use lw_base::NoMemory;
-use lw_check::diagnostics;
 use lw_conversation::Phase;
 use lw_lang::Language;
 use lw_rpc::Reply;

@@ -1,7 +1,6 @@
 // The changes of a document: they are made all, or none, and the text that they leave is built.
-ghost use Rattle.std.specs.Prelude.{◌≡◌, ◌⊎◌, ◌++◌, ◌∷◌, [], Ok, Err, IfOk, IfErr, codes, decimal};
+ghost use Rattle.std.specs.Prelude.{◌≡◌, ◌++◌, ◌∷◌, [], IfOk, codes, decimal};
 ghost use Rattle.lw_rpc.specs.declared.reply.Reply.TheVariants as reply_;
-ghost use Rattle.lw_text.specs.Changes.{Changes};
 ghost use Rattle.lw_session.specs.Keeping.{documents_of, IsHandled};
 ghost use Rattle.lw_session.specs.Lifecycle.{IsLive, edited_message, telling};
 
@@ -12,7 +11,7 @@ use lw_base::{Name, NoMemory};
 use lw_conversation::Phase;
 use lw_lang::Language;
 use lw_rpc::Reply;
-use lw_text::{Change, EditFault, Encoding, TextDoc};
+use lw_text::{EditFault, Encoding};
 use std::alloc::Global;
 
 /// Changes the text of a document and builds it, in a session that is live.
@@ -31,7 +30,7 @@ pub(crate) fn edit(
         let told = log(alloc, phase, "unknown document: ", &id.address)?;
         return Ok(Next { told, put: None });
     };
-    match changed(alloc, &held.text, changes.as_slice()) {
+    match held.text.edited(alloc, changes.as_slice(), Encoding::Utf16) {
         Ok(text) => build(alloc, language, document, phase, id, text),
         Err(EditFault::BadRange(number)) => {
             let told = log_bad_range(alloc, phase, number, &id.address)?;
@@ -43,20 +42,6 @@ pub(crate) fn edit(
         }
         Err(EditFault::NoMemory) => Err(NoMemory),
     }
-}
-
-/// What the changes make of the text, which itself stays as it is.
-fn changed(alloc: Global, text: &TextDoc, changes: &[Change]) -> Result<TextDoc, EditFault>
-    ensures made { IfOk result (λ doc. Changes Encoding.Utf16 text.now changes.now (Ok doc)) }
-    ensures fault { IfErr result (λ fault. (fault ≡ EditFault.NoMemory) ⊎ Changes Encoding.Utf16 text.now changes.now (Err fault)) }
-{
-    let copy = text.text(alloc)?;
-    let Ok(mut doc) = TextDoc::new(alloc, copy) else {
-        // A text that is held is not too long.
-        return Err(EditFault::NoMemory);
-    };
-    doc.apply(alloc, changes, Encoding::Utf16)?;
-    Ok(doc)
 }
 
 /// A line for the log is told: a change, by its number, has a range that ends before it starts.

@@ -12,7 +12,7 @@
 //!
 //! How it is made: `lifecycle` decides a message by the two facts of a session alone; `opening` puts a
 //! text, `editing` makes the changes of one, and `building` computes the diagnostics of the new text
-//! (`lw_check`) and tells them; nothing of the session changes before all replies are there as bytes
+//! (`lw_alone`) and tells them; nothing of the session changes before all replies are there as bytes
 //! (`texts`). The session holds one document, which is always built (`held`,
 //! `specs/Keeping.antt`), so the six steps that the machine takes from its new text to its last state are
 //! one computation here (`proofs/Alone.antt`).

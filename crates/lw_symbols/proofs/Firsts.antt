@@ -1,8 +1,6 @@
 -- The first symbol of a node is the least of those that are looked up.
 use Rattle.std.proofs.Common.{ℕ, ◌≡◌, ◌+◌, ◌≤◌, true, List, [], Option, Some, None, Contains, length, slice_get, refl, sym, ap, subst, ◌∙◌, arith}
-use Rattle.std.specs.FinSet.{FinSet, contains}
 use Rattle.std.specs.Option.{is_some, option_map}
-use Rattle.std.specs.Ordering.{nat_cmp}
 use Rattle.std.proofs.lemmas.Option.{same_Some}
 use Rattle.lw_base.specs.declared.numbers.NodeId.{NodeId}
 use Rattle.lw_tree.specs.declared.node.Node.{Node}
@@ -11,18 +9,18 @@ use Rattle.lw_scoping.specs.Firsts.{IsFirstIn, found, none}
 use Rattle.lw_scoping.specs.Symbols.{is_named_node, child_numbers, locals, IsNamedOf}
 use Rattle.lw_symbols.specs.declared.symbol.Symbol.{Symbol}
 use Rattle.lw_symbols.specs.Hashes.{name_hash}
-use Rattle.lw_symbols.specs.Least.{IsCalled, IsInGroup, IsLeastNode, IsWanted, least, absent}
+use Rattle.lw_symbols.specs.Least.{IsCalled, IsInGroup, IsLeastSymbol, IsWantedSymbol, least, absent}
 use Rattle.lw_symbols.specs.Symbols.{AreSymbolsOf, IsSymbolOf}
 use Rattle.lw_symbols.proofs.Children.{child_in, in_children}
 use Rattle.lw_symbols.proofs.Filtered.{kept, kept_from, numbered, of_number}
 use Rattle.lw_symbols.proofs.Rising.{first_least, named_rise}
 
-module _ (tree : Parts) (n : ℕ) (name : List ℕ) (fits : FinSet nat_cmp) where
+module _ (tree : Parts) (n : ℕ) (name : List ℕ) (wanted : ℕ → Type 0) where
   abbrev Fits : ℕ → Type 0
-  Fits = IsNamedOf tree name (λ type. contains fits type ≡ true)
+  Fits = IsNamedOf tree name wanted
 
   abbrev Passes : Symbol → Type 0
-  Passes s = IsInGroup n (name_hash name) s × IsWanted tree name fits s
+  Passes s = IsInGroup n (name_hash name) s × IsWantedSymbol tree name wanted s
 
   -- the symbol that a node is
   abbrev symbol_for : ℕ → ℕ → Symbol
@@ -57,14 +55,14 @@ module _ (tree : Parts) (n : ℕ) (name : List ℕ) (fits : FinSet nat_cmp) wher
       kept (is_named_node tree) (child_numbers tree n) s.node.0 (numbered (children_of n tree.nodes) s.node child)
       (named_here s called)
 
-  fits_here : (s : Symbol) → IsSymbolOf tree s → IsWanted tree name fits s → Fits s.node.0
+  fits_here : (s : Symbol) → IsSymbolOf tree s → IsWantedSymbol tree name wanted s → Fits s.node.0
   fits_here s is (called, want) = (
     s.type_id.0,
     record { span = called.0; named = called.1; node = is.node; there = is.there; typed = λ i. (is.typed i).0 },
     want,
   )
 
-  pub first_of_least : (symbols : List Symbol) → AreSymbolsOf tree symbols → (result : Option NodeId) → IsLeastNode Passes symbols result →
+  pub first_of_least : (symbols : List Symbol) → AreSymbolsOf tree symbols → (result : Option NodeId) → IsLeastSymbol Passes symbols result →
       IsFirstIn Fits (locals tree n) (option_map (λ (k : NodeId). k.0) result)
   first_of_least symbols are result (least {n = k} s same has (group, want) up) =
       let is = (are.exact s).0 has in

@@ -4,7 +4,7 @@ use Rattle.std.specs.Prelude.{if◌then◌else◌}
 use Rattle.std.proofs.lemmas.Bool.Decides.{nat_tests}
 use Rattle.lw_base.specs.declared.numbers.NodeId.{NodeId}
 use Rattle.lw_symbols.specs.declared.symbol.Symbol.{Symbol}
-use Rattle.lw_symbols.specs.Least.{IsLeastNode, least, absent, lesser_node}
+use Rattle.lw_symbols.specs.Least.{IsLeastSymbol, least, absent, lesser_node}
 
 le_true : (a b : ℕ) → nat_le a b ≡ true → a ≤ b
 le_true a b is = grind (arith, nat_tests)
@@ -12,8 +12,8 @@ le_true a b is = grind (arith, nat_tests)
 le_false : (a b : ℕ) → nat_le a b ≡ false → b ≤ a
 le_false a b is = grind (arith, nat_tests)
 
-pub least_same : {passes all : Symbol → Type 0} {symbols : List Symbol} {found : Option NodeId} → IsLeastNode passes symbols found →
-    ((s : Symbol) → passes s → all s) → ((s : Symbol) → Contains symbols s → all s → passes s) → IsLeastNode all symbols found
+pub least_same : {passes all : Symbol → Type 0} {symbols : List Symbol} {found : Option NodeId} → IsLeastSymbol passes symbols found →
+    ((s : Symbol) → passes s → all s) → ((s : Symbol) → Contains symbols s → all s → passes s) → IsLeastSymbol all symbols found
 least_same (least s is has does up) forth back = least s is has (forth s does) (λ other there fits. up other there (back other there fits))
 least_same (absent misses) forth back = absent (λ s has fits. misses s has (back s has fits))
 
@@ -31,10 +31,10 @@ at_most n k m x le le' up up' (inr fits) = omega (arith, le', up' fits)
 
 module _ (passes others all : Symbol → Type 0) (symbols : List Symbol) (one : (s : Symbol) → passes s → all s) (other : (s : Symbol) → others s → all s)
     (either : (s : Symbol) → Contains symbols s → all s → passes s ⊎ others s) where
-  pub least_of_both : (a b : Option NodeId) → IsLeastNode passes symbols a → IsLeastNode others symbols b → IsLeastNode all symbols (lesser_node a b)
+  pub least_of_both : (a b : Option NodeId) → IsLeastSymbol passes symbols a → IsLeastSymbol others symbols b → IsLeastSymbol all symbols (lesser_node a b)
   least_of_both a b (least {n} s is has does up) (least {n = k} t was there fits up') = by (nat_le n.0 k.0) refl
     where
-      by : (b : Bool) → nat_le n.0 k.0 ≡ b → IsLeastNode all symbols (if b then Some n else Some k)
+      by : (b : Bool) → nat_le n.0 k.0 ≡ b → IsLeastSymbol all symbols (if b then Some n else Some k)
       by true le =
           least s is has (one s does)
           (λ x within passing. at_most n.0 k.0 n.0 x.node.0 (omega arith) (le_true n.0 k.0 le) (up x within) (up' x within) (either x within passing))

@@ -7,6 +7,7 @@ pub mod Sorting
 pub mod Filtered
 pub mod Table
 pub mod Wanted
+pub mod Typed
 pub mod Firsts
 pub mod Levels
 pub mod Listing

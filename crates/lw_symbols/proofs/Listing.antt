@@ -11,7 +11,7 @@ use Rattle.lw_tree.specs.declared.node.Node.{Node}
 use Rattle.lw_tree.specs.Parts.{Parts, name_of}
 use Rattle.lw_symbols.specs.declared.symbol.Symbol.{Symbol}
 use Rattle.lw_symbols.specs.Hashes.{name_hash}
-use Rattle.lw_symbols.specs.Symbols.{AreAmongFirst, AreSymbolsOf, IsInOrder, IsSymbolOf}
+use Rattle.lw_symbols.specs.Symbols.{AreAmongFirst, AreSymbolsOf, AreSymbolsSorted, IsSymbolOf}
 
 module _ (tree : Parts) where
   -- a node is one symbol
@@ -26,12 +26,6 @@ module _ (tree : Parts) where
       (same_Some {A = List ℕ × Span} (is.name, is.span) (was.name, was.span) (sym is.named ∙ ap (name_of tree) same ∙ was.named)) in
       let hash : s.hash ≡ t.hash = is.hashed ∙ ap name_hash name ∙ sym was.hashed in
       λ i. record { container = container i; hash = hash i; type_id = type_ i; node = record { 0 = same i } }
-
-  pub none_among : (symbols : List Symbol) → symbols ≡ [] → AreAmongFirst tree 0 symbols
-  none_among symbols is s = (
-    λ has. absurd (omega (arith, has.1, ap length is)),
-    λ both. absurd (omega (arith, both.0)),
-  )
 
   pub one_more : (k : ℕ) (symbols : List Symbol) (s : Symbol) → AreAmongFirst tree k symbols → s.node ≡ record { 0 = k } → IsSymbolOf tree s →
       AreAmongFirst tree (k + 1) (symbols ++ s ∷ [])
@@ -64,7 +58,7 @@ module _ (tree : Parts) where
     ],
   )
 
-  pub all_listed : (list symbols : List Symbol) → AreAmongFirst tree (length tree.nodes) list → IsInOrder symbols → IsPermutation list symbols → AreSymbolsOf tree symbols
+  pub all_listed : (list symbols : List Symbol) → AreAmongFirst tree (length tree.nodes) list → AreSymbolsSorted symbols → IsPermutation list symbols → AreSymbolsOf tree symbols
   all_listed list symbols are ordered moved = record {
     ordered = ordered;
     exact = λ s. (

@@ -4,7 +4,7 @@ use Rattle.std.specs.Ordering.{ordering_then}
 use Rattle.std.specs.List.Sorted.{IsPartitionedBy}
 use Rattle.std.proofs.lemmas.Bool.Decides.{nat_tests}
 use Rattle.lw_symbols.specs.declared.symbol.Symbol.{Symbol}
-use Rattle.lw_symbols.specs.Symbols.{StandsUpTo, IsInOrder}
+use Rattle.lw_symbols.specs.Symbols.{StandsUpTo, AreSymbolsSorted}
 use Rattle.lw_symbols.specs.Runs.{before_type}
 
 -- ---- the test on numbers
@@ -39,7 +39,7 @@ up_to_before container hash low one other up is =
     (λ e. omega (arith, e, up.container, up.hash, h.0, h.1))
     (λ e f. omega (arith, e, f, up.container, up.hash, up.type_, h.0, h.1, h.2))
 
-pub parted : (container hash low : ℕ) (symbols : List Symbol) → IsInOrder symbols → IsPartitionedBy (before_type container hash low) symbols
+pub parted : (container hash low : ℕ) (symbols : List Symbol) → AreSymbolsSorted symbols → IsPartitionedBy (before_type container hash low) symbols
 parted container hash low symbols ordered i j d le lt is =
     up_to_before container hash low (get_or symbols i d) (get_or symbols j d) (ordered i j d le lt) is
 

@@ -1,6 +1,7 @@
 -- Lists whose numbers ascend, and their first number that passes.
-use Rattle.std.proofs.Common.{ℕ, zero, suc, ◌≡◌, ◌+◌, ◌≤◌, ◌<◌, Bool, true, false, cond, List, [], ◌∷◌, Some, Contains, map, filter, slice_get, ap, ◌∙◌, arith}
+use Rattle.std.proofs.Common.{ℕ, zero, suc, ◌≡◌, ◌+◌, ◌≤◌, ◌<◌, Bool, true, false, cond, List, [], ◌∷◌, Some, Contains, map, filter, slice_get, sym, inl, inr, ap, ◌∙◌, arith}
 use Rattle.std.specs.Prelude.{if◌then◌else◌}
+use Rattle.std.proofs.lemmas.Bool.{cases_lt}
 use Rattle.std.proofs.lemmas.Option.{same_Some, slice_get-get_or}
 use Rattle.lw_scoping.proofs.Places.{among}
 use Rattle.lw_base.specs.declared.numbers.NodeId.{NodeId}
@@ -61,3 +62,17 @@ pub first_least : {passes : ℕ → Type 0} {low : ℕ} (ks : List ℕ) (x : ℕ
 first_least {passes} ks x rises (i, inside, is) does least =
     let at : slice_get ks i ≡ Some x = slice_get-get_or ks i x inside ∙ ap Some is in
     (i, record { there = at; does = does; none_before = λ j y lt was fits. omega (arith, apart ks j i y x rises lt was at, least y (among ks j y was) fits) })
+
+-- the first that passes is the least
+pub least_first : {passes : ℕ → Type 0} {low : ℕ} (ks : List ℕ) (i x : ℕ) → Rises low ks → IsFirst passes ks i x → (y : ℕ) → Contains ks y → passes y → x ≤ y
+least_first {low = low} ks i x rises first y (j, inside, is) does =
+    let at : slice_get ks j ≡ Some y = slice_get-get_or ks j y inside ∙ ap Some is in
+    elim (cases_lt j i) [
+      | inl lt ↦ absurd (first.none_before j y lt at does)
+      | inr ge ↦ elim (cases_lt i j) [
+        | inl gt ↦ omega (arith, apart {low = low} ks i j x y rises gt first.there at)
+        | inr le ↦
+            let same : i ≡ j = omega (arith, ge, le) in
+            omega (arith, same_Some x y (sym first.there ∙ ap (λ (k : ℕ). slice_get ks k) same ∙ at))
+      ]
+    ]

@@ -5,20 +5,20 @@ use Rattle.std.proofs.lemmas.Option.{same_Some, slice_get-get_or, slice_get_with
 use Rattle.lw_tree.specs.Parts.{Parts}
 use Rattle.lw_scoping.proofs.Places.{among}
 use Rattle.lw_symbols.specs.declared.symbol.Symbol.{Symbol}
-use Rattle.lw_symbols.specs.Symbols.{StandsUpTo, IsInOrder, AreSymbolsOf}
-use Rattle.lw_symbols.specs.Least.{IsCalled, IsInGroup, IsInRun, IsLeastNode, least, absent}
+use Rattle.lw_symbols.specs.Symbols.{StandsUpTo, AreSymbolsSorted, AreSymbolsOf}
+use Rattle.lw_symbols.specs.Least.{IsCalled, IsInGroup, IsInRun, IsLeastSymbol, least, absent}
 use Rattle.lw_symbols.specs.Runs.{IsNextRun, before_type}
 use Rattle.lw_symbols.proofs.Order.{is_before, is_not_before}
 
 -- by what stands there
-pub in_order_at : (symbols : List Symbol) (i j : ℕ) (one other : Symbol) → IsInOrder symbols → i ≤ j → slice_get symbols i ≡ Some one →
+pub in_order_at : (symbols : List Symbol) (i j : ℕ) (one other : Symbol) → AreSymbolsSorted symbols → i ≤ j → slice_get symbols i ≡ Some one →
     slice_get symbols j ≡ Some other → StandsUpTo one other
 in_order_at symbols i j one other ordered le at there =
     subst (λ (y : Symbol). StandsUpTo one y) (get_or_from_slice_get symbols j other one there)
     (subst (λ (x : Symbol). StandsUpTo x (get_or symbols j one)) (get_or_from_slice_get symbols i one one at)
     (ordered i j one le (slice_get_within symbols j other there)))
 
-module _ (container hash low : ℕ) (symbols : List Symbol) (ordered : IsInOrder symbols) (place : ℕ)
+module _ (container hash low : ℕ) (symbols : List Symbol) (ordered : AreSymbolsSorted symbols) (place : ℕ)
     (before : (k : ℕ) (d : Symbol) → k < place → before_type container hash low (get_or symbols k d) ≡ true)
     (behind : (k : ℕ) (d : Symbol) → place ≤ k → k < length symbols → before_type container hash low (get_or symbols k d) ≡ false) where
   before_at : (k : ℕ) (s : Symbol) → k < place → slice_get symbols k ≡ Some s → before_type container hash low s ≡ true
@@ -47,14 +47,6 @@ module _ (container hash low : ℕ) (symbols : List Symbol) (ordered : IsInOrder
       let two : run.hash ≡ hash = omega (arith, one, up.hash (omega (arith, one, in_group.0)), h.1 one, in_group.1) in
       ((one, two), up.type_ (omega (arith, one, in_group.0)) (omega (arith, two, in_group.1)))
 
-  pub none_left : length symbols ≤ place → (s : Symbol) → Contains symbols s → IsInGroup container hash s → s.type_id.0 < low
-  none_left end s (k, inside, is) in_group = elim (cases_lt s.type_id.0 low) [
-    | inl lt ↦ lt
-    | inr from ↦
-        let at : slice_get symbols k ≡ Some s = slice_get-get_or symbols k s inside ∙ ap Some is in
-        absurd (omega (arith, end, inside, not_sooner k s at in_group from))
-  ]
-
   pub none_there : (run : Symbol) → slice_get symbols place ≡ Some run → ¬ IsInGroup container hash run → (s : Symbol) → Contains symbols s →
       IsInGroup container hash s → s.type_id.0 < low
   none_there run there out s (k, inside, is) in_group = elim (cases_lt s.type_id.0 low) [
@@ -81,7 +73,7 @@ module _ (container hash low : ℕ) (symbols : List Symbol) (ordered : IsInOrder
 
 -- ---- within a run
 
-module _ (symbols : List Symbol) (ordered : IsInOrder symbols) (run : Symbol) (from : ℕ) (there : slice_get symbols from ≡ Some run) where
+module _ (symbols : List Symbol) (ordered : AreSymbolsSorted symbols) (run : Symbol) (from : ℕ) (there : slice_get symbols from ≡ Some run) where
   -- what stands behind one that is no longer of the run is not either
   pub run_over : (place : ℕ) (s : Symbol) → from ≤ place → slice_get symbols place ≡ Some s → ¬ IsInRun run s → (k : ℕ) (other : Symbol) → place ≤ k →
       slice_get symbols k ≡ Some other → ¬ IsInRun run other
@@ -108,7 +100,7 @@ module _ (symbols : List Symbol) (tree : Parts) (name : List ℕ) (are : AreSymb
     (passed : (k : ℕ) (s : Symbol) → k < place → slice_get symbols k ≡ Some s → IsInRun run s → ¬ IsCalled tree name s) where
   -- where the run is over none is left
   pub none_called : (s : Symbol) → slice_get symbols place ≡ Some s → ¬ IsInRun run s →
-      IsLeastNode (λ (s : Symbol). IsInRun run s × IsCalled tree name s) symbols None
+      IsLeastSymbol (λ (s : Symbol). IsInRun run s × IsCalled tree name s) symbols None
   none_called s at out = absent (λ other has fits. misses other has fits)
     where
       misses : (other : Symbol) → Contains symbols other → IsInRun run other × IsCalled tree name other → ⊥
@@ -119,7 +111,7 @@ module _ (symbols : List Symbol) (tree : Parts) (name : List ℕ) (are : AreSymb
             | inr ge ↦ run_over symbols are.ordered run from there place s le at out k other ge at' fits.0
           ]
 
-  pub none_more : length symbols ≤ place → IsLeastNode (λ (s : Symbol). IsInRun run s × IsCalled tree name s) symbols None
+  pub none_more : length symbols ≤ place → IsLeastSymbol (λ (s : Symbol). IsInRun run s × IsCalled tree name s) symbols None
   none_more end = absent (λ other has fits. misses other has fits)
     where
       misses : (other : Symbol) → Contains symbols other → IsInRun run other × IsCalled tree name other → ⊥
@@ -127,7 +119,7 @@ module _ (symbols : List Symbol) (tree : Parts) (name : List ℕ) (are : AreSymb
           passed k other (omega (arith, inside, end)) (slice_get-get_or symbols k other inside ∙ ap Some is) fits.0 fits.1
 
   pub called_there : (s : Symbol) → slice_get symbols place ≡ Some s → IsInRun run s → IsCalled tree name s →
-      IsLeastNode (λ (s : Symbol). IsInRun run s × IsCalled tree name s) symbols (Some s.node)
+      IsLeastSymbol (λ (s : Symbol). IsInRun run s × IsCalled tree name s) symbols (Some s.node)
   called_there s at in_run called = least s refl (among symbols place s at) (in_run, called) (λ other has fits. up other has fits)
     where
       up : (other : Symbol) → Contains symbols other → IsInRun run other × IsCalled tree name other → s.node.0 ≤ other.node.0

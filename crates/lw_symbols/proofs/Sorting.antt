@@ -6,7 +6,7 @@ use Rattle.std.specs.Ordering.{ordering_then}
 use Rattle.std.specs.declared.cmp.Ordering.{Ordering}
 use Rattle.std.proofs.lemmas.List.Sorted.{ranks_by, sorted_far}
 use Rattle.lw_symbols.specs.declared.symbol.Symbol.{Symbol}
-use Rattle.lw_symbols.specs.Symbols.{IsInOrder}
+use Rattle.lw_symbols.specs.Symbols.{AreSymbolsSorted}
 use Rattle.lw_symbols.proofs.Order.{sort_lt, up_to}
 
 abbrev Key : Type 0
@@ -23,6 +23,6 @@ keys_total =
     then_total (then_total (then_total (on_total (λ (k : Key). k.0) nat_cmp_total) (on_total (λ (k : Key). k.1) nat_cmp_total))
     (on_total (λ (k : Key). k.2) nat_cmp_total)) (on_total (λ (k : Key). k.3) nat_cmp_total)
 
-pub sorted_by : (symbols : List Symbol) → IsSortedByKey key_of key_cmp symbols → IsInOrder symbols
+pub sorted_by : (symbols : List Symbol) → IsSortedByKey key_of key_cmp symbols → AreSymbolsSorted symbols
 sorted_by symbols sorted i j d le lt =
     up_to (get_or symbols i d) (get_or symbols j d) (sorted_far sort_lt (ranks_by keys_total key_of) symbols sorted i j d le lt)

@@ -25,12 +25,12 @@ pub record StandsUpTo (one other : Symbol) : Type 0 where
   pub type_ : one.container.0 ≡ other.container.0 → one.hash ≡ other.hash → one.type_id.0 ≤ other.type_id.0
   pub node : one.container.0 ≡ other.container.0 → one.hash ≡ other.hash → one.type_id.0 ≡ other.type_id.0 → one.node.0 ≤ other.node.0
 
-abbrev pub IsInOrder : List Symbol → Type 0
-IsInOrder symbols = (i j : ℕ) (d : Symbol) → i ≤ j → j < length symbols → StandsUpTo (slice_index_or symbols i d) (slice_index_or symbols j d)
+abbrev pub AreSymbolsSorted : List Symbol → Type 0
+AreSymbolsSorted symbols = (i j : ℕ) (d : Symbol) → i ≤ j → j < length symbols → StandsUpTo (slice_index_or symbols i d) (slice_index_or symbols j d)
 
 -- all symbols of a tree, in their order
 pub record AreSymbolsOf (tree : Parts) (symbols : List Symbol) : Type 0 where
-  pub ordered : IsInOrder symbols
+  pub ordered : AreSymbolsSorted symbols
   pub exact : (s : Symbol) → Contains symbols s ↔ IsSymbolOf tree s
 
 -- all symbols of a tree that are among its first so many nodes

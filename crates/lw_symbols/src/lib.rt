@@ -2,8 +2,8 @@
 //!
 //! What symbols, exports and links are is said in `lw_scoping`. [`Locals`] has the symbols of each node of one tree, in the order of
 //! their numbers ([`Locals::of`]), and finds the first of a node that has a name and a type of a set without going through all of them
-//! ([`Locals::first_named`]): symbols stand in the order of their containers, the numbers of their names, their types and their nodes,
-//! so that one is found by halving. [`own_answer`] goes outwards from a reference, one such look a level. [`exports`] is what the
+//! ([`Locals::first_named`]), or a name and one type ([`Locals::first_of_type`]): symbols stand in the order of their containers, the
+//! numbers of their names, their types and their nodes, so that one is found by halving. [`own_answer`] goes outwards from a reference, one such look a level. [`exports`] is what the
 //! document of a tree offers to all documents.
 //!
 //! Locals have no model of their own: `AreLocalsOf` (`specs/Locals.antt`) says that they are those of a tree. A look takes that tree,

@@ -9,9 +9,9 @@ ghost use Rattle.lw_symbols.specs.Locals.{AreLocalsOf};
 
 use crate::hash::hash_of;
 use crate::named::NamedChildren;
-use crate::runs::first_wanted;
+use crate::runs::{first_of_type, first_wanted};
 use crate::symbol::{Symbol, symbols_of};
-use lw_base::{Name, NoMemory, NodeId, TypeSet};
+use lw_base::{Name, NoMemory, NodeId, TypeId, TypeSet};
 use lw_tree::Tree;
 use std::alloc::Global;
 
@@ -58,6 +58,28 @@ impl Locals {
             hash_of(name),
             name,
             fits,
+        )
+    }
+
+    /// The first symbol of this node that has this name and this very type. It takes time that is logarithmic in all symbols of the tree, and
+    /// a look for the name of one.
+    pub fn first_of_type(
+        &self,
+        tree: &Tree,
+        n: NodeId,
+        name: &Name,
+        type_id: TypeId,
+    ) -> Option<NodeId>
+        requires { AreLocalsOf tree.now self.now }
+        ensures { IsFirstIn (IsNamedOf tree.now name.now (λ type. type ≡ type_id.0)) (locals_of tree.now n.0) (option_map (λ k. k.0) result) }
+    {
+        first_of_type(
+            self.symbols.as_slice(),
+            tree,
+            n.0,
+            hash_of(name),
+            name,
+            type_id,
         )
     }
 }

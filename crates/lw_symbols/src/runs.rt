@@ -1,13 +1,13 @@
 // The least node of some symbols, found by halving.
 ghost use Rattle.std.specs.Prelude.{ℕ, ◌≡◌, ◌<◌, ◌≤◌, Contains, MatchOption, Some, false, length, slice_get, slice_index_or, true};
 ghost use Rattle.std.specs.FinSet as set;
-ghost use Rattle.lw_symbols.specs.Symbols.{AreSymbolsOf, IsInOrder};
-ghost use Rattle.lw_symbols.specs.Least.{IsCalled, IsInGroup, IsInRun, IsLeastNode, IsWanted, lesser_node};
+ghost use Rattle.lw_symbols.specs.Symbols.{AreSymbolsOf, AreSymbolsSorted};
+ghost use Rattle.lw_symbols.specs.Least.{IsCalled, IsInGroup, IsInRun, IsLeastSymbol, IsWantedSymbol, lesser_node};
 ghost use Rattle.lw_symbols.specs.Runs.{BeginsRun, IsNextRun, before_type};
 ghost use Rattle.lw_symbols.specs.declared.symbol.Symbol.{Symbol};
 
 use crate::symbol::Symbol;
-use lw_base::{Name, NodeId, TypeSet};
+use lw_base::{Name, NodeId, TypeId, TypeSet};
 use lw_tree::Tree;
 
 /// Whether a symbol stands before all of a container, whose names have this number, and of a type from this one on.
@@ -21,7 +21,7 @@ fn is_before(s: &Symbol, container: u32, hash: u32, low: u32) -> bool
 
 /// How many symbols stand before all of a container, whose names have this number, and of a type from this one on. Logarithmic time.
 fn first_from(symbols: &[Symbol], container: u32, hash: u32, low: u32) -> usize
-    requires { IsInOrder symbols.now }
+    requires { AreSymbolsSorted symbols.now }
     ensures bound { result ≤ length symbols.now }
     ensures before { (k : ℕ) (d : Symbol) → k < result → before_type container hash low (slice_index_or symbols.now k d) ≡ true }
     ensures behind { (k : ℕ) (d : Symbol) → result ≤ k → k < length symbols.now → before_type container hash low (slice_index_or symbols.now k d) ≡ false }
@@ -31,7 +31,7 @@ fn first_from(symbols: &[Symbol], container: u32, hash: u32, low: u32) -> usize
 
 /// The first of a container, whose name has this number, and which is of a type from this one on, and where it stands. Logarithmic time.
 fn next_run(symbols: &[Symbol], container: u32, hash: u32, low: u32) -> Option<(usize, Symbol)>
-    requires { IsInOrder symbols.now }
+    requires { AreSymbolsSorted symbols.now }
     ensures { MatchOption result
         ((s : Symbol) → Contains symbols.now s → IsInGroup container hash s → s.type_id.0 < low)
         (λ found. IsNextRun container hash low symbols.now found.0 found.1) }
@@ -73,7 +73,7 @@ fn first_called(
     requires symbols { AreSymbolsOf tree.now symbols.now }
     requires there { slice_get symbols.now from ≡ Some run }
     requires begins { BeginsRun symbols.now from run }
-    ensures { IsLeastNode (λ s. IsInRun run s × IsCalled tree.now name.now s) symbols.now result }
+    ensures { IsLeastSymbol (λ s. IsInRun run s × IsCalled tree.now name.now s) symbols.now result }
 {
     for place in from..symbols.len() {
         let s = symbols[place];
@@ -109,7 +109,7 @@ pub(crate) fn first_wanted(
     fits: &TypeSet,
 ) -> Option<NodeId>
     requires { AreSymbolsOf tree.now symbols.now }
-    ensures { IsLeastNode (λ s. IsInGroup container hash s × IsWanted tree.now name.now fits.now s) symbols.now result }
+    ensures { IsLeastSymbol (λ s. IsInGroup container hash s × IsWantedSymbol tree.now name.now (λ type. set.contains fits.now type ≡ true) s) symbols.now result }
 {
     let mut best = None;
     let mut low = 0;
@@ -120,4 +120,23 @@ pub(crate) fn first_wanted(
         low = run.type_id.0 as u32 + 1;
     }
     best
+}
+
+/// Of the symbols of a container, whose names have this number, the least node that has this name and this type. It takes logarithmic time.
+pub(crate) fn first_of_type(
+    symbols: &[Symbol],
+    tree: &Tree,
+    container: u32,
+    hash: u32,
+    name: &Name,
+    type_id: TypeId,
+) -> Option<NodeId>
+    requires { AreSymbolsOf tree.now symbols.now }
+    ensures { IsLeastSymbol (λ s. IsInGroup container hash s × IsWantedSymbol tree.now name.now (λ type. type ≡ type_id.0) s) symbols.now result }
+{
+    let (place, run) = next_run(symbols, container, hash, type_id.0 as u32)?;
+    if run.type_id.0 != type_id.0 {
+        return None;
+    }
+    first_called(symbols, tree, place, run, name)
 }

@@ -1,7 +1,7 @@
 // All symbols of a tree, in the order in which they are looked up.
 ghost use Rattle.std.specs.Prelude.{ℕ, ◌≡◌, ◌<◌, ◌↔◌, IfOk, MatchOption, OnOk, Contains, length};
 ghost use Rattle.std.specs.List.Sorted.{IsPermutation};
-ghost use Rattle.lw_symbols.specs.Symbols.{AreSymbolsOf, AreAmongFirst, IsInOrder, IsSymbolOf};
+ghost use Rattle.lw_symbols.specs.Symbols.{AreSymbolsOf, AreAmongFirst, AreSymbolsSorted, IsSymbolOf};
 ghost use Rattle.lw_symbols.specs.declared.symbol.Symbol.{Symbol};
 
 use crate::hash::hash_of;
@@ -52,7 +52,7 @@ fn list_symbols(alloc: Global, tree: &Tree) -> Result<Vec<Symbol>, NoMemory>
 
 /// These symbols in their order.
 fn in_order(mut symbols: Vec<Symbol>) -> Result<Vec<Symbol>, NoMemory>
-    ensures ordered { IfOk result (λ list. IsInOrder list.items) }
+    ensures ordered { IfOk result (λ list. AreSymbolsSorted list.items) }
     ensures same { IfOk result (λ list. IsPermutation symbols.items list.items) }
 {
     symbols.sort_by_key(|s| (s.container.0, s.hash, s.type_id.0, s.node.0))?;

@@ -97,6 +97,11 @@ fn finds_symbols_by_name_and_type(rt: HostRuntime) -> Result<(), Fail> {
         locals.first_named(&tree, NodeId(1), &x, &events),
         Some(NodeId(2))
     );
+    assert_eq!(rt; locals.first_of_type(&tree, NodeId(1), &x, PART), None);
+    assert_eq!(rt;
+        locals.first_of_type(&tree, NodeId(1), &x, EVENT),
+        Some(NodeId(2))
+    );
     assert!(rt; locals.of(NodeId(1)) == [NodeId(2), NodeId(3)].as_slice());
     Ok(())
 }

@@ -1,7 +1,8 @@
 -- How many units a text takes: no more than it has bytes, and in UTF-16 what the lanes count.
-use Rattle.std.proofs.Common.{◌≡◌, ℕ, ◌+◌, ◌≤◌, inl, inr, ◌-◌, List, [], ◌∷◌, ◌++◌, take, drop, take-add, sym, IsCharBoundary, length, refl, ap, ◌∙◌, sum_by, length-append, subst, encode_utf8, encode_utf8_all, chars, IsUtf8, arith, zero-le}
+use Rattle.std.proofs.Common.{◌≡◌, ℕ, ◌+◌, ◌<◌, ◌≤◌, inl, inr, ◌-◌, List, [], ◌∷◌, ◌++◌, take, drop, take-add, sym, IsCharBoundary, length, refl, ap, ◌∙◌, sum_by, length-append, length-drop, subst, encode_utf8, encode_utf8_all, chars, IsUtf8, arith, zero-le}
 use Rattle.std.proofs.lemmas.List.Sums.{sum_by-append, sum_by-cons}
-use Rattle.std.proofs.lemmas.Str.{IsUtf8-take, chars-append, length-encode, encodes-chars}
+use Rattle.std.proofs.lemmas.Str.{IsCharBoundary-past_char, IsUtf8-drop, IsUtf8-take, chars-append, length-encode, encodes-chars, len_utf8_bounds}
+use Rattle.std.specs.Char.{len_utf8}
 use Rattle.std.proofs.lemmas.Bool.Decides.{nat_tests}
 use Rattle.std.proofs.lemmas.Bool.{cases_lt, le-ltb, lt-ltb}
 use Rattle.std.specs.Char.Escape.{encode_utf16}
@@ -43,3 +44,18 @@ units-between size text place next utf8 at onwards =
     let far : place + (next - place) ≡ next = omega arith in
     let split : take next text ≡ take place text ++ take (next - place) (drop place text) = ap (λ n. take n text) (sym far) ∙ take-add place (next - place) text in
     ap (λ bytes. sum_by size (chars bytes)) split ∙ units-append size (take place text) (take (next - place) (drop place text)) (IsUtf8-take text place utf8 at)
+
+-- a text that goes on has a boundary at most four bytes further on
+boundary_behind : (text : List ℕ) (place : ℕ) (cs : List ℕ) → place < length text → IsUtf8 (drop place text) → encode_utf8_all cs ≡ drop place text →
+    (next : ℕ) × (place < next) × (next ≤ place + 4) × IsCharBoundary text next
+boundary_behind text place [] within utf8 is = absurd (omega (arith, length-drop place text, ap length is))
+boundary_behind text place (c ∷ cs) within utf8 is =
+    let size = len_utf8_bounds c in
+    (place + len_utf8 c, omega (arith, size.0), omega (arith, size.1), IsCharBoundary-past_char text (encode_utf8_all cs) place c (omega arith) utf8 (sym is))
+
+-- so the last boundary within four bytes or more is further on
+pub boundary_onwards : (text : List ℕ) (place most next : ℕ) → IsUtf8 text → IsCharBoundary text place → place < length text → place + 4 ≤ most → ((i : ℕ) → next < i → i ≤ most → ¬ (IsCharBoundary text i)) → place < next
+boundary_onwards text place most next utf8 at within wide nearest =
+    let rest = IsUtf8-drop text place utf8 at in
+    let behind = boundary_behind text place (chars (drop place text)) within rest (encodes-chars (drop place text) rest) in
+    elim (cases_lt place next) [ inl onwards ↦ onwards | inr stays ↦ absurd (nearest behind.0 (omega (arith, behind.1)) (omega (arith, behind.2)) behind.3) ]

@@ -1,5 +1,5 @@
 -- The lines of a text, as the Language Server Protocol 3.17 has them ("Text Documents"): a line ends with `\n`, `\r\n` or `\r`.
-use Rattle.std.specs.Prelude.{ℕ, ◌≡◌, ◌≢◌, ◌+◌, List, [], ◌∷◌, ◌++◌, length, sum_by, All}
+use Rattle.std.specs.Prelude.{ℕ, ◌≢◌, ◌+◌, List, [], ◌∷◌, ◌++◌, length, sum_by, All}
 use Rattle.std.specs.List.{flat_map}
 
 -- a carriage return is 13, a line feed 10

@@ -140,6 +140,35 @@ impl TextDoc {
         Ok(())
     }
 
+    /// The text with all changes made, as [`TextDoc::apply`] makes them, in memory of its own, or the
+    /// first fault. This text stays as it is.
+    ///
+    /// Each change costs one copy of the text that it makes, and one look through it for its lines. With
+    /// no change it costs one copy of the text.
+    pub fn edited(
+        &self,
+        alloc: Global,
+        changes: &[Change],
+        enc: Encoding,
+    ) -> Result<TextDoc, EditFault>
+        ensures edited { IfOk result (λ doc. Changes enc self.now changes.now (Ok doc)) }
+        ensures fault { IfErr result (λ fault. (fault ≡ EditFault.NoMemory) ⊎ Changes enc self.now changes.now (Err fault)) }
+    {
+        match self.changed_by_all(alloc, changes, enc)? {
+            Some(doc) => Ok(doc),
+            None => Ok(self.copy(alloc)?),
+        }
+    }
+
+    /// The same text, in memory of its own.
+    fn copy(&self, alloc: Global) -> Result<TextDoc, NoMemory>
+        ensures { IfOk result (λ doc. doc ≡ self.now) }
+    {
+        let text = self.text.copy(alloc)?;
+        let starts = Items::from_slice(alloc, self.starts.as_slice())?;
+        Ok(TextDoc { text, starts })
+    }
+
     /// What the changes make of the text; None where there is no change.
     fn changed_by_all(
         &self,

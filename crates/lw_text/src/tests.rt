@@ -197,6 +197,26 @@ fn changes_are_made_in_order(rt: HostRuntime) -> Result<(), Fail> {
     Ok(())
 }
 
+/// The document that the edits make of another.
+fn edited_anew(alloc: Global, text: &str, edits: &[Edit]) -> Result<TextDoc, EditFault> {
+    let doc = doc(alloc, text)?;
+    let changes = changes(alloc, edits)?;
+    doc.edited(alloc, changes.as_slice(), ENC)
+}
+
+#[test]
+fn changes_make_a_new_text(rt: HostRuntime) -> Result<(), Fail> {
+    for (text, edits, left, bad) in EDITS {
+        if bad.is_none() {
+            let doc = edited_anew(rt.alloc(), text, edits)?;
+            assert_eq!(rt; doc.as_text(), left, "{text:?}");
+        }
+    }
+    let refused = edited_anew(rt.alloc(), "ab", &[(Some((0, 2, 0, 1)), "x")]);
+    assert!(rt; refused.is_err_and(|fault| fault == EditFault::BadRange(0)));
+    Ok(())
+}
+
 #[test]
 fn a_text_has_a_longest_length(rt: HostRuntime) -> Result<(), Fail> {
     let alloc = rt.alloc();

@@ -27,16 +27,27 @@ pub(crate) fn units_in(text: &str, enc: Encoding) -> u32
 }
 
 /// How many UTF-16 units the text takes. The lanes count no more than [`LONGEST_TEXT`] at once, so a longer
-/// text is counted character by character.
+/// text is counted piece by piece.
 fn utf16_len(text: &str) -> u32
     requires { length text.now < 2 ^ 32 }
     ensures { result ≡ sum_by (units_of Encoding.Utf16) (chars text.now) }
 {
-    if text.len() <= LONGEST_TEXT {
-        lw_lanes::utf16_len(text.as_bytes())
-    } else {
-        text.chars().map(|c| c.len_utf16() as u32).sum()
+    let mut place = 0;
+    let mut units = 0;
+    'pieces: while place < text.len() {
+        let next = text.floor_char_boundary(place + LONGEST_TEXT);
+        units += utf16_len_of_piece(&text[place..next]);
+        place = next;
     }
+    units
+}
+
+/// How many UTF-16 units the text takes, counted at once.
+fn utf16_len_of_piece(text: &str) -> u32
+    requires { length text.now ≤ LONGEST_TEXT }
+    ensures { result ≡ sum_by (units_of Encoding.Utf16) (chars text.now) }
+{
+    lw_lanes::utf16_len(text.as_bytes())
 }
 
 /// How many units the character takes.

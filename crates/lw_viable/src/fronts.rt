@@ -100,3 +100,6 @@ impl<'p> Fronts<'p> {
         false
     }
 }
+
+#[cfg(test)]
+mod tests;

@@ -1,6 +1,6 @@
 use Rattle.std.proofs.Common.{◌≡◌, ◌≢◌, [], sym, ap, subst, ◌∙◌, true≢false}
 use Rattle.std.specs.List.{flat_map}
-use Rattle.lw_scopes.specs.Diagnostics.{IsList}
+use Rattle.lw_scopes.specs.Diagnostics.{IsListAlone}
 use Rattle.langbench.specs.Checked as checked
 use Rattle.langbench.specs.Checked.{Checked}
 use Rattle.langbench.proofs.ReportLemmas.{listed_report}
@@ -9,16 +9,16 @@ use Rattle.langbench.proofs.report.report_text.Goals as goal
 pub returns-then-is_empty : goal.returns-then-is_empty
 returns-then-is_empty c =
     let none : c.in_ok-list.list ≡ [] = c.is_empty.ensures.0 c.if-is_empty.true in
-    let is : IsList c.args.language.now.grammar c.args.text c.in_ok-list.list = subst (λ t. IsList c.args.language.now.grammar t c.in_ok-list.list) c.in-Ok.ensures.text c.in_ok-list.ensures in
+    let is : IsListAlone c.args.language.now.grammar [] c.args.text c.in_ok-list.list = subst (λ t. IsListAlone c.args.language.now.grammar [] t c.in_ok-list.list) c.in-Ok.ensures.text (c.in_ok-list.ensures []) in
     record {
       printed = subst (Checked c.args.language.now.grammar c.args.text) (sym c.in_ok-from_str.ensures.ok)
-          (checked.listed c.requires.short c.requires.utf8 (subst (IsList c.args.language.now.grammar c.args.text) none is));
+          (checked.listed c.requires.short c.requires.utf8 (subst (IsListAlone c.args.language.now.grammar [] c.args.text) none is));
       verdict = c.in_ok-from_str.ensures.ok;
     }
 
 pub returns : goal.returns
 returns c =
     let some : c.in_ok-list.list ≢ [] = λ none. true≢false (sym (c.is_empty.ensures.1 none) ∙ c.if-is_empty.false) in
-    let is : IsList c.args.language.now.grammar c.args.text c.in_ok-list.list = subst (λ t. IsList c.args.language.now.grammar t c.in_ok-list.list) c.in-Ok.ensures.text c.in_ok-list.ensures in
+    let is : IsListAlone c.args.language.now.grammar [] c.args.text c.in_ok-list.list = subst (λ t. IsListAlone c.args.language.now.grammar [] t c.in_ok-list.list) c.in-Ok.ensures.text (c.in_ok-list.ensures []) in
     listed_report _ _ c.in_ok-list.list _ (checked.listed c.requires.short c.requires.utf8 is) some
     (c.broken.ensures.text ∙ c.in_ok-lines.ensures ∙ ap (flat_map checked.diagnostic_line) c.as_slice.ensures) c.broken.ensures.verdict

@@ -1,6 +1,6 @@
 use Rattle.std.proofs.Common.{refl}
 use Rattle.langbench.specs.Stops.{TheSource, TheSink, TheStore, ThePatterns}
-use Rattle.langbench.proofs.Counting.{handed_on, unread_cause, unread_sink, unread_store, unread_patterns, printed_cause, printed_source, printed_store, printed_patterns}
+use Rattle.langbench.proofs.Counting.{handed_on, printed_words, unread_cause, unread_sink, unread_store, unread_patterns, printed_cause, printed_source, printed_store, printed_patterns}
 use Rattle.langbench.proofs.Working.{works_after, works_unbuilt, works_unread}
 use Rattle.langbench.proofs.top.check.Goals as goal
 
@@ -50,3 +50,6 @@ pub returns-in_err-report-clause-patterns : goal.returns-in_err-report-clause-pa
 returns-in_err-report-clause-patterns g c =
     handed_on ThePatterns _ _ c.in_err-report.field-0.0 c.from_residual-in_err-report.result
     (unread_patterns _ _ _ _ c.in_err-report.field-0.0 c.in_err-report.ensures.stopped c.in_ok-language.ensures.patterns) c.from_residual-in_err-report.ensures.1
+
+pub returns-clause-not_words : goal.returns-clause-not_words
+returns-clause-not_words g c = printed_words c.print.result c.print.ensures.fault

@@ -8,12 +8,12 @@ use Rattle.lw_builder.proofs.marks.tree_of.Goals as goal
 
 pub marks-init : goal.marks-init
 marks-init c =
-    let first = c.new-builder.result in
+    let first = c.in_ok-builder.builder in
     let seen : c.as_slice-2.result.now ≡ visible_of c.args.tokens.items = c.as_slice-2.ensures.value ∙ c.in_ok-visible.ensures ∙ ap visible_of c.as_slice.ensures.value in
     let parts = subst (λ l. ArePartsOf c.args.text.now l) (sym seen) (visible_parts c.args.text.now c.args.tokens.items c.requires.parts) in
     record {
       all = λ g m bs are meant f.
-          underway g c.args.marks.now m first.visible.now bs first (c.new-builder.ensures.nothing g (subst (λ l. AreRecipesOf g l) c.new-builder.ensures.over.2 are) parts)
+          underway g c.args.marks.now m first.visible.now bs first (c.in_ok-builder.ensures.nothing g (subst (λ l. AreRecipesOf g l) c.in_ok-builder.ensures.over.2 are) parts)
           meant f refl;
       over = record { text = refl; visible = refl; recipes = refl };
     }
@@ -21,10 +21,10 @@ marks-init c =
 pub mark-requires : goal.mark-requires
 mark-requires c =
     let r = c.requires.follows in
-    let o = c.new-builder.ensures.over in
+    let o = c.in_ok-builder.ensures.over in
     let seen : c.as_slice-2.result.now ≡ visible_of c.args.tokens.items = c.as_slice-2.ensures.value ∙ c.in_ok-visible.ensures ∙ ap visible_of c.as_slice.ensures.value in
     let u = started r.0 c.args.marks.now (drop c.marks.mark-index c.args.marks.now) r.1 r.2 c.args.text.now (visible_of c.args.tokens.items) c.args.recipes.now
-    c.new-builder.result c.marks.builder c.marks.invariant.all o.0 (o.1 ∙ seen) o.2 r.4 r.5 r.6 in
+    c.in_ok-builder.builder c.marks.builder c.marks.invariant.all o.0 (o.1 ∙ seen) o.2 r.4 r.5 r.6 in
     let n = next_mark r.0 r.1 r.2 _ _ c.marks.builder
     (subst (λ l. IsUnderway r.0 r.1 r.2 l c.marks.builder) (drop_more c.args.marks.now c.marks.mark-index _ c.marks-test.true) u) in
     record { goes_on = (r.0, n.gone, n.it, n.brackets, n.then_open, n.followed, n.means, n.by) }
@@ -45,10 +45,10 @@ marks-preserved c =
 pub tree-requires-clause-closes : goal.tree-requires-clause-closes
 tree-requires-clause-closes c =
     let r = c.requires.follows in
-    let o = c.new-builder.ensures.over in
+    let o = c.in_ok-builder.ensures.over in
     let seen : c.as_slice-2.result.now ≡ visible_of c.args.tokens.items = c.as_slice-2.ensures.value ∙ c.in_ok-visible.ensures ∙ ap visible_of c.as_slice.ensures.value in
     let u = started r.0 c.args.marks.now (drop c.marks.mark-index c.args.marks.now) r.1 r.2 c.args.text.now (visible_of c.args.tokens.items) c.args.recipes.now
-    c.new-builder.result c.marks.builder c.marks.invariant.all o.0 (o.1 ∙ seen) o.2 r.4 r.5 r.6 in
+    c.in_ok-builder.builder c.marks.builder c.marks.invariant.all o.0 (o.1 ∙ seen) o.2 r.4 r.5 r.6 in
     let e = closes_at_end r.0 r.1 r.2 r.3 c.args.text.now (visible_of c.args.tokens.items) c.marks.builder
     (subst (λ l. IsUnderway r.0 r.1 r.2 l c.marks.builder) (drop_all c.marks.mark-index c.args.marks.now c.marks-test.false) u)
     (c.marks.invariant.over.text ∙ o.0) (c.marks.invariant.over.visible ∙ o.1 ∙ seen) r.7 in
@@ -56,10 +56,10 @@ tree-requires-clause-closes c =
 
 pub returns : goal.returns
 returns c = λ g m bs x are meant f closes.
-    let o = c.new-builder.ensures.over in
+    let o = c.in_ok-builder.ensures.over in
     let seen : c.as_slice-2.result.now ≡ visible_of c.args.tokens.items = c.as_slice-2.ensures.value ∙ c.in_ok-visible.ensures ∙ ap visible_of c.as_slice.ensures.value in
     let u = started g c.args.marks.now (drop c.marks.mark-index c.args.marks.now) m bs c.args.text.now (visible_of c.args.tokens.items) c.args.recipes.now
-    c.new-builder.result c.marks.builder c.marks.invariant.all o.0 (o.1 ∙ seen) o.2 are meant f in
+    c.in_ok-builder.builder c.marks.builder c.marks.invariant.all o.0 (o.1 ∙ seen) o.2 are meant f in
     let e = closes_at_end g m bs x c.args.text.now (visible_of c.args.tokens.items) c.marks.builder
     (subst (λ l. IsUnderway g m bs l c.marks.builder) (drop_all c.marks.mark-index c.args.marks.now c.marks-test.false) u)
     (c.marks.invariant.over.text ∙ o.0) (c.marks.invariant.over.visible ∙ o.1 ∙ seen) closes in

@@ -1,18 +1,16 @@
-use Rattle.std.proofs.Common.{[]}
-use Rattle.lw_findings.proofs.Joining.{Finds-begin, Finds-more, Finds-all}
-use Rattle.lw_check.specs.Sorting.{IsDiagnosticOfValue}
-use Rattle.lw_check.proofs.Gathered.{tell_all}
+use Rattle.std.proofs.Common.{List, subst}
+use Rattle.lw_findings.specs.Finding.{Finds}
+use Rattle.lw_findings.proofs.Joining.{Finds-then}
+use Rattle.lw_check.specs.declared.sorting.KeyedDiagnostic.{KeyedDiagnostic}
+use Rattle.lw_check.specs.Sorting.{diagnostics_of}
+use Rattle.lw_check.specs.Telling.{TellsSomeAnswer}
 use Rattle.lw_check.proofs.sorting.all_diagnostics.Goals as goal
 
-pub loop-value-init : goal.loop-value-init
-loop-value-init c = rw c.new-diagnostics.ensures.items (Finds-begin IsDiagnosticOfValue [] c.all_values-value-items.result.now)
-
-pub loop-value-preserved : goal.loop-value-preserved
-loop-value-preserved c =
-    Finds-more IsDiagnosticOfValue c.all_values-value-items.result.now c.loop-value.value-index c.value-item.result c.loop-value-test.true c.value-item.is c.loop-value.invariant
-    c.in_ok-diagnose.ensures
-
 pub returns : goal.returns
-returns c =
-    tell_all c.args.tree.now c.all_values-value-items.result.now c.loop-value.diagnostics.items c.all_values-value-items.ensures
-    (Finds-all IsDiagnosticOfValue c.all_values-value-items.result.now c.loop-value.value-index c.loop-value-test.false c.loop-value.invariant)
+returns c g types =
+    let P : List KeyedDiagnostic → Type 0 = λ ds. Finds (TellsSomeAnswer g c.args.tree.now c.args.answers.now c.args.doc.0 c.args.index.now) (diagnostics_of ds)
+    (diagnostics_of c.tell_unresolved.new.diagnostics.items) in
+    Finds-then
+    (Finds-then (Finds-then (subst P c.new-diagnostics.ensures.items (c.in_ok-tell_unresolved.ensures g types)) (c.in_ok-tell_duplicates.ensures g types))
+    (c.in_ok-tell_rivals.ensures g types))
+    c.in_ok-tell_numbers.ensures

@@ -1,7 +1,8 @@
+use Rattle.std.proofs.lemmas.Result.{err_from_is_err_and}
 use Rattle.lw_patterns.proofs.EachPattern.{each_pattern}
 use Rattle.lw_terminals.specs.TokenKinds.{TokenKinds}
 use Rattle.lw_lang.specs.Language.{LanguageView}
-use Rattle.lw_lang.proofs.BuildLemmas.{has_tokens, built_tokens, set_unlisted, few}
+use Rattle.lw_lang.proofs.BuildLemmas.{has_tokens, built_tokens, set_unlisted, few, want_causes, want_counts}
 use Rattle.lw_lang.proofs.FirstPlaces.{can_be_told}
 use Rattle.lw_lang.proofs.ToldLemmas.{told_causes, told_counts, told_keeps, sound_causes, sound_counts}
 use Rattle.lw_lang.proofs.compiler.build_faultless.Goals as goal
@@ -31,15 +32,24 @@ pub fault_of-requires-clause-told : goal.fault_of-requires-clause-told
 fault_of-requires-clause-told g c =
     can_be_told c.args.grammar c.args.texts.now c.requires.stand _ c.in_ok-numbered.numbered.kinds c.in_ok-numbered.ensures.kinds _ c.in-Err.fault c.in-Err.ensures.fault
 
-pub returns-clause-fault : goal.returns-clause-fault
-returns-clause-fault g c =
+pub returns-in-Err-clause-fault : goal.returns-in-Err-clause-fault
+returns-in-Err-clause-fault g c =
     told_causes c.args.grammar c.args.texts.now c.in-Err.fault c.args.k c.in_ok-numbered.numbered.kinds c.in_ok-numbered.ensures.kinds c.requires.faultless _ _ c.in-Err.ensures.fault
     c.fault_of.result c.fault_of.ensures
 
-pub returns-clause-patterns : goal.returns-clause-patterns
-returns-clause-patterns g c =
+pub returns-in-Err-clause-patterns : goal.returns-in-Err-clause-patterns
+returns-in-Err-clause-patterns g c =
     told_counts c.args.grammar c.args.texts.now TokenKinds LanguageView _ _ c.in-Err.fault c.fault_of.result c.fault_of.ensures c.in-Err.ensures.count
 
-pub returns-clause-last : goal.returns-clause-last
-returns-clause-last g c =
+pub returns-in-Err-clause-last : goal.returns-in-Err-clause-last
+returns-in-Err-clause-last g c =
     told_keeps c.args.grammar c.args.texts.now TokenKinds LanguageView _ _ c.in-Err.fault c.fault_of.result c.fault_of.ensures c.in-Err.ensures.last
+
+pub returns-in_err-numbered-clause-fault : goal.returns-in_err-numbered-clause-fault
+returns-in_err-numbered-clause-fault g c =
+    let p = err_from_is_err_and c.from_residual.result c.from_residual.ensures.1 in
+    want_causes c.args.grammar c.args.texts.now c.args.k _ c.from_residual.result p.0 p.1 p.2
+
+pub returns-in_err-numbered-clause-patterns : goal.returns-in_err-numbered-clause-patterns
+returns-in_err-numbered-clause-patterns g c =
+    let p = err_from_is_err_and c.from_residual.result c.from_residual.ensures.1 in want_counts _ c.from_residual.result p.0 p.1 p.2

@@ -6,7 +6,8 @@ use Rattle.lw_lang.proofs.compiler.language_of.Goals as goal
 
 pub new-requires : goal.new-requires
 new-requires c =
-    is_prepared c.args.grammar c.args.numbered.now.kinds c.requires.numbered.kinds c.requires.faultless c.args.tokens c.requires.tokens c.args.k c.in-Ok.parser
+    is_prepared c.args.grammar c.args.numbered.now.kinds c.requires.numbered.kinds c.requires.faultless c.args.tokens c.requires.tokens c.args.types
+    c.requires.typed c.args.k c.in-Ok.parser
     (c.in-Ok.ensures c.requires.tokens.of c.requires.tokens.are)
 
 pub returns-in-Ok-clause-clear : goal.returns-in-Ok-clause-clear

@@ -1,4 +1,4 @@
-use Rattle.std.proofs.Common.{length, arith}
+use Rattle.std.proofs.Common.{arith}
 use Rattle.lw_lang.proofs.ToldPlaces.{terminal_stands, terminal_told}
 use Rattle.lw_lang.proofs.told_term.told_terminal.Goals as goal
 

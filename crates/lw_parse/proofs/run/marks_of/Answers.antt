@@ -13,7 +13,7 @@ use Rattle.lw_parse.proofs.run.marks_of.Goals as goal
 
 pub returns-in_default : goal.returns-in_default
 returns-in_default c = λ g kinds k is supplied whole.
-    let all = map (λ t. t.kind.0) c.args.visible.now in
+    let all = map (λ kind. kind.0) c.args.seen.now in
     let state = stacked c.args.parser.now all c.new.result.items c.new-2.result.items in
     run_begins g kinds k c.args.parser.now is
     (subst (λ r. NotEntered c.args.parser.now all (Some (Call r))) c.entry.ensures
@@ -21,7 +21,7 @@ returns-in_default c = λ g kinds k is supplied whole.
 
 pub turns-init : goal.turns-init
 turns-init c = λ g kinds k is.
-    let all = map (λ t. t.kind.0) c.args.visible.now in
+    let all = map (λ kind. kind.0) c.args.seen.now in
     let parser = c.args.parser.now in
     let start = c.in-Some.start in
     let state = stacked parser all c.new.result.items c.new-2.result.items in
@@ -42,7 +42,7 @@ returns-in_default-pop c = λ g kinds k is supplied.
 pub returns-in_default-2 : goal.returns-in_default-2
 returns-in_default-2 c = λ g kinds k is supplied.
     let run = c.turns.run in
-    let unread = map (λ t. t.kind.0) run.unread.now in
+    let unread = map (λ kind. kind.0) run.unread.now in
     let mid = stacked run.parser.now unread c.pop.new.self.items run.marks.items in
     let place = c.in-Some-pop.place in
     let up = subst (IsDecided mid place (slice_get run.parser.now.program.code place)) c.in_default-2.is c.in_ok-turn.ensures in
@@ -52,10 +52,10 @@ returns-in_default-2 c = λ g kinds k is supplied.
 pub turns-preserved : goal.turns-preserved
 turns-preserved c = λ g kinds k is.
     let run = c.turns.run in
-    let unread = map (λ t. t.kind.0) run.unread.now in
+    let unread = map (λ kind. kind.0) run.unread.now in
     let mid = stacked run.parser.now unread c.pop.new.self.items run.marks.items in
     let place = c.in-Some-pop.place in
     let turns = subst (IsDecided mid place (slice_get run.parser.now.program.code place)) c.in-Some-2.is c.in_ok-turn.ensures in
-    subst (IsRunning g kinds k c.args.parser.now is (map (λ t. t.kind.0) c.args.visible.now)) (sym c.in_ok-turn-2.ensures)
+    subst (IsRunning g kinds k c.args.parser.now is (map (λ kind. kind.0) c.args.seen.now)) (sym c.in_ok-turn-2.ensures)
     (run_goes_on g kinds k c.args.parser.now is (c.turns.invariant g kinds k is)
     (popped run.parser.now unread run.marks.items run.to_do.items c.pop.new.self.items place c.in-Some-pop.ensures.items) turns)

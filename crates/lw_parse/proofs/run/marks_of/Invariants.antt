@@ -9,4 +9,4 @@ use Rattle.lw_parse.proofs.run.marks_of.Given as goal
 
 abbrev pub invariant-turns : goal.invariant-turns
 invariant-turns l = (g : Grammar) (kinds : Kinds) (k : ℕ) (is : IsParserOf g kinds k l.parser) →
-    IsRunning g kinds k l.parser is (map (λ t. t.kind.0) l.visible) (state_of l.run)
+    IsRunning g kinds k l.parser is (map (λ kind. kind.0) l.seen) (state_of l.run)

@@ -25,7 +25,7 @@ returns-in-Ok c =
     IfOk-weaker c.build.result _ _
     (λ next is.
     editing.edits c.args.language.now.grammar c.args.document.now c.args.phase c.requires c.args.edited b c.in-Some.ensures c.in-Ok.text next
-    (subst (λ (changes : List Change). Changes Utf16 b.text changes (Ok c.in-Ok.text)) c.as_slice.ensures c.in-Ok.ensures.made) is)
+    (subst (λ (changes : List Change). Changes Utf16 b.text changes (Ok c.in-Ok.text)) c.as_slice.ensures c.in-Ok.ensures.edited) is)
     c.build.ensures
 
 pub returns-in-Err-BadRange : goal.returns-in-Err-BadRange

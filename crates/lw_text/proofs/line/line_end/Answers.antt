@@ -1,5 +1,3 @@
-use Rattle.std.proofs.Common.{length, Option, unwrap_or, sym, subst, subst₂}
-use Rattle.lw_text.specs.Starts.{IsLineEnd}
 use Rattle.lw_text.proofs.Reaching.{line_end_by}
 use Rattle.lw_text.proofs.line.line_end.Goals as goal
 

@@ -1,4 +1,4 @@
-use Rattle.std.proofs.Common.{arith, length, ap, subst, sym, Err}
+use Rattle.std.proofs.Common.{arith, length, ap, Err}
 use Rattle.lw_reading.specs.Reading as reading
 use Rattle.lw_lang.proofs.ReadLemmas.{can_parse, read_fault, read_tokens, named, character_within}
 use Rattle.lw_lang.proofs.language.Language.read.Goals as goal

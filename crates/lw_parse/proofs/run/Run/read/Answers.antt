@@ -18,9 +18,9 @@ pub returns-then-ne : goal.returns-then-ne
 returns-then-ne c =
     run.other_token (λ ls.
     another_token c.args.self.now.unread.now c.in_ok-next.next.now c.args.kind ls c.in_ok-next.ensures.value
-    (λ same. true≢false (sym c.if-ne.true ∙ c.ne.ensures ∙ ap not (eq-eqb c.in_ok-next.next.now.kind.0 c.args.kind.0 (ap (λ (kind : KindId). kind.0) same)))))
+    (λ same. true≢false (sym c.if-ne.true ∙ c.ne.ensures ∙ ap not (eq-eqb c.in_ok-next.next.now.0 c.args.kind.0 (ap (λ (kind : KindId). kind.0) same)))))
 
 pub returns : goal.returns
 returns c =
-    let same : c.in_ok-next.next.now.kind.0 ≡ c.args.kind.0 = grind (arith, nat_tests) in
+    let same : c.in_ok-next.next.now.0 ≡ c.args.kind.0 = grind (arith, nat_tests) in
     run.reads (that_token c.args.self.now.unread.now c.in_ok-next.next.now c.args.kind c.in_ok-next.ensures.value same)

@@ -1,0 +1,36 @@
+use Rattle.std.proofs.Common.{sym, map, subst}
+use Rattle.std.specs.List.{AllZip}
+use Rattle.lw_link.specs.Alone.{link_at}
+use Rattle.lw_scopes.specs.Diagnostics.{alone_at}
+use Rattle.lw_scopes.specs.Links.{IsNumberBelow}
+use Rattle.lw_scoping.specs.Links.{LinksTo}
+use Rattle.lw_alone.proofs.Alone.{listed, text_outwards, text_owners, text_root, text_types}
+use Rattle.lw_alone.proofs.document.tree_diagnostics.Goals as goal
+
+pub answers_alone-requires-clause-outwards : goal.answers_alone-requires-clause-outwards
+answers_alone-requires-clause-outwards c = text_outwards c.args.language.now.grammar c.args.document.now c.args.tree.now c.requires.reads
+
+pub answers_alone-requires-clause-root : goal.answers_alone-requires-clause-root
+answers_alone-requires-clause-root c = text_root c.args.language.now.grammar c.args.document.now c.args.tree.now c.requires.reads
+
+pub answers_alone-requires-clause-owners : goal.answers_alone-requires-clause-owners
+answers_alone-requires-clause-owners c = text_owners c.args.language.now.grammar c.args.document.now c.args.tree.now c.requires.reads
+
+pub answers_alone-requires-clause-known : goal.answers_alone-requires-clause-known
+answers_alone-requires-clause-known c =
+    (c.args.language.now.grammar, c.types-types.ensures, text_types c.args.language.now.grammar c.args.document.now c.args.tree.now c.requires.reads)
+
+pub diagnostics_alone-requires-clause-root : goal.diagnostics_alone-requires-clause-root
+diagnostics_alone-requires-clause-root c = (text_root c.args.language.now.grammar c.args.document.now c.args.tree.now c.requires.reads).there
+
+pub diagnostics_alone-requires-clause-known : goal.diagnostics_alone-requires-clause-known
+diagnostics_alone-requires-clause-known c =
+    (c.args.language.now.grammar, c.types-types.ensures, text_types c.args.language.now.grammar c.args.document.now c.args.tree.now c.requires.reads)
+
+pub returns : goal.returns
+returns c address =
+    let g = c.args.language.now.grammar in
+    let tree = c.args.tree.now in
+    let links = subst (λ found. AllZip (LinksTo (IsNumberBelow g) (alone_at address tree) address tree) tree.refs (map (link_at address) found)) (sym c.as_slice.ensures.value)
+    (c.in_ok-found.ensures.links g address c.types-types.ensures) in
+    listed g address c.args.document.now tree c.requires.reads c.diagnostics_alone.result (c.diagnostics_alone.ensures g address c.types-types.ensures links)

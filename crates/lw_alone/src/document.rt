@@ -1,0 +1,53 @@
+// The list of a document that is alone.
+ghost use Rattle.std.specs.Prelude.{ℕ, List, IfOk};
+ghost use Rattle.lw_reading.specs.Reading.{Reads};
+ghost use Rattle.lw_reading.specs.declared.parsed.Parsed.TheVariants.{Whole};
+ghost use Rattle.lw_rooted.specs.Within.{StandsInText};
+ghost use Rattle.lw_scopes.specs.Diagnostics.{IsListAlone};
+
+use lw_base::{Items, NoMemory};
+use lw_check::{diagnostics_alone, issue_diagnostic};
+use lw_lang::{Language, Parsed};
+use lw_link::answers_alone;
+use lw_symbols::Locals;
+use lw_text::{Shown, TextDoc};
+use lw_tree::Tree;
+use std::alloc::Global;
+
+/// The list of a document that has this text, whatever its address, where there is no other. Want of memory is the only error.
+///
+/// It takes time linear in the length of the text beside the look-ups of its references and named nodes, and memory for its tokens, its
+/// tree and its symbols.
+pub fn diagnostics(
+    alloc: Global,
+    language: &Language,
+    document: &TextDoc,
+) -> Result<Items<Shown>, NoMemory>
+    ensures { (address : List ℕ) → IfOk result (IsListAlone language.now.grammar address document.now) }
+{
+    match language.read(alloc, document.as_name())? {
+        Parsed::Whole(tree) => tree_diagnostics(alloc, language, document, &tree),
+        Parsed::Broken(issue) => {
+            let mut list = Items::new(alloc);
+            list.push(issue_diagnostic(alloc, document, issue, language.tokens())?)?;
+            Ok(list)
+        }
+    }
+}
+
+/// What is told of a document with this tree.
+fn tree_diagnostics(
+    alloc: Global,
+    language: &Language,
+    document: &TextDoc,
+    tree: &Tree,
+) -> Result<Items<Shown>, NoMemory>
+    requires reads { Reads language.now.grammar document.now (Whole tree.now) }
+    requires stands { StandsInText document.now tree.now }
+    ensures { (address : List ℕ) → IfOk result (IsListAlone language.now.grammar address document.now) }
+{
+    let types = language.types();
+    let locals = Locals::of_tree(alloc, tree)?;
+    let found = answers_alone(alloc, tree, &locals, types)?;
+    diagnostics_alone(alloc, document, tree, &locals, found.as_slice(), types)
+}

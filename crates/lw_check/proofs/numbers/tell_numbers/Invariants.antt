@@ -1,0 +1,8 @@
+use Rattle.std.proofs.Common.{take}
+use Rattle.lw_findings.specs.Finding.{Finds, OfSome}
+use Rattle.lw_check.specs.Sorting.{diagnostics_of}
+use Rattle.lw_check.specs.Telling.{TellsValue}
+use Rattle.lw_check.proofs.numbers.tell_numbers.Given as goal
+
+abbrev pub invariant-loop-value : goal.invariant-loop-value
+invariant-loop-value l = Finds (OfSome TellsValue (take l.value-index l.value-items)) (diagnostics_of l.fn.diagnostics.items) (diagnostics_of l.diagnostics.items)

@@ -1,0 +1,5 @@
+pub mod Entered
+pub mod Linked
+pub mod Known
+pub mod Rows
+pub mod RootLemmas

@@ -1,0 +1,25 @@
+//! Which symbol each reference of a document leads to.
+//!
+//! What links are is said in `lw_scoping`, over the trees of all documents by their addresses, and in `lw_scopes` by a grammar. Here they
+//! are found: [`resolve`] looks at the symbols of the reference's own tree first, from the node that it stands in outwards
+//! (`lw_symbols`), and then asks the index of what all documents export (`lw_index`), which counts one step. [`answers`] does so for all
+//! references of a tree, and [`answers_alone`] where no other document is, without an index. [`entries`] is what a document with a tree puts into the index.
+//!
+//! Its model: an answer is a document by its number and a node, and stands for the link that `link_of` makes of it
+//! (`specs/Indexed.antt`), which has the address in place of the number; an index stands for trees by their addresses where it holds
+//! exactly what they export (`IsIndexOf`).
+//!
+//! It promises that each answer stands for the one link that the reference has over those trees, and that a look-up counts at most one
+//! step.
+#![tactic(auto)]
+
+mod alone;
+mod entering;
+mod resolving;
+
+pub use alone::answers_alone;
+pub use entering::entries;
+pub use resolving::{answers, resolve};
+
+#[cfg(test)]
+mod tests;

@@ -1,0 +1,14 @@
+-- Before each word all readings are kept.
+use Rattle.lw_viable.proofs.fronts.tests.shown.Goals as goal
+
+pub count_of-requires : goal.count_of-requires
+count_of-requires c = let (kinds, ks, hold) = c.requires.readings in (c.args.lexicon.g.now, kinds, ks, hold)
+
+pub loop-text-init : goal.loop-text-init
+loop-text-init c = c.requires.readings
+
+pub read-requires : goal.read-requires
+read-requires c = record { known = c.requires.known; readings = c.loop-text.invariant }
+
+pub loop-text-preserved : goal.loop-text-preserved
+loop-text-preserved c = c.in_ok-count.ensures

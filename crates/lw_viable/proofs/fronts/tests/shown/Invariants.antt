@@ -1,0 +1,7 @@
+use Rattle.std.proofs.Common.{ℕ, List}
+use Rattle.lw_grammar.specs.Kinds.{Kinds}
+use Rattle.lw_viable.specs.Fronts.{HoldReadings}
+use Rattle.lw_viable.proofs.fronts.tests.shown.Given as goal
+
+abbrev pub invariant-loop-text : goal.invariant-loop-text
+invariant-loop-text l = (kinds : Kinds) × (ks : List ℕ) × HoldReadings l.lexicon.g.now kinds ks l.fronts
