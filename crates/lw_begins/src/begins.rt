@@ -16,11 +16,21 @@ use std::alloc::Global;
 use std::marker::Model;
 
 /// Which places of a program may read nothing, which kinds may come next at a call of a rule, and which rules make nodes.
-#[derive(Drop)]
 pub struct Begins {
     empty: Vec<bool>,
     meets: Vec<Vec<bool>>,
     nodes: Vec<bool>,
+}
+
+impl Drop for Begins {
+    // In one place, so that whoever drops such a value sees one call and not the drops of all its parts.
+    fn drop(self) {
+        let Begins {
+            empty: _,
+            meets: _,
+            nodes: _,
+        } = self;
+    }
 }
 
 impl Model for Begins {

@@ -4,7 +4,6 @@ use lw_base::{Items, Name, Span};
 
 /// A grammar: all that its files declare, the files in the order in which they were loaded, and what
 /// a file declares in the order in which it stands there.
-#[derive(Drop)]
 pub struct Grammar {
     /// The name that the root file gives it, or the empty text.
     pub name: Name,
@@ -15,6 +14,21 @@ pub struct Grammar {
     pub interfaces: Items<Interface>,
     pub unions: Items<UnionDef>,
     pub imports: Items<Import>,
+}
+
+impl Drop for Grammar {
+    // In one place, so that whoever drops such a value sees one call and not the drops of all its parts.
+    fn drop(self) {
+        let Grammar {
+            name: _,
+            files: _,
+            rules: _,
+            terminals: _,
+            interfaces: _,
+            unions: _,
+            imports: _,
+        } = self;
+    }
 }
 
 /// A file that another one names. The span is that of the path's string.

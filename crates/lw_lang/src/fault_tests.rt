@@ -92,6 +92,17 @@ fn shown_conflict(alloc: Global, conflict: &ToldConflict) -> Result<String, NoMe
     Ok(format!(in alloc; "{place} {k} {first} {second} {shared}\n")?)
 }
 
+/// Why a grammar is not compiled, in one line or more.
+fn shown_fault(alloc: Global, fault: &CompileFault) -> Result<String, NoMemory> {
+    match fault {
+        CompileFault::Faults(told) => shown(alloc, told.as_slice()),
+        CompileFault::Load(_) => Ok(String::from_str(alloc, "not loaded")?),
+        CompileFault::NoMemory => Err(NoMemory),
+        CompileFault::Term(told) => shown_term(alloc, told),
+        CompileFault::Look(told) => shown_look(alloc, told),
+    }
+}
+
 /// What is told of the grammar of this text, where two kinds are looked at.
 fn faults_of(alloc: Global, text: &str) -> Result<String, NoMemory> {
     told_of(alloc, text, 2)
@@ -106,12 +117,8 @@ fn told_of(alloc: Global, text: &str, k: u8) -> Result<String, NoMemory>
     let mut store = store_of(alloc, text)?;
     let mut patterns = MemPatterns::new(Vec::new(alloc));
     match compile(alloc, &root, k, &mut store, &mut patterns) {
-        Err(CompileFault::Faults(told)) => shown(alloc, told.as_slice()),
-        Err(CompileFault::Load(_)) => Ok(String::from_str(alloc, "not loaded")?),
-        Err(CompileFault::NoMemory) => Err(NoMemory),
-        Err(CompileFault::Term(told)) => shown_term(alloc, &told),
-        Err(CompileFault::Look(told)) => shown_look(alloc, &told),
         Ok(_) => Ok(String::new(alloc)),
+        Err(fault) => shown_fault(alloc, &fault),
     }
 }
 

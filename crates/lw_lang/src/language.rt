@@ -26,12 +26,23 @@ use std::marker::Model;
 
 /// A grammar made ready to read texts. It is seen as its grammar, and the texts by which messages name
 /// its kinds.
-#[derive(Drop)]
 pub struct Language {
     grammar: Grammar,
     types: Types,
     tokens: TokenSet,
     parser: Parser,
+}
+
+impl Drop for Language {
+    // Spelled out, so that a function which drops a language sees one call and not the parts of all that it is made of.
+    fn drop(self) {
+        let Language {
+            grammar: _,
+            types: _,
+            tokens: _,
+            parser: _,
+        } = self;
+    }
 }
 
 impl Model for Language {

@@ -177,14 +177,25 @@ const ROWS: [(&str, &[(&str, &str)]); 4] = [
     ),
 ];
 
+/// Each of these texts reads as its row says.
+fn are_read(
+    rt: &impl Abort,
+    alloc: Global,
+    language: &Language,
+    rows: &[(&str, &str)],
+) -> Result<(), NoMemory> {
+    for (text, expected) in rows {
+        let found = shown(alloc, language, text)?;
+        assert_eq!(rt; found.as_str(), *expected, "{text}");
+    }
+    Ok(())
+}
+
 #[test]
 fn texts_are_read(rt: HostRuntime) -> Result<(), Fail> {
     for (grammar, rows) in ROWS {
         let language = language(&rt, rt.alloc(), grammar)?;
-        for (text, expected) in rows {
-            let found = shown(rt.alloc(), &language, text)?;
-            assert_eq!(rt; found.as_str(), *expected, "{text}");
-        }
+        are_read(&rt, rt.alloc(), &language, rows)?;
     }
     Ok(())
 }

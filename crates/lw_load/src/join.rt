@@ -7,6 +7,7 @@ use crate::paths::import_path;
 use lw_base::{Items, Name, NoMemory};
 use lw_grammar::{Grammar, Import, Interface, Rule, Terminal, UnionDef};
 use std::alloc::Global;
+use std::mem::replace;
 
 /// What a file declares: a rule, a terminal, an interface, a union or an import.
 trait Declared: Drop {
@@ -64,19 +65,56 @@ pub(crate) fn join(
     alloc: Global,
     whole: &mut Grammar,
     path: Name,
-    says: Grammar,
+    mut says: Grammar,
 ) -> Result<(), NoMemory>
     requires { length whole.old.files ≤ 65535 }
     ensures { OnOk result (whole.new ≡ with_file whole.old path says) }
 {
     let file = whole.files.len() as u16;
-    put(alloc, &mut whole.rules, says.rules, &path, file)?;
-    put(alloc, &mut whole.terminals, says.terminals, &path, file)?;
-    put(alloc, &mut whole.interfaces, says.interfaces, &path, file)?;
-    put(alloc, &mut whole.unions, says.unions, &path, file)?;
-    put(alloc, &mut whole.imports, says.imports, &path, file)?;
+    put(
+        alloc,
+        &mut whole.rules,
+        taken(alloc, &mut says.rules),
+        &path,
+        file,
+    )?;
+    put(
+        alloc,
+        &mut whole.terminals,
+        taken(alloc, &mut says.terminals),
+        &path,
+        file,
+    )?;
+    put(
+        alloc,
+        &mut whole.interfaces,
+        taken(alloc, &mut says.interfaces),
+        &path,
+        file,
+    )?;
+    put(
+        alloc,
+        &mut whole.unions,
+        taken(alloc, &mut says.unions),
+        &path,
+        file,
+    )?;
+    put(
+        alloc,
+        &mut whole.imports,
+        taken(alloc, &mut says.imports),
+        &path,
+        file,
+    )?;
     whole.files.push(path)?;
     Ok(())
+}
+
+/// What these items are, of which nothing stays behind.
+fn taken<T>(alloc: Global, items: &mut Items<T>) -> Items<T>
+    ensures { result ≡ items.old }
+{
+    replace(items, Items::new(alloc))
 }
 
 /// Puts what the file at this path declares behind what other files declare.

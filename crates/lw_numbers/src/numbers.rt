@@ -14,13 +14,25 @@ use std::alloc::Global;
 use std::marker::Model;
 
 /// The numbers of the names of a grammar's rules, terminals, types and properties.
-#[derive(Drop)]
 pub struct Numbers {
     pub(crate) rules: IndexMap<Name, Standing>,
     pub(crate) terminals: IndexMap<Name, Standing>,
     pub(crate) interfaces: IndexMap<Name, Standing>,
     pub(crate) unions: IndexMap<Name, Standing>,
     uses: FirstUses,
+}
+
+impl Drop for Numbers {
+    // In one place, so that whoever drops such a value sees one call and not the drops of all its parts.
+    fn drop(self) {
+        let Numbers {
+            rules: _,
+            terminals: _,
+            interfaces: _,
+            unions: _,
+            uses: _,
+        } = self;
+    }
 }
 
 impl Model for Numbers {

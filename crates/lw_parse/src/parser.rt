@@ -37,7 +37,6 @@ use std::alloc::Global;
 use std::marker::Model;
 
 /// What texts of a grammar are parsed by. It is made once for a language.
-#[derive(Drop)]
 pub struct Parser {
     program: Program,
     begins: Begins,
@@ -45,6 +44,20 @@ pub struct Parser {
     tables: Tables,
     k: usize,
     entry: RuleId,
+}
+
+impl Drop for Parser {
+    // In one place, so that whoever drops such a value sees one call and not the drops of all its parts.
+    fn drop(self) {
+        let Parser {
+            program: _,
+            begins: _,
+            recipes: _,
+            tables: _,
+            k: _,
+            entry: _,
+        } = self;
+    }
 }
 
 impl Model for Parser {

@@ -19,10 +19,16 @@ use std::alloc::Global;
 use std::marker::Model;
 
 /// The rules of a grammar as instructions, and by their numbers where they start.
-#[derive(Drop)]
 pub struct Program {
     code: Vec<Instr>,
     starts: Vec<Option<u32>>,
+}
+
+impl Drop for Program {
+    // In one place, so that whoever drops such a value sees one call and not the drops of all its parts.
+    fn drop(self) {
+        let Program { code: _, starts: _ } = self;
+    }
 }
 
 impl Model for Program {

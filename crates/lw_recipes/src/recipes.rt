@@ -13,12 +13,23 @@ use std::alloc::Global;
 use std::marker::Model;
 
 /// What becomes of what is read by a grammar, by the numbers of its values, its actions and its rules.
-#[derive(Drop)]
 pub struct Recipes {
     pub(crate) values: Vec<ValueRecipe>,
     pub(crate) actions: Vec<ActionRecipe>,
     pub(crate) types: Vec<Option<TypeId>>,
     naming: Option<PropId>,
+}
+
+impl Drop for Recipes {
+    // In one place, so that whoever drops such a value sees one call and not the drops of all its parts.
+    fn drop(self) {
+        let Recipes {
+            values: _,
+            actions: _,
+            types: _,
+            naming: _,
+        } = self;
+    }
 }
 
 impl Model for Recipes {

@@ -39,12 +39,23 @@ pub struct Handled {
 
 /// A session of the language server, seen_session as the grammar of its language and its standing: the documents
 /// by address, and whether `initialize` and `shutdown` were answered with a result.
-#[derive(Drop)]
 pub struct Session {
     language: Language,
     document: Option<Held>,
     phase: Phase,
     alloc: Global,
+}
+
+impl Drop for Session {
+    // In one place, so that whoever drops such a value sees one call and not the drops of all its parts.
+    fn drop(self) {
+        let Session {
+            language: _,
+            document: _,
+            phase: _,
+            alloc: _,
+        } = self;
+    }
 }
 
 impl Model for Session {

@@ -9,13 +9,24 @@ use std::marker::Model;
 
 /// The kinds of tokens of a language, seen as what texts are cut by and the text by which each kind is
 /// told. The keywords come first, then the terminals.
-#[derive(Drop)]
 pub struct TokenSet {
     keywords: Vec<Name>,
     terminals: Vec<Terminal>,
     texts: Vec<Name>,
     // for each byte the places of the keywords that begin with it
     starting: Vec<Items<usize>>,
+}
+
+impl Drop for TokenSet {
+    // In one place, so that whoever drops such a value sees one call and not the drops of all its parts.
+    fn drop(self) {
+        let TokenSet {
+            keywords: _,
+            terminals: _,
+            texts: _,
+            starting: _,
+        } = self;
+    }
 }
 
 impl Model for TokenSet {

@@ -17,13 +17,24 @@ use std::alloc::Global;
 
 /// What the names of a grammar mean, by number, which rules read cross-references that name none and which make nodes, and its kinds
 /// of tokens. Whoever has it knows, too, of each rule whether it has a finite sentence.
-#[derive(Drop)]
 pub struct NumberedKinds {
     pub numbers: Numbers,
     pub name_rules: NameRules,
     /// By the number of a rule: whether it makes nodes.
     pub nodes: Vec<bool>,
     pub kinds: KindTable,
+}
+
+impl Drop for NumberedKinds {
+    // In one place, so that whoever drops such a value sees one call and not the drops of all its parts.
+    fn drop(self) {
+        let NumberedKinds {
+            numbers: _,
+            name_rules: _,
+            nodes: _,
+            kinds: _,
+        } = self;
+    }
 }
 
 impl NumberedKinds {

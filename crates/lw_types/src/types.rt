@@ -19,12 +19,22 @@ use lw_ways::Ways;
 use std::alloc::Global;
 
 /// What is known of the rules of a grammar.
-#[derive(Drop)]
 pub struct RuleFacts {
     numbers: Numbers,
     /// For each rule by its number: whether it makes nodes.
     nodes: Vec<bool>,
     ways: Ways,
+}
+
+impl Drop for RuleFacts {
+    // In one place, so that whoever drops such a value sees one call and not the drops of all its parts.
+    fn drop(self) {
+        let RuleFacts {
+            numbers: _,
+            nodes: _,
+            ways: _,
+        } = self;
+    }
 }
 
 impl RuleFacts {
@@ -44,12 +54,22 @@ impl RuleFacts {
 }
 
 /// What is known of how the types of a grammar stand to each other.
-#[derive(Drop)]
 pub struct TypeFacts {
     subtypes: Subtypes,
     /// By the number of a type, those that are it or below it.
     below: Vec<TypeSet>,
     name_rules: NameRules,
+}
+
+impl Drop for TypeFacts {
+    // In one place, so that whoever drops such a value sees one call and not the drops of all its parts.
+    fn drop(self) {
+        let TypeFacts {
+            subtypes: _,
+            below: _,
+            name_rules: _,
+        } = self;
+    }
 }
 
 impl TypeFacts {
@@ -70,10 +90,16 @@ impl TypeFacts {
 }
 
 /// What is known of the types of a grammar, and of its names and rules.
-#[derive(Drop)]
 pub struct Types {
     rules: RuleFacts,
     types: TypeFacts,
+}
+
+impl Drop for Types {
+    // In one place, so that whoever drops such a value sees one call and not the drops of all its parts.
+    fn drop(self) {
+        let Types { rules: _, types: _ } = self;
+    }
 }
 
 impl Types {
