@@ -1,0 +1,10 @@
+pub mod Rising
+pub mod CutRows
+pub mod Filled
+pub mod Silent
+pub mod Sentences
+pub mod Grows
+pub mod Tabled
+pub mod Read
+pub mod Told
+pub mod Lettered

@@ -1,0 +1,15 @@
+pub mod OneEnd
+pub mod SameEnds
+pub mod Finite
+pub mod Comparing
+pub mod Positions
+pub mod Nodes
+pub mod Linking
+pub mod Sorting
+pub mod Doubling
+pub mod Telling
+pub mod Showing
+pub mod Existing
+pub mod OfDocuments
+pub mod Types
+pub mod Staying
