@@ -1,4 +1,4 @@
--- Each token of a text that is cut to its end has a byte: where one had none, each token behind it would have none, and the cut would not go on.
+-- Each token of a text that is cut to its end has a byte: where one had none, none behind it would have one, and the cut would not go on.
 use Rattle.std.proofs.Common.{◌≡◌, ℕ, zero, suc, ◌+◌, ◌<◌, ◌≤◌, List, [], ◌∷◌, ◌++◌, Bool, true, false, not, Option, IfSome, drop, length, ◌⊎◌, inl, inr, refl, subst, arith}
 use Rattle.std.specs.Prelude.{if◌then◌else◌}
 use Rattle.lw_base.specs.declared.token.Token.{Token}

@@ -23,7 +23,8 @@ pub filled_front : (begun : Bool) (m n : List Mark) → AreFilled begun (m ++ n)
 filled_front begun [] n filled = tt
 filled_front begun (x ∷ m) n filled = (filled.0, filled_front (begins_value x) m n filled.1)
 
-pub not_at_once : (begun : Bool) (m : List Mark) (p : List ℕ) (op : Op) (c : Value0) → AreFilled begun ((m ++ Put p op c ∷ []) ++ End ∷ []) → ⊥
+pub not_at_once : (begun : Bool) (m : List Mark) (p : List ℕ) (op : Op) (c : Value0) →
+    AreFilled begun ((m ++ Put p op c ∷ []) ++ End ∷ []) → ⊥
 not_at_once begun [] p op c filled = true≢false filled.1.0
 not_at_once begun (x ∷ m) p op c filled = not_at_once (begins_value x) m p op c filled.1
 

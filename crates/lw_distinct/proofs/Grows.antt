@@ -1,4 +1,5 @@
--- What grows from marks in which each value reads something, with tokens that stand in a row: its values and references begin one behind the other.
+-- The values and references of what grows from marks in which each value reads something, with tokens that stand in a row, begin one behind
+-- the other.
 use Rattle.std.proofs.Common.{◌≡◌, ℕ, zero, suc, ◌<◌, ◌≤◌, false, List, [], ◌∷◌, ◌++◌, Option, Some, None, drop, length, refl, sym, ap, subst, ◌∙◌, arith}
 use Rattle.lw_base.specs.declared.token.Span.{Span}
 use Rattle.lw_base.specs.declared.token.Token.{Token}
@@ -61,7 +62,8 @@ start_of at ts = (span_of_tokens (drop at ts)).start
 
 -- a value that is open innermost, of which no node was read: no token was either, or its first one stands behind what was put in before
 data ReadsValue (m : List Mark) (ts : List Token) (high at : ℕ) (bs : List Bracket) : Type 0 where
-  fresh : (before : List Mark) (p : List ℕ) (op : Op) (c : Value0) → m ≡ before ++ Put p op c ∷ [] → at ≡ length ts → Open high bs → ReadsValue m ts high at bs
+  fresh : (before : List Mark) (p : List ℕ) (op : Op) (c : Value0) → m ≡ before ++ Put p op c ∷ [] → at ≡ length ts → Open high bs →
+      ReadsValue m ts high at bs
   begun : at < length ts → start_of at ts < high → Open (start_of at ts) bs → ReadsValue m ts high at bs
 
 abbrev State : List Mark → List Token → ℕ → List Bracket → Type 0
@@ -90,7 +92,8 @@ token_stands : {terminal : Terminal} {text : List ℕ} {s : Span} {v : Plain} �
 token_stands (means.number gives is) = number_stands is
 token_stands (means.words not) = refl
 
-shut : {ts : List Token} {bs after : List Bracket} (m n : List Mark) (high : ℕ) → Shuts ts bs after → State m ts high bs → State n ts high after
+shut : {ts : List Token} {bs after : List Bracket} (m n : List Mark) (high : ℕ) → Shuts ts bs after → State m ts high bs →
+    State n ts high after
 shut m n high in_value state = state
 shut m n high (in_node {bs}) state = (state.0, state.1, raised_open state.2.0 state.0 bs (omega (arith, state.2.1)) state.2.2)
 shut m n high at_root state = state
@@ -113,7 +116,8 @@ module _ (m n : List Mark) (ts : List Token) (t : Token) (mid high : ℕ) (behin
   more_read : (at : ℕ) (bs : List Bracket) → ReadsValue m ts mid at bs → ReadsValue n (ts ++ t ∷ []) high at bs
   more_read at bs (fresh before p op c is same stand) =
       let start : start_of at (ts ++ t ∷ []) ≡ t.span.start = ap (λ (k : ℕ). start_of k (ts ++ t ∷ [])) same ∙ start_of_next ts t in
-      begun (omega (arith, same, one_longer ts t)) (omega (arith, start, filled)) (raised_open mid (start_of at (ts ++ t ∷ [])) bs (omega (arith, start, behind)) stand)
+      begun (omega (arith, same, one_longer ts t)) (omega (arith, start, filled))
+      (raised_open mid (start_of at (ts ++ t ∷ [])) bs (omega (arith, start, behind)) stand)
   more_read at bs (begun below lt stand) =
       let start : start_of at (ts ++ t ∷ []) ≡ start_of at ts = start_of_begun at ts t below in
       begun (omega (arith, below, one_longer ts t)) (omega (arith, start, lt, behind, filled))
@@ -135,7 +139,8 @@ module _ (g : Grammar) (text : List ℕ) where
 
   -- what the tokens of a value give is put in behind what the node held
   put_behind : {op : Op} {c : Value0} {ts : List Token} {held after : Held} {p : ℕ} (inside : Option Grown) → inside ≡ None →
-      PutsValueIn g text op c ts inside held p after → (low high : ℕ) → BeginIn low (span_of_tokens ts).start held → (span_of_tokens ts).start < high →
+      PutsValueIn g text op c ts inside held p after → (low high : ℕ) → BeginIn low (span_of_tokens ts).start held →
+      (span_of_tokens ts).start < high →
       BeginIn low high after
   put_behind inside none f.a_node low high begin below = absurd (let e = none in cc)
   put_behind inside none (f.a_reference not by number looks) low high begin below = (begin, below)
@@ -158,8 +163,8 @@ module _ (g : Grammar) (text : List ℕ) where
   ended m ts high type from at (Some x) bs filled put state =
       (state.2.0, put_node x (Some x) refl put state.2.0 state.0 high state.2.1 state.1, state.2.2)
 
-  changed : (m : List Mark) (ts : List Token) (high : ℕ) {mark : Mark} {bs after : List Bracket} → AreFilled false (m ++ mark ∷ []) → ChangesOpen g text ts mark bs after →
-      State m ts high bs → State (m ++ mark ∷ []) ts high after
+  changed : (m : List Mark) (ts : List Token) (high : ℕ) {mark : Mark} {bs after : List Bracket} → AreFilled false (m ++ mark ∷ []) →
+      ChangesOpen g text ts mark bs after → State m ts high bs → State (m ++ mark ∷ []) ts high after
   changed m ts high filled (f.opens {bs} at has is) state = (high, omega arith, opened m ts high bs state)
   changed m ts high filled (f.puts {name} {op} {c} {bs} is) state = fresh m name op c refl refl (opened m ts high bs state)
   changed m ts high {mark} filled (f.shuts is) state = shut m (m ++ mark ∷ []) high is state
@@ -167,8 +172,8 @@ module _ (g : Grammar) (text : List ℕ) where
   changed m ts high filled (f.wraps some is property) state = (state.0, (state.0, omega arith, state.1), state.2)
   changed m ts high filled (f.ends {type} {from} {at} {node} {bs} put) state = ended m ts high type from at node bs filled put state
 
-  followed : {m : List Mark} {ts : List Token} {bs : List Bracket} → FollowsMarks g text m ts bs → (high : ℕ) → StandBetween 0 high ts → AreFilled false m →
-      State m ts high bs
+  followed : {m : List Mark} {ts : List Token} {bs : List Bracket} → FollowsMarks g text m ts bs → (high : ℕ) → StandBetween 0 high ts →
+      AreFilled false m → State m ts high bs
   followed f.nothing high row filled = tt
   followed (f.token {m} {ts} {bs} t is) high row filled =
       let before = before_last 0 high ts t row in
@@ -178,6 +183,7 @@ module _ (g : Grammar) (text : List ℕ) where
       changed m ts high filled change (followed is high row (filled_front false m (mark ∷ []) filled))
 
   -- so in the tree of such marks
-  pub root_begins : {m : List Mark} {ts : List Token} {x : Grown} (high : ℕ) → FollowsMarks g text m ts (Root x ∷ []) → StandBetween 0 high ts →
+  pub root_begins : {m : List Mark} {ts : List Token} {x : Grown} (high : ℕ) → FollowsMarks g text m ts (Root x ∷ []) →
+      StandBetween 0 high ts →
       AreFilled false m → (low : ℕ) × Begin low high x
   root_begins high is row filled = let state = followed is high row filled in (state.0, state.1)

@@ -1,5 +1,5 @@
 -- Names that stand at places of their own, and names that all stand at one.
-use Rattle.std.proofs.Common.{ℕ, ◌≡◌, ◌<◌, List, [], ◌∷◌, Some, AllPairs, Contains, codes, refl, sym, ap, ◌∙◌, arith}
+use Rattle.std.proofs.Common.{ℕ, ◌≡◌, Some, Contains, codes, refl, sym, ap, ◌∙◌, arith}
 use Rattle.lw_base.specs.declared.token.Span.{Span}
 use Rattle.lw_rooted.specs.Within.{value_place}
 use Rattle.lw_scopes.specs.Worked.{twins}
@@ -12,7 +12,7 @@ use Rattle.lw_distinct.proofs.Rising.{Rises, one_item}
 use Rattle.lw_distinct.proofs.Tabled.{Entry, entry_at, start_in, start_of_entry}
 
 letters_rise : Rises start_of_entry 0 23 twins.values
-letters_rise = (omega arith, omega arith, omega arith, omega arith)
+letters_rise = (omega arith, (omega arith, (omega arith, omega arith)))
 
 pub twins_apart : StandApart twins
 twins_apart = record { values = apart; refs = λ i j d below inside. absurd (omega (arith, inside)) }

@@ -21,7 +21,8 @@ use Rattle.lw_distinct.proofs.Tabled.{refs_in_order, values_apart}
 use Rattle.std.proofs.Common.{Contains}
 
 -- the tables of what has grown are those of the tree
-tables_apart : (low high : ℕ) (x : Grown) (tokens : List Token) (tree : Parts) → SameTables tree (parts_of_tree x tokens tree.name) → Begin low high x → StandApart tree
+tables_apart : (low high : ℕ) (x : Grown) (tokens : List Token) (tree : Parts) → SameTables tree (parts_of_tree x tokens tree.name) →
+    Begin low high x → StandApart tree
 tables_apart low high x tokens tree same begin = record {
   values = λ n p m q v w s r has also.
       values_apart low high x begin n p m q v w s r (subst (λ (vs : List Value). Contains vs v) (same.values n p) has)
@@ -29,7 +30,8 @@ tables_apart low high x tokens tree same begin = record {
   refs = subst (AllPairs (λ (r other : Reference). r.span.start < other.span.start)) (sym same.refs) (refs_in_order low high x begin);
 }
 
-module _ (g : Grammar) (no_type_fault : (f : GrammarFault) → ¬ IsTypeFault g f) (no_check_fault : (f : GrammarFault) → ¬ IsCheckFault g f) (text : List ℕ) where
+module _ (g : Grammar) (no_type_fault : (f : GrammarFault) → ¬ IsTypeFault g f) (no_check_fault : (f : GrammarFault) → ¬ IsCheckFault g f)
+    (text : List ℕ) where
   pub stands_apart : (tree : Parts) → Reads g text (Whole tree) → StandApart tree
   stands_apart tree (reading.read of lexicon short are is (reading.whole tokens m cut sentence kinds tree_is)) =
       let begins = root_begins g text (length text) tree_is.follows (seen_in_row lexicon text tokens cut)

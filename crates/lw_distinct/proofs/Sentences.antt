@@ -25,7 +25,7 @@ use Rattle.lw_faults.specs.Derivations.{IsEntryRule, IsReachedRule, reads_nothin
 use Rattle.lw_faults.specs.Faults.{IsTypeFault, IsCheckFault, HasNoCircle, fault}
 use Rattle.lw_faults.specs.Faults as list
 use Rattle.lw_faults.specs.Reads.{MayRead}
-use Rattle.lw_look.proofs.Standing.{among}
+use Rattle.lw_scoping.proofs.Places.{among}
 use Rattle.lw_rooted.proofs.Listed.{alone, in_flat, mapped}
 use Rattle.lw_rooted.proofs.Rootable.{IsRootable}
 use Rattle.lw_rooted.proofs.Valued.{calls_here, crosses_here}
@@ -52,7 +52,8 @@ module _ (g : Grammar) where
   abbrev IsSite : Value0 → Type 0
   IsSite v = (name : List ℕ) → ValueCalls g v name → (q : ℕ) (called : Rule) → IsRule g name q called → IsReached g q × (called.is_fragment ≡ false)
 
-  wider : {v w : Value0} {name : List ℕ} → ((l : ValueLeaf) → Contains (value_leaves w) l → Contains (value_leaves v) l) → ValueCalls g w name → ValueCalls g v name
+  wider : {v w : Value0} {name : List ℕ} → ((l : ValueLeaf) → Contains (value_leaves w) l → Contains (value_leaves v) l) →
+      ValueCalls g w name → ValueCalls g v name
   wider {name} has (reached.calls s is) = reached.calls s (has (Calls name s) is)
   wider {name} has (reached.crosses wanted s is) = reached.crosses wanted s (has (Cross wanted (Some name) s) is)
   wider has (reached.crosses_by_name wanted s is names) = reached.crosses_by_name wanted s (has (Cross wanted None s) is) names
@@ -77,7 +78,8 @@ module _ (g : Grammar) where
         no_fault (fault 8 rule.file rule.span rule.name)
         (list.reads_nothing no_circle (reads_nothing q rule there data_type.0 (no_entry q rule there.1 data_type) may))
 
-    site : (r : ℕ) (rule : Rule) → IsReachedRule g r rule → (p : List ℕ) (op : Op) (v : Value0) (s : Span) → Contains (leaves rule.body) (Assign p op v s) → IsSite v
+    site : (r : ℕ) (rule : Rule) → IsReachedRule g r rule → (p : List ℕ) (op : Op) (v : Value0) (s : Span) →
+        Contains (leaves rule.body) (Assign p op v s) → IsSite v
     site r rule there p op v s written name by q called is = (
       reached.called rule called name there.0 there.1 (reached.assigns p op v s written by) is,
       root.whole rule p op v s name q called (among g.rules r rule there.1) written by is,
@@ -85,7 +87,8 @@ module _ (g : Grammar) where
 
     module _ (kinds : Kinds) where
       mutual
-        element_reads : {e : Element} {m : List Mark} → Yields g kinds e m → (r : ℕ) (rule : Rule) → IsReachedRule g r rule → AreIn rule (leaves e) → ReadsAny m
+        element_reads : {e : Element} {m : List Mark} → Yields g kinds e m → (r : ℕ) (rule : Rule) → IsReachedRule g r rule →
+            AreIn rule (leaves e) → ReadsAny m
         element_reads {e} (y.yields p) r rule there within =
             layer_reads p r rule there (λ l has. within l (subst (λ ls. Contains ls l) (sym (leaves_by e (out-Element e) refl)) has))
 
@@ -96,7 +99,8 @@ module _ (g : Grammar) where
             call_reads p
             (λ q called is. reached.called rule called name there.0 there.1 (reached.calls s (within (Call name s) (alone (Call name s)))) is)
         layer_reads (y.assigned {p = property} {op} {v} {c} {s} {m} p) r rule there within =
-            inr (value_reads property op c m (assigned_reads p (site r rule there property op v s (within (Assign property op v s) (alone (Assign property op v s))))))
+            let written = within (Assign property op v s) (alone (Assign property op v s)) in
+            inr (value_reads property op c m (assigned_reads p (site r rule there property op v s written)))
         layer_reads (y.acted {a}) r rule there within = inr (act_reads a)
         layer_reads (y.grouped p) r rule there within = row_reads p r rule there within
         layer_reads (y.chosen {es} {e} has p) r rule there within =
@@ -107,13 +111,15 @@ module _ (g : Grammar) where
         layer_reads (y.repeated_once {m} {n} p q) r rule there within =
             in_turn m n (element_reads p r rule there within) (again_reads q r rule there within)
 
-        row_reads : {es : List Element} {m : List Mark} → YieldsAll g kinds es m → (r : ℕ) (rule : Rule) → IsReachedRule g r rule → AreIn rule (RowLeaves es) → ReadsAny m
+        row_reads : {es : List Element} {m : List Mark} → YieldsAll g kinds es m → (r : ℕ) (rule : Rule) → IsReachedRule g r rule →
+            AreIn rule (RowLeaves es) → ReadsAny m
         row_reads y.none r rule there within = inl refl
         row_reads (y.more {e} {es} {m} {n} p q) r rule there within =
             in_turn m n (element_reads p r rule there (λ l has. within l (Contains-append_left (leaves e) (RowLeaves es) l has)))
             (row_reads q r rule there (λ l has. within l (Contains-append_right (leaves e) (RowLeaves es) l has)))
 
-        again_reads : {e : Element} {m : List Mark} → Repeats g kinds e m → (r : ℕ) (rule : Rule) → IsReachedRule g r rule → AreIn rule (leaves e) → ReadsAny m
+        again_reads : {e : Element} {m : List Mark} → Repeats g kinds e m → (r : ℕ) (rule : Rule) → IsReachedRule g r rule →
+            AreIn rule (leaves e) → ReadsAny m
         again_reads y.stop r rule there within = inl refl
         again_reads (y.again {m} {n} p q) r rule there within =
             in_turn m n (element_reads p r rule there within) (again_reads q r rule there within)
@@ -130,7 +136,8 @@ module _ (g : Grammar) where
         assigned_reads : {v c : Value0} {m : List Mark} → ValueYields g kinds v c m → IsSite v → ReadsSome m
         assigned_reads (y.reads p) at = form_reads p refl at
 
-        form_reads : {v c : Value0} {f : Value0-F Value0} {m : List Mark} → ValueGives g kinds v f c m → out-Value0 v ≡ f → IsSite v → ReadsSome m
+        form_reads : {v c : Value0} {f : Value0-F Value0} {m : List Mark} → ValueGives g kinds v f c m → out-Value0 v ≡ f → IsSite v →
+            ReadsSome m
         form_reads (y.keyword_value {k} kind) is at = token_reads k
         form_reads (y.call_value {name} p) is at = value_call_reads p (at name (calls_here g is))
         form_reads (y.cross_value {v} {wanted} {name} {s} p) is at = value_call_reads p (at name (reached.crosses wanted s (crosses_here g v is)))
@@ -143,7 +150,8 @@ module _ (g : Grammar) where
         value_call_reads (y.terminal {k} is) at = token_reads k
         value_call_reads (y.rule_ q called is p) at = value_rule_reads p ((at q called is).0, is.first.there) (at q called is).1
 
-        value_rule_reads : {q : ℕ} {called : Rule} {m : List Mark} → RuleGives g kinds q called m → IsReachedRule g q called → called.is_fragment ≡ false → ReadsSome m
+        value_rule_reads : {q : ℕ} {called : Rule} {m : List Mark} → RuleGives g kinds q called m → IsReachedRule g q called →
+            called.is_fragment ≡ false → ReadsSome m
         value_rule_reads (y.fragment put p) there whole = absurd (true≢false (sym put ∙ whole))
         value_rule_reads {q} {called} {m} (y.data_type put none p) there whole = by (element_reads p q called there (λ l has. has))
           where

@@ -87,7 +87,8 @@ mutual
       joined start_of_reference low begin.0 high (refs_of number n held) (refs (n + size_of held) x) (refs_rise_in low begin.0 number n held begin.1)
       (refs_rise begin.0 high (n + size_of held) x begin.2)
 
-pub refs_in_order : (low high : ℕ) (x : Grown) → Begin low high x → AllPairs (λ (r other : Reference). r.span.start < other.span.start) (refs 0 x)
+pub refs_in_order : (low high : ℕ) (x : Grown) → Begin low high x →
+    AllPairs (λ (r other : Reference). r.span.start < other.span.start) (refs 0 x)
 refs_in_order low high x begin = all_rise start_of_reference low high (refs 0 x) (refs_rise low high 0 x begin)
 
 -- ---- each value that has a place is one of them
@@ -134,7 +135,8 @@ module _ (e : Entry) (s : Span) (place : value_place e.2 ≡ Some s) where
     inside_placed number n r (Takes held p x) has =
         elim (Contains-append_cases (values_of n r held) (values (n + size_of held) (r + points_of held) x) e has) [
           | inl before ↦ Contains-append_left (placed_in number n held) (placed (n + size_of held) x) e (inside_placed number n r held before)
-          | inr last ↦ Contains-append_right (placed_in number n held) (placed (n + size_of held) x) e (value_placed (n + size_of held) (r + points_of held) x last)
+          | inr last ↦ Contains-append_right (placed_in number n held) (placed (n + size_of held) x) e
+              (value_placed (n + size_of held) (r + points_of held) x last)
         ]
 
 -- ---- by node and property
@@ -150,14 +152,16 @@ entry_at n p (e ∷ es) v has = by ((e.0.0 == n) && (e.1.0 == p)) refl (entry_at
         λ i. (record { 0 = node i }, record { 0 = property i }, value i)
 
     by : (b : Bool) → ((e.0.0 == n) && (e.1.0 == p)) ≡ b →
-        (Contains (values_at n p es) v → Contains es (record { 0 = n }, record { 0 = p }, v)) → Contains (if b then e.2 ∷ values_at n p es else values_at n p es) v →
-        Contains (e ∷ es) (record { 0 = n }, record { 0 = p }, v)
+        (Contains (values_at n p es) v → Contains es (record { 0 = n }, record { 0 = p }, v)) →
+        Contains (if b then e.2 ∷ values_at n p es else values_at n p es) v → Contains (e ∷ es) (record { 0 = n }, record { 0 = p }, v)
     by true is rest (zero, below, same) = (0, omega arith, here is same)
     by true is rest (suc k, below, same) = there e es (record { 0 = n }, record { 0 = p }, v) (rest (k, omega (arith, below), same))
     by false is rest inside = there e es (record { 0 = n }, record { 0 = p }, v) (rest inside)
 
-pub values_apart : (low high : ℕ) (x : Grown) → Begin low high x → (n p m q : ℕ) (v w : Value) (s r : Span) → Contains (values_at n p (values 0 0 x)) v →
-    Contains (values_at m q (values 0 0 x)) w → value_place v ≡ Some s → value_place w ≡ Some r → s.start ≡ r.start → (n ≡ m) × (p ≡ q) × (v ≡ w)
+pub values_apart : (low high : ℕ) (x : Grown) → Begin low high x → (n p m q : ℕ) (v w : Value) (s r : Span) →
+    Contains (values_at n p (values 0 0 x)) v → Contains (values_at m q (values 0 0 x)) w → value_place v ≡ Some s →
+    value_place w ≡ Some r →
+    s.start ≡ r.start → (n ≡ m) × (p ≡ q) × (v ≡ w)
 values_apart low high x begin n p m q v w s r has also place stands start =
     let e : Entry = (record { 0 = n }, record { 0 = p }, v) in
     let f : Entry = (record { 0 = m }, record { 0 = q }, w) in

@@ -45,7 +45,8 @@ last_value vs name s is = by (slice_get vs (length vs - 1)) refl is
     by (Some v) at is = subst (Contains vs) (text_is v name s is) (among vs (length vs - 1) v at)
 
 -- the name of a node is a value of it
-name_value : (tree : Parts) (n : ℕ) (name : List ℕ) (s : Span) → name_of tree n ≡ Some (name, s) → (p : ℕ) × Contains (values_at n p tree.values) (Text name s)
+name_value : (tree : Parts) (n : ℕ) (name : List ℕ) (s : Span) → name_of tree n ≡ Some (name, s) →
+    (p : ℕ) × Contains (values_at n p tree.values) (Text name s)
 name_value tree n name s is = by tree.name is
   where
     by : (p : Option PropId) → name_by p n tree.values ≡ Some (name, s) → (p : ℕ) × Contains (values_at n p tree.values) (Text name s)
@@ -54,7 +55,8 @@ name_value tree n name s is = by tree.name is
 
 -- ---- references
 
-same_reference : (refs : List Reference) → AllPairs (λ (r other : Reference). r.span.start < other.span.start) refs → (r q : Reference) → Contains refs r →
+same_reference : (refs : List Reference) → AllPairs (λ (r other : Reference). r.span.start < other.span.start) refs → (r q : Reference) →
+    Contains refs r →
     Contains refs q → r.span.start ≡ q.span.start → r ≡ q
 same_reference [] rise r q (k, inside, is) also same = absurd (omega (arith, inside))
 same_reference (x ∷ xs) rise r q (zero, inside, is) (zero, within, was) same = sym is ∙ was
@@ -96,7 +98,8 @@ module _ (g : Grammar) where
       spans : s ≡ r
       types : t ≡ u
 
-    one_node : (n m : ℕ) (one other : List ℕ) (t u : ℕ) (is : IsNamedNode tree n one t) (was : IsNamedNode tree m other u) → is.span.start ≡ was.span.start →
+    one_node : (n m : ℕ) (one other : List ℕ) (t u : ℕ) (is : IsNamedNode tree n one t) (was : IsNamedNode tree m other u) →
+        is.span.start ≡ was.span.start →
         AreOne one other is.span was.span t u
     one_node n m one other t u is was start =
         let first = name_value tree n one is.span is.named in
@@ -113,7 +116,8 @@ module _ (g : Grammar) where
     abbrev Tells : Diagnostic → Type 0
     Tells e = IsDiagnosticOf g trees address tree e
 
-    pub one_told : (one other : Diagnostic) → Tells one → Tells other → one.span.start ≡ other.span.start → one.code ≡ other.code → one ≡ other
+    pub one_told : (one other : Diagnostic) → Tells one → Tells other → one.span.start ≡ other.span.start → one.code ≡ other.code →
+        one ≡ other
     one_told one other (unresolved r {type} has leads typed) (unresolved q {type = wanted} also leads_too known) start code =
         let same : r ≡ q = same_reference tree.refs apart.refs r q has also start in
         let types : type ≡ wanted = one_type type wanted r.want.0 q.want.0 (ap (λ (x : Reference). x.want.0) same) typed known in
@@ -130,18 +134,21 @@ module _ (g : Grammar) where
     one_told one other (duplicate n t named double typed) (number node prop also) start code = absurd (omega (arith, code))
     one_told one other (also_exported n t has named least typed) (unresolved q also leads_too known) start code = absurd (omega (arith, code))
     one_told one other (also_exported n t has named least typed) (duplicate m u was double known) start code = absurd (omega (arith, code))
-    one_told one other (also_exported n t {type} {name} {other = there} has is least typed) (also_exported m u {type = kind} {name = called} {other = elsewhere} also was lowest known) start code =
+    one_told one other (also_exported n t {type} {name} {other = there} has is least typed)
+        (also_exported m u {type = kind} {name = called} {other = elsewhere} also was lowest known) start code =
         let same = one_node n m name called t u is was start in
         let types : type ≡ kind = one_type type kind t u same.types typed known in
         let moved : IsLeastOther trees called u address there =
-        subst (λ (x : ℕ). IsLeastOther trees called x address there) same.types (subst (λ (x : List ℕ). IsLeastOther trees x t address there) same.names least) in
+        subst (λ (x : ℕ). IsLeastOther trees called x address there) same.types
+        (subst (λ (x : List ℕ). IsLeastOther trees x t address there) same.names least) in
         let others : there ≡ elsewhere = one_other trees called u address there elsewhere moved lowest in
         λ i. also_exported_at (same.spans i) (types i) (same.names i) (others i)
     one_told one other (also_exported n t has named least typed) (number node prop also) start code = absurd (omega (arith, code))
     one_told one other (number node prop has) (unresolved q also leads_too known) start code = absurd (omega (arith, code))
     one_told one other (number node prop has) (duplicate m u was double known) start code = absurd (omega (arith, code))
     one_told one other (number node prop has) (also_exported m u also was least known) start code = absurd (omega (arith, code))
-    one_told one other (number {s} n p has) (number {s = r} m q also) start code = ap out_of_range (spans (apart.values n p m q (Huge s) (Huge r) s r has also refl refl start).2)
+    one_told one other (number {s} n p has) (number {s = r} m q also) start code =
+        ap out_of_range (spans (apart.values n p m q (Huge s) (Huge r) s r has also refl refl start).2)
       where
         spans : Huge s ≡ Huge r → s ≡ r
         spans same = cc

@@ -22,8 +22,8 @@ module _ (tree : Parts) (n : ℕ) (name : List ℕ) (type : ℕ) where
   stands_in : (c : ℕ) → Contains (locals tree c) n →
       (node : Node) × (slice_get tree.nodes n ≡ Some node) × (node.container ≡ Some (record { 0 = c }))
   stands_in c has =
-      let child = child_in c 0 tree.nodes (record { 0 = n }) (of_number (children_of c tree.nodes) n (from_filter (is_named_node tree)
-      (child_numbers tree c) n has)) in
+      let child = child_in c 0 tree.nodes (record { 0 = n })
+      (of_number (children_of c tree.nodes) n (from_filter (is_named_node tree) (child_numbers tree c) n has)) in
       let number : child.place ≡ n = omega (arith, child.number) in
       (child.node, ap (slice_get tree.nodes) (sym number) ∙ child.at, child.within)
 
@@ -69,8 +69,8 @@ module _ (tree : Parts) (n : ℕ) (name : List ℕ) (type : ℕ) where
           (same_Some {A = NodeId} (record { 0 = double.container }) c (sym in_node.2 ∙ ap (λ (x : Node). x.container) one ∙ inside)))
 
       by : (o : Option Node) → slice_get tree.nodes n ≡ o → Decided (HasDouble tree n name type)
-      by None absent = inr (λ double. let in_node = stands_in double.container double.inside in none-some in_node.0
-          (sym absent ∙ in_node.1))
+      by None absent =
+          inr (λ double. let in_node = stands_in double.container double.inside in none-some in_node.0 (sym absent ∙ in_node.1))
       by (Some node) at = by_container node at node.container refl
 
 -- ---- other documents
@@ -125,8 +125,7 @@ module _ (addresses : List (List ℕ)) (trees : Trees) (all : StandAmong address
               record {
                 another = apart;
                 exports_it = does;
-                least = λ b differs exporting. first b
-                    (all b exporting.tree exporting.is_tree) (differs, exporting);
+                least = λ b differs exporting. first b (all b exporting.tree exporting.is_tree) (differs, exporting);
               },
             )
         by (inr misses) = inr (λ a is. misses a (all a is.exports_it.tree is.exports_it.is_tree) (is.another, is.exports_it))

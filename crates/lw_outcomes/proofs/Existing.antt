@@ -20,7 +20,9 @@ use Rattle.lw_scopes.specs.Diagnostics as told
 use Rattle.lw_scopes.specs.Diagnostics.{AreDiagnostics}
 use Rattle.lw_scopes.specs.Links as of_text
 use Rattle.lw_scopes.specs.Links.{Texts, IsTreeOfText, AreTreesOfTexts, AreLinks, IsNumberBelow}
-use Rattle.lw_outcomes.specs.Readable.{AreReadable, HasLinksAndList, IsReadable, TellsTypes}
+use Rattle.lw_outcomes.specs.Linked.{HasLinksAndList}
+use Rattle.lw_outcomes.specs.Readable.{AreReadable, IsReadable}
+use Rattle.lw_outcomes.specs.Telling.{TellsTypes}
 use Rattle.lw_outcomes.proofs.Finite.{here, there}
 use Rattle.lw_outcomes.proofs.Linking.{StandAmong, link}
 use Rattle.lw_outcomes.proofs.Showing.{all_shown, fault_shown}
@@ -55,8 +57,8 @@ module _ (g : Grammar) where
   text_of tree o p (of_text.broken {text = read} reads) there = absurd (none-some tree there)
 
   outwards : (text : List ℕ) (tree : Parts) → Reads g text (Whole tree) → ContainersComeFirst tree
-  outwards text = marks.of_text g text ContainersComeFirst (λ m seen tokens tree is.
-      (tree_encloses is.grown tokens tree.name tree is.parts).0)
+  outwards text =
+      marks.of_text g text ContainersComeFirst (λ m seen tokens tree is. (tree_encloses is.grown tokens tree.name tree is.parts).0)
 
   owners : (text : List ℕ) (tree : Parts) → Reads g text (Whole tree) → All (λ r. r.owner.0 < length tree.nodes) tree.refs
   owners text =
@@ -92,8 +94,8 @@ module _ (g : Grammar) where
     inside_each : (tree : Parts) → All (λ r. r.owner.0 < length tree.nodes) tree.refs → (r : Reference) → Contains tree.refs r →
         r.owner.0 < length tree.nodes
     inside_each tree all r has =
-        subst (λ (x : Reference). x.owner.0 < length tree.nodes) has.2 (All-get_or (λ
-        (x : Reference). x.owner.0 < length tree.nodes) tree.refs has.0 r has.1 all)
+        subst (λ (x : Reference). x.owner.0 < length tree.nodes) has.2
+        (All-get_or (λ (x : Reference). x.owner.0 < length tree.nodes) tree.refs has.0 r has.1 all)
 
     some_links : (address text : List ℕ) → IsReadAs text (trees address) → (links : List Link) × AreLinks g texts address links
     some_links address text (as_tree tree is reads) =
@@ -105,8 +107,8 @@ module _ (g : Grammar) where
     some_list : (address text : List ℕ) → texts address ≡ Some text → IsReadAs text (trees address) →
         (list : List Shown) × AreDiagnostics g texts address list
     some_list address text there (as_tree tree is reads) =
-        let diagnostics = some_diagnostics g decide addresses trees stand_among address tree (outwards text tree reads)
-        (owners text tree reads) in
+        let diagnostics =
+        some_diagnostics g decide addresses trees stand_among address tree (outwards text tree reads) (owners text tree reads) in
         let shown = all_shown text (readable address text there).1.utf8 diagnostics.0 in
         (shown.0, record { text = text; is_shown = there; is_list = told.whole trees are_trees is diagnostics.1 shown.1 })
     some_list address text there (as_fault issue absent reads) =

@@ -86,15 +86,13 @@ module _ {X : Type 0} (P : X → Type 0) where
       where
         before_all : (x : X) → Before x w → ((y : X) → Contains xs y → P y → Before x y) → (y : X) → Contains (w ∷ xs) y → P y → Before x y
         before_all x first rest y has does = elim (here_or_there w xs y has) [
-          | inl same ↦ subst
-              (Before x) same first
+          | inl same ↦ subst (Before x) same first
           | inr later ↦ rest y later does
         ]
 
         but_first : ¬ P w → (Q : X → Type 0) → ((y : X) → Contains xs y → P y → Q y) → (y : X) → Contains (w ∷ xs) y → P y → Q y
         but_first not Q rest y has does = elim (here_or_there w xs y has) [
-          | inl same ↦ absurd (not (subst P
-              (sym same) does))
+          | inl same ↦ absurd (not (subst P (sym same) does))
           | inr later ↦ rest y later does
         ]
 
@@ -144,8 +142,8 @@ module _ {E : Type 0} where
   each_listed P [] each = none_listed (λ e. (x : _) × Contains [] x × P x e) (λ e is. nothing is.0 is.1)
   each_listed {X} P (y ∷ xs) each =
       as_listed (λ e. P y e ⊎ ((x : X) × Contains xs x × P x e)) (λ e. (x : X) × Contains (y ∷ xs) x × P x e) forth back
-      (either_listed (P y) (λ e. (x : X) × Contains xs x × P x e) (each y (here y xs)) (each_listed P xs (λ x has. each x
-      (there y xs x has))))
+      (either_listed (P y) (λ e. (x : X) × Contains xs x × P x e) (each y (here y xs))
+      (each_listed P xs (λ x has. each x (there y xs x has))))
     where
       forth : (e : E) → P y e ⊎ ((x : X) × Contains xs x × P x e) → (x : X) × Contains (y ∷ xs) x × P x e
       forth e (inl is) = (y, here y xs, is)
@@ -154,6 +152,5 @@ module _ {E : Type 0} where
       back : (e : E) → ((x : X) × Contains (y ∷ xs) x × P x e) → P y e ⊎ ((x : X) × Contains xs x × P x e)
       back e (x, has, is) = elim (here_or_there y xs x has) [
         | inl same ↦ inl (subst (λ z. P z e) (sym same) is)
-        | inr later ↦ inr
-            (x, later, is)
+        | inr later ↦ inr (x, later, is)
       ]

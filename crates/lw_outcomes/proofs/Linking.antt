@@ -55,8 +55,7 @@ module _ (addresses : List (List ℕ)) (trees : Trees) (all : StandAmong address
             (
               tree,
               sym (ap (λ (x : List ℕ × ℕ). trees x.0) is.2) ∙ given,
-              subst (Contains (exports tree)) (ap (λ
-                  (x : List ℕ × ℕ). x.1) is.2) is.1,
+              subst (Contains (exports tree)) (ap (λ (x : List ℕ × ℕ). x.1) is.2) is.1,
             ),
           ))
           (λ place is. (
@@ -94,13 +93,12 @@ module _ (addresses : List (List ℕ)) (trees : Trees) (all : StandAmong address
     fits_there r place = by (trees place.0) refl
       where
         check : (tree : Parts) → trees place.0 ≡ Some tree → Decided (Contains (exports tree) place.1) →
-            Decided (Fits below tree r place.1) →
-            Decided (FitsThere below trees r place)
+            Decided (Fits below tree r place.1) → Decided (FitsThere below trees r place)
         check tree given (inl has) (inl does) = inl (tree, given, has, does)
-        check tree given (inl has) (inr not) = inr (λ is. not (subst (λ (t : Parts). Fits below t r place.1) (same_Some is.0 tree
-            (sym is.1 ∙ given)) is.3))
-        check tree given (inr not) does = inr (λ is. not (subst (λ (t : Parts). Contains (exports t) place.1) (same_Some is.0 tree
-            (sym is.1 ∙ given)) is.2))
+        check tree given (inl has) (inr not) =
+            inr (λ is. not (subst (λ (t : Parts). Fits below t r place.1) (same_Some is.0 tree (sym is.1 ∙ given)) is.3))
+        check tree given (inr not) does =
+            inr (λ is. not (subst (λ (t : Parts). Contains (exports t) place.1) (same_Some is.0 tree (sym is.1 ∙ given)) is.2))
 
         by : (o : Option Parts) → trees place.0 ≡ o → Decided (FitsThere below trees r place)
         by None absent = inr (λ is. none-some is.0 (sym absent ∙ is.1))
@@ -125,8 +123,9 @@ module _ (addresses : List (List ℕ)) (trees : Trees) (all : StandAmong address
 
           by : ((o : Option ℕ) × IsOwn below tree r o) → (l : Link) × LinksTo below trees address tree r l
           by (Some n, is) = (Some (address, n), own is)
-          by (None, is) = outside is (least (FitsThere below trees r) StandsNoLater no_later_itself no_later_further one_no_later
-              (fits_there r) all_exports.0)
+          by (None, is) =
+              outside is
+              (least (FitsThere below trees r) StandsNoLater no_later_itself no_later_further one_no_later (fits_there r) all_exports.0)
 
       -- it leads nowhere, or it does not
       pub leads_nowhere : Decided (LinksTo below trees address tree r None)

@@ -1,15 +1,16 @@
 -- The texts that may be shown while documents are built are readable, where their present and their shown ones are.
 use Rattle.std.proofs.Common.{◌≡◌, ℕ, List, Option, Some, None, Contains, IfSome, option_and_then, option_map, inl, inr, ◌⊎◌, refl, sym, ◌∙◌, subst}
-use Rattle.std.specs.FinMap.{get, keys}
+use Rattle.std.specs.FinMap.{empty, get, get-empty, keys}
 use Rattle.std.proofs.lemmas.Option.{same_Some, none-some}
 use Rattle.lw_grammar.specs.declared.grammar.Grammar.{Grammar}
 use Rattle.lw_scopes.specs.Links.{Texts}
 use Rattle.lw_machine.specs.Documents.{Document, Documents}
 use Rattle.lw_machine.specs.Events.{cleared}
 use Rattle.lw_machine.specs.Validity.{HaveLinksAndLists, MayBeShown}
-use Rattle.lw_machine.proofs.Places.{Among, first, later, held_among}
+use Rattle.lw_machine.proofs.Places.{order, Among, first, later, held_among}
 use Rattle.lw_outcomes.specs.Clean.{AreCleared}
-use Rattle.lw_outcomes.specs.Readable.{HaveReadableTexts, IsReadable, TellsTypes}
+use Rattle.lw_outcomes.specs.Readable.{HaveReadableTexts, IsReadable}
+use Rattle.lw_outcomes.specs.Telling.{TellsTypes}
 use Rattle.lw_outcomes.proofs.Finite.{here, there}
 use Rattle.lw_outcomes.proofs.Existing.{links_and_list}
 
@@ -19,6 +20,9 @@ contained x xs (first {xs = rest}) = here x rest
 contained x xs (later {y = y} {xs = rest} among) = there y rest x (contained x rest among)
 
 module _ (g : Grammar) where
+  pub none_held : HaveReadableTexts g empty
+  none_held address d held = absurd (none-some d (sym (get-empty order address) ∙ held))
+
   of_shown : (o : Option (List ℕ)) (text : List ℕ) → IfSome o (IsReadable g) → o ≡ Some text → IsReadable g text
   of_shown None text each is = absurd (none-some text is)
   of_shown (Some seen) text each is = subst (IsReadable g) (same_Some seen text is) each
@@ -34,8 +38,7 @@ module _ (g : Grammar) where
         by None absent (inr is) = absurd (none-some text (sym is ∙ seen))
         by (Some d) held (inl is) = (
           contained address (keys m) (held_among m address d held),
-          of_shown d.shown text
-              (readable address d held).1 (sym is ∙ seen),
+          of_shown d.shown text (readable address d held).1 (sym is ∙ seen),
         )
         by (Some d) held (inr is) = (
           contained address (keys m) (held_among m address d held),

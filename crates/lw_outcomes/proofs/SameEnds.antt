@@ -21,8 +21,8 @@ use Rattle.lw_outcomes.proofs.OneEnd.{one_end, one_news}
 same_news : (m o : Documents) → HaveSameLists m o → (es : List (List ℕ × Document)) (lists : List Published) → AreNews m es lists →
     AreNews o es lists
 same_news m o same es lists law.nothing = law.nothing
-same_news m o same es lists (law.same {address = a} {others = rest} {news = more} is are) = law.same (same a ∙ is)
-    (same_news m o same rest more are)
+same_news m o same es lists (law.same {address = a} {others = rest} {news = more} is are) =
+    law.same (same a ∙ is) (same_news m o same rest more are)
 same_news m o same es lists (law.new {address = a} {others = rest} {news = more} is apart are) =
     law.new is (λ told. apart (sym (same a) ∙ told)) (same_news m o same rest more are)
 
@@ -45,8 +45,7 @@ module _ (m clean : Documents) (are : AreCleared m clean) where
 
 module _ (g : Grammar) (one_way : IsReadOneWay g) where
   pub built_by_any : (m n : Documents) (lists : List Published) → IsValid g m → HaveLinksAndLists g m → HaveSameContent m n →
-      AreCurrent g n →
-      AreNews m (entries n) lists → BuildsToEnd g m n lists
+      AreCurrent g n → AreNews m (entries n) lists → BuildsToEnd g m n lists
   built_by_any m n lists valid have same current are = by (has_end g m valid have)
     where
       by : ((end : Documents) × (published : List Published) × BuildsToEnd g m end published) → BuildsToEnd g m n lists
@@ -59,8 +58,7 @@ module _ (g : Grammar) (one_way : IsReadOneWay g) where
           subst₂ (λ e p. BuildsToEnd g m e p) one told builds
 
   pub same_end : (m o n : Documents) (lists : List Published) → IsValid g m → IsValid g o → HaveLinksAndLists g o → HaveSameContent m o →
-      HaveSameLists m o →
-      BuildsToEnd g m n lists → BuildsToEnd g o n lists
+      HaveSameLists m o → BuildsToEnd g m n lists → BuildsToEnd g o n lists
   same_end m o n lists valid also have same alike builds =
       built_by_any o n lists also have (λ address. to_end_same g m n lists builds address ∙ sym (same address))
       (end_is_current g one_way m n lists valid builds)
@@ -70,14 +68,12 @@ module _ (g : Grammar) (one_way : IsReadOneWay g) where
   clean_is_valid m clean valid are = stays_valid g one_way m clean _ valid (resets are)
 
   pub clean_end : (m clean n : Documents) (lists : List Published) → IsValid g m → HaveLinksAndLists g clean → AreCleared m clean →
-      BuildsToEnd g m n lists →
-      BuildsToEnd g clean n lists
+      BuildsToEnd g m n lists → BuildsToEnd g clean n lists
   clean_end m clean n lists valid have are =
       same_end m clean n lists valid (clean_is_valid m clean valid are) have (same_content m clean are) (same_lists m clean are)
 
   pub end_again : (m clean n : Documents) (lists : List Published) → IsValid g m → HaveLinksAndLists g m → AreCleared m clean →
-      BuildsToEnd g clean n lists →
-      BuildsToEnd g m n lists
+      BuildsToEnd g clean n lists → BuildsToEnd g m n lists
   end_again m clean n lists valid have are =
       same_end clean m n lists (clean_is_valid m clean valid are) valid have (λ address. sym (same_content m clean are address))
       (λ address. sym (same_lists m clean are address))

@@ -59,8 +59,8 @@ module _ (lexicon : Lexicon) (text : List ℕ) where
 
   token_known : {at : ℕ} {tokens : List Token} → IsCutTo lexicon text at tokens → (t : Token) → Contains tokens t → t.kind.0 < count lexicon
   token_known cut.start t has = absurd (nothing t has)
-  token_known (cut.then {at} {tokens} {next = n} before inside is) t has = by (in_either tokens (token_at at n ∷ []) t has)
-      (token_known before t)
+  token_known (cut.then {at} {tokens} {next = n} before inside is) t has =
+      by (in_either tokens (token_at at n ∷ []) t has) (token_known before t)
     where
       last : (token_at at n ≡ t) ⊎ Contains [] t → t.kind.0 < count lexicon
       last (inl same) = subst (λ (x : Token). x.kind.0 < count lexicon) same (next_known _ is)
@@ -93,10 +93,9 @@ module _ (g : Grammar) where
     ShownIfBroken (Whole tree) = Unit {0}
 
     shown_by : (of : Kinds) (lexicon : Lexicon) → AreKinds g of → IsLexicon g of lexicon → (parsed : Parsed) →
-        ReadsBy g of lexicon text parsed →
-        ShownIfBroken parsed
-    shown_by of lexicon are is parsed (reading.lexical s none at) = let shown = shown_at text utf8 s.start s.end 1 _ in
-        (shown.0, lexical shown.1)
+        ReadsBy g of lexicon text parsed → ShownIfBroken parsed
+    shown_by of lexicon are is parsed (reading.lexical s none at) =
+        let shown = shown_at text utf8 s.start s.end 1 _ in (shown.0, lexical shown.1)
     shown_by of lexicon are is parsed (reading.whole tokens m cut sentence kinds tree) = tt
     shown_by of lexicon are is parsed (reading.syntax_ tokens t is_cut first) =
         let has : Contains (visible tokens) t =
@@ -105,8 +104,8 @@ module _ (g : Grammar) where
         let kind = kind_text of are t.kind.0 (omega (arith, known, lexicon_kinds of lexicon is)) in
         let shown = shown_at text utf8 t.span.start t.span.end 2 (unexpected kind.0) in
         (shown.0, syntax_ kind.0 kind.1 shown.1)
-    shown_by of lexicon are is parsed (reading.end_ tokens is_cut early) = let shown = shown_at text utf8 (length text)
-        (length text) 2 _ in (shown.0, end_ shown.1)
+    shown_by of lexicon are is parsed (reading.end_ tokens is_cut early) =
+        let shown = shown_at text utf8 (length text) (length text) 2 _ in (shown.0, end_ shown.1)
 
     pub fault_shown : (parsed : Parsed) → Reads g text parsed → ShownIfBroken parsed
     fault_shown parsed (reading.too_large long) = (too_large_shown, too_large)

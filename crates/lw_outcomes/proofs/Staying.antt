@@ -42,8 +42,8 @@ module _ (g : Grammar) where
 
       by : (other ≡ a) ⊎ (other ≢ a) → WasThere m other (shown_texts o other)
       by (inl here) =
-          was_present (kept ∙ ap (shown_texts (insert m a (indexed d))) here ∙ seen (insert m a (indexed d)) a (indexed d) (put_here m a
-          (indexed d))
+          was_present (kept ∙ ap (shown_texts (insert m a (indexed d))) here ∙ seen (insert m a (indexed d)) a (indexed d)
+          (put_here m a (indexed d))
           ∙ sym (ap (option_map (λ (x : Document). x.text)) (ap (get m) here ∙ taken.held)))
       by (inr apart) = was_shown (kept ∙ ap (option_and_then (λ (x : Document). x.shown)) (put_elsewhere m a (indexed d) other apart))
   built m n published (building.validates {address = a} {d = d} {list = list} taken is are publishes) other =

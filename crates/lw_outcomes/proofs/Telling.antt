@@ -95,7 +95,10 @@ value_there n p (x ∷ xs) v has = by ((x.0.0 == n) && (x.1.0 == p)) has (value_
 
     by : (b : Bool) → Contains (if b then x.2 ∷ values_at n p xs else values_at n p xs) v → (Contains (values_at n p xs) v → Found v xs) →
         Found v (x ∷ xs)
-    by true inside rest = elim (here_or_there x.2 (values_at n p xs) v inside) [ inl is ↦ (x, here x xs, is) | inr more ↦ later (rest more) ]
+    by true inside rest = elim (here_or_there x.2 (values_at n p xs) v inside) [
+      | inl is ↦ (x, here x xs, is)
+      | inr more ↦ later (rest more)
+    ]
     by false inside rest = later (rest inside)
 
 entry_there : (xs : Entries) (x : NodeId × PropId × Value) → Contains xs x → Contains (values_at x.0.0 x.1.0 xs) x.2
@@ -206,7 +209,8 @@ module _ (g : Grammar) (decide : (a b : ℕ) → Decided (IsNumberBelow g a b)) 
     where
       rival : (c : IsCalled tree n) (e : Diagnostic) (is : OfExport n e) → IsLeastOther trees c.name c.node.type_id.0 address is.3
       rival c e (name, t, type, other, named, least, numbered, is) =
-          subst₂ (λ x y. IsLeastOther trees x y address other) (sym (one_name tree n c name t named)) (sym (one_type tree n c name t named)) least
+          subst₂ (λ x y. IsLeastOther trees x y address other) (sym (one_name tree n c name t named))
+          (sym (one_type tree n c name t named)) least
 
       only : (c : IsCalled tree n) (a type : List ℕ) → IsLeastOther trees c.name c.node.type_id.0 address a →
           IsNumberOfType g type c.node.type_id.0 → (e : Diagnostic) → OfExport n e → also_exported_at c.span type c.name a ≡ e
@@ -264,8 +268,8 @@ module _ (g : Grammar) (decide : (a b : ℕ) → Decided (IsNumberBelow g a b)) 
       ⊎ (((n : ℕ) × Contains (exports tree) n × OfExport n e) ⊎ ((x : NodeId × PropId × Value) × Contains tree.values x × OfValue x e)))
 
   forth : (e : Diagnostic) → OfAny e → IsDiagnosticOf g trees address tree e
-  forth e (inl (r, has, (type, leads, numbered, is))) = subst (IsDiagnosticOf g trees address tree) (sym is)
-      (unresolved r has leads numbered)
+  forth e (inl (r, has, (type, leads, numbered, is))) =
+      subst (IsDiagnosticOf g trees address tree) (sym is) (unresolved r has leads numbered)
   forth e (inr (inl (n, has, (name, t, type, named, double, numbered, is)))) =
       subst (IsDiagnosticOf g trees address tree) (sym is) (duplicate n t named double numbered)
   forth e (inr (inr (inl (n, has, (name, t, type, other, named, least, numbered, is))))) =
@@ -293,8 +297,8 @@ module _ (g : Grammar) (decide : (a b : ℕ) → Decided (IsNumberBelow g a b)) 
       (either_listed (λ e. (r : Reference) × Contains tree.refs r × OfReference r e) _ (each_listed OfReference tree.refs of_reference)
       (either_listed (λ e. (n : ℕ) × Contains (below (length tree.nodes)) n × OfDouble n e) _
       (each_listed OfDouble (below (length tree.nodes)) (λ n has. of_double n))
-      (either_listed (λ e. (n : ℕ) × Contains (exports tree) n × OfExport n e) (λ e.
-      (x : NodeId × PropId × Value) × Contains tree.values x × OfValue x e)
+      (either_listed (λ e. (n : ℕ) × Contains (exports tree) n × OfExport n e)
+      (λ e. (x : NodeId × PropId × Value) × Contains tree.values x × OfValue x e)
       (each_listed OfExport (exports tree) (λ n has. of_export n)) (each_listed OfValue tree.values (λ x has. of_value x)))))
 
   pub some_diagnostics : (diagnostics : List Diagnostic) × AreDiagnosticsOf g trees address tree diagnostics

@@ -7,7 +7,7 @@ use Rattle.lw_marks.specs.Numbers.{IsNumberOfType}
 use Rattle.lw_numbers.specs.Numbering.{type_names}
 use Rattle.lw_scopes.specs.Links.{IsNumberBelow}
 use Rattle.lw_subtypes.specs.Kinship.{AreSubtypesOf, StandsBelow, TypeTable, same, below}
-use Rattle.lw_outcomes.specs.Readable.{TellsTypes}
+use Rattle.lw_outcomes.specs.Telling.{TellsTypes}
 use Rattle.lw_outcomes.proofs.Finite.{Decided, is_below, some}
 use Rattle.lw_outcomes.proofs.Finite as finite
 use Rattle.lw_outcomes.proofs.Comparing.{same_text}
@@ -29,16 +29,14 @@ module _ (table : TypeTable) (one other : List ℕ) where
       by None = inr (λ is. none-some name is)
       by (Some found) = elim (same_text found name) [
         | inl is ↦ inl (λ i. Some (is i))
-        | inr not ↦ inr (λ is. not
-            (same_Some found name is))
+        | inr not ↦ inr (λ is. not (same_Some found name is))
       ]
 
   by_rows : (i j : ℕ) → Decided (IsByRows i j)
   by_rows i j = by (is_named i one) (is_named j other) (slice_get table.above i) refl
     where
       by_row : slice_get table.names i ≡ Some one → slice_get table.names j ≡ Some other → (ups : List ℕ) →
-          slice_get table.above i ≡ Some ups →
-          Decided (Contains ups j) → Decided (IsByRows i j)
+          slice_get table.above i ≡ Some ups → Decided (Contains ups j) → Decided (IsByRows i j)
       by_row low high ups row (inl has) = inl (record { ups = ups; low = low; high = high; row = row; has = has })
       by_row low high ups row (inr not) = inr (λ is. not (subst (λ us. Contains us j) (same_Some is.ups ups (sym is.row ∙ row)) is.has))
 

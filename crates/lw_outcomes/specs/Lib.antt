@@ -1,2 +1,4 @@
 pub mod Clean
 pub mod Readable
+pub mod Telling
+pub mod Linked

@@ -1,22 +1,15 @@
--- What texts and grammars need for documents to have links and lists of diagnostics.
--- Held against Langium's document lifecycle, "Linking" and "Validation": each document that is parsed gets both.
-use Rattle.std.specs.Prelude.{ℕ, ◌≡◌, ◌⊎◌, List, Some, Contains, IfSome}
+-- Texts that can be read and shown.
+-- Held against the Language Server Protocol 3.17, "Position": a place in a text is told in characters, which only UTF-8 has.
+use Rattle.std.specs.Prelude.{ℕ, ◌≡◌, List, Some, Contains, IfSome}
 use Rattle.std.specs.FinMap.{get}
 use Rattle.std.specs.Str.{IsUtf8}
 use Rattle.lw_grammar.specs.declared.grammar.Grammar.{Grammar}
 use Rattle.lw_reading.specs.Reading.{Reads}
 use Rattle.lw_reading.specs.declared.parsed.Parsed.{Parsed}
-use Rattle.lw_scopes.specs.Diagnostics.{AreDiagnostics}
-use Rattle.lw_scopes.specs.Links.{Texts, AreLinks, IsNumberBelow}
-use Rattle.lw_scoping.specs.Links.{Link}
-use Rattle.lw_text.specs.declared.shown.Shown.{Shown}
+use Rattle.lw_scopes.specs.Links.{Texts}
 use Rattle.lw_machine.specs.Documents.{Document, Documents}
 
 module _ (g : Grammar) where
-  -- it is told of two numbers whether the type of the one is that of the other or below it
-  abbrev pub TellsTypes : Type 0
-  TellsTypes = (low high : ℕ) → IsNumberBelow g low high ⊎ (¬ IsNumberBelow g low high)
-
   -- the text is UTF-8, and reads as something
   pub record IsReadable (text : List ℕ) : Type 0 where
     pub utf8 : IsUtf8 text
@@ -34,8 +27,3 @@ module _ (g : Grammar) where
   -- so are the present text of each and the shown one
   abbrev pub HaveReadableTexts : Documents → Type 0
   HaveReadableTexts m = (address : List ℕ) (d : Document) → get m address ≡ Some d → IsReadable d.text × IfSome d.shown IsReadable
-
-  -- the document at an address has links over these texts, and a list of diagnostics
-  abbrev pub HasLinksAndList : Texts → List ℕ → Type 0
-  HasLinksAndList texts address = ((links : List Link) × AreLinks g texts address links) ×
-      ((list : List Shown) × AreDiagnostics g texts address list)

@@ -1,6 +1,6 @@
 // What a reader may expect of the ends of builds, whatever the documents.
 ghost use Rattle.std.specs.Prelude.{◌≡◌, ℕ, List, Some};
-ghost use Rattle.std.specs.FinMap.{entries};
+ghost use Rattle.std.specs.FinMap.{empty, entries};
 ghost use Rattle.lw_grammar.specs.declared.grammar.Grammar.{Grammar};
 ghost use Rattle.lw_machine.specs.Building.{BuildsToEnd};
 ghost use Rattle.lw_machine.specs.Documents.{Documents};
@@ -9,7 +9,9 @@ ghost use Rattle.lw_machine.specs.Laws.{AreNews};
 ghost use Rattle.lw_machine.specs.Validity.{AreCurrent, HaveLinksAndLists, HaveSameContent, IsValid};
 ghost use Rattle.lw_machine.specs.declared.published.Published.{Published};
 ghost use Rattle.lw_outcomes.specs.Clean.{AreCleared, HaveSameLists};
-ghost use Rattle.lw_outcomes.specs.Readable.{AreReadable, HasLinksAndList, HaveReadablePresentTexts, HaveReadableTexts, TellsTypes};
+ghost use Rattle.lw_outcomes.specs.Linked.{HasLinksAndList};
+ghost use Rattle.lw_outcomes.specs.Readable.{AreReadable, HaveReadablePresentTexts, HaveReadableTexts};
+ghost use Rattle.lw_outcomes.specs.Telling.{TellsTypes};
 ghost use Rattle.lw_reading.specs.Laws.{IsReadOneWay};
 ghost use Rattle.lw_scopes.specs.Links.{Texts};
 ghost use Rattle.lw_subtypes.specs.Kinship.{AreSubtypesOf, TypeTable};
@@ -48,8 +50,10 @@ pub fn links_and_lists_exist()
     ensures documents { (g : Grammar) → TellsTypes g → (m : Documents) → HaveReadableTexts g m → HaveLinksAndLists g m }
 {}
 
-/// Whatever happens, a text that is shown then was shown before, or was the present one. So texts stay readable where each new one is.
+/// Where there is no document, all texts are readable. Whatever happens, a text that is shown then was shown before, or was the present
+/// one: so texts stay readable where each new one is.
 pub fn texts_stay_readable()
+    ensures begins { (g : Grammar) → HaveReadableTexts g empty }
     ensures stay { (g : Grammar) (m n : Documents) (published : List Published) → Happens g m n published → HaveReadableTexts g m →
         HaveReadablePresentTexts g n → HaveReadableTexts g n }
     ensures clean { (g : Grammar) (m clean : Documents) → AreCleared m clean → HaveReadableTexts g m → HaveReadableTexts g clean }
