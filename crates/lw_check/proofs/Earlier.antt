@@ -1,6 +1,6 @@
 -- A node is doubled exactly where the first symbol beside it, of its name and type, is an earlier one.
 use Rattle.std.proofs.Common.{ℕ, ◌≡◌, ◌+◌, ◌<◌, List, Option, Some, None, Contains, slice_get, refl, sym, ap, subst, ◌∙◌, arith}
-use Rattle.std.specs.Option.{is_some}
+use Rattle.std.specs.Option.{is_some, option_map}
 use Rattle.std.proofs.lemmas.Option.{same_Some}
 use Rattle.lw_base.specs.declared.numbers.NodeId.{NodeId}
 use Rattle.lw_scoping.specs.Doubles.{HasDouble}
@@ -46,11 +46,14 @@ module _ (tree : Parts) (n : ℕ) (name : List ℕ) (type : ℕ) (is : IsNamedNo
     pub held : is.node.container ≡ node.container
     held = ap (λ (x : Node). x.container) same_node
 
-    pub as_alike : (c : ℕ) (result : Option ℕ) → IsFirstIn (IsNamedOf tree name (λ t. t ≡ node.type_id.0)) (locals tree c) result →
-        IsFirstIn Alike (locals tree c) result
-    as_alike c result first =
+    -- by what a look gave
+    pub as_alike : (c : ℕ) (look result : Option NodeId) → look ≡ result →
+        IsFirstIn (IsNamedOf tree name (λ t. t ≡ node.type_id.0)) (locals tree c) (option_map (λ (k : NodeId). k.0) look) →
+        IsFirstIn Alike (locals tree c) (option_map (λ (k : NodeId). k.0) result)
+    as_alike c look result gave first =
         let typed : node.type_id.0 ≡ type = ap (λ (x : Node). x.type_id.0) (sym same_node) ∙ is.typed in
-        subst (λ (k : ℕ). IsFirstIn (IsNamedOf tree name (λ t. t ≡ k)) (locals tree c) result) typed first
+        subst (λ (k : ℕ). IsFirstIn (IsNamedOf tree name (λ t. t ≡ k)) (locals tree c) (option_map (λ (k : NodeId). k.0) result)) typed
+        (subst (λ (r : Option NodeId). IsFirstIn (IsNamedOf tree name (λ t. t ≡ node.type_id.0)) (locals tree c) (option_map (λ (k : NodeId). k.0) r)) gave first)
 
   pub not_inside : is.node.container ≡ None → ¬ HasDouble tree n name type
   not_inside out double = differ (sym out ∙ stands_in double.container double.inside)

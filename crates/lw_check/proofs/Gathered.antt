@@ -1,15 +1,13 @@
 -- What is gathered of a tree, code by code, is what is told of its document.
 use Rattle.std.proofs.Common.{◌≡◌, ℕ, zero, suc, ◌==◌, ◌&&◌, Bool, true, false, List, [], ◌∷◌, ◌⊎◌, inl, inr, Some, None, Result, Ok, Err, IfOk, Contains, map, slice_get, refl, sym, ap, subst, ◌∙◌, arith}
-use Rattle.std.specs.FinMap.{empty, get, get-empty}
+use Rattle.std.specs.FinMap.{empty}
 use Rattle.std.specs.List.{AllZip}
-use Rattle.std.specs.Ordering.{nat_cmp}
 use Rattle.std.specs.Prelude.{if◌then◌else◌}
 use Rattle.std.proofs.lemmas.Bool.Decides.{nat_tests}
 use Rattle.std.proofs.lemmas.Option.{none-some, slice_get-get_or, slice_get_within}
 use Rattle.lw_grammar.specs.declared.grammar.Grammar.{Grammar}
 use Rattle.lw_index.specs.declared.parts.Answer.{Answer}
 use Rattle.lw_index.specs.declared.parts.Answer.TheVariants.{Missing}
-use Rattle.lw_index.specs.declared.parts.Document.{Document}
 use Rattle.lw_index.specs.Indexed.{Indexed}
 use Rattle.lw_index.specs.Rivals.{IsLeastRival}
 use Rattle.lw_link.specs.Alone.{link_at}
@@ -29,7 +27,7 @@ use Rattle.lw_text.specs.declared.shown.Shown.{Shown}
 use Rattle.lw_check.specs.Sorting.{AreShown}
 use Rattle.lw_check.specs.Telling.{AreTold, AreToldAndShown, IsTold, TellsValue}
 use Rattle.lw_check.proofs.Answered.{leads_nowhere, is_missing, missing, missing_alone}
-use Rattle.lw_check.proofs.Others.{least_other, least_rival}
+use Rattle.lw_check.proofs.Others.{least_other, least_rival, no_least}
 
 pub there : {X : Type 0} (y : X) (xs : List X) (x : X) → Contains xs x → Contains (y ∷ xs) x
 there y xs x (k, inside, is) = (suc k, omega (arith, inside), is)
@@ -191,11 +189,8 @@ pub all_alone : (g : Grammar) (address : List ℕ) (tree : Parts) (answers : Lis
 all_alone g address tree answers doc index nothing_held links =
     shown_too g (alone_at address tree) address tree answers doc index (link_at address) refl (missing_alone address) no_rival no_other links
   where
-    none_held : (other : ℕ) (d : Document) → get index other ≡ Some d → ⊥
-    none_held other d is = none-some d (sym (ap (λ (m : Indexed). get m other) nothing_held ∙ get-empty nat_cmp other) ∙ is)
-
     no_rival : (name : List ℕ) (type : ℕ) (uri : List ℕ) → IsLeastRival index doc name type uri → IsLeastOther (alone_at address tree) name type address uri
-    no_rival name type uri is = absurd (none_held is.rival.other is.rival.document is.rival.exported.held)
+    no_rival name type uri is = absurd (no_least index doc name type uri nothing_held is)
 
     no_other : (name : List ℕ) (type : ℕ) (uri : List ℕ) → IsLeastOther (alone_at address tree) name type address uri → IsLeastRival index doc name type uri
     no_other name type uri is = absurd (none-some is.exports_it.tree (sym (alone_elsewhere address tree uri is.another) ∙ is.exports_it.is_tree))

@@ -6,7 +6,6 @@ use Rattle.lw_grammar.specs.declared.grammar.Grammar.{Grammar}
 use Rattle.lw_numbers.specs.Numbering.{type_names}
 use Rattle.lw_outwards.specs.Known.{HasKnownTypes}
 use Rattle.lw_tree.specs.declared.node.Node.{Node}
-use Rattle.lw_tree.specs.declared.node.Reference.{Reference}
 use Rattle.lw_tree.specs.Parts.{Parts}
 use Rattle.lw_types.specs.declared.types.Types.{Types}
 use Rattle.lw_types.specs.Inferred.{AreTypesOf}
@@ -21,6 +20,3 @@ module _ (types : Types) (tree : Parts) (known : (g : Grammar) × AreTypesOf g t
   pub node_known : (n : ℕ) (node : Node) → slice_get tree.nodes n ≡ Some node → node.type_id.0 < length types.rules.numbers.types
   node_known n node at =
       named_below node.type_id.0 (at_place (λ (x : Node). x.type_id.0 < length (type_names known.0)) tree.nodes n node at known.2.nodes)
-
-  pub want_known : (i : ℕ) (r : Reference) → slice_get tree.refs i ≡ Some r → r.want.0 < length types.rules.numbers.types
-  want_known i r at = named_below r.want.0 (at_place (λ (x : Reference). x.want.0 < length (type_names known.0)) tree.refs i r at known.2.refs)

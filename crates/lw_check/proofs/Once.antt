@@ -1,10 +1,12 @@
--- One diagnostic more, which is the only one of its kind, or one node more.
-use Rattle.std.proofs.Common.{◌≡◌, ℕ, ◌+◌, List, [], ◌∷◌, ◌++◌, ◌⊎◌, inl, inr, sym, subst, ◌∙◌, arith}
-use Rattle.std.proofs.lemmas.Bool.{cases_lt}
-use Rattle.lw_findings.specs.Finding.{Finds}
-use Rattle.lw_findings.proofs.Joining.{Finds-iff, Finds-nothing, Finds-pushed, Finds-then}
+-- One diagnostic more, which is the only one of its kind, and what is told of all doubles.
+use Rattle.std.proofs.Common.{◌≡◌, ◌<◌, ℕ, List, [], ◌∷◌, ◌++◌, Contains, length, sym, subst, ◌∙◌}
+use Rattle.lw_base.specs.declared.numbers.NodeId.{NodeId}
+use Rattle.lw_findings.specs.Finding.{Finds, OfSome}
+use Rattle.lw_findings.proofs.Joining.{Finds-iff, Finds-pushed}
 use Rattle.lw_grammar.specs.declared.grammar.Grammar.{Grammar}
 use Rattle.lw_scopes.specs.TreeDiagnostics.{Diagnostic}
+use Rattle.lw_scoping.specs.Doubles.{HasDouble}
+use Rattle.lw_scoping.specs.Symbols.{IsNamedNode}
 use Rattle.lw_tree.specs.Parts.{Parts}
 use Rattle.lw_check.specs.declared.sorting.KeyedDiagnostic.{KeyedDiagnostic}
 use Rattle.lw_check.specs.Sorting.{diagnostic_of, diagnostics_of}
@@ -15,22 +17,14 @@ pub told_once : {P : Diagnostic → Type 0} (xs ys : List KeyedDiagnostic) (x : 
 told_once {P} xs ys x one pushed is so only =
     Finds-iff (λ e. (λ same. subst P (sym (same ∙ is)) so, λ told. only e told ∙ sym is)) (Finds-pushed diagnostic_of xs ys x pushed)
 
-module _ (g : Grammar) (tree : Parts) where
-  pub double_none : (a : List Diagnostic) → Finds (TellsDoubleBelow g tree 0) a a
-  double_none a = Finds-nothing (λ e (n, below, tells). omega (arith, below))
+-- nodes among which all doubles are
+pub all_doubles : (g : Grammar) (tree : Parts) (nodes : List NodeId) → ((n : NodeId) → Contains nodes n → n.0 < length tree.nodes) →
+    ((n : NodeId) (name : List ℕ) (type : ℕ) → IsNamedNode tree n.0 name type → HasDouble tree n.0 name type → Contains nodes n) → {a b : List Diagnostic} →
+    Finds (OfSome (λ (n : NodeId). TellsDouble g tree n.0) nodes) a b → Finds (TellsDoubleBelow g tree (length tree.nodes)) a b
+all_doubles g tree nodes inside all = Finds-iff (λ e. (forth e, back e))
+  where
+    forth : (e : Diagnostic) → OfSome (λ (n : NodeId). TellsDouble g tree n.0) nodes e → TellsDoubleBelow g tree (length tree.nodes) e
+    forth e (n, has, tells) = (n.0, inside n has, tells)
 
-  pub double_more : {a b c : List Diagnostic} (k : ℕ) → Finds (TellsDoubleBelow g tree k) a b → Finds (TellsDouble g tree k) b c →
-      Finds (TellsDoubleBelow g tree (k + 1)) a c
-  double_more k before now = Finds-iff (λ e. (forth e, back e)) (Finds-then before now)
-    where
-      forth : (e : Diagnostic) → TellsDoubleBelow g tree k e ⊎ TellsDouble g tree k e → TellsDoubleBelow g tree (k + 1) e
-      forth e (inl (n, below, tells)) = (n, omega (arith, below), tells)
-      forth e (inr tells) = (k, omega arith, tells)
-
-      back : (e : Diagnostic) → TellsDoubleBelow g tree (k + 1) e → TellsDoubleBelow g tree k e ⊎ TellsDouble g tree k e
-      back e (n, below, tells) = elim (cases_lt n k) [
-        | inl lt ↦ inl (n, lt, tells)
-        | inr ge ↦
-            let same : n ≡ k = omega (arith, below, ge) in
-            inr (subst (λ i. TellsDouble g tree i e) same tells)
-      ]
+    back : (e : Diagnostic) → TellsDoubleBelow g tree (length tree.nodes) e → OfSome (λ (n : NodeId). TellsDouble g tree n.0) nodes e
+    back e (n, below, tells) = (record { 0 = n }, all (record { 0 = n }) tells.name tells.number tells.named tells.double, tells)

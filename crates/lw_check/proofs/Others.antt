@@ -1,12 +1,12 @@
 -- The least rival of an index is the least other address whose document exports the name and type.
 use Rattle.std.proofs.Common.{ℕ, ◌≡◌, ◌≢◌, false, List, Option, Some, None, Contains, Ordering, refl, sym, ap, subst, ◌∙◌, true≢false, arith}
-use Rattle.std.specs.FinMap.{get}
+use Rattle.std.specs.FinMap.{empty, get, get-empty}
 use Rattle.std.specs.Cmp.Lexicographic.{slice_cmp}
 use Rattle.std.specs.Ordering.{nat_cmp, is_gt, ordering_reverse}
 use Rattle.std.specs.declared.cmp.Ordering.TheVariants.{Less, Equal, Greater}
 use Rattle.std.proofs.lemmas.Cmp.{nat_list_cmp_total}
 use Rattle.std.proofs.lemmas.Map.Lookups.{exact_bytes}
-use Rattle.std.proofs.lemmas.Option.{same_Some}
+use Rattle.std.proofs.lemmas.Option.{none-some, same_Some}
 use Rattle.lw_index.specs.declared.parts.Document.{Document}
 use Rattle.lw_index.specs.declared.parts.Export.{Export}
 use Rattle.lw_index.specs.Exported.{export_of}
@@ -111,3 +111,10 @@ module _ (trees : Trees) (index : Indexed) (doc : ℕ) (address : List ℕ) (tre
     rival = exporter_rivals uri other.another other.exports_it;
     least = λ a rival. let is = rival_exports a rival in not_above (slice_cmp nat_cmp uri a) (other.least a is.0 is.1);
   }
+
+-- ---- where nothing is held
+
+pub no_least : (index : Indexed) (doc : ℕ) (name : List ℕ) (type : ℕ) (uri : List ℕ) → index ≡ empty → IsLeastRival index doc name type uri → ⊥
+no_least index doc name type uri nothing_held is =
+    none-some is.rival.document
+    (sym (ap (λ (m : Indexed). get m is.rival.other) nothing_held ∙ get-empty nat_cmp is.rival.other) ∙ is.rival.exported.held)

@@ -1,8 +1,9 @@
 -- What is told of one node: that it has a double, or a rival, or nothing.
 use Rattle.std.proofs.Common.{◌≡◌, ℕ, List, [], ◌∷◌, ◌++◌, Some, slice_get, refl, sym, ap, subst, ◌∙◌}
+use Rattle.std.specs.FinMap.{empty}
 use Rattle.std.proofs.lemmas.Option.{same_Some}
 use Rattle.lw_base.specs.declared.token.Span.{Span}
-use Rattle.lw_findings.specs.Finding.{Finds}
+use Rattle.lw_findings.specs.Finding.{Finds, OfSome}
 use Rattle.lw_findings.proofs.Joining.{Finds-nothing}
 use Rattle.lw_grammar.specs.declared.grammar.Grammar.{Grammar}
 use Rattle.lw_index.specs.Indexed.{Indexed}
@@ -18,7 +19,7 @@ use Rattle.lw_check.specs.declared.sorting.KeyedDiagnostic.{KeyedDiagnostic}
 use Rattle.lw_check.specs.Sorting.{diagnostic_of, diagnostics_of}
 use Rattle.lw_check.specs.Telling.{TellsDouble, TellsRival}
 use Rattle.lw_check.proofs.Once.{told_once}
-use Rattle.lw_check.proofs.Others.{one_rival}
+use Rattle.lw_check.proofs.Others.{no_least, one_rival}
 
 module _ (g : Grammar) (tree : Parts) (n : ℕ) (name : List ℕ) (span : Span) (named : name_of tree n ≡ Some (name, span)) (node : Node)
     (at : slice_get tree.nodes n ≡ Some node) where
@@ -86,3 +87,9 @@ module _ (g : Grammar) (tree : Parts) (n : ℕ) (name : List ℕ) (span : Span) 
       (λ e tells.
       let by_name = subst (λ m. IsRival index doc m tells.number tells.other) (same_name tells.named) tells.rival.rival in
       none tells.other (subst (λ t. IsRival index doc name t tells.other) (same_number tells.named) by_name))
+
+-- where nothing is held
+pub no_rivals : (g : Grammar) (tree : Parts) (index : Indexed) (doc : ℕ) (nodes : List ℕ) → index ≡ empty → (a : List Diagnostic) →
+    Finds (OfSome (TellsRival g tree index doc) nodes) a a
+no_rivals g tree index doc nodes nothing_held a =
+    Finds-nothing (λ e (n, has, tells). no_least index doc tells.name tells.number tells.other nothing_held tells.rival)

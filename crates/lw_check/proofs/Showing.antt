@@ -9,6 +9,7 @@ use Rattle.lw_base.specs.declared.token.Span.{Span}
 use Rattle.lw_grammar.specs.declared.grammar.Grammar.{Grammar}
 use Rattle.lw_index.specs.declared.parts.Answer.{Answer}
 use Rattle.lw_index.specs.Indexed.{Indexed}
+use Rattle.lw_link.proofs.Rows.{zip_push}
 use Rattle.lw_rooted.specs.Within.{IsInText, StandsInText, value_place}
 use Rattle.lw_scoping.proofs.Places.{among}
 use Rattle.lw_scopes.specs.Diagnostics.{IsDiagnosticShown}
@@ -87,12 +88,6 @@ module _ (g : Grammar) (tree : Parts) (answers : List Answer) (doc : ℕ) (index
 
 pub left_more : {X : Type 0} (given now all rest : List X) (x : X) → given ++ now ≡ all → now ≡ x ∷ rest → (given ++ x ∷ []) ++ rest ≡ all
 left_more given now all rest x left step = rw append_assoc (ap (λ l. given ++ l) (sym step) ∙ left)
-
-zip_push : {A B : Type 0} (R : A → B → Type 0) (xs : List A) (ys : List B) (x : A) (y : B) → AllZip R xs ys → R x y → AllZip R (xs ++ x ∷ []) (ys ++ y ∷ [])
-zip_push R [] [] x y all one = (one, tt)
-zip_push R [] (v ∷ ys) x y all one = absurd all
-zip_push R (u ∷ xs) [] x y all one = absurd all
-zip_push R (u ∷ xs) (v ∷ ys) x y all one = (all.0, zip_push R xs ys x y all.1 one)
 
 module _ (text : List ℕ) where
   pub shown_more : (given : List KeyedDiagnostic) (list after : List Shown) (d : KeyedDiagnostic) (shown : Shown) →

@@ -1,19 +1,19 @@
 // The diagnostics of one document.
-ghost use Rattle.std.specs.Prelude.{ℕ, ◌≡◌, ◌<◌, ◌≤◌, List, IfOk, length, map};
+ghost use Rattle.std.specs.Prelude.{ℕ, ◌≡◌, ◌≤◌, List, IfOk, false, length, map};
+ghost use Rattle.std.specs.FinMap as table;
 ghost use Rattle.std.specs.List.{AllZip};
 ghost use Rattle.lw_grammar.specs.declared.grammar.Grammar.{Grammar};
 ghost use Rattle.lw_grammar.specs.KindTexts.{AreKindTexts};
 ghost use Rattle.lw_link.specs.Alone.{link_at};
 ghost use Rattle.lw_link.specs.Indexed.{IsDocumentOf, IsIndexOf, link_of};
-ghost use Rattle.lw_outwards.specs.Known.{HasKnownTypes};
 ghost use Rattle.lw_reading.specs.Issues.{IsNamed, IsIssueWithin};
-ghost use Rattle.lw_rooted.specs.Within.{StandsInText};
+ghost use Rattle.lw_rooted.specs.Within.{IsInText};
 ghost use Rattle.lw_scoping.specs.Links.{LinksTo, Trees};
 ghost use Rattle.lw_scopes.specs.Diagnostics.{IsDiagnosticShown, alone_at};
 ghost use Rattle.lw_scopes.specs.Faults.{IsFaultShown, IsShownAt, too_large_shown};
 ghost use Rattle.lw_scopes.specs.Links.{IsNumberBelow};
-ghost use Rattle.lw_symbols.specs.Locals.{AreLocalsOf};
 ghost use Rattle.lw_types.specs.Inferred.{AreTypesOf};
+ghost use Rattle.lw_check.specs.Known.{AreKnownOf};
 ghost use Rattle.lw_check.specs.Sorting.{AreShown, diagnostic_of};
 ghost use Rattle.lw_check.specs.Telling.{AreToldAndShown};
 
@@ -31,7 +31,7 @@ use std::alloc::Global;
 /// memory is the only error.
 ///
 /// Positions are zero-based lines and UTF-16 units (Language Server Protocol 3.17, "Position"), found by the lines that the text knows. It
-/// takes a look-up for each node with a name and for each export, beside time linear in the tree, and n log n for n diagnostics.
+/// takes a look-up for each export and for each node that may be a double, beside time linear in the tree, and n log n for n diagnostics.
 pub fn diagnostics(
     alloc: Global,
     document: &TextDoc,
@@ -42,17 +42,15 @@ pub fn diagnostics(
     index: &Index,
     types: &Types,
 ) -> Result<Items<Shown>, NoMemory>
-    requires stands { StandsInText document.now tree.now }
-    requires root { 0 < length tree.now.nodes }
-    requires locals { AreLocalsOf tree.now locals.now }
-    requires count { length answers.now ≡ length tree.now.refs }
-    requires known { (g : Grammar) × AreTypesOf g types.now × HasKnownTypes g tree.now }
+    requires { AreKnownOf document.now tree.now locals.now answers.now types.now }
     ensures { (g : Grammar) (trees : Trees) (address : List ℕ) → AreTypesOf g types.now → IsIndexOf trees index.now →
         IsDocumentOf trees index.now doc.0 address tree.now →
         AllZip (LinksTo (IsNumberBelow g) trees address tree.now) tree.now.refs (map (link_of index.now) answers.now) →
         IfOk result (AreShown g trees address tree.now document.now) }
 {
-    told_shown(alloc, document, tree, locals, answers, doc, index, types)
+    told_shown(
+        alloc, document, tree, locals, answers, doc, index, true, types,
+    )
 }
 
 /// The same of a document that is alone: no other has a tree, and its references lead to nodes of its own or nowhere. Want of memory is the only
@@ -65,11 +63,7 @@ pub fn diagnostics_alone(
     answers: &[Answer],
     types: &Types,
 ) -> Result<Items<Shown>, NoMemory>
-    requires stands { StandsInText document.now tree.now }
-    requires root { 0 < length tree.now.nodes }
-    requires locals { AreLocalsOf tree.now locals.now }
-    requires count { length answers.now ≡ length tree.now.refs }
-    requires known { (g : Grammar) × AreTypesOf g types.now × HasKnownTypes g tree.now }
+    requires { AreKnownOf document.now tree.now locals.now answers.now types.now }
     ensures { (g : Grammar) (address : List ℕ) → AreTypesOf g types.now →
         AllZip (LinksTo (IsNumberBelow g) (alone_at address tree.now) address tree.now) tree.now.refs (map (link_at address) answers.now) →
         IfOk result (AreShown g (alone_at address tree.now) address tree.now document.now) }
@@ -83,11 +77,12 @@ pub fn diagnostics_alone(
         answers,
         DocId(0),
         &index,
+        false,
         types,
     )
 }
 
-/// What is told of a document by its answers and an index, as it is shown.
+/// What is told of a document by its answers and an index, which holds nothing where there are no others, as it is shown.
 fn told_shown(
     alloc: Global,
     document: &TextDoc,
@@ -96,16 +91,14 @@ fn told_shown(
     answers: &[Answer],
     doc: DocId,
     index: &Index,
+    others: bool,
     types: &Types,
 ) -> Result<Items<Shown>, NoMemory>
-    requires stands { StandsInText document.now tree.now }
-    requires root { 0 < length tree.now.nodes }
-    requires locals { AreLocalsOf tree.now locals.now }
-    requires count { length answers.now ≡ length tree.now.refs }
-    requires known { (g : Grammar) × AreTypesOf g types.now × HasKnownTypes g tree.now }
+    requires alone { others ≡ false → index.now ≡ table.empty }
+    requires known { AreKnownOf document.now tree.now locals.now answers.now types.now }
     ensures { (g : Grammar) → AreTypesOf g types.now → IfOk result (AreToldAndShown g tree.now answers.now doc.0 index.now document.now) }
 {
-    let found = sorted_diagnostics(alloc, tree, locals, answers, doc, index, types)?;
+    let found = sorted_diagnostics(alloc, tree, locals, answers, doc, index, others, types)?;
     let mut list = Items::new(alloc);
     'showing: for diagnostic in found {
         list.push(diagnostic_shown(document, diagnostic))?;
@@ -115,8 +108,7 @@ fn told_shown(
 
 // A diagnostic, as it is shown.
 fn diagnostic_shown(text: &TextDoc, diagnostic: KeyedDiagnostic) -> Shown
-    requires start { (diagnostic_of diagnostic).span.start ≤ length text.now }
-    requires end { (diagnostic_of diagnostic).span.end ≤ length text.now }
+    requires { IsInText text.now (diagnostic_of diagnostic).span }
     ensures { IsDiagnosticShown text.now (diagnostic_of diagnostic) result }
 {
     let span = Span {

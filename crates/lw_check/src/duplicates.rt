@@ -18,7 +18,8 @@ use lw_tree::Tree;
 use lw_types::Types;
 use std::alloc::Global;
 
-/// Tells each node of a tree that stands beside an earlier one of its name and very type. It takes one look for each node with a name.
+/// Tells each node of a tree that stands beside an earlier one of its name and very type. It takes time linear in the symbols of the tree,
+/// and one look for each that may be such a node.
 pub(crate) fn tell_duplicates(
     alloc: Global,
     tree: &Tree,
@@ -31,8 +32,9 @@ pub(crate) fn tell_duplicates(
     ensures { (g : Grammar) → AreTypesOf g types.now →
         OnOk result (Finds (TellsDoubleBelow g tree.now (length tree.now.nodes)) (diagnostics_of diagnostics.old.items) (diagnostics_of diagnostics.new.items)) }
 {
-    for number in 0..tree.len() {
-        tell_duplicate(alloc, tree, locals, NodeId(number), types, diagnostics)?;
+    let nodes = locals.crowded(alloc)?;
+    for node in &nodes {
+        tell_duplicate(alloc, tree, locals, *node, types, diagnostics)?;
     }
     Ok(())
 }

@@ -1,5 +1,6 @@
 // Exports that other documents have too.
-ghost use Rattle.std.specs.Prelude.{◌≡◌, ◌<◌, IfOk, OnOk, length};
+ghost use Rattle.std.specs.Prelude.{◌≡◌, ◌<◌, IfOk, OnOk, false, length};
+ghost use Rattle.std.specs.FinMap as map;
 ghost use Rattle.lw_findings.specs.Finding.{Finds, OfSome};
 ghost use Rattle.lw_grammar.specs.declared.grammar.Grammar.{Grammar};
 ghost use Rattle.lw_outwards.specs.Known.{HasKnownTypes};
@@ -17,20 +18,26 @@ use lw_tree::Tree;
 use lw_types::Types;
 use std::alloc::Global;
 
-/// Tells each export of a document, which has this tree, that another one exports too. It takes one look-up in the index for each export.
+/// Tells each export of a document, which has this tree, that another one exports too. It takes one look-up in the index for each export,
+/// and none where no others are held.
 pub(crate) fn tell_rivals(
     alloc: Global,
     tree: &Tree,
     doc: DocId,
     index: &Index,
+    others: bool,
     types: &Types,
     diagnostics: &mut Vec<KeyedDiagnostic>,
 ) -> Result<(), NoMemory>
+    requires alone { others ≡ false → index.now ≡ map.empty }
     requires root { 0 < length tree.now.nodes }
     requires known { (g : Grammar) × AreTypesOf g types.now × HasKnownTypes g tree.now }
     ensures { (g : Grammar) → AreTypesOf g types.now →
         OnOk result (Finds (OfSome (TellsRival g tree.now index.now doc.0) (exports_of tree.now)) (diagnostics_of diagnostics.old.items) (diagnostics_of diagnostics.new.items)) }
 {
+    if !others {
+        return Ok(());
+    }
     let nodes = exports(alloc, tree)?;
     for node in &nodes {
         tell_rival(alloc, tree, *node, doc, index, types, diagnostics)?;

@@ -1,5 +1,6 @@
 // What is told of a document, before it is shown.
-ghost use Rattle.std.specs.Prelude.{◌≡◌, ◌<◌, [], IfOk, length};
+ghost use Rattle.std.specs.Prelude.{◌≡◌, ◌<◌, [], IfOk, false, length};
+ghost use Rattle.std.specs.FinMap as map;
 ghost use Rattle.lw_findings.specs.Finding.{Finds};
 ghost use Rattle.lw_grammar.specs.declared.grammar.Grammar.{Grammar};
 ghost use Rattle.lw_outwards.specs.Known.{HasKnownTypes};
@@ -48,8 +49,10 @@ pub(crate) fn sorted_diagnostics(
     answers: &[Answer],
     doc: DocId,
     index: &Index,
+    others: bool,
     types: &Types,
 ) -> Result<Vec<KeyedDiagnostic>, NoMemory>
+    requires alone { others ≡ false → index.now ≡ map.empty }
     requires root { 0 < length tree.now.nodes }
     requires locals { AreLocalsOf tree.now locals.now }
     requires count { length answers.now ≡ length tree.now.refs }
@@ -57,7 +60,7 @@ pub(crate) fn sorted_diagnostics(
     ensures { (g : Grammar) → AreTypesOf g types.now →
         IfOk result (λ diagnostics. AreTold g tree.now answers.now doc.0 index.now (diagnostics_of diagnostics.items)) }
 {
-    let mut diagnostics = all_diagnostics(alloc, tree, locals, answers, doc, index, types)?;
+    let mut diagnostics = all_diagnostics(alloc, tree, locals, answers, doc, index, others, types)?;
     diagnostics.sort_unstable();
     diagnostics.dedup();
     Ok(diagnostics)
@@ -71,8 +74,10 @@ fn all_diagnostics(
     answers: &[Answer],
     doc: DocId,
     index: &Index,
+    others: bool,
     types: &Types,
 ) -> Result<Vec<KeyedDiagnostic>, NoMemory>
+    requires alone { others ≡ false → index.now ≡ map.empty }
     requires root { 0 < length tree.now.nodes }
     requires locals { AreLocalsOf tree.now locals.now }
     requires count { length answers.now ≡ length tree.now.refs }
@@ -83,7 +88,7 @@ fn all_diagnostics(
     let mut diagnostics = Vec::new(alloc);
     tell_unresolved(alloc, tree, answers, types, &mut diagnostics)?;
     tell_duplicates(alloc, tree, locals, types, &mut diagnostics)?;
-    tell_rivals(alloc, tree, doc, index, types, &mut diagnostics)?;
+    tell_rivals(alloc, tree, doc, index, others, types, &mut diagnostics)?;
     tell_numbers(alloc, tree, &mut diagnostics)?;
     Ok(diagnostics)
 }

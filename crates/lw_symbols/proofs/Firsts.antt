@@ -16,17 +16,17 @@ use Rattle.lw_symbols.proofs.Filtered.{kept, kept_from, numbered, of_number}
 use Rattle.lw_symbols.proofs.Rising.{first_least, named_rise}
 
 module _ (tree : Parts) (n : ℕ) (name : List ℕ) (wanted : ℕ → Type 0) where
-  abbrev Fits : ℕ → Type 0
+  abbrev pub Fits : ℕ → Type 0
   Fits = IsNamedOf tree name wanted
 
   abbrev Passes : Symbol → Type 0
   Passes s = IsInGroup n (name_hash name) s × IsWantedSymbol tree name wanted s
 
   -- the symbol that a node is
-  abbrev symbol_for : ℕ → ℕ → Symbol
+  abbrev pub symbol_for : ℕ → ℕ → Symbol
   symbol_for type k = record { container = record { 0 = n }; hash = name_hash name; type_id = record { 0 = type }; node = record { 0 = k } }
 
-  is_symbol : (k : ℕ) → Contains (locals tree n) k → (is : Fits k) → IsSymbolOf tree (symbol_for is.0 k)
+  pub is_symbol : (k : ℕ) → Contains (locals tree n) k → (is : Fits k) → IsSymbolOf tree (symbol_for is.0 k)
   is_symbol k has (type, is, want) =
       let child = child_in n 0 tree.nodes (record { 0 = k }) (of_number (children_of n tree.nodes) k (kept_from (is_named_node tree) (child_numbers tree n) k has).0) in
       let number : child.place ≡ k = omega (arith, child.number) in

@@ -71,9 +71,6 @@ module _ (tree : Parts) (r : Reference) (fits : FinSet nat_cmp) where
   abbrev pub GoesOnFrom : ℕ → Type 0
   GoesOnFrom level = (path : List ℕ) → LeadsOut tree level path → (result : Option ℕ) → IsFirstOn path result → IsOwn InSet tree r result
 
-  pub goes_on_first : GoesOnFrom r.owner.0
-  goes_on_first path leads result first = record { path = path; leads = leads; first = first }
-
   pub found_here : (level n : ℕ) → ContainersComeFirst tree → level < length tree.nodes → GoesOnFrom level →
       IsFirstIn (Fits InSet tree r) (locals tree level) (Some n) → IsOwn InSet tree r (Some n)
   found_here level n outwards inside goes (found first) =

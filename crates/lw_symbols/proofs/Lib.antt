@@ -3,6 +3,7 @@ pub mod Children
 pub mod Rising
 pub mod Leasts
 pub mod RunLemmas
+pub mod ShelfLemmas
 pub mod Sorting
 pub mod Filtered
 pub mod Table
@@ -10,4 +11,5 @@ pub mod Wanted
 pub mod Typed
 pub mod Firsts
 pub mod Levels
+pub mod Alike
 pub mod Listing

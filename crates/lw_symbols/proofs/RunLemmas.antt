@@ -8,7 +8,7 @@ use Rattle.lw_symbols.specs.declared.symbol.Symbol.{Symbol}
 use Rattle.lw_symbols.specs.Symbols.{StandsUpTo, AreSymbolsSorted, AreSymbolsOf}
 use Rattle.lw_symbols.specs.Least.{IsCalled, IsInGroup, IsInRun, IsLeastSymbol, least, absent}
 use Rattle.lw_symbols.specs.Runs.{IsNextRun, before_type}
-use Rattle.lw_symbols.proofs.Order.{is_before, is_not_before}
+use Rattle.lw_symbols.proofs.Order.{from_not_before, is_before, is_not_before, up_to_before}
 
 -- by what stands there
 pub in_order_at : (symbols : List Symbol) (i j : ℕ) (one other : Symbol) → AreSymbolsSorted symbols → i ≤ j → slice_get symbols i ≡ Some one →
@@ -17,6 +17,17 @@ in_order_at symbols i j one other ordered le at there =
     subst (λ (y : Symbol). StandsUpTo one y) (get_or_from_slice_get symbols j other one there)
     (subst (λ (x : Symbol). StandsUpTo x (get_or symbols j one)) (get_or_from_slice_get symbols i one one at)
     (ordered i j one le (slice_get_within symbols j other there)))
+
+-- where one is before, all up to it are, and where one is not, none from it on is
+module _ (container hash low : ℕ) (symbols : List Symbol) (ordered : AreSymbolsSorted symbols) (middle : ℕ) (m : Symbol)
+    (at : slice_get symbols middle ≡ Some m) where
+  pub all_before : before_type container hash low m ≡ true → (k : ℕ) (s : Symbol) → k < middle + 1 → slice_get symbols k ≡ Some s →
+      before_type container hash low s ≡ true
+  all_before is k s lt there = up_to_before container hash low s m (in_order_at symbols k middle s m ordered (omega (arith, lt)) there at) is
+
+  pub none_before : before_type container hash low m ≡ false → (k : ℕ) (s : Symbol) → middle ≤ k → slice_get symbols k ≡ Some s →
+      before_type container hash low s ≡ false
+  none_before fails k s le there = from_not_before container hash low m s (in_order_at symbols middle k m s ordered le at there) fails
 
 module _ (container hash low : ℕ) (symbols : List Symbol) (ordered : AreSymbolsSorted symbols) (place : ℕ)
     (before : (k : ℕ) (d : Symbol) → k < place → before_type container hash low (get_or symbols k d) ≡ true)
@@ -32,7 +43,7 @@ module _ (container hash low : ℕ) (symbols : List Symbol) (ordered : AreSymbol
   not_sooner : (k : ℕ) (s : Symbol) → slice_get symbols k ≡ Some s → IsInGroup container hash s → low ≤ s.type_id.0 → place ≤ k
   not_sooner k s at in_group from = elim (cases_lt k place) [
     | inl lt ↦
-        let h = is_before container hash low s (before_at k s lt at) in absurd (omega (arith, h.2 in_group.0 in_group.1, from))
+        let h = is_before container hash low s (before_at k s lt at) in absurd (omega (arith, h.2 in_group.1 in_group.0, from))
     | inr le ↦ le
   ]
 
@@ -43,8 +54,8 @@ module _ (container hash low : ℕ) (symbols : List Symbol) (ordered : AreSymbol
       let le : place ≤ k = not_sooner k s at in_group from in
       let up = in_order_at symbols place k run s ordered le there at in
       let h = is_not_before container hash low run (behind_at place run (omega arith) there) in
-      let one : run.container.0 ≡ container = omega (arith, up.container, h.0, in_group.0) in
-      let two : run.hash ≡ hash = omega (arith, one, up.hash (omega (arith, one, in_group.0)), h.1 one, in_group.1) in
+      let two : run.hash ≡ hash = omega (arith, up.hash, h.0, in_group.1) in
+      let one : run.container.0 ≡ container = omega (arith, two, up.container (omega (arith, two, in_group.1)), h.1 two, in_group.0) in
       ((one, two), up.type_ (omega (arith, one, in_group.0)) (omega (arith, two, in_group.1)))
 
   pub none_there : (run : Symbol) → slice_get symbols place ≡ Some run → ¬ IsInGroup container hash run → (s : Symbol) → Contains symbols s →
@@ -58,7 +69,7 @@ module _ (container hash low : ℕ) (symbols : List Symbol) (ordered : AreSymbol
 
   pub next_there : (run : Symbol) → slice_get symbols place ≡ Some run → IsInGroup container hash run → IsNextRun container hash low symbols place run
   next_there run there in_group =
-      let from : low ≤ run.type_id.0 = (is_not_before container hash low run (behind_at place run (omega arith) there)).2 in_group.0 in_group.1 in
+      let from : low ≤ run.type_id.0 = (is_not_before container hash low run (behind_at place run (omega arith) there)).2 in_group.1 in_group.0 in
       record {
         there = there;
         in_group = in_group;
@@ -68,7 +79,7 @@ module _ (container hash low : ℕ) (symbols : List Symbol) (ordered : AreSymbol
             (there_by has.0 s run at group lower there).1;
         begins = λ k s lt at same.
             let h = is_before container hash low s (before_at k s lt at) in
-            omega (arith, h.2 (same.0.0 ∙ in_group.0) (same.0.1 ∙ in_group.1), same.1, from);
+            omega (arith, h.2 (same.0.1 ∙ in_group.1) (same.0.0 ∙ in_group.0), same.1, from);
       }
 
 -- ---- within a run
@@ -80,8 +91,8 @@ module _ (symbols : List Symbol) (ordered : AreSymbolsSorted symbols) (run : Sym
   run_over place s le at out k other le' at' same =
       let up = in_order_at symbols from place run s ordered le there at in
       let on = in_order_at symbols place k s other ordered le' at at' in
-      let c : s.container.0 ≡ run.container.0 = omega (arith, up.container, on.container, same.0.0) in
-      let h : s.hash ≡ run.hash = omega (arith, up.hash (sym c), on.hash (omega (arith, c, same.0.0)), same.0.1) in
+      let h : s.hash ≡ run.hash = omega (arith, up.hash, on.hash, same.0.1) in
+      let c : s.container.0 ≡ run.container.0 = omega (arith, up.container (sym h), on.container (omega (arith, h, same.0.1)), same.0.0) in
       let t : s.type_id.0 ≡ run.type_id.0 =
       omega (arith, up.type_ (sym c) (sym h), on.type_ (omega (arith, c, same.0.0)) (omega (arith, h, same.0.1)), same.1) in
       out ((c, h), t)

@@ -13,7 +13,7 @@ abbrev Key : Type 0
 Key = ℕ × ℕ × ℕ × ℕ
 
 abbrev pub key_of : Symbol → Key
-key_of s = (s.container.0, s.hash, s.type_id.0, s.node.0)
+key_of s = (s.hash, s.container.0, s.type_id.0, s.node.0)
 
 abbrev pub key_cmp : Key → Key → Ordering
 key_cmp x y = ordering_then (ordering_then (ordering_then (nat_cmp x.0 y.0) (nat_cmp x.1 y.1)) (nat_cmp x.2 y.2)) (nat_cmp x.3 y.3)

@@ -1,6 +1,7 @@
 pub mod Hashes
 pub mod Families
 pub mod Symbols
+pub mod Shelves
 pub mod Least
 pub mod Runs
 pub mod Locals

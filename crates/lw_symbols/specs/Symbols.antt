@@ -1,5 +1,5 @@
 -- The symbols of a tree by what they are looked up by, and their order.
--- Held against the definition of the symbols of a node; the order is that of their containers, the numbers of their names, types and nodes.
+-- Held against the definition of the symbols of a node; the order is that of the numbers of their names, their containers, types and nodes.
 use Rattle.std.specs.Prelude.{ℕ, ◌≡◌, ◌≤◌, ◌<◌, ◌↔◌, List, Some, Contains, length, slice_get, slice_index_or}
 use Rattle.lw_base.specs.declared.token.Span.{Span}
 use Rattle.lw_tree.specs.declared.node.Node.{Node}
@@ -20,8 +20,8 @@ pub record IsSymbolOf (tree : Parts) (s : Symbol) : Type 0 where
 
 -- the one symbol stands before the other or is the same
 pub record StandsUpTo (one other : Symbol) : Type 0 where
-  pub container : one.container.0 ≤ other.container.0
-  pub hash : one.container.0 ≡ other.container.0 → one.hash ≤ other.hash
+  pub hash : one.hash ≤ other.hash
+  pub container : one.hash ≡ other.hash → one.container.0 ≤ other.container.0
   pub type_ : one.container.0 ≡ other.container.0 → one.hash ≡ other.hash → one.type_id.0 ≤ other.type_id.0
   pub node : one.container.0 ≡ other.container.0 → one.hash ≡ other.hash → one.type_id.0 ≡ other.type_id.0 → one.node.0 ≤ other.node.0
 

@@ -7,6 +7,7 @@ ghost use Rattle.lw_scoping.specs.Outward.{ContainersComeFirst};
 ghost use Rattle.lw_symbols.specs.Locals.{AreLocalsOf};
 
 use crate::Locals;
+use crate::hash::hash_of;
 use lw_base::{NodeId, TypeSet};
 use lw_tree::{Reference, Tree};
 
@@ -23,9 +24,10 @@ pub fn own_answer(
     requires owner { reference.now.owner.0 < length tree.now.nodes }
     ensures { IsOwn (λ type _. set.contains fits.now type ≡ true) tree.now reference.now (option_map (λ n. n.0) result) }
 {
+    let hash = hash_of(&reference.name);
     let mut level = reference.owner;
     loop {
-        let found = locals.first_named(tree, level, &reference.name, fits);
+        let found = locals.first_hashed(tree, level, hash, &reference.name, fits);
         if found.is_some() {
             return found;
         }

@@ -55,7 +55,7 @@ fn in_order(mut symbols: Vec<Symbol>) -> Result<Vec<Symbol>, NoMemory>
     ensures ordered { IfOk result (λ list. AreSymbolsSorted list.items) }
     ensures same { IfOk result (λ list. IsPermutation symbols.items list.items) }
 {
-    symbols.sort_by_key(|s| (s.container.0, s.hash, s.type_id.0, s.node.0))?;
+    symbols.sort_by_key(|s| (s.hash, s.container.0, s.type_id.0, s.node.0))?;
     Ok(symbols)
 }
 

@@ -1,4 +1,4 @@
-use Rattle.std.proofs.Common.{sym, map, subst}
+use Rattle.std.proofs.Common.{ap, length, sym, map, subst, ◌∙◌}
 use Rattle.std.specs.List.{AllZip}
 use Rattle.lw_link.specs.Alone.{link_at}
 use Rattle.lw_scopes.specs.Diagnostics.{alone_at}
@@ -20,12 +20,14 @@ pub answers_alone-requires-clause-known : goal.answers_alone-requires-clause-kno
 answers_alone-requires-clause-known c =
     (c.args.language.now.grammar, c.types-types.ensures, text_types c.args.language.now.grammar c.args.document.now c.args.tree.now c.requires.reads)
 
-pub diagnostics_alone-requires-clause-root : goal.diagnostics_alone-requires-clause-root
-diagnostics_alone-requires-clause-root c = (text_root c.args.language.now.grammar c.args.document.now c.args.tree.now c.requires.reads).there
-
-pub diagnostics_alone-requires-clause-known : goal.diagnostics_alone-requires-clause-known
-diagnostics_alone-requires-clause-known c =
-    (c.args.language.now.grammar, c.types-types.ensures, text_types c.args.language.now.grammar c.args.document.now c.args.tree.now c.requires.reads)
+pub diagnostics_alone-requires : goal.diagnostics_alone-requires
+diagnostics_alone-requires c = record {
+  stands = c.requires.stands;
+  root = (text_root c.args.language.now.grammar c.args.document.now c.args.tree.now c.requires.reads).there;
+  symbols = c.in_ok-locals.ensures;
+  count = ap length c.as_slice.ensures.value ∙ c.in_ok-found.ensures.count;
+  known = (c.args.language.now.grammar, c.types-types.ensures, text_types c.args.language.now.grammar c.args.document.now c.args.tree.now c.requires.reads);
+}
 
 pub returns : goal.returns
 returns c address =

@@ -5,21 +5,24 @@ use Rattle.lw_check.specs.Sorting.{diagnostics_of}
 use Rattle.lw_check.proofs.Showing.{next_within, left_more, shown_more, shown_all}
 use Rattle.lw_check.proofs.document.told_shown.Goals as goal
 
-pub diagnostic_shown-requires-clause-start : goal.diagnostic_shown-requires-clause-start
-diagnostic_shown-requires-clause-start c =
-    let g = c.requires.known.0 in
-    let is = next_within g c.args.tree.now c.args.answers.now c.args.doc.0 c.args.index.now c.args.document.now c.requires.stands c.showing.yielded _ c.in_ok-found.found.items _
-    c.in-Some.diagnostic (c.in_ok-found.ensures g c.requires.known.1) (c.showing.invariant.left ∙ c.into_iter-diagnostic-iterator.ensures.into_iter_gives.0)
-    c.in-Some.ensures.steps.0 in
-    omega (arith, is.0, is.1)
+pub sorted_diagnostics-requires-clause-root : goal.sorted_diagnostics-requires-clause-root
+sorted_diagnostics-requires-clause-root c = c.requires.known.root
 
-pub diagnostic_shown-requires-clause-end : goal.diagnostic_shown-requires-clause-end
-diagnostic_shown-requires-clause-end c =
-    let g = c.requires.known.0 in
-    let is = next_within g c.args.tree.now c.args.answers.now c.args.doc.0 c.args.index.now c.args.document.now c.requires.stands c.showing.yielded _ c.in_ok-found.found.items _
-    c.in-Some.diagnostic (c.in_ok-found.ensures g c.requires.known.1) (c.showing.invariant.left ∙ c.into_iter-diagnostic-iterator.ensures.into_iter_gives.0)
-    c.in-Some.ensures.steps.0 in
-    is.1
+pub sorted_diagnostics-requires-clause-locals : goal.sorted_diagnostics-requires-clause-locals
+sorted_diagnostics-requires-clause-locals c = c.requires.known.symbols
+
+pub sorted_diagnostics-requires-clause-count : goal.sorted_diagnostics-requires-clause-count
+sorted_diagnostics-requires-clause-count c = c.requires.known.count
+
+pub sorted_diagnostics-requires-clause-known : goal.sorted_diagnostics-requires-clause-known
+sorted_diagnostics-requires-clause-known c = c.requires.known.known
+
+pub diagnostic_shown-requires : goal.diagnostic_shown-requires
+diagnostic_shown-requires c =
+    let g = c.requires.known.known.0 in
+    next_within g c.args.tree.now c.args.answers.now c.args.doc.0 c.args.index.now c.args.document.now c.requires.known.stands c.showing.yielded _ c.in_ok-found.found.items _
+    c.in-Some.diagnostic (c.in_ok-found.ensures g c.requires.known.known.1) (c.showing.invariant.left ∙ c.into_iter-diagnostic-iterator.ensures.into_iter_gives.0)
+    c.in-Some.ensures.steps.0
 
 pub returns : goal.returns
 returns c g types =

@@ -1,10 +1,9 @@
-use Rattle.std.proofs.Common.{ℕ, List, ◌++◌, codes, ap, ◌∙◌}
-use Rattle.lw_scopes.specs.TreeDiagnostics.{Diagnostic}
-use Rattle.lw_check.proofs.Saying.{from_four}
+use Rattle.std.proofs.Common.{codes, ap, ◌∙◌}
+use Rattle.lw_check.proofs.Saying.{from_five, saying}
 use Rattle.lw_check.proofs.duplicates.duplicate_at.Goals as goal
 
 pub returns : goal.returns
 returns c =
-    let shape : List ℕ → Diagnostic = λ message. record { span = c.args.span; code = 4; message = message } in
-    let says = ap (λ (xs : List ℕ). codes "Duplicate " ++ xs) (from_four c.args.type_name.now (codes " named '") c.args.name.now (codes "'.")) in
-    c.keyed.ensures ∙ ap shape (c.from_string.ensures ∙ c.in_ok-message.ensures.ok ∙ says)
+    c.keyed.ensures
+    ∙ ap (saying c.args.span 4)
+    (c.from_string.ensures ∙ c.in_ok-message.ensures.ok ∙ from_five (codes "Duplicate ") c.args.type_name.now (codes " named '") c.args.name.now (codes "'."))

@@ -1,9 +1,5 @@
-use Rattle.std.proofs.Common.{◌≡◌, Option, sym, subst, ◌∙◌, true≢false}
-use Rattle.std.specs.Option.{option_map}
+use Rattle.std.proofs.Common.{sym, ◌∙◌, true≢false}
 use Rattle.std.proofs.lemmas.Bool.{ltb-true, lt-ltb}
-use Rattle.lw_base.specs.declared.numbers.NodeId.{NodeId}
-use Rattle.lw_scoping.specs.Firsts.{IsFirstIn}
-use Rattle.lw_scoping.specs.Symbols.{IsNamedOf, locals}
 use Rattle.lw_check.proofs.Earlier.{held, as_alike, not_inside, none_alike, earlier_alike, alike_earlier}
 use Rattle.lw_check.proofs.duplicates.is_duplicate.Goals as goal
 
@@ -16,24 +12,18 @@ returns-in-None c type is =
 
 pub returns-in-None-first_of_type : goal.returns-in-None-first_of_type
 returns-in-None-first_of_type c type is =
-    let node = c.node-node.result.now in
-    let P : Option NodeId → Type 0 = λ r. IsFirstIn (IsNamedOf c.args.tree.now c.args.name.now (λ t. t ≡ node.type_id.0)) (locals c.args.tree.now c.in-Some.container.0)
-    (option_map (λ (k : NodeId). k.0) r) in
-    let first = as_alike c.args.tree.now c.args.n.0 c.args.name.now type is node c.node-node.ensures c.in-Some.container.0 _
-    (subst P c.in-None-first_of_type.is c.first_of_type.ensures) in
-    let inside = held c.args.tree.now c.args.n.0 c.args.name.now type is node c.node-node.ensures ∙ c.in-Some.is in (
+    let first = as_alike c.args.tree.now c.args.n.0 c.args.name.now type is c.node-node.result.now c.node-node.ensures c.in-Some.container.0 _ _
+    c.in-None-first_of_type.is c.first_of_type.ensures in
+    let inside = held c.args.tree.now c.args.n.0 c.args.name.now type is c.node-node.result.now c.node-node.ensures ∙ c.in-Some.is in (
       λ no. absurd (true≢false (sym no)),
       λ double. absurd (none_alike c.args.tree.now c.args.n.0 c.args.name.now type is c.in-Some.container.0 inside first double),
     )
 
 pub returns-in-Some-first_of_type : goal.returns-in-Some-first_of_type
 returns-in-Some-first_of_type c type is =
-    let node = c.node-node.result.now in
-    let P : Option NodeId → Type 0 = λ r. IsFirstIn (IsNamedOf c.args.tree.now c.args.name.now (λ t. t ≡ node.type_id.0)) (locals c.args.tree.now c.in-Some.container.0)
-    (option_map (λ (k : NodeId). k.0) r) in
-    let first = as_alike c.args.tree.now c.args.n.0 c.args.name.now type is node c.node-node.ensures c.in-Some.container.0 _
-    (subst P c.in-Some-first_of_type.is c.first_of_type.ensures) in
-    let inside = held c.args.tree.now c.args.n.0 c.args.name.now type is node c.node-node.ensures ∙ c.in-Some.is in
+    let first = as_alike c.args.tree.now c.args.n.0 c.args.name.now type is c.node-node.result.now c.node-node.ensures c.in-Some.container.0 _ _
+    c.in-Some-first_of_type.is c.first_of_type.ensures in
+    let inside = held c.args.tree.now c.args.n.0 c.args.name.now type is c.node-node.result.now c.node-node.ensures ∙ c.in-Some.is in
     let least = c.in-Some-first_of_type.first.0 in (
       λ yes. earlier_alike c.args.tree.now c.args.n.0 c.args.name.now type is c.in-Some.container.0 inside least first (ltb-true least c.args.n.0 yes),
       λ double. lt-ltb least c.args.n.0 (alike_earlier c.args.tree.now c.args.n.0 c.args.name.now type is c.in-Some.container.0 inside least first double),

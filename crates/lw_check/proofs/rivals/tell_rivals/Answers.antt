@@ -6,9 +6,15 @@ use Rattle.lw_scoping.specs.Symbols.{exports}
 use Rattle.lw_scopes.specs.TreeDiagnostics.{Diagnostic}
 use Rattle.lw_scoping.proofs.Places.{among}
 use Rattle.lw_symbols.proofs.Filtered.{numbered, numbers}
+use Rattle.lw_check.specs.Sorting.{diagnostics_of}
 use Rattle.lw_check.specs.Telling.{TellsRival}
 use Rattle.lw_check.proofs.Exported.{export_inside}
+use Rattle.lw_check.proofs.Pushed.{no_rivals}
 use Rattle.lw_check.proofs.rivals.tell_rivals.Goals as goal
+
+pub returns-then-not-others : goal.returns-then-not-others
+returns-then-not-others c g types =
+    no_rivals g c.args.tree.now c.args.index.now c.args.doc.0 (exports c.args.tree.now) (c.requires.alone c.if-not-others.true) (diagnostics_of c.args.diagnostics.now.items)
 
 pub tell_rival-requires-clause-there : goal.tell_rival-requires-clause-there
 tell_rival-requires-clause-there c =

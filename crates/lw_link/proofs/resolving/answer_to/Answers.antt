@@ -1,29 +1,26 @@
 use Rattle.std.proofs.Common.{[], get_or}
 use Rattle.lw_numbers.specs.Numbering.{type_names}
-use Rattle.lw_link.proofs.Known.{has_set, is_number}
+use Rattle.lw_link.proofs.Known.{want_named}
 use Rattle.lw_link.proofs.Linked.{found_own, found_out, found_nowhere}
 use Rattle.lw_link.proofs.resolving.answer_to.Goals as goal
 
 pub returns-in-Some-clause-link : goal.returns-in-Some-clause-link
 returns-in-Some-clause-link g c h trees address are is_index is_document =
-    let want = c.args.reference.now.want.0 in
-    let high = get_or (type_names h) want [] in
-    let named = is_number h c.args.types.now are want (has_set c.requires.known.0 c.args.types.now c.requires.known.1 want c.requires.known.2) in
+    let high = get_or (type_names h) c.args.reference.now.want.0 [] in
+    let named = want_named c.args.types.now c.args.reference.now c.requires.known h are in
     found_own h c.args.reference.now high c.subs-fits.result.now named (c.subs-fits.ensures h high are named) trees c.args.index.now is_index address
     c.args.tree.now (record { doc = c.args.doc; node = c.in-Some.node }) is_document c.in-Some.ensures
 
 pub returns-in-Some-first-clause-link : goal.returns-in-Some-first-clause-link
 returns-in-Some-first-clause-link g c h trees address are is_index is_document =
-    let want = c.args.reference.now.want.0 in
-    let high = get_or (type_names h) want [] in
-    let named = is_number h c.args.types.now are want (has_set c.requires.known.0 c.args.types.now c.requires.known.1 want c.requires.known.2) in
+    let high = get_or (type_names h) c.args.reference.now.want.0 [] in
+    let named = want_named c.args.types.now c.args.reference.now c.requires.known h are in
     found_out h c.args.reference.now high c.subs-fits.result.now named (c.subs-fits.ensures h high are named) trees c.args.index.now is_index address
     c.args.tree.now c.in-Some-first.target c.in-None.ensures c.in-Some-first.ensures.first
 
 pub returns-in-None-first-clause-link : goal.returns-in-None-first-clause-link
 returns-in-None-first-clause-link g c h trees address are is_index is_document =
-    let want = c.args.reference.now.want.0 in
-    let high = get_or (type_names h) want [] in
-    let named = is_number h c.args.types.now are want (has_set c.requires.known.0 c.args.types.now c.requires.known.1 want c.requires.known.2) in
+    let high = get_or (type_names h) c.args.reference.now.want.0 [] in
+    let named = want_named c.args.types.now c.args.reference.now c.requires.known h are in
     found_nowhere h c.args.reference.now high c.subs-fits.result.now named (c.subs-fits.ensures h high are named) trees c.args.index.now is_index address
     c.args.tree.now c.in-None.ensures c.in-None-first.ensures.first
