@@ -1,0 +1,5 @@
+pub mod Documents
+pub mod Least
+pub mod Table
+pub mod Knockout
+pub mod Kept
