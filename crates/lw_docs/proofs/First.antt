@@ -1,5 +1,5 @@
 -- What the first place of the knockout holds is the document of the next build step.
-use Rattle.std.proofs.Common.{◌≡◌, ◌≢◌, ℕ, ◌<◌, ◌≤◌, List, [], Bool, true, false, cond, Option, Some, None, refl, sym, ap, subst, ◌∙◌, ◌⊎◌, inl, inr, arith, length}
+use Rattle.std.proofs.Common.{◌≡◌, ◌≢◌, ℕ, ◌<◌, List, [], Bool, true, false, cond, Option, Some, None, refl, sym, ap, subst, ◌∙◌, inl, inr, arith, length}
 use Rattle.std.specs.declared.cmp.Ordering.{Ordering}
 use Rattle.std.specs.declared.cmp.Ordering.TheVariants.{Less, Equal, Greater}
 use Rattle.std.specs.Ordering.{nat_cmp, ordering_then, is_gt}
@@ -7,22 +7,19 @@ use Rattle.std.specs.Prelude.{nat_lt}
 use Rattle.std.specs.Option.{option_map_or}
 use Rattle.std.specs.Cmp.{ranked}
 use Rattle.std.specs.Cmp.Lexicographic.{slice_cmp}
-use Rattle.std.specs.FinMap.{get}
 use Rattle.std.proofs.lemmas.Bool.{cases_lt, false≢true, ltb-true, ltb-false}
 use Rattle.std.proofs.lemmas.Option.{same_Some}
 use Rattle.lw_base.specs.declared.numbers.DocId.{DocId}
 use Rattle.lw_machine.specs.Documents.{rank}
 use Rattle.lw_machine.specs.declared.state.State.{State}
-use Rattle.lw_machine.specs.declared.state.State.TheVariants.{Validated}
 use Rattle.lw_machine.proofs.FirstOf.{validated_at}
 use Rattle.lw_docs.specs.declared.doc.Doc.{Doc}
 use Rattle.lw_docs.specs.declared.knockout.Entrant.{Entrant}
-use Rattle.lw_docs.specs.Documents.{Numbered, ByAddress, IsAt}
 use Rattle.lw_docs.specs.Least.{Precedes, by_state, by_address, IsLeast, AllValidated}
 use Rattle.lw_docs.specs.Table.{Slots, Numbers, doc_in, address_in, held_in, AreNamed}
 use Rattle.lw_docs.specs.Knockout.{waiting_of, cell_at, turn_cmp, IsKnockout}
 use Rattle.lw_docs.proofs.Cells.{Cells, no_entrant}
-use Rattle.lw_docs.proofs.FirstOfAll.{NotBehind, entered_waits, first_of_all}
+use Rattle.lw_docs.proofs.FirstOfAll.{entered_waits, first_of_all}
 use Rattle.lw_docs.proofs.View.{stands_at, in_table}
 
 -- a document that waits, as the table has it

@@ -1,18 +1,13 @@
 -- The first place of a knockout holds the document that comes first of all.
-use Rattle.std.proofs.Common.{◌≡◌, ◌≢◌, ℕ, ◌+◌, ◌*◌, ◌/◌, ◌<◌, ◌≤◌, List, [], ◌∷◌, length, Bool, true, false, cond, zero, suc, Option, Some, None, refl, sym, ap, subst, ◌∙◌, ◌⊎◌, inl, inr, arith}
+use Rattle.std.proofs.Common.{◌≡◌, ℕ, ◌+◌, ◌*◌, ◌/◌, ◌<◌, ◌≤◌, length, Bool, true, false, cond, zero, suc, Option, Some, None, refl, sym, ap, subst, ◌∙◌, ◌⊎◌, inl, inr, arith}
 use Rattle.std.specs.declared.cmp.Ordering.{Ordering}
 use Rattle.std.specs.declared.cmp.Ordering.TheVariants.{Less, Equal, Greater}
-use Rattle.std.specs.Ordering.{nat_cmp, ordering_then, ordering_reverse, is_gt}
-use Rattle.std.specs.Prelude.{nat_lt}
+use Rattle.std.specs.Ordering.{ordering_reverse, is_gt}
 use Rattle.std.specs.Cmp.{IsTotalOrder}
-use Rattle.std.specs.Cmp.Lexicographic.{slice_cmp}
 use Rattle.std.proofs.lemmas.Bool.{cases_eq, cases_lt}
 use Rattle.std.proofs.lemmas.Cmp.{nat_cmp_total, nat_list_cmp_total, then_total, on_total, tied_itself, upto}
 use Rattle.std.proofs.lemmas.List.{get_or_past}
-use Rattle.std.proofs.lemmas.Option.{same_Some}
-use Rattle.lw_docs.specs.declared.doc.Doc.{Doc}
 use Rattle.lw_docs.specs.declared.knockout.Entrant.{Entrant}
-use Rattle.lw_machine.specs.Documents.{rank}
 use Rattle.lw_docs.specs.Table.{Slots, doc_in, address_in}
 use Rattle.lw_docs.specs.Knockout.{waiting_of, cell_at, turn_cmp, earlier, best, IsKnockout}
 use Rattle.lw_docs.proofs.Cells.{Cells, HoldsNone, no_entrant, earlier_is, waiting_number}

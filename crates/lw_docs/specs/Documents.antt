@@ -1,8 +1,7 @@
 -- The documents of a workspace: by address, each with its number.
 -- Held against Langium's workspace, whose documents are found by their URI; that they have numbers is this profile's.
-use Rattle.std.specs.Prelude.{ℕ, ℤ, ◌≡◌, List, Bool, Option, None, Some, refl}
+use Rattle.std.specs.Prelude.{ℕ, ℤ, ◌≡◌, List, Bool, Option, None, Some}
 use Rattle.std.specs.Cmp.Lexicographic.{slice_cmp}
-use Rattle.std.specs.Coded.{Coded, code_by, coded×, coded_ℕ}
 use Rattle.std.specs.FinMap as map
 use Rattle.std.specs.FinMap.{FinMap, get}
 use Rattle.std.specs.Ordering.{nat_cmp}
@@ -34,11 +33,13 @@ IsHeld m d = (x : Doc) × IsAt m d x
 -- each document has its address, and no two have one number
 pub record AreNumbered (m : ByAddress) : Type 0 where
   pub addresses : (address : List ℕ) (held : Numbered) → get m address ≡ Some held → held.doc.uri ≡ address
-  pub apart : (address other : List ℕ) (a b : Numbered) → get m address ≡ Some a → get m other ≡ Some b → a.number ≡ b.number → address ≡ other
+  pub apart : (address other : List ℕ) (a b : Numbered) → get m address ≡ Some a → get m other ≡ Some b → a.number ≡ b.number →
+      address ≡ other
 
 -- a document that comes: nothing was done for it, and nothing was published of it
 abbrev pub changed : List ℕ → List ℕ → Option ℤ → Bool → Doc
-changed uri text version is_open = record { uri = uri; text = text; version = version; is_open = is_open; state = Changed; published = None }
+changed uri text version is_open =
+    record { uri = uri; text = text; version = version; is_open = is_open; state = Changed; published = None }
 
 -- the document of a number has turned into another, and all else stays
 abbrev pub Turns : ByAddress → ByAddress → DocId → (Doc → Doc) → Type 0

@@ -30,4 +30,5 @@ AllValidated m = (address : List ℕ) (held : Numbered) → get m address ≡ So
 
 -- documents of the machine that have the same states at the same addresses
 abbrev pub HaveSameStates : ByAddress → Documents → Type 0
-HaveSameStates m n = (address : List ℕ) → option_map (λ (h : Numbered). h.doc.state) (get m address) ≡ option_map (λ (d : Document). d.state) (get n address)
+HaveSameStates m n = (address : List ℕ) →
+    option_map (λ (h : Numbered). h.doc.state) (get m address) ≡ option_map (λ (d : Document). d.state) (get n address)

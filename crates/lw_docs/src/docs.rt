@@ -67,7 +67,8 @@ fn spare_number(
     requires places { length cells.old.items ≡ length slots.old.items }
     requires few { length slots.old.items < 65536 + length spare.old.items }
     requires roomy { length slots.old.items ≤ vec_capacity spare.old }
-    ensures last { IfOk result (λ number. (0 < length spare.new.items) × (slice_index spare.new.items (length spare.new.items - 1) ≡ number)) }
+    ensures last { IfOk result (λ number. (0 < length spare.new.items)
+        × (slice_index spare.new.items (length spare.new.items - 1) ≡ number)) }
     ensures spares { AreSpare slots.new.items spare.new.items }
     ensures knockout { IsKnockout slots.new.items cells.new.items }
     ensures places { length cells.new.items ≡ length slots.new.items }
@@ -312,7 +313,8 @@ impl Docs {
         requires { IsHeld self.old d }
         ensures made { OnOk result ((x : OneDoc) → IsAt self.old d x → (text : List ℕ) × Changes enc x.text changes.now (Ok text)
             × (self.new ≡ all.insert self.old x.uri (numbered d (record x { text = text })))) }
-        ensures fault { IfErr result (λ fault. (fault ≡ EditFault.NoMemory) ⊎ ((x : OneDoc) → IsAt self.old d x → Changes enc x.text changes.now (Err fault))) }
+        ensures fault { IfErr result (λ fault. (fault ≡ EditFault.NoMemory)
+            ⊎ ((x : OneDoc) → IsAt self.old d x → Changes enc x.text changes.now (Err fault))) }
         ensures unchanged { OnErr result (self.new ≡ self.old) }
     {
         match &mut self.slots[d.0 as usize] {

@@ -1,9 +1,8 @@
-use Rattle.std.proofs.Common.{◌≡◌, ◌<◌, ◌+◌, ℕ, List, [], ◌∷◌, ◌++◌, length, get_or, Option, Some, None, refl, sym, ap, subst, ◌∙◌, arith, length-append}
+use Rattle.std.proofs.Common.{◌≡◌, ◌+◌, ℕ, [], ◌∷◌, ◌++◌, length, None, sym, ap, subst, ◌∙◌, arith, length-append}
 use Rattle.std.proofs.lemmas.List.{get_or_past}
-use Rattle.lw_docs.specs.declared.doc.Doc.{Doc}
 use Rattle.lw_docs.specs.Table.{doc_in, AreSpare}
 use Rattle.lw_docs.specs.Knockout.{IsKnockout}
-use Rattle.lw_docs.proofs.Cells.{Slots, Cells, doc_push, knockout_push}
+use Rattle.lw_docs.proofs.Cells.{Slots, doc_push, knockout_push}
 use Rattle.lw_docs.proofs.Spares.{spare_more}
 use Rattle.lw_docs.proofs.docs.spare_number.Goals as goal
 

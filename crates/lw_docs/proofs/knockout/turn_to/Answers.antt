@@ -1,8 +1,8 @@
-use Rattle.std.proofs.Common.{◌≡◌, ◌≢◌, ℕ, ◌<◌, List, [], length, set, get_or, Option, Some, None, refl, sym, ap, subst, ◌∙◌, arith}
+use Rattle.std.proofs.Common.{◌≡◌, ℕ, ◌<◌, List, [], length, set, get_or, Option, Some, None, refl, sym, ap, subst, ◌∙◌, arith}
 use Rattle.std.specs.Option.{option_map_or}
 use Rattle.std.proofs.lemmas.List.{get_or-set_same, get_or-set_other, get_or_default, set-get_or}
 use Rattle.lw_docs.specs.declared.doc.Doc.{Doc}
-use Rattle.lw_docs.specs.Table.{doc_in, address_in}
+use Rattle.lw_docs.specs.Table.{doc_in}
 use Rattle.lw_docs.specs.Knockout.{IsKnockout, IsKnockoutBut}
 use Rattle.lw_docs.proofs.Cells.{Slots, Cells, knockout_turned}
 use Rattle.lw_docs.proofs.knockout.turn_to.Goals as goal

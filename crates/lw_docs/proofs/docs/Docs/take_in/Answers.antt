@@ -1,4 +1,4 @@
-use Rattle.std.proofs.Common.{◌≡◌, ◌≢◌, ◌<◌, ◌+◌, ◌-◌, ℕ, List, [], ◌∷◌, ◌++◌, length, take, drop, set, cond, get_or, Option, Some, None, refl, sym, ap, subst, ◌∙◌, arith}
+use Rattle.std.proofs.Common.{◌≡◌, ◌≢◌, ◌+◌, ◌-◌, ℕ, List, length, take, set, cond, Option, Some, None, refl, sym, ap, subst, ◌∙◌, arith}
 use Rattle.lw_docs.specs.declared.doc.Doc.{Doc}
 use Rattle.std.specs.BTreeMap as tree
 use Rattle.std.specs.BTreeMap.{btree_map_len}
@@ -9,7 +9,6 @@ use Rattle.std.proofs.lemmas.List.{length-take-le}
 use Rattle.lw_base.specs.declared.numbers.DocId.{DocId}
 use Rattle.lw_docs.specs.Documents.{changed, numbered}
 use Rattle.lw_docs.specs.Knockout.{IsKnockout, IsKnockoutBut}
-use Rattle.lw_docs.specs.Table.{doc_in, held_in}
 use Rattle.lw_docs.proofs.Callers.{came_held}
 use Rattle.lw_docs.proofs.Keeping.{is_doc, kept_as, put_over, vacant, new_but, new_held, new_kept}
 use Rattle.lw_docs.proofs.View.{address_cmp, held_alike, held_len, named_alike, none_at, no_doc}

@@ -1,4 +1,4 @@
-use Rattle.std.proofs.Common.{◌≡◌, ◌≢◌, ◌<◌, ◌+◌, ℕ, List, [], ◌∷◌, ◌++◌, length, take, drop, set, cond, get_or, Option, Some, None, refl, sym, ap, subst, ◌∙◌, arith}
+use Rattle.std.proofs.Common.{◌≡◌, ◌<◌, ◌+◌, ℕ, List, [], ◌∷◌, ◌++◌, length, set, cond, get_or, Option, Some, None, sym, ap, subst, ◌∙◌}
 use Rattle.lw_docs.specs.declared.doc.Doc.{Doc}
 use Rattle.std.specs.Prelude.{vec_capacity}
 use Rattle.std.specs.BTreeMap as tree
