@@ -25,7 +25,8 @@ use Rattle.langbench.specs.Serving as serving
 use Rattle.langbench.specs.Serving.{Talked, OfGrammar, ServeComesTo, ServeDone, IsSession, WentWrong}
 use Rattle.langbench.specs.Stops.{EndsWith, TheSource, TheSink}
 use Rattle.langbench.proofs.Ends.{CountsAll, if_told, only_memory}
-use Rattle.langbench.proofs.Grammars.{one_way, same_grammar}
+use Rattle.lw_build.proofs.OneWay.{one_way}
+use Rattle.langbench.proofs.Grammars.{same_grammar}
 
 -- of two fronts of a list one is a front of the other
 fronts : (xs ys r s : List ℕ) → xs ++ r ≡ ys ++ s → ((m : List ℕ) × (ys ≡ xs ++ m)) ⊎ ((m : List ℕ) × (xs ≡ ys ++ m) × (s ≡ m ++ r))

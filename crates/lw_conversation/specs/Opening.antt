@@ -3,6 +3,7 @@
 use Rattle.std.specs.Prelude.{ℕ, ℤ, ◌≡◌, ◌<◌, ◌≤◌, ◌⊎◌, List, [], ◌∷◌, ◌++◌, length, true, false, Some, codes}
 use Rattle.std.specs.FinMap.{contains_key, len}
 use Rattle.lw_base.specs.declared.limits.TheConstants.{LONGEST_TEXT}
+use Rattle.lw_docs.specs.declared.docs.TheConstants.{MOST_DOCUMENTS}
 use Rattle.lw_rpc.specs.declared.reply.Reply.{Reply}
 use Rattle.lw_rpc.specs.declared.reply.Reply.TheVariants.{Log}
 use Rattle.lw_machine.specs.Documents.{Documents}
@@ -10,7 +11,7 @@ use Rattle.lw_machine.specs.Events.{put}
 
 -- how many documents are held at most
 abbrev pub most_documents : ℕ
-most_documents = 1
+most_documents = MOST_DOCUMENTS
 
 -- the address is held, or there is room for one more
 abbrev pub HasRoom : Documents → List ℕ → Type 0

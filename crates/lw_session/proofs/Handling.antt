@@ -1,22 +1,31 @@
 -- What a session does with a message, by what the message makes of it and the build behind it.
-use Rattle.std.proofs.Common.{◌≡◌, Bool, true, false, ℕ, List, [], ◌∷◌, ◌++◌, map, Result, Ok, Err, OnErr, refl, sym, subst, append-nil, inl}
+use Rattle.std.proofs.Common.{◌≡◌, ℕ, List, [], ◌∷◌, ◌++◌, map, Result, Ok, Err, OnErr, refl, sym, ap, ap₂, subst, append-nil, inl, ◌∙◌}
+use Rattle.std.proofs.lemmas.List.{map-append}
+use Rattle.lw_build.specs.Agreeing.{Agrees}
+use Rattle.lw_build.specs.View.{WorkspaceView, documents}
 use Rattle.lw_grammar.specs.declared.grammar.Grammar.{Grammar}
+use Rattle.lw_rpc.specs.Replies.{reply_bytes}
 use Rattle.lw_rpc.specs.declared.message.Message.{Message}
-use Rattle.lw_rpc.specs.declared.reply.Reply.TheVariants.{Log}
-use Rattle.lw_machine.specs.Building as building
-use Rattle.lw_machine.specs.Documents.{Documents, IsBuilt}
+use Rattle.lw_rpc.specs.declared.reply.Reply.{Reply}
+use Rattle.lw_machine.specs.Building.{BuildsToEnd}
+use Rattle.lw_machine.specs.Documents.{Documents}
+use Rattle.lw_machine.specs.Validity.{IsValid}
+use Rattle.lw_machine.specs.declared.published.Published.{Published}
+use Rattle.lw_machine.proofs.Contents.{to_end_same}
 use Rattle.lw_conversation.specs.Answered as answer
 use Rattle.lw_conversation.specs.Answered.{Answered, IsCutShort}
-use Rattle.lw_conversation.specs.Gate.{Passes, gate}
-use Rattle.lw_conversation.specs.Effects.{TakesEffect}
+use Rattle.lw_conversation.specs.Effects.{as_reply}
 use Rattle.lw_conversation.specs.Sessions as session
 use Rattle.lw_conversation.specs.Sessions.{Handles}
 use Rattle.lw_conversation.specs.Standing.{Standing}
-use Rattle.lw_session.specs.Lifecycle.{passage_of, telling}
+use Rattle.lw_conversation.specs.declared.ended.Ended.{Ended}
+use Rattle.lw_conversation.specs.declared.phase.Phase.{Phase}
+use Rattle.lw_session.specs.Answering.{IsAnswered, IsBuiltBehind, waits, builds, standing_of}
 use Rattle.lw_session.specs.declared.lifecycle.Told.{Told}
+use Rattle.lw_session.proofs.Known.{same_content}
 
 -- where memory is refused before anything has changed, what stands is what stood
-not_begun : (g : Grammar) (s : Standing) (m : Message) → IsCutShort g s m s
+pub not_begun : (g : Grammar) (s : Standing) (m : Message) → IsCutShort g s m s
 not_begun g s m = record { changed = s.documents; changes = answer.none; content = λ address. refl; phase = inl refl; valid = λ valid. valid }
 
 -- so it is at whatever error
@@ -24,28 +33,63 @@ pub error_not_begun : {T E : Type 0} (r : Result T E) (g : Grammar) (s : Standin
 error_not_begun (Ok x) g s m = tt
 error_not_begun (Err e) g s m = not_begun g s m
 
--- where all documents are validated there is nothing to build behind a message
-module _ (g : Grammar) (s : Standing) (all : IsBuilt s.documents) (message : Message) where
-  abbrev Becomes : Told → Type 0
-  Becomes told = Handles g s message [] (record s { phase = told.phase }) told.replies told.ended
+-- where memory is refused behind the build, the documents are those behind it
+cut_behind : (g : Grammar) (s t : Standing) (m : Message) (replies : List Reply) (ended : Ended) → Handles g s m [] t replies ended → IsValid g t.documents →
+    IsCutShort g s m (record { documents = t.documents; phase = s.phase })
+cut_behind g s t m replies ended (session.unbuilt answered off) valid = record {
+  changed = t.documents;
+  changes = answer.all answered;
+  content = λ address. refl;
+  phase = inl refl;
+  valid = λ before. valid;
+}
+cut_behind g s t m replies ended (session.built {t = u} {n = n} {published = p} answered on to_end) valid = record {
+  changed = u.documents;
+  changes = answer.all answered;
+  content = to_end_same g u.documents n p to_end;
+  phase = inl refl;
+  valid = λ before. valid;
+}
 
-  -- what does not change them
-  pub stays : (told : Told) → Answered g s message [] (record s { phase = told.phase }) told.replies told.ended → Becomes told
-  stays told answered = by told.phase.initialized refl
-    where
-      by : (on : Bool) → told.phase.initialized ≡ on → Becomes told
-      by false off = session.unbuilt answered off
-      by true on =
-          subst (λ replies. Handles g s message [] (record s { phase = told.phase }) replies told.ended) (append-nil told.replies)
-          (session.built answered on (building.done all))
+pub error_behind : {A E : Type 0} (r : Result A E) (g : Grammar) (s t : Standing) (m : Message) (replies : List Reply) (ended : Ended) →
+    Handles g s m [] t replies ended → IsValid g t.documents → OnErr r (IsCutShort g s m (record { documents = t.documents; phase = s.phase }))
+error_behind (Ok x) g s t m replies ended handles valid = tt
+error_behind (Err e) g s t m replies ended handles valid = cut_behind g s t m replies ended handles valid
 
-  -- what stops at the gate
-  pub stops : (told : Told) → gate s.phase message ≡ passage_of told → Becomes told
-  stops told is = stays told (answer.stops is)
+module _ (v w : WorkspaceView) (phase : Phase) (message : Message) (told : Told) (is : IsAnswered v w phase message told) (same : w.grammar ≡ v.grammar) where
+  -- where it is refused before the build, they are those that the message leaves
+  pub error_between : {A E : Type 0} (r : Result A E) → Agrees w (documents w) → OnErr r (IsCutShort v.grammar (standing_of v phase) message (standing_of w phase))
+  error_between (Ok x) agrees = tt
+  error_between (Err e) agrees = record {
+    changed = is.changed;
+    changes = answer.all is.answered;
+    content = same_content w is.changed (documents w) is.agrees agrees;
+    phase = inl refl;
+    valid = λ before. subst (λ g. IsValid g (documents w)) same agrees.valid;
+  }
 
-  -- what passes the gate, and is told by a line for the log alone
-  pub logged : (line : List ℕ) (told : Told) → gate s.phase message ≡ Passes → TakesEffect g s.documents message [] s.documents (Log line ∷ []) →
-      told ≡ telling s.phase (Log line ∷ []) → Becomes told
-  logged line told through effect is =
-      stays told
-      (subst (λ (t : Told). Answered g s message [] (record s { phase = t.phase }) t.replies t.ended) (sym is) (answer.passes through effect))
+  -- a message and the build behind it
+  pub served : (x : WorkspaceView) (lists : List Published) → IsBuiltBehind w x told.phase is.changed lists →
+      Handles v.grammar (standing_of v phase) message [] (standing_of x told.phase) (told.replies ++ map as_reply lists) told.ended
+  served x lists (waits off stays) =
+      subst (λ replies. Handles v.grammar (standing_of v phase) message [] (standing_of x told.phase) replies told.ended) (sym (append-nil told.replies))
+      (subst (λ (m : Documents). Handles v.grammar (standing_of v phase) message [] (record { documents = m; phase = told.phase }) told.replies told.ended)
+      (is.stays off ∙ ap documents (sym stays)) (session.unbuilt is.answered off))
+  served x lists (builds on to_end) = session.built is.answered on (subst (λ g. BuildsToEnd g is.changed (documents x) lists) same to_end)
+
+-- the bytes of replies and of publications behind them
+publication_bytes : (lists : List Published) → map (λ list. reply_bytes (as_reply list)) lists ≡ map reply_bytes (map as_reply lists)
+publication_bytes [] = refl
+publication_bytes (list ∷ lists) = ap (λ texts. reply_bytes (as_reply list) ∷ texts) (publication_bytes lists)
+
+told_bytes : (replies : List Reply) (lists : List Published) →
+    map reply_bytes replies ++ map (λ list. reply_bytes (as_reply list)) lists ≡ map reply_bytes (replies ++ map as_reply lists)
+told_bytes replies lists = ap (λ texts. map reply_bytes replies ++ texts) (publication_bytes lists) ∙ sym (map-append reply_bytes replies (map as_reply lists))
+
+pub told_texts : (texts : List (List ℕ)) (told replies : List Reply) (published lists : List Published) →
+    texts ≡ map reply_bytes told ++ map (λ list. reply_bytes (as_reply list)) published → told ≡ replies → published ≡ lists →
+    texts ≡ map reply_bytes (replies ++ map as_reply lists)
+told_texts texts told replies published lists are same alike =
+    are
+    ∙ ap₂ (λ (rs : List Reply) (ls : List Published). map reply_bytes rs ++ map (λ list. reply_bytes (as_reply list)) ls) same alike
+    ∙ told_bytes replies lists

@@ -1,4 +1,4 @@
-pub mod Alone
+pub mod Known
 pub mod Handling
-pub mod Opens
-pub mod Edits
+pub mod Answers
+pub mod Loads

@@ -1,4 +1,5 @@
 pub mod View
 pub mod Lifecycle
-pub mod Keeping
+pub mod Answering
+pub mod Loading
 pub mod Seen

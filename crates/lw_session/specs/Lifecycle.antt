@@ -8,8 +8,8 @@ use Rattle.lw_conversation.specs.Gate.{Passage, gate}
 use Rattle.lw_conversation.specs.Gate as at_gate
 use Rattle.lw_conversation.specs.declared.ended.Ended.TheVariants.{No}
 use Rattle.lw_conversation.specs.declared.phase.Phase.{Phase}
-use Rattle.lw_session.specs.declared.held.Edited.{Edited}
-use Rattle.lw_session.specs.declared.held.Opened.{Opened}
+use Rattle.lw_session.specs.declared.said.Edited.{Edited}
+use Rattle.lw_session.specs.declared.said.Opened.{Opened}
 use Rattle.lw_session.specs.declared.lifecycle.Told.{Told}
 use Rattle.lw_session.specs.declared.lifecycle.Step.{Step}
 use Rattle.lw_session.specs.declared.lifecycle.Step.TheVariants as step

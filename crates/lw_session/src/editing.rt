@@ -1,46 +1,40 @@
-// The changes of a document: they are made all, or none, and the text that they leave is built.
-ghost use Rattle.std.specs.Prelude.{◌≡◌, ◌++◌, ◌∷◌, [], IfOk, codes, decimal};
+// The changes of a document: they are made all, or none.
+ghost use Rattle.std.specs.Prelude.{◌≡◌, ◌++◌, ◌∷◌, [], IfOk, OnErr, codes, decimal};
 ghost use Rattle.lw_rpc.specs.declared.reply.Reply.TheVariants as reply_;
-ghost use Rattle.lw_session.specs.Keeping.{documents_of, IsHandled};
+ghost use Rattle.lw_session.specs.Answering.{IsAnswered};
 ghost use Rattle.lw_session.specs.Lifecycle.{IsLive, edited_message, telling};
 
-use crate::building::{Next, build};
-use crate::held::{Edited, Held, held_at};
-use crate::lifecycle::{Told, log, tells};
+use crate::lifecycle::{Told, keeps_silent, log, tells};
+use crate::said::Edited;
 use lw_base::{Name, NoMemory};
+use lw_build::{WorkFault, Workspace};
 use lw_conversation::Phase;
-use lw_lang::Language;
 use lw_rpc::Reply;
-use lw_text::{EditFault, Encoding};
 use std::alloc::Global;
 
-/// Changes the text of a document and builds it, in a session that is live.
+/// Changes the text of a document that an editor has open, in a session that is live.
 pub(crate) fn edit(
     alloc: Global,
-    language: &Language,
-    document: &Option<Held>,
+    workspace: &mut Workspace,
     phase: Phase,
     edited: Edited,
-) -> Result<Next, NoMemory>
+) -> Result<Told, NoMemory>
     requires { IsLive phase }
-    ensures { IfOk result (IsHandled language.now.grammar (record { documents = documents_of document.now; phase = phase }) (edited_message edited)) }
+    ensures answered { IfOk result (IsAnswered workspace.old workspace.new phase (edited_message edited)) }
+    ensures refused { OnErr result (workspace.new ≡ workspace.old) }
+    ensures grammar { workspace.new.grammar ≡ workspace.old.grammar }
 {
+    workspace.agrees();
     let Edited { id, changes } = edited;
-    let Some(held) = held_at(document, &id.address) else {
-        let told = log(alloc, phase, "unknown document: ", &id.address)?;
-        return Ok(Next { told, put: None });
-    };
-    match held.text.edited(alloc, changes.as_slice(), Encoding::Utf16) {
-        Ok(text) => build(alloc, language, document, phase, id, text),
-        Err(EditFault::BadRange(number)) => {
-            let told = log_bad_range(alloc, phase, number, &id.address)?;
-            Ok(Next { told, put: None })
-        }
-        Err(EditFault::TooLong(_)) => {
-            let told = log(alloc, phase, "text too long: ", &id.address)?;
-            Ok(Next { told, put: None })
-        }
-        Err(EditFault::NoMemory) => Err(NoMemory),
+    if !workspace.is_open(&id.address) {
+        return log(alloc, phase, "unknown document: ", &id.address);
+    }
+    match workspace.edit(&id.address, changes.as_slice(), id.version) {
+        Ok(()) => Ok(keeps_silent(alloc, phase)),
+        Err(WorkFault::BadRange(number)) => log_bad_range(alloc, phase, number, &id.address),
+        Err(WorkFault::TooLong(_)) => log(alloc, phase, "text too long: ", &id.address),
+        // Nothing else is refused of a document that is held but memory.
+        Err(_) => Err(NoMemory),
     }
 }
 

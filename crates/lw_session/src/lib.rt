@@ -10,22 +10,22 @@
 //! behind it. Where it is refused memory the replies are lost, and the texts and the phase are such as they
 //! may be in the middle of the message. The grammar stays, and so do the files of the store.
 //!
-//! How it is made: `lifecycle` decides a message by the two facts of a session alone; `opening` puts a
-//! text, `editing` makes the changes of one, and `building` computes the diagnostics of the new text
-//! (`lw_alone`) and tells them; nothing of the session changes before all replies are there as bytes
-//! (`texts`). The session holds one document, which is always built (`held`,
-//! `specs/Keeping.antt`), so the six steps that the machine takes from its new text to its last state are
-//! one computation here (`proofs/Alone.antt`).
+//! How it is made: `lifecycle` decides a message by the two facts of a session alone; `opening` puts a text
+//! and `editing` makes the changes of one in the workspace (`lw_build`), `serving` builds all documents behind
+//! that, and `texts` makes bytes of what is told. The documents of the standing are those of the machine that the
+//! workspace stands for (`specs/Seen.antt`), and a message is handled over any documents that it may stand for
+//! (`specs/Answering.antt`), since a build comes to the same from all of them.
 #![tactic(auto)]
 
-mod building;
 mod editing;
-mod held;
 mod lifecycle;
 mod opening;
+mod said;
+mod serving;
 mod session;
 mod texts;
 
+pub use lw_build::{WorkFault, Workspace};
 pub use lw_conversation::{Ended, Phase};
 pub use session::{Handled, Mode, Session};
 

@@ -5,7 +5,7 @@ ghost use Rattle.lw_rpc.specs.declared.message.Message.TheVariants as message_;
 ghost use Rattle.lw_rpc.specs.declared.reply.Reply.TheVariants as reply_;
 ghost use Rattle.lw_session.specs.Lifecycle.{IsStep, edited_message, opened_message, passage_of, telling};
 
-use crate::held::{Edited, Identifier, Opened};
+use crate::said::{Edited, Identifier, Opened};
 use lw_base::{Items, Name, NoMemory};
 use lw_conversation::{
     Ended, INVALID_PARAMS, INVALID_REQUEST, METHOD_NOT_FOUND, PARSE_ERROR, Phase,

@@ -1,22 +1,21 @@
 // A session: message bodies in, reply bodies out.
-ghost use Rattle.std.specs.Prelude.{◌≡◌, [], IfOk, OnErr};
+ghost use Rattle.std.specs.Prelude.{◌≡◌, [], IfOk, IfErr, OnOk, OnErr, false};
+ghost use Rattle.lw_build.specs.View.{documents};
+ghost use Rattle.lw_reading.specs.Laws.{IsReadOneWay};
 ghost use Rattle.lw_rpc.specs.Messages.{message_of};
 ghost use Rattle.lw_conversation.specs.Answered.{IsCutShort};
 ghost use Rattle.lw_conversation.specs.Sessions.{HandlesBody};
 ghost use Rattle.lw_conversation.specs.Standing.{beginning};
-ghost use Rattle.lw_session.specs.Keeping.{IsHandled, standing_after};
+ghost use Rattle.lw_session.specs.Loading.{IsLoaded, IsLoadFault};
 
-use crate::building::Next;
-use crate::editing::edit;
-use crate::held::Held;
-use crate::lifecycle::{Step, decide};
-use crate::opening::open;
+use crate::serving::serve;
 use crate::texts::texts_of;
 use lw_base::{Items, Name, NoMemory, Steps};
+use lw_build::{WorkFault, Workspace};
 use lw_conversation::{Ended, Phase};
 use lw_io::Store;
 use lw_lang::Language;
-use lw_rpc::{Message, read_message};
+use lw_rpc::read_message;
 use std::alloc::Global;
 use std::marker::Model;
 use std::sync::ledger::Ledger;
@@ -37,11 +36,10 @@ pub struct Handled {
     pub ended: Ended,
 }
 
-/// A session of the language server, seen_session as the grammar of its language and its standing: the documents
+/// A session of the language server, seen as the grammar of its language and its standing: the documents
 /// by address, and whether `initialize` and `shutdown` were answered with a result.
 pub struct Session {
-    language: Language,
-    document: Option<Held>,
+    workspace: Workspace,
     phase: Phase,
     alloc: Global,
 }
@@ -50,8 +48,7 @@ impl Drop for Session {
     // In one place, so that whoever drops such a value sees one call and not the drops of all its parts.
     fn drop(self) {
         let Session {
-            language: _,
-            document: _,
+            workspace: _,
             phase: _,
             alloc: _,
         } = self;
@@ -78,14 +75,15 @@ impl Model for Session {
 }
 
 impl Session {
-    /// A session to which nothing has come. It takes no memory.
+    /// A session to which nothing has come. It takes no memory. The grammar is one by which a text is read in
+    /// one way, as is each that [`compile`](lw_lang::compile) hands out.
     pub fn new(alloc: Global, language: Language, mode: Mode) -> Result<Session, NoMemory>
+        requires { IsReadOneWay language.grammar }
         ensures grammar { IfOk result (λ session. session.grammar ≡ language.grammar) }
         ensures standing { IfOk result (λ session. session.standing ≡ beginning []) }
     {
         Ok(Session {
-            language,
-            document: None,
+            workspace: Workspace::new(alloc, language),
             phase: Phase {
                 initialized: false,
                 shut_down: false,
@@ -94,20 +92,42 @@ impl Session {
         })
     }
 
+    /// Its documents, linked with one another.
+    pub fn workspace(&self) -> &Workspace
+        ensures documents { documents result.now ≡ self.now.standing.documents }
+        ensures grammar { result.now.grammar ≡ self.now.grammar }
+    {
+        &self.workspace
+    }
+
+    /// Puts the text of a file at an address, before `initialize`: no editor has it open, and it has no
+    /// version. It is built once `initialize` is answered with a result. Where it is refused nothing changes.
+    pub fn load_file(&mut self, uri: &Name, text: Name) -> Result<(), WorkFault>
+        requires { self.old.standing.phase.initialized ≡ false }
+        ensures loaded { OnOk result (IsLoaded self.old.grammar self.old.standing uri.now text self.new.standing) }
+        ensures fault { IfErr result (IsLoadFault self.old.standing.documents uri.now text) }
+        ensures refused { OnErr result (self.new ≡ self.old) }
+        ensures grammar { self.new.grammar ≡ self.old.grammar }
+    {
+        self.workspace.agrees();
+        let outcome = self.workspace.put(uri, text, None, false);
+        self.workspace.agrees();
+        outcome
+    }
+
     /// Answers one message body, by the lifecycle of the Language Server Protocol 3.17 and the errors of
     /// JSON-RPC 2.0, and builds what it leaves to build.
     ///
-    /// A document that is opened has its diagnostics published, unless they are those that were published
-    /// last of it; so has one that is changed. Positions are zero-based, in UTF-16 units. At most one document
-    /// is held, and a text has at most 67,108,864 bytes: what goes beyond is refused by a line for the
+    /// Once `initialize` was answered with a result all documents are built behind each message, and each of them
+    /// has its diagnostics published, unless they are those that were published last of it: so a change of one
+    /// document tells what it changes in others. Positions are zero-based, in UTF-16 units. At most 65,536 documents
+    /// are held, and a text has at most 67,108,864 bytes: what goes beyond is refused by a line for the
     /// editor's log, and so are changes of a document that no editor has open, or whose range ends before it
     /// starts. A list of changes that is refused changes nothing.
     ///
     /// Where memory is refused ([`NoMemory`]) the replies are lost. The texts are then those after some of the
     /// message's changes, from the first on, none to all of them, and the phase is the one before the message
     /// or the one behind it.
-    ///
-    /// It takes time linear in the length of the body, and, for each change, in that of the text.
     pub fn handle<F: Store, L: Ledger>(
         &mut self,
         body: &[u8],
@@ -121,45 +141,14 @@ impl Session {
         ensures files { F.files store.new ≡ F.files store.old }
     {
         let message = read_message(self.alloc, body)?;
-        let next = self.next(message)?;
-        let replies = texts_of(self.alloc, next.told.replies.as_slice())?;
-        let ended = next.told.ended;
-        self.keep(next);
-        Ok(Handled { replies, ended })
-    }
-
-    // What the session becomes with the message, and what is told.
-    fn next(&self, message: Message) -> Result<Next, NoMemory>
-        ensures { IfOk result (IsHandled self.now.grammar self.now.standing message) }
-    {
-        match decide(self.alloc, self.phase, message)? {
-            Step::Stops(told) => Ok(Next { told, put: None }),
-            Step::Opens(opened) => open(
-                self.alloc,
-                &self.language,
-                &self.document,
-                self.phase,
-                opened,
-            ),
-            Step::Edits(edited) => edit(
-                self.alloc,
-                &self.language,
-                &self.document,
-                self.phase,
-                edited,
-            ),
-        }
-    }
-
-    // Becomes what comes next.
-    fn keep(&mut self, next: Next)
-        ensures standing { self.new.standing ≡ standing_after self.old.standing next }
-        ensures grammar { self.new.grammar ≡ self.old.grammar }
-    {
-        let Next { told, put } = next;
+        let served = serve(self.alloc, &mut self.workspace, self.phase, message, steps)?;
+        self.workspace.agrees();
+        let told = served.told;
+        let replies = texts_of(self.alloc, told.replies.as_slice(), served.lists.as_slice())?;
         self.phase = told.phase;
-        if let Some(held) = put {
-            self.document = Some(held);
-        }
+        Ok(Handled {
+            replies,
+            ended: told.ended,
+        })
     }
 }

@@ -1,6 +1,7 @@
 // What the clauses do not say: that a session answers where there is memory. The bodies are those of the
 // Language Server Protocol 3.17 and of JSON-RPC 2.0, and so are the codes of the errors.
-ghost use Rattle.std.specs.Prelude.{◌≡◌, ◌<◌};
+ghost use Rattle.std.specs.Prelude.{◌≡◌, ◌<◌, IfOk};
+ghost use Rattle.lw_reading.specs.Laws.{IsReadOneWay};
 
 use crate::{Ended, Mode, Session};
 use lw_base::{Items, Name, NoMemory, Steps};
@@ -15,6 +16,10 @@ use std::test::Fail;
 const GRAMMAR: &str =
     "grammar F entry Model: 'model' name=ID; hidden terminal WS: /\\s+/; terminal ID: /[_a-zA-Z][\\w_]*/;";
 
+// A grammar with references.
+const STATES: &str =
+    "grammar S entry Model: 'model' name=ID states+=State*; State: 'state' name=ID ('to' next+=[State:ID])* 'end'; hidden terminal WS: /\\s+/; terminal ID: /[_a-zA-Z][\\w_]*/;";
+
 const HELLO: &str =
     "{\"id\":1,\"jsonrpc\":\"2.0\",\"result\":{\"capabilities\":{\"completionProvider\":{},\"definitionProvider\":true,\"positionEncoding\":\"utf-16\",\"referencesProvider\":true,\"renameProvider\":true,\"textDocumentSync\":{\"change\":2,\"openClose\":true}},\"serverInfo\":{\"name\":\"langbench\"}}}\n";
 
@@ -24,10 +29,12 @@ const SHUTDOWN: &str = "{\"jsonrpc\":\"2.0\",\"id\":2,\"method\":\"shutdown\"}";
 
 const EXIT: &str = "{\"jsonrpc\":\"2.0\",\"method\":\"exit\"}";
 
-fn language(rt: &impl Abort, alloc: Global) -> Result<Language, NoMemory> {
+fn language(rt: &impl Abort, alloc: Global, grammar: &str) -> Result<Language, NoMemory>
+    ensures { IfOk result (λ language. IsReadOneWay language.grammar) }
+{
     let root = Name::from_text(alloc, "f.langium")?;
     let mut files = Vec::new(alloc);
-    files.push((root.copy(alloc)?, GRAMMAR.as_bytes().to_vec(alloc)?))?;
+    files.push((root.copy(alloc)?, grammar.as_bytes().to_vec(alloc)?))?;
     let mut store = MemStore::new(files, Vec::new(alloc));
     let mut patterns = MemPatterns::new(Vec::new(alloc));
     match compile(alloc, &root, 2, &mut store, &mut patterns) {
@@ -51,8 +58,10 @@ fn played<L: Ledger>(
     rt: &impl Abort,
     alloc: Global,
     blank: Blank,
+    language: Language,
     rows: &[(&str, &str, Ended)],
 ) -> Result<(), NoMemory>
+    requires one_way { IsReadOneWay language.grammar }
     requires name { blank.name ≡ L.name }
     requires parts { blank.parts ≡ L.parts }
     requires some { 0 < blank.parts }
@@ -60,7 +69,7 @@ fn played<L: Ledger>(
     let (book, share) = blank.open::<L>();
     let mut steps = Steps::new(book, share);
     let mut store = MemStore::new(Vec::new(alloc), Vec::new(alloc));
-    let mut session = Session::new(alloc, language(rt, alloc)?, Mode::Full)?;
+    let mut session = Session::new(alloc, language, Mode::Full)?;
     'rows: for (body, replies, ended) in rows {
         let handled = session.handle(body.as_bytes(), &mut store, &mut steps)?;
         let told = lines(alloc, &handled.replies)?;
@@ -71,8 +80,14 @@ fn played<L: Ledger>(
 }
 
 // The same, over a ledger of its own.
-fn play(rt: &impl Abort, alloc: Global, rows: &[(&str, &str, Ended)]) -> Result<(), NoMemory> {
-    played::<Brand>(rt, alloc, Blank::new(1), rows)
+fn play(
+    rt: &impl Abort,
+    alloc: Global,
+    grammar: &str,
+    rows: &[(&str, &str, Ended)],
+) -> Result<(), NoMemory> {
+    let language = language(rt, alloc, grammar)?;
+    played::<Brand>(rt, alloc, Blank::new(1), language, rows)
 }
 
 #[test]
@@ -80,6 +95,7 @@ fn one_document_is_served(rt: HostRuntime) -> Result<(), Fail> {
     play(
         &rt,
         rt.alloc(),
+        GRAMMAR,
         &[
             (INITIALIZE, HELLO, Ended::No),
             (
@@ -103,6 +119,7 @@ fn the_lifecycle_decides_first(rt: HostRuntime) -> Result<(), Fail> {
     play(
         &rt,
         rt.alloc(),
+        GRAMMAR,
         &[
             (
                 "{",
@@ -191,6 +208,7 @@ fn lists_are_told_where_they_differ(rt: HostRuntime) -> Result<(), Fail> {
     play(
         &rt,
         rt.alloc(),
+        GRAMMAR,
         &[
             (INITIALIZE, HELLO, Ended::No),
             (
@@ -204,8 +222,8 @@ fn lists_are_told_where_they_differ(rt: HostRuntime) -> Result<(), Fail> {
                 Ended::No,
             ),
             (
-                "{\"jsonrpc\":\"2.0\",\"method\":\"textDocument/didOpen\",\"params\":{\"textDocument\":{\"uri\":\"v\",\"version\":1,\"text\":\"model m\"}}}",
-                "{\"jsonrpc\":\"2.0\",\"method\":\"window/logMessage\",\"params\":{\"message\":\"too many documents: v\",\"type\":1}}\n",
+                "{\"jsonrpc\":\"2.0\",\"method\":\"textDocument/didOpen\",\"params\":{\"textDocument\":{\"uri\":\"v\",\"version\":1,\"text\":\"model w\"}}}",
+                "{\"jsonrpc\":\"2.0\",\"method\":\"textDocument/publishDiagnostics\",\"params\":{\"diagnostics\":[],\"uri\":\"v\",\"version\":1}}\n",
                 Ended::No,
             ),
             (
@@ -236,6 +254,7 @@ fn changes_are_made_all_or_none(rt: HostRuntime) -> Result<(), Fail> {
     play(
         &rt,
         rt.alloc(),
+        GRAMMAR,
         &[
             (
                 "{\"jsonrpc\":\"2.0\",\"method\":\"textDocument/didChange\",\"params\":{\"textDocument\":{\"uri\":\"u\",\"version\":1},\"contentChanges\":[]}}",
@@ -304,6 +323,89 @@ fn changes_are_made_all_or_none(rt: HostRuntime) -> Result<(), Fail> {
                 Ended::No,
             ),
             (EXIT, "", Ended::Clean),
+        ],
+    )?;
+    Ok(())
+}
+
+// A document that comes or changes tells anew the lists of those that refer to it, in the order of addresses.
+#[test]
+fn references_lead_to_other_documents(rt: HostRuntime) -> Result<(), Fail> {
+    play(
+        &rt,
+        rt.alloc(),
+        STATES,
+        &[
+            (INITIALIZE, HELLO, Ended::No),
+            (
+                "{\"jsonrpc\":\"2.0\",\"method\":\"textDocument/didOpen\",\"params\":{\"textDocument\":{\"uri\":\"file:///c.s\",\"version\":1,\"text\":\"model c state s to x end\"}}}",
+                "{\"jsonrpc\":\"2.0\",\"method\":\"textDocument/publishDiagnostics\",\"params\":{\"diagnostics\":[{\"code\":3,\"message\":\"Could not resolve reference to State named 'x'.\",\"range\":{\"end\":{\"character\":20,\"line\":0},\"start\":{\"character\":19,\"line\":0}},\"severity\":1}],\"uri\":\"file:///c.s\",\"version\":1}}\n",
+                Ended::No,
+            ),
+            (
+                "{\"jsonrpc\":\"2.0\",\"method\":\"textDocument/didOpen\",\"params\":{\"textDocument\":{\"uri\":\"file:///m.s\",\"version\":1,\"text\":\"model m state x end\"}}}",
+                "{\"jsonrpc\":\"2.0\",\"method\":\"textDocument/publishDiagnostics\",\"params\":{\"diagnostics\":[],\"uri\":\"file:///c.s\",\"version\":1}}\n{\"jsonrpc\":\"2.0\",\"method\":\"textDocument/publishDiagnostics\",\"params\":{\"diagnostics\":[],\"uri\":\"file:///m.s\",\"version\":1}}\n",
+                Ended::No,
+            ),
+            (
+                "{\"jsonrpc\":\"2.0\",\"method\":\"textDocument/didChange\",\"params\":{\"textDocument\":{\"uri\":\"file:///m.s\",\"version\":2},\"contentChanges\":[{\"text\":\"model\"}]}}",
+                "{\"jsonrpc\":\"2.0\",\"method\":\"textDocument/publishDiagnostics\",\"params\":{\"diagnostics\":[{\"code\":3,\"message\":\"Could not resolve reference to State named 'x'.\",\"range\":{\"end\":{\"character\":20,\"line\":0},\"start\":{\"character\":19,\"line\":0}},\"severity\":1}],\"uri\":\"file:///c.s\",\"version\":1}}\n{\"jsonrpc\":\"2.0\",\"method\":\"textDocument/publishDiagnostics\",\"params\":{\"diagnostics\":[{\"code\":2,\"message\":\"Unexpected end of text.\",\"range\":{\"end\":{\"character\":5,\"line\":0},\"start\":{\"character\":5,\"line\":0}},\"severity\":1}],\"uri\":\"file:///m.s\",\"version\":2}}\n",
+                Ended::No,
+            ),
+            (
+                "{\"jsonrpc\":\"2.0\",\"method\":\"textDocument/didChange\",\"params\":{\"textDocument\":{\"uri\":\"file:///m.s\",\"version\":3},\"contentChanges\":[{\"range\":{\"start\":{\"line\":0,\"character\":5},\"end\":{\"line\":0,\"character\":5}},\"text\":\" m state x end\"}]}}",
+                "{\"jsonrpc\":\"2.0\",\"method\":\"textDocument/publishDiagnostics\",\"params\":{\"diagnostics\":[],\"uri\":\"file:///c.s\",\"version\":1}}\n{\"jsonrpc\":\"2.0\",\"method\":\"textDocument/publishDiagnostics\",\"params\":{\"diagnostics\":[],\"uri\":\"file:///m.s\",\"version\":3}}\n",
+                Ended::No,
+            ),
+            (
+                "{\"jsonrpc\":\"2.0\",\"method\":\"textDocument/didChange\",\"params\":{\"textDocument\":{\"uri\":\"file:///c.s\",\"version\":2},\"contentChanges\":[{\"range\":{\"start\":{\"line\":0,\"character\":19},\"end\":{\"line\":0,\"character\":20}},\"text\":\"y\"}]}}",
+                "{\"jsonrpc\":\"2.0\",\"method\":\"textDocument/publishDiagnostics\",\"params\":{\"diagnostics\":[{\"code\":3,\"message\":\"Could not resolve reference to State named 'y'.\",\"range\":{\"end\":{\"character\":20,\"line\":0},\"start\":{\"character\":19,\"line\":0}},\"severity\":1}],\"uri\":\"file:///c.s\",\"version\":2}}\n",
+                Ended::No,
+            ),
+            (
+                "{\"jsonrpc\":\"2.0\",\"method\":\"textDocument/didChange\",\"params\":{\"textDocument\":{\"uri\":\"file:///m.s\",\"version\":4},\"contentChanges\":[{\"range\":{\"start\":{\"line\":0,\"character\":14},\"end\":{\"line\":0,\"character\":15}},\"text\":\"y\"}]}}",
+                "{\"jsonrpc\":\"2.0\",\"method\":\"textDocument/publishDiagnostics\",\"params\":{\"diagnostics\":[],\"uri\":\"file:///c.s\",\"version\":2}}\n",
+                Ended::No,
+            ),
+        ],
+    )?;
+    Ok(())
+}
+
+// Two documents that export one name are told of one another, until one of them no longer does.
+#[test]
+fn exports_of_one_name_are_told(rt: HostRuntime) -> Result<(), Fail> {
+    play(
+        &rt,
+        rt.alloc(),
+        STATES,
+        &[
+            (INITIALIZE, HELLO, Ended::No),
+            (
+                "{\"jsonrpc\":\"2.0\",\"method\":\"textDocument/didOpen\",\"params\":{\"textDocument\":{\"uri\":\"file:///c.s\",\"version\":1,\"text\":\"model c state s to x end\"}}}",
+                "{\"jsonrpc\":\"2.0\",\"method\":\"textDocument/publishDiagnostics\",\"params\":{\"diagnostics\":[{\"code\":3,\"message\":\"Could not resolve reference to State named 'x'.\",\"range\":{\"end\":{\"character\":20,\"line\":0},\"start\":{\"character\":19,\"line\":0}},\"severity\":1}],\"uri\":\"file:///c.s\",\"version\":1}}\n",
+                Ended::No,
+            ),
+            (
+                "{\"jsonrpc\":\"2.0\",\"method\":\"textDocument/didOpen\",\"params\":{\"textDocument\":{\"uri\":\"file:///m.s\",\"version\":1,\"text\":\"model m state x end\"}}}",
+                "{\"jsonrpc\":\"2.0\",\"method\":\"textDocument/publishDiagnostics\",\"params\":{\"diagnostics\":[],\"uri\":\"file:///c.s\",\"version\":1}}\n{\"jsonrpc\":\"2.0\",\"method\":\"textDocument/publishDiagnostics\",\"params\":{\"diagnostics\":[],\"uri\":\"file:///m.s\",\"version\":1}}\n",
+                Ended::No,
+            ),
+            (
+                "{\"jsonrpc\":\"2.0\",\"method\":\"textDocument/didOpen\",\"params\":{\"textDocument\":{\"uri\":\"file:///b.s\",\"version\":1,\"text\":\"model b state x end\"}}}",
+                "{\"jsonrpc\":\"2.0\",\"method\":\"textDocument/publishDiagnostics\",\"params\":{\"diagnostics\":[{\"code\":5,\"message\":\"State 'x' is also exported by file:///m.s.\",\"range\":{\"end\":{\"character\":15,\"line\":0},\"start\":{\"character\":14,\"line\":0}},\"severity\":2}],\"uri\":\"file:///b.s\",\"version\":1}}\n{\"jsonrpc\":\"2.0\",\"method\":\"textDocument/publishDiagnostics\",\"params\":{\"diagnostics\":[{\"code\":5,\"message\":\"State 'x' is also exported by file:///b.s.\",\"range\":{\"end\":{\"character\":15,\"line\":0},\"start\":{\"character\":14,\"line\":0}},\"severity\":2}],\"uri\":\"file:///m.s\",\"version\":1}}\n",
+                Ended::No,
+            ),
+            (
+                "{\"jsonrpc\":\"2.0\",\"method\":\"textDocument/didChange\",\"params\":{\"textDocument\":{\"uri\":\"file:///b.s\",\"version\":2},\"contentChanges\":[{\"range\":{\"start\":{\"line\":0,\"character\":7},\"end\":{\"line\":0,\"character\":19}},\"text\":\"\"}]}}",
+                "{\"jsonrpc\":\"2.0\",\"method\":\"textDocument/publishDiagnostics\",\"params\":{\"diagnostics\":[],\"uri\":\"file:///b.s\",\"version\":2}}\n{\"jsonrpc\":\"2.0\",\"method\":\"textDocument/publishDiagnostics\",\"params\":{\"diagnostics\":[],\"uri\":\"file:///m.s\",\"version\":1}}\n",
+                Ended::No,
+            ),
+            (
+                "{\"jsonrpc\":\"2.0\",\"method\":\"textDocument/didChange\",\"params\":{\"textDocument\":{\"uri\":\"file:///n.s\",\"version\":1},\"contentChanges\":[{\"text\":\"\"}]}}",
+                "{\"jsonrpc\":\"2.0\",\"method\":\"window/logMessage\",\"params\":{\"message\":\"unknown document: file:///n.s\",\"type\":1}}\n",
+                Ended::No,
+            ),
         ],
     )?;
     Ok(())

@@ -1,13 +1,31 @@
-// Replies as bytes.
-ghost use Rattle.std.specs.Prelude.{◌≡◌, IfOk, map};
+// Replies and publications as bytes.
+ghost use Rattle.std.specs.Prelude.{◌≡◌, ◌++◌, IfOk, map};
+ghost use Rattle.lw_conversation.specs.Effects.{as_reply};
 ghost use Rattle.lw_rpc.specs.Replies.{reply_bytes};
 
 use lw_base::{Items, Name, NoMemory};
+use lw_machine::Published;
 use lw_rpc::{Reply, reply_text};
+use lw_text::Shown;
 use std::alloc::Global;
 
-/// The bytes of each reply, in their order.
-pub(crate) fn texts_of(alloc: Global, replies: &[Reply]) -> Result<Items<Name>, NoMemory>
+/// The bytes of each reply, and behind them those of each publication, in their order.
+pub(crate) fn texts_of(
+    alloc: Global,
+    replies: &[Reply],
+    lists: &[Published],
+) -> Result<Items<Name>, NoMemory>
+    ensures { IfOk result (λ texts. texts ≡ map reply_bytes replies.now ++ map (λ list. reply_bytes (as_reply list)) lists.now) }
+{
+    let mut texts = reply_texts(alloc, replies)?;
+    'lists: for list in lists {
+        let reply = publication(alloc, list)?;
+        texts.push(reply_text(alloc, &reply)?)?;
+    }
+    Ok(texts)
+}
+
+fn reply_texts(alloc: Global, replies: &[Reply]) -> Result<Items<Name>, NoMemory>
     ensures { IfOk result (λ texts. texts ≡ map reply_bytes replies.now) }
 {
     let mut texts = Items::new(alloc);
@@ -15,4 +33,30 @@ pub(crate) fn texts_of(alloc: Global, replies: &[Reply]) -> Result<Items<Name>, 
         texts.push(reply_text(alloc, reply)?)?;
     }
     Ok(texts)
+}
+
+// The publication of a list, in memory of its own.
+fn publication(alloc: Global, published: &Published) -> Result<Reply, NoMemory>
+    ensures { IfOk result (λ reply. reply ≡ as_reply published.now) }
+{
+    Ok(Reply::Publish(
+        published.uri.copy(alloc)?,
+        published.version,
+        copied(alloc, published.list.as_slice())?,
+    ))
+}
+
+fn copied(alloc: Global, list: &[Shown]) -> Result<Items<Shown>, NoMemory>
+    ensures { IfOk result (λ copies. copies ≡ list.now) }
+{
+    let mut copies = Items::new(alloc);
+    'copying: for shown in list {
+        copies.push(Shown {
+            start: shown.start,
+            end: shown.end,
+            code: shown.code,
+            message: shown.message.copy(alloc)?,
+        })?;
+    }
+    Ok(copies)
 }

@@ -1,4 +1,5 @@
 use Rattle.langbench.proofs.Conversing.{works_told, no_cause_of}
+use Rattle.lw_build.proofs.OneWay.{one_way}
 use Rattle.langbench.proofs.serve.serve.Goals as goal
 
 pub returns-clause-works : goal.returns-clause-works
@@ -9,3 +10,6 @@ returns-clause-works g c =
 pub returns-clause-cause : goal.returns-clause-cause
 returns-clause-cause g c =
     no_cause_of c.in_ok-session.session.grammar _ _ _ _ _ c.args.root.path.now c.args.root.k _ c.converse-outcome.result c.converse-outcome.ensures.conversed
+
+pub new-requires : goal.new-requires
+new-requires g c = one_way c.in_ok-language.language.grammar c.args.root.k c.in_ok-language.ensures.clear

@@ -1,45 +1,68 @@
-use Rattle.std.proofs.Common.{◌≡◌, ◌≢◌, ◌⊎◌, ℕ, List, Ok, Err, inl, inr, sym, subst, ◌∙◌}
+use Rattle.std.proofs.Common.{◌≡◌, ℤ, List, IfOk, Ok, rules, refl, sym, subst, true≢false, to_z, of_z, w64}
+use Rattle.std.specs.FinMap.{insert}
 use Rattle.std.proofs.lemmas.Result.{IfOk-weaker}
 use Rattle.lw_text.specs.Changes.{Changes}
 use Rattle.lw_text.specs.declared.change.Change.{Change}
-use Rattle.lw_text.specs.declared.change.EditFault.{EditFault}
-use Rattle.lw_text.specs.declared.change.EditFault.TheVariants.{BadRange, TooLong, NoMemory}
 use Rattle.lw_text.specs.declared.units.Encoding.TheVariants.{Utf16}
-use Rattle.lw_session.proofs.Edits as editing
+use Rattle.lw_build.specs.Faults.{IsEditFault}
+use Rattle.lw_build.specs.Agreeing.{Agrees}
+use Rattle.lw_build.specs.View.{WorkspaceView, documents}
+use Rattle.lw_machine.specs.Events.{edited}
+use Rattle.lw_session.specs.Answering.{IsAnswered}
+use Rattle.lw_session.specs.Lifecycle.{edited_message}
+use Rattle.lw_session.specs.declared.lifecycle.Told.{Told}
+use Rattle.lw_session.proofs.Answers as comes
 use Rattle.lw_session.proofs.editing.edit.Goals as goal
 
--- a fault that is not want of memory is that of the changes
-refused : (text : List ℕ) (slice changes : List Change) (fault known : EditFault) → slice ≡ changes → fault ≡ known → known ≢ NoMemory →
-    (fault ≡ NoMemory) ⊎ Changes Utf16 text slice (Err fault) → Changes Utf16 text changes (Err known)
-refused text slice changes fault known same is other (inl none) = absurd (other (sym is ∙ none))
-refused text slice changes fault known same is other (inr does) =
-    subst (λ (cs : List Change). Changes Utf16 text cs (Err known)) same (subst (λ (f : EditFault). Changes Utf16 text slice (Err f)) is does)
+pub returns-then-not-is_open-clause-answered : goal.returns-then-not-is_open-clause-answered
+returns-then-not-is_open-clause-answered c =
+    let v = c.args.workspace.now in
+    IfOk-weaker c.log.result _ _
+    (λ told is.
+    subst (λ (t : Told). IsAnswered v v c.args.phase (edited_message c.args.edited) t) (sym is)
+    (comes.unknown v c.args.phase c.requires c.agrees.ensures.agrees c.args.edited (λ here. true≢false (sym (c.if-not-is_open.ensures.1 here)))))
+    c.log.ensures
 
-pub returns-in_default : goal.returns-in_default
-returns-in_default c =
-    editing.unknown c.args.language.now.grammar c.args.document.now c.args.phase c.requires c.args.edited c.in_default.ensures c.in_ok-told.told c.in_ok-told.ensures
+pub returns-in-Ok-clause-answered : goal.returns-in-Ok-clause-answered
+returns-in-Ok-clause-answered c =
+    let v = c.args.workspace.now in
+    let here = c.if-not-is_open.ensures.0 refl in
+    let made = c.in-Ok.ensures.agrees (documents v) c.agrees.ensures.agrees in
+    let same : to_z w64 (of_z w64 c.args.edited.id.version) ≡ c.args.edited.id.version = search rules in
+    let after : Agrees c.edit.new.self (insert (documents v) c.args.edited.id.address (edited made.0 made.1 c.args.edited.id.version)) =
+    subst (λ (version : ℤ). Agrees c.edit.new.self (insert (documents v) c.args.edited.id.address (edited made.0 made.1 version))) same made.4 in
+    subst (λ (told : Told). IsAnswered v c.edit.new.self c.args.phase (edited_message c.args.edited) told) (sym c.keeps_silent.ensures)
+    (comes.changes v c.edit.new.self c.args.phase c.requires c.agrees.ensures.agrees c.args.edited made.0 made.1 here.0 made.2
+    (subst (λ (changes : List Change). Changes Utf16 made.0.text changes (Ok made.1)) c.as_slice.ensures made.3) after here.1 here.2)
 
-pub returns-in-Ok : goal.returns-in-Ok
-returns-in-Ok c =
-    let b = c.in-Some.held.now in
-    IfOk-weaker c.build.result _ _
-    (λ next is.
-    editing.edits c.args.language.now.grammar c.args.document.now c.args.phase c.requires c.args.edited b c.in-Some.ensures c.in-Ok.text next
-    (subst (λ (changes : List Change). Changes Utf16 b.text changes (Ok c.in-Ok.text)) c.as_slice.ensures c.in-Ok.ensures.edited) is)
-    c.build.ensures
-
-pub returns-in-Err-BadRange : goal.returns-in-Err-BadRange
-returns-in-Err-BadRange c =
-    let b = c.in-Some.held.now in
+pub returns-in-Err-BadRange-clause-answered : goal.returns-in-Err-BadRange-clause-answered
+returns-in-Err-BadRange-clause-answered c =
+    let v = c.args.workspace.now in
+    let message = edited_message c.args.edited in
+    let here = c.if-not-is_open.ensures.0 refl in
     let number = c.in-Err-BadRange.number in
-    editing.bad_range c.args.language.now.grammar c.args.document.now c.args.phase c.requires c.args.edited b c.in-Some.ensures number
-    (refused b.text c.as_slice.result.now c.args.edited.changes c.in-Err-BadRange.field-0 (BadRange number) c.as_slice.ensures c.in-Err-BadRange.field-0-is (λ e. cc)
-    c.in-Err-BadRange.ensures.fault) c.in_ok-told-in-Err-BadRange.told c.in_ok-told-in-Err-BadRange.ensures
+    let found = comes.bad_range_edit v c.args.edited.id.address c.args.edited.changes c.in-Err-BadRange.field-0 number c.in-Err-BadRange.field-0-is
+    (subst (λ (changes : List Change). IsEditFault v c.args.edited.id.address changes c.in-Err-BadRange.field-0) c.as_slice.ensures
+    c.in-Err-BadRange.ensures.fault) in
+    subst (λ (w : WorkspaceView). IfOk c.log_bad_range.result (IsAnswered v w c.args.phase message)) (sym c.in-Err-BadRange.ensures.refused)
+    (IfOk-weaker c.log_bad_range.result _ _
+    (λ told is.
+    subst (λ (t : Told). IsAnswered v v c.args.phase message t) (sym is)
+    (comes.bad_range v c.args.phase c.requires c.agrees.ensures.agrees c.args.edited here.0 found.0 here.1 here.2 found.1 number found.2))
+    c.log_bad_range.ensures)
 
-pub returns-in-Err-TooLong : goal.returns-in-Err-TooLong
-returns-in-Err-TooLong c =
-    let b = c.in-Some.held.now in
+pub returns-in-Err-TooLong-clause-answered : goal.returns-in-Err-TooLong-clause-answered
+returns-in-Err-TooLong-clause-answered c =
+    let v = c.args.workspace.now in
+    let message = edited_message c.args.edited in
+    let here = c.if-not-is_open.ensures.0 refl in
     let size = c.in-Err-TooLong.field-0-0 in
-    editing.too_long c.args.language.now.grammar c.args.document.now c.args.phase c.requires c.args.edited b c.in-Some.ensures size
-    (refused b.text c.as_slice.result.now c.args.edited.changes c.in-Err-TooLong.field-0 (TooLong size) c.as_slice.ensures c.in-Err-TooLong.field-0-is (λ e. cc)
-    c.in-Err-TooLong.ensures.fault) c.in_ok-told-in-Err-TooLong.told c.in_ok-told-in-Err-TooLong.ensures
+    let found = comes.too_long_edit v c.args.edited.id.address c.args.edited.changes c.in-Err-TooLong.field-0 size c.in-Err-TooLong.field-0-is
+    (subst (λ (changes : List Change). IsEditFault v c.args.edited.id.address changes c.in-Err-TooLong.field-0) c.as_slice.ensures
+    c.in-Err-TooLong.ensures.fault) in
+    subst (λ (w : WorkspaceView). IfOk c.log-in-Err-TooLong.result (IsAnswered v w c.args.phase message)) (sym c.in-Err-TooLong.ensures.refused)
+    (IfOk-weaker c.log-in-Err-TooLong.result _ _
+    (λ told is.
+    subst (λ (t : Told). IsAnswered v v c.args.phase message t) (sym is)
+    (comes.edit_too_long v c.args.phase c.requires c.agrees.ensures.agrees c.args.edited here.0 found.0 here.1 here.2 found.1 size found.2))
+    c.log-in-Err-TooLong.ensures)

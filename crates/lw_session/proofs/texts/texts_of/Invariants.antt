@@ -1,6 +1,7 @@
-use Rattle.std.proofs.Common.{◌≡◌, take, map}
+use Rattle.std.proofs.Common.{◌≡◌, ◌++◌, take, map}
+use Rattle.lw_conversation.specs.Effects.{as_reply}
 use Rattle.lw_rpc.specs.Replies.{reply_bytes}
 use Rattle.lw_session.proofs.texts.texts_of.Given as goal
 
-abbrev pub invariant-replies : goal.invariant-replies
-invariant-replies l = l.texts ≡ map reply_bytes (take l.reply-index l.replies)
+abbrev pub invariant-lists : goal.invariant-lists
+invariant-lists l = l.texts ≡ map reply_bytes l.fn.replies ++ map (λ list. reply_bytes (as_reply list)) (take l.list-index l.lists)

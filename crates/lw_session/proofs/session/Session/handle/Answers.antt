@@ -1,15 +1,49 @@
+use Rattle.std.proofs.Common.{◌++◌, List, [], map, refl, ap₂, ◌∙◌, subst}
+use Rattle.lw_conversation.specs.Effects.{as_reply}
+use Rattle.lw_machine.specs.Validity.{IsValid}
+use Rattle.lw_build.specs.View.{documents}
+use Rattle.lw_machine.specs.declared.published.Published.{Published}
+use Rattle.lw_grammar.specs.declared.grammar.Grammar.{Grammar}
 use Rattle.lw_rpc.specs.Messages.{message_of}
-use Rattle.lw_session.proofs.Handling.{error_not_begun}
+use Rattle.lw_rpc.specs.Replies.{reply_bytes}
+use Rattle.lw_rpc.specs.declared.message.Message.{Message}
+use Rattle.lw_rpc.specs.declared.reply.Reply.{Reply}
+use Rattle.lw_conversation.specs.Sessions.{Handles}
+use Rattle.lw_session.specs.Answering.{standing_of}
+use Rattle.lw_session.proofs.Handling.{error_behind, error_not_begun, told_texts}
 use Rattle.lw_session.proofs.session.Session.handle.Goals as goal
 
 pub returns-in_err-message-clause-cut_short : goal.returns-in_err-message-clause-cut_short
 returns-in_err-message-clause-cut_short g c =
     error_not_begun c.from_residual.result c.args.self.now.grammar c.args.self.now.standing (message_of c.args.body.now)
 
-pub returns-in_err-next-clause-cut_short : goal.returns-in_err-next-clause-cut_short
-returns-in_err-next-clause-cut_short g c =
-    error_not_begun c.from_residual-in_err-next.result c.args.self.now.grammar c.args.self.now.standing (message_of c.args.body.now)
-
 pub returns-in_err-replies-clause-cut_short : goal.returns-in_err-replies-clause-cut_short
 returns-in_err-replies-clause-cut_short g c =
-    error_not_begun c.from_residual-in_err-replies.result c.args.self.now.grammar c.args.self.now.standing (message_of c.args.body.now)
+    let v = c.self.inside.workspace in
+    let w = c.serve.new.workspace in
+    let phase = c.self.inside.phase in
+    let told = c.in_ok-served.served.told in
+    let replies = told.replies ++ map as_reply c.in_ok-served.served.lists in
+    rw (← c.self.view_is)
+    (error_behind c.from_residual-in_err-replies.result v.grammar (standing_of v phase) (standing_of w told.phase) (message_of c.args.body.now) replies told.ended
+    (subst (λ (m : Message). Handles v.grammar (standing_of v phase) m [] (standing_of w told.phase) replies told.ended) c.in_ok-message.ensures.message
+    c.in_ok-served.ensures.handles) (subst (λ (h : Grammar). IsValid h (documents w)) c.in_ok-served.ensures.grammar c.agrees.ensures.agrees.valid))
+
+pub returns-clause-handles : goal.returns-clause-handles
+returns-clause-handles g c =
+    let v = c.self.inside.workspace in
+    let w = c.serve.new.workspace in
+    let phase = c.self.inside.phase in
+    let told = c.in_ok-served.served.told in
+    let lists = c.in_ok-served.served.lists in
+    rw (← c.self.view_is)
+    (record {
+      found = [];
+      replies = told.replies ++ map as_reply lists;
+      handles = subst
+          (λ (m : Message). Handles v.grammar (standing_of v phase) m [] (standing_of w told.phase) (told.replies ++ map as_reply lists) told.ended)
+          c.in_ok-message.ensures.message c.in_ok-served.ensures.handles;
+      told = told_texts c.in_ok-replies.replies c.as_slice.result.now told.replies c.as_slice-2.result.now lists c.in_ok-replies.ensures c.as_slice.ensures
+          c.as_slice-2.ensures;
+      counted = refl;
+    })

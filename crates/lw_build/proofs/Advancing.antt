@@ -1,0 +1,209 @@
+-- What a build of all documents comes to.
+use Rattle.std.proofs.Common.{◌≡◌, ℕ, ℤ, List, [], ◌∷◌, map, Bool, true, Option, Some, None, option_and_then, option_map, refl, sym, ap, subst, ◌∙◌, inl, inr}
+use Rattle.std.specs.FinMap.{get, entries}
+use Rattle.std.specs.Str.{IsUtf8}
+use Rattle.std.proofs.lemmas.Option.{same_Some, none-some}
+use Rattle.lw_base.specs.declared.numbers.DocId.{DocId}
+use Rattle.lw_docs.specs.Documents.{AreNumbered, ByAddress, Numbered, numbered}
+use Rattle.lw_docs.specs.declared.doc.Doc.{Doc}
+use Rattle.lw_grammar.specs.declared.grammar.Grammar.{Grammar}
+use Rattle.lw_machine.specs.Building.{BuildsToEnd, publication}
+use Rattle.lw_machine.specs.Documents.{Document, Documents, shown_texts}
+use Rattle.lw_machine.specs.Laws as law
+use Rattle.lw_machine.specs.Laws.{AreNews, last_list}
+use Rattle.lw_machine.specs.Validity.{AreCurrent, HaveSameContent, IsCurrent, content}
+use Rattle.lw_machine.specs.declared.published.Published.{Published}
+use Rattle.lw_machine.proofs.Places.{Among, first, later}
+use Rattle.lw_outcomes.specs.Readable.{HaveReadableTexts, IsReadable}
+use Rattle.lw_outcomes.proofs.OfDocuments.{have_links_and_lists}
+use Rattle.lw_outcomes.proofs.SameEnds.{built_by_any}
+use Rattle.lw_outcomes.proofs.Types.{tells_types}
+use Rattle.lw_reading.specs.Laws.{IsReadOneWay}
+use Rattle.lw_scopes.proofs.OneList.{one_list}
+use Rattle.lw_scopes.specs.Diagnostics.{AreDiagnostics}
+use Rattle.lw_text.specs.declared.shown.Shown.{Shown}
+use Rattle.lw_types.specs.Inferred.{AreTypesOf}
+use Rattle.lw_types.specs.declared.types.Types.{Types}
+use Rattle.lw_build.specs.Agreeing.{Agrees, Known, known, known_here}
+use Rattle.lw_build.specs.Built.{AreBuilt}
+use Rattle.lw_build.specs.Readings.{AreRead, IsRead, IsReadingOf, reading_at, texts_of}
+use Rattle.lw_build.specs.Telling as telling
+use Rattle.lw_build.specs.Telling.{AreTaken, AreTold, IsTaken, places_of, with_list}
+use Rattle.lw_build.specs.View.{documents_of}
+use Rattle.lw_build.specs.declared.readings.Reading.{Reading}
+use Rattle.lw_build.specs.declared.readings.Readings.{Readings}
+use Rattle.lw_build.proofs.Agreeing.{held_of, same_list, view}
+use Rattle.lw_build.proofs.Documents.{alike_entries, document_of, entries_documents, get_document, held_here}
+use Rattle.lw_build.proofs.News.{after_taken, before_taken, held_place, is_news, own_at}
+use Rattle.lw_build.proofs.Places.{entry_held}
+
+module _ (g : Grammar) (one_way : IsReadOneWay g) (types : Types) (known_types : AreTypesOf g types) where
+  -- documents to which the present ones of a workspace are built
+  pub comes_to : (kept : ByAddress) (b : Bool) (m : Documents) → Agrees (view g kept b) m →
+      ((a : List ℕ) (held : Numbered) → get kept a ≡ Some held → IsReadable g held.doc.text) → (n : Documents) → HaveSameContent m n → AreCurrent g n →
+      (lists : List Published) → AreNews m (entries n) lists → BuildsToEnd g m n lists
+  comes_to kept b m agrees readable n same current lists news =
+      built_by_any g one_way m n lists agrees.valid (have_links_and_lists g (tells_types g types.types.subtypes known_types.types.subtypes) m texts) same current news
+    where
+      texts : HaveReadableTexts g m
+      texts a d at =
+          let (held, there, as_known) = held_of (view g kept b) m agrees a d at in
+          (subst (IsReadable g) (sym (ap (λ (k : Known). k.text) as_known)) (readable a held there), agrees.readable a d at)
+
+-- ---- content
+
+abbrev content_of : Known → List ℕ × Option ℤ × Bool
+content_of k = (k.text, k.version, k.is_open)
+
+content_known : (o : Option Document) → option_map content o ≡ option_map content_of (option_map known o)
+content_known None = refl
+content_known (Some d) = refl
+
+content_kept : (o : Option Numbered) → option_map content (option_map (document_of true) o) ≡ option_map content_of (option_map known_here o)
+content_kept None = refl
+content_kept (Some h) = refl
+
+-- documents that are seen alike have the same content
+pub same_content : (g : Grammar) (kept after : ByAddress) (b : Bool) (m : Documents) → Agrees (view g kept b) m →
+    ((a : List ℕ) → option_map content_of (option_map known_here (get after a)) ≡
+    option_map content_of (option_map known_here (get kept a))) → HaveSameContent m (documents_of true after)
+same_content g kept after b m agrees same a =
+    ap (option_map content) (get_document true after a) ∙ content_kept (get after a) ∙ same a
+    ∙ sym (content_known (get m a) ∙ ap (option_map content_of) (agrees.same a))
+
+-- ---- where nothing is to be done
+
+-- the last list of each is that of the workspace
+no_news : (m : Documents) (es : List (List ℕ × Numbered)) → ((a : List ℕ) (h : Numbered) → Among (a, h) es → last_list m a ≡ h.doc.published) →
+    AreNews m (map (λ e. (e.0, document_of true e.1)) es) []
+no_news m [] each = law.nothing
+no_news m (e ∷ es) each = law.same (each e.0 e.1 first) (no_news m es (λ a h there. each a h (later there)))
+
+module _ (g : Grammar) (one_way : IsReadOneWay g) (types : Types) (known_types : AreTypesOf g types) (kept : ByAddress) (built : AreBuilt g kept) where
+  pub stays_built : (m : Documents) → Agrees (view g kept true) m → BuildsToEnd g m (documents_of true kept) []
+  stays_built m agrees =
+      comes_to g one_way types known_types kept true m agrees built.readable (documents_of true kept) (same_content g kept kept true m agrees (λ a. refl)) built.current []
+      (subst (λ es. AreNews m es []) (sym (entries_documents true kept))
+      (no_news m (entries kept) (λ a h there. same_list (view g kept true) m agrees a ∙ ap (option_and_then (λ (x : Numbered). x.doc.published)) (entry_held kept a h there))))
+
+-- ---- where lists are told
+
+module _ (own : List (DocId × List Shown)) (kept after : ByAddress) (taken : AreTaken own kept after) where
+  content_taken : (o p : Option Numbered) → IsTaken own o p →
+      option_map content_of (option_map known_here p) ≡ option_map content_of (option_map known_here o)
+  content_taken o p telling.nothing = refl
+  content_taken o p (telling.stays none) = refl
+  content_taken o p (telling.taken has) = refl
+
+  number_taken : (o p : Option Numbered) → IsTaken own o p → option_map (λ (h : Numbered). h.number) p ≡ option_map (λ (h : Numbered). h.number) o
+  number_taken o p telling.nothing = refl
+  number_taken o p (telling.stays none) = refl
+  number_taken o p (telling.taken has) = refl
+
+  text_taken : (o p : Option Numbered) → IsTaken own o p →
+      option_and_then (λ (d : Document). d.shown) (option_map (document_of true) p) ≡ option_map (λ (h : Numbered). h.doc.text) o
+  text_taken o p telling.nothing = refl
+  text_taken o p (telling.stays none) = refl
+  text_taken o p (telling.taken has) = refl
+
+  same_places : places_of after ≡ places_of kept
+  same_places = alike_entries (λ (h : Numbered). h.number) after kept (λ a. number_taken (get kept a) (get after a) (taken a))
+
+  same_texts : (a : List ℕ) → shown_texts (documents_of true after) a ≡ texts_of kept a
+  same_texts a = ap (option_and_then (λ (d : Document). d.shown)) (get_document true after a) ∙ text_taken (get kept a) (get after a) (taken a)
+
+  -- what is kept of texts is that of the same texts
+  pub read_taken : (g : Grammar) (texts : List (List ℕ)) (readings : Readings) → AreRead g texts kept readings → AreRead g texts after readings
+  read_taken g texts readings read = record { each = each; nothing_else = read.nothing_else }
+    where
+      each : (n : ℕ) (reading : Reading) → reading_at readings n ≡ Some reading → IsRead g texts after readings.index n reading
+      each n reading is =
+          let r = read.each n reading is in
+          let (now, there, like) = after_taken own (get kept r.held.doc.uri) (get after r.held.doc.uri) (taken r.held.doc.uri) r.held r.here in
+          record {
+            held = now;
+            number = ap (λ (d : DocId). d.0) (sym like.number) ∙ r.number;
+            here = ap (get after) (sym like.uri) ∙ there;
+            utf8 = subst IsUtf8 like.text r.utf8;
+            reads = subst (λ t. IsReadingOf g texts t reading) like.text r.reads;
+            exports = r.exports;
+            indexed = r.indexed ∙ ap (λ u. Some (record { uri = u; exports = r.exports })) like.uri;
+            entered = r.entered;
+          }
+
+  pub readable_taken : (g : Grammar) → ((a : List ℕ) (held : Numbered) → get kept a ≡ Some held → IsReadable g held.doc.text) →
+      (a : List ℕ) (held : Numbered) → get after a ≡ Some held → IsReadable g held.doc.text
+  readable_taken g readable a now at =
+      let (held, there, like) = before_taken own (get kept a) (get after a) (taken a) now at in
+      subst (IsReadable g) like.text (readable a held there)
+
+  module _ (g : Grammar) (are : AreNumbered kept) (lists : List Published) (told : AreTold g kept (places_of kept) own lists) where
+    -- each document has its list
+    listed : (a : List ℕ) (now : Numbered) → get after a ≡ Some now → (list : List Shown) × (now.doc.published ≡ Some list) × AreDiagnostics g (texts_of kept) a list
+    listed a now at = by (get kept a) (get after a) (taken a) refl at
+      where
+        by : (o p : Option Numbered) → IsTaken own o p → get kept a ≡ o → p ≡ Some now →
+            (list : List Shown) × (now.doc.published ≡ Some list) × AreDiagnostics g (texts_of kept) a list
+        by o p telling.nothing was is = absurd (none-some now is)
+        by o p (telling.stays {held = held} none) was is =
+            let has = own_at g kept (places_of kept) own lists told a held.number (held_place kept a held was) in
+            let same : numbered held.number has.doc ≡ held = same_Some (numbered held.number has.doc) held (sym has.at ∙ was) in
+            let here : held ≡ now = same_Some held now is in (
+              has.list,
+              elim has.is [
+                | inl last ↦ ap (λ (h : Numbered). h.doc.published) (sym here) ∙ ap (λ (h : Numbered). h.doc.published) (sym same) ∙ last
+                | inr new ↦ absurd (none has.list new)
+              ],
+              has.are,
+            )
+        by o p (telling.taken {held = held} {list = list} has) was is =
+            let news = is_news g kept (places_of kept) own lists told held.number list has in
+            let address : news.address ≡ a = are.apart news.address a (numbered held.number news.doc) held news.at was refl in
+            (list, ap (λ (h : Numbered). h.doc.published) (sym (same_Some (with_list held list) now is)), subst (λ b. AreDiagnostics g (texts_of kept) b list) address news.are)
+
+    pub current : AreCurrent g (documents_of true after)
+    current a d at =
+        let (now, there, same) = held_here true after a d at in
+        let (list, published, are_list) = listed a now there in
+        subst (IsCurrent g (documents_of true after) a) same (record {
+          state = refl;
+          shown = refl;
+          told = (list, published, subst (λ t. AreDiagnostics g t a list) (λ i b. sym (same_texts b) i) are_list);
+        })
+
+    module _ (one_way : IsReadOneWay g) (b : Bool) (m : Documents) (agrees : Agrees (view g kept b) m) where
+      -- what was published last
+      last : (a : List ℕ) (d : DocId) (doc : Doc) → get kept a ≡ Some (numbered d doc) → last_list m a ≡ doc.published
+      last a d doc at = same_list (view g kept b) m agrees a ∙ ap (option_and_then (λ (h : Numbered). h.doc.published)) at
+
+      published_now : (a : List ℕ) (now : Numbered) (list : List Shown) → get after a ≡ Some now → AreDiagnostics g (texts_of kept) a list → now.doc.published ≡ Some list
+      published_now a now list at is =
+          let (other, published, are_list) = listed a now at in
+          published ∙ ap Some (one_list g one_way (texts_of kept) a other list are_list is)
+
+      version_now : (a : List ℕ) (now : Numbered) (d : DocId) (doc : Doc) → get after a ≡ Some now → get kept a ≡ Some (numbered d doc) → doc.version ≡ now.doc.version
+      version_now a now d doc at was =
+          let (held, there, like) = before_taken own (get kept a) (get after a) (taken a) now at in
+          ap (λ (h : Numbered). h.doc.version) (same_Some (numbered d doc) held (sym was ∙ there)) ∙ like.version
+
+      news_from : (es : List (List ℕ × Numbered)) (mine : List (DocId × List Shown)) (news : List Published) →
+          ((a : List ℕ) (h : Numbered) → Among (a, h) es → get after a ≡ Some h) → AreTold g kept (map (λ e. (e.0, e.1.number)) es) mine news →
+          AreNews m (map (λ e. (e.0, document_of true e.1)) es) news
+      news_from [] mine news each telling.none = law.nothing
+      news_from (e ∷ es) mine news each (telling.same {doc = doc} {list = list} at are_list is rest) =
+          law.same (last e.0 e.1.number doc at ∙ is ∙ sym (published_now e.0 e.1 list (each e.0 e.1 first) are_list)) (news_from es _ _ (λ a h there. each a h (later there)) rest)
+      news_from (e ∷ es) mine news each (telling.other {doc = doc} {list = list} {lists = more} at are_list is rest) =
+          subst (λ v. AreNews m ((e.0, document_of true e.1) ∷ map (λ e. (e.0, document_of true e.1)) es) (publication e.0 v list ∷ more))
+          (sym (version_now e.0 e.1 e.1.number doc (each e.0 e.1 first) at))
+          (law.new (published_now e.0 e.1 list (each e.0 e.1 first) are_list) (λ same. is (sym (last e.0 e.1.number doc at) ∙ same))
+          (news_from es _ _ (λ a h there. each a h (later there)) rest))
+
+      pub are_news : AreNews m (entries (documents_of true after)) lists
+      are_news = subst (λ es. AreNews m es lists) (sym (entries_documents true after))
+          (news_from (entries after) own lists (entry_held after) (subst (λ places. AreTold g kept places own lists) (sym same_places) told))
+
+    pub builds : (one_way : IsReadOneWay g) (types : Types) → AreTypesOf g types → ((a : List ℕ) (held : Numbered) → get kept a ≡ Some held → IsReadable g held.doc.text) →
+        (b : Bool) (m : Documents) → Agrees (view g kept b) m → BuildsToEnd g m (documents_of true after) lists
+    builds one_way types known_types readable b m agrees =
+        comes_to g one_way types known_types kept b m agrees readable (documents_of true after)
+        (same_content g kept after b m agrees (λ a. content_taken (get kept a) (get after a) (taken a))) current lists (are_news one_way b m agrees)

@@ -1,0 +1,36 @@
+-- A workspace of no documents.
+use Rattle.std.proofs.Common.{◌≡◌, ℕ, List, true, Some, None, sym, ap, ◌∙◌}
+use Rattle.std.specs.FinMap as all
+use Rattle.std.specs.FinMap.{get, get-empty}
+use Rattle.std.specs.Ordering.{nat_cmp}
+use Rattle.std.proofs.lemmas.Option.{none-some}
+use Rattle.lw_docs.specs.Documents.{AreNumbered, ByAddress, Numbered}
+use Rattle.lw_grammar.specs.declared.grammar.Grammar.{Grammar}
+use Rattle.lw_machine.proofs.Places.{order}
+use Rattle.lw_reading.specs.Laws.{IsReadOneWay}
+use Rattle.lw_build.specs.Built.{AreBuilt, IsKept}
+use Rattle.lw_build.specs.Readings.{reading_at}
+use Rattle.lw_build.specs.declared.readings.Readings.{Readings}
+use Rattle.lw_build.proofs.Documents.{held_here}
+
+module _ (g : Grammar) (texts : List (List ℕ)) (kept : ByAddress) (empty : kept ≡ all.empty) where
+  nothing_held : (a : List ℕ) (held : Numbered) → get kept a ≡ Some held → ⊥
+  nothing_held a held at = none-some held (sym (ap (λ (m : ByAddress). get m a) empty ∙ get-empty order a) ∙ at)
+
+  none_built : AreBuilt g kept
+  none_built = record {
+    current = λ a d at. absurd (let h = held_here true kept a d at in nothing_held a h.0 h.1);
+    readable = λ a held at. absurd (nothing_held a held at);
+  }
+
+  pub none_kept : IsReadOneWay g → AreNumbered kept → (readings : Readings) → readings.index ≡ all.empty → ((n : ℕ) → reading_at readings n ≡ None) →
+      IsKept g texts kept readings true
+  none_kept one_way are readings index none = record {
+    one_way = one_way;
+    numbered = are;
+    read = record {
+      each = λ n reading is. absurd (none-some reading (sym (none n) ∙ is));
+      nothing_else = λ n is. ap (λ m. get m n) index ∙ get-empty nat_cmp n;
+    };
+    built = λ is. none_built;
+  }

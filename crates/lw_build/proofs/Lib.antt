@@ -1,0 +1,12 @@
+pub mod Maps
+pub mod Places
+pub mod Documents
+pub mod Texts
+pub mod Reading
+pub mod Trees
+pub mod News
+pub mod Agreeing
+pub mod Advancing
+pub mod Finding
+pub mod Empty
+pub mod OneWay

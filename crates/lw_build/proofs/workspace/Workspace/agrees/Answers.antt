@@ -1,0 +1,9 @@
+use Rattle.std.proofs.Common.{subst}
+use Rattle.lw_build.specs.Agreeing.{Agrees}
+use Rattle.lw_build.specs.View.{documents}
+use Rattle.lw_build.proofs.Agreeing.{own}
+use Rattle.lw_build.proofs.workspace.Workspace.agrees.Goals as goal
+
+pub returns-clause-agrees : goal.returns-clause-agrees
+returns-clause-agrees c =
+    subst (λ v. Agrees v (documents v)) c.self.view_is (own c.self.inside.language.grammar c.self.inside.docs c.self.inside.is_built c.self.invariant.built)

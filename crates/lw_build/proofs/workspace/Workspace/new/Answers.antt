@@ -1,0 +1,7 @@
+use Rattle.lw_build.proofs.Empty.{none_kept}
+use Rattle.lw_build.proofs.workspace.Workspace.new.Goals as goal
+
+pub invariant_of-result : goal.invariant_of-result
+invariant_of-result c =
+    none_kept c.args.language.grammar c.args.language.texts c.new-docs.result c.new-docs.ensures c.requires c.numbered.ensures c.new.result c.new.ensures.index
+    c.new.ensures.texts

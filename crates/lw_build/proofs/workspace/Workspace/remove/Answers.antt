@@ -1,0 +1,52 @@
+use Rattle.std.proofs.Common.{false, sym, refl, ap, subst, ◌∙◌}
+use Rattle.std.specs.FinMap as all
+use Rattle.std.specs.FinMap.{get}
+use Rattle.std.proofs.lemmas.Bool.{false≢true}
+use Rattle.lw_docs.specs.Documents.{ByAddress, numbered}
+use Rattle.lw_machine.specs.Documents.{Documents, shown_texts}
+use Rattle.lw_machine.specs.Settling.{IsSettled}
+use Rattle.lw_build.specs.Agreeing.{Agrees}
+use Rattle.lw_build.specs.Faults as faults
+use Rattle.lw_build.specs.Faults.{IsRemovalFault}
+use Rattle.lw_build.specs.declared.fault.WorkFault.TheVariants.{NoDocument}
+use Rattle.lw_build.proofs.Agreeing.{removed, view}
+use Rattle.lw_build.proofs.Finding.{at_address, none_found, same_uri, seen}
+use Rattle.lw_build.proofs.Maps.{taken_elsewhere}
+use Rattle.lw_build.proofs.Reading.{forgotten}
+use Rattle.lw_build.proofs.workspace.Workspace.remove.Goals as goal
+
+pub returns-in_default-clause-fault : goal.returns-in_default-clause-fault
+returns-in_default-clause-fault c =
+    subst (λ v. IsRemovalFault v c.args.uri.now NoDocument) c.self.view_is
+    (faults.no_document (none_found c.self.inside.docs c.args.uri.now (sym c.in_default.is ∙ c.find.ensures.number)))
+
+pub returns-in-Err-clause-fault : goal.returns-in-Err-clause-fault
+returns-in-Err-clause-fault c = faults.no_memory
+
+pub invariant_of-self : goal.invariant_of-self
+invariant_of-self c =
+    let docs = c.self.inside.docs in
+    let x = c.take_out.result in
+    record {
+      one_way = c.self.invariant.one_way;
+      numbered = c.numbered.ensures;
+      read = forgotten c.self.inside.language.grammar c.self.inside.language.texts docs c.take_out.new.self x.uri
+          (λ q other. ap (λ (m : ByAddress). get m q) c.take_out.ensures.gone ∙ taken_elsewhere docs x.uri q other)
+          c.self.inside.readings c.self.invariant.read c.in-Some.d x c.take_out.ensures.doc c.forget.new.self c.forget.ensures.here c.forget.ensures.others
+          c.forget.ensures.index;
+      built = λ is. absurd (false≢true is);
+    }
+
+pub returns-clause-agrees : goal.returns-clause-agrees
+returns-clause-agrees c =
+    let of = c.self.inside.language.grammar in
+    let docs = c.self.inside.docs in
+    let x = c.take_out.result in
+    let is = sym c.in-Some.is ∙ c.find.ensures.number in
+    let uri = same_uri docs c.args.uri.now c.self.invariant.numbered c.in-Some.d is x c.take_out.ensures.doc in
+    let at = at_address docs c.args.uri.now c.self.invariant.numbered c.in-Some.d is x c.take_out.ensures.doc in
+    subst (λ v. (m n : Documents) → Agrees v m → IsSettled v.grammar (shown_texts m) c.args.uri.now (all.remove m c.args.uri.now) n →
+    Agrees (view of c.take_out.new.self false) n) c.self.view_is
+    (λ m n agrees settled. seen (view of c.take_out.new.self false) of (all.remove docs c.args.uri.now) n refl
+    (c.take_out.ensures.gone ∙ ap (all.remove docs) uri)
+    (removed of c.self.invariant.one_way docs c.self.inside.is_built false m agrees c.args.uri.now (numbered c.in-Some.d x) at n settled))

@@ -1,0 +1,30 @@
+-- What a workspace keeps.
+-- Held against Langium's document lifecycle, "Document states".
+use Rattle.std.specs.Prelude.{ℕ, ◌≡◌, List, Bool, true, Some}
+use Rattle.std.specs.FinMap.{get}
+use Rattle.lw_docs.specs.Documents.{AreNumbered, ByAddress, Numbered}
+use Rattle.lw_grammar.specs.declared.grammar.Grammar.{Grammar}
+use Rattle.lw_machine.specs.Validity.{AreCurrent}
+use Rattle.lw_outcomes.specs.Readable.{IsReadable}
+use Rattle.lw_reading.specs.Laws.{IsReadOneWay}
+use Rattle.lw_build.specs.Readings.{AreRead}
+use Rattle.lw_build.specs.View.{WorkspaceView, documents_of}
+use Rattle.lw_build.specs.declared.readings.Readings.{Readings}
+use Rattle.lw_build.specs.declared.workspace.Workspace.TheInside.{Inside}
+
+-- nothing is left to do for any document, and each text reads as something
+pub record AreBuilt (g : Grammar) (kept : ByAddress) : Type 0 where
+  pub current : AreCurrent g (documents_of true kept)
+  pub readable : (address : List ℕ) (held : Numbered) → get kept address ≡ Some held → IsReadable g held.doc.text
+
+pub record IsKept (g : Grammar) (texts : List (List ℕ)) (kept : ByAddress) (readings : Readings) (is_built : Bool) : Type 0 where
+  pub one_way : IsReadOneWay g
+  pub numbered : AreNumbered kept
+  pub read : AreRead g texts kept readings
+  pub built : is_built ≡ true → AreBuilt g kept
+
+abbrev pub seen_as : Inside → WorkspaceView
+seen_as w = record { grammar = w.language.grammar; kept = w.docs; is_built = w.is_built }
+
+abbrev pub IsWorkspace : Inside → Type 0
+IsWorkspace w = IsKept w.language.grammar w.language.texts w.docs w.readings w.is_built

@@ -1,0 +1,6 @@
+pub mod View
+pub mod Agreeing
+pub mod Faults
+pub mod Readings
+pub mod Telling
+pub mod Built

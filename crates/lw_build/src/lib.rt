@@ -1,0 +1,31 @@
+//! A workspace: documents that are read, linked with one another and checked.
+//!
+//! A [`Workspace`] is what a session and a command line keep of many documents. Texts are put, edited and removed by address; then
+//! [`Workspace::advance`] builds all documents to the end, and answers the lists of diagnostics that are news, in the order of
+//! addresses. A list that was published last is not published again.
+//!
+//! Its model is the grammar of its language, the documents by address, each with its number, and whether they are built
+//! (`specs/View.antt`). It is held against the machine of `lw_machine`, which says step by step what a build is. How far a build has
+//! come cannot be seen of a workspace, so it may stand for all documents of the machine that have its addresses, texts, versions,
+//! open flags and last lists (`specs/Agreeing.antt`). Each call leads from documents that it may stand for to such documents.
+//!
+//! It promises that a build comes to what the machine's comes to, from whichever documents it stands for, and publishes the same;
+//! that the farewell of a document that is removed is the machine's; and that what is refused changes nothing, for a cause that is
+//! told ([`WorkFault`]).
+//!
+//! What a text was read as is kept with its symbols, by the number of its document, until the text changes; so is what it exports, in an
+//! index (`specs/Readings.antt`). So a build reads the texts that are new and no other. It links and checks all documents: it takes one
+//! look-up in the index for each reference that leads out of its document, beside time linear in all trees. While it runs, it needs
+//! memory for the lists that are news, twice.
+#![tactic(auto)]
+
+mod fault;
+mod readings;
+mod telling;
+mod workspace;
+
+pub use fault::WorkFault;
+pub use workspace::Workspace;
+
+#[cfg(test)]
+mod tests;

@@ -1,0 +1,209 @@
+// The lists of all documents, and which of them are news.
+ghost use Rattle.std.specs.Prelude.{◌≡◌, ◌↔◌, ℕ, List, Some, IfOk, OnOk, IsTrue, Contains};
+ghost use Rattle.lw_docs.specs.Documents.{AreNumbered, IsAt, IsHeld};
+ghost use Rattle.lw_docs.specs.declared.doc.Doc.{Doc as OneDoc};
+ghost use Rattle.lw_link.specs.Indexed.{IsDocumentOf, IsIndexOf};
+ghost use Rattle.lw_reading.specs.Reading.{Reads};
+ghost use Rattle.lw_reading.specs.declared.parsed.Parsed.TheVariants.{Whole};
+ghost use Rattle.lw_rooted.specs.Within.{StandsInText};
+ghost use Rattle.lw_scoping.specs.Links.{Trees};
+ghost use Rattle.lw_scopes.specs.Diagnostics.{AreDiagnostics};
+ghost use Rattle.lw_scopes.specs.Links.{AreTreesOfTexts, Texts};
+ghost use Rattle.lw_symbols.specs.Locals.{AreLocalsOf};
+ghost use Rattle.lw_build.specs.Readings.{AreAllRead, AreRead, IsReadingOf, texts_of};
+ghost use Rattle.lw_build.specs.Telling.{Adds, AreTold, AreTaken, IsDocumentAs, places_of};
+
+use crate::readings::{Reading, Readings};
+use lw_base::{DocId, Items, Name, NoMemory, Steps};
+use lw_check::{diagnostics, issue_diagnostic};
+use lw_docs::{Doc, Docs};
+use lw_index::Index;
+use lw_lang::Language;
+use lw_link::answers;
+use lw_machine::Published;
+use lw_symbols::Locals;
+use lw_text::{Shown, TextDoc};
+use lw_tree::Tree;
+use std::alloc::Global;
+use std::sync::ledger::Ledger;
+
+/// What is to be published, in the order of addresses, and the same lists by the numbers of the documents.
+#[derive(Drop)]
+pub(crate) struct News {
+    pub(crate) lists: Items<Published>,
+    pub(crate) own: Vec<(DocId, Items<Shown>)>,
+}
+
+fn are_same(list: &[Shown], other: &[Shown]) -> bool
+    ensures { IsTrue result ↔ (list.now ≡ other.now) }
+{
+    list == other
+}
+
+/// The list is the one that was published last of the document.
+fn is_published(doc: &Doc, list: &Items<Shown>) -> bool
+    ensures { IsTrue result ↔ (doc.now.published ≡ Some list.now) }
+{
+    match &doc.published {
+        Some(last) => are_same(last.as_slice(), list.as_slice()),
+        None => false,
+    }
+}
+
+/// The same list, in memory of its own.
+fn copied(alloc: Global, list: &[Shown]) -> Result<Items<Shown>, NoMemory>
+    ensures { IfOk result (λ copies. copies ≡ list.now) }
+{
+    let mut copies = Items::new(alloc);
+    'copying: for shown in list {
+        copies.push(Shown {
+            start: shown.start,
+            end: shown.end,
+            code: shown.code,
+            message: shown.message.copy(alloc)?,
+        })?;
+    }
+    Ok(copies)
+}
+
+/// The list of the document of this number, which has this text and this tree, over the index.
+fn tree_list<L: Ledger>(
+    alloc: Global,
+    language: &Language,
+    text: &TextDoc,
+    tree: &Tree,
+    locals: &Locals,
+    d: DocId,
+    index: &Index,
+    steps: &mut Steps<L>,
+) -> Result<Items<Shown>, NoMemory>
+    requires reads { Reads language.now.grammar text.now (Whole tree.now) }
+    requires stands { StandsInText text.now tree.now }
+    requires locals { AreLocalsOf tree.now locals.now }
+    ensures { (texts : Texts) (trees : Trees) (address : List ℕ) → AreTreesOfTexts language.now.grammar texts trees → IsIndexOf trees index.now →
+        texts address ≡ Some text.now → IsDocumentOf trees index.now d.0 address tree.now → IfOk result (AreDiagnostics language.now.grammar texts address) }
+{
+    let types = language.types();
+    let found = answers(alloc, tree, locals, d, index, types, steps)?;
+    diagnostics(alloc, text, tree, locals, found.as_slice(), d, index, types)
+}
+
+/// The list of the document of this number, which has this text and was read as this, over the index.
+fn list_of<L: Ledger>(
+    alloc: Global,
+    language: &Language,
+    text: &TextDoc,
+    reading: &Reading,
+    d: DocId,
+    index: &Index,
+    steps: &mut Steps<L>,
+) -> Result<Items<Shown>, NoMemory>
+    requires { IsReadingOf language.now.grammar language.now.texts text.now reading.now }
+    ensures { (texts : Texts) (trees : Trees) (address : List ℕ) → AreTreesOfTexts language.now.grammar texts trees → IsIndexOf trees index.now →
+        texts address ≡ Some text.now → IsDocumentAs trees index.now d.0 address reading.now → IfOk result (AreDiagnostics language.now.grammar texts address) }
+{
+    match reading {
+        Reading::Whole(tree, locals) => {
+            tree_list(alloc, language, text, tree, locals, d, index, steps)
+        }
+        Reading::Broken(issue) => {
+            let mut list = Items::new(alloc);
+            list.push(issue_diagnostic(alloc, text, *issue, language.tokens())?)?;
+            Ok(list)
+        }
+    }
+}
+
+impl News {
+    /// Adds the list of a document, unless it is the one that was published last.
+    fn add(
+        &mut self,
+        alloc: Global,
+        d: DocId,
+        doc: &Doc,
+        list: Items<Shown>,
+    ) -> Result<(), NoMemory>
+        ensures { OnOk result (Adds d doc.now list self.old self.new) }
+    {
+        if is_published(doc, &list) {
+            return Ok(());
+        }
+        let told = Published {
+            uri: doc.uri.copy(alloc)?,
+            version: doc.version,
+            list: copied(alloc, list.as_slice())?,
+        };
+        self.lists.push(told)?;
+        self.own.push((d, list))?;
+        Ok(())
+    }
+
+    /// Adds the list of the document of this number.
+    fn add_one<L: Ledger>(
+        &mut self,
+        alloc: Global,
+        language: &Language,
+        docs: &Docs,
+        readings: &Readings,
+        d: DocId,
+        steps: &mut Steps<L>,
+    ) -> Result<(), NoMemory>
+        requires held { IsHeld docs.now d }
+        requires read { AreRead language.now.grammar language.now.texts docs.now readings.now }
+        requires all { AreAllRead docs.now readings.now }
+        ensures { OnOk result ((list : List Shown) × (doc : OneDoc) × IsAt docs.now d doc ×
+            AreDiagnostics language.now.grammar (texts_of docs.now) doc.uri list × Adds d doc list self.old self.new) }
+    {
+        docs.numbered();
+        let doc = docs.doc(d);
+        match readings.texts.get(&d.0) {
+            Some(reading) => {
+                let list = list_of(
+                    alloc,
+                    language,
+                    &doc.text,
+                    reading,
+                    d,
+                    &readings.index,
+                    steps,
+                )?;
+                self.add(alloc, d, doc, list)
+            }
+            None => unreachable!(),
+        }
+    }
+}
+
+/// The lists of all documents that are news, in the order of addresses.
+pub(crate) fn news_of<L: Ledger>(
+    alloc: Global,
+    language: &Language,
+    docs: &Docs,
+    readings: &Readings,
+    steps: &mut Steps<L>,
+) -> Result<News, NoMemory>
+    requires read { AreRead language.now.grammar language.now.texts docs.now readings.now }
+    requires all { AreAllRead docs.now readings.now }
+    ensures { IfOk result (λ news. AreTold language.now.grammar docs.now (places_of docs.now) news.own.items news.lists) }
+{
+    docs.numbered();
+    let mut news = News {
+        lists: Items::new(alloc),
+        own: Vec::new(alloc),
+    };
+    'telling: for (_uri, d) in docs.uris() {
+        news.add_one(alloc, language, docs, readings, *d, steps)?;
+    }
+    Ok(news)
+}
+
+/// Writes down which lists were published. It takes no memory.
+pub(crate) fn take_all(docs: &mut Docs, own: Vec<(DocId, Items<Shown>)>)
+    requires numbered { AreNumbered docs.old }
+    requires held { (d : DocId) (list : List Shown) → Contains own.items (d, list) → IsHeld docs.old d }
+    ensures { AreTaken own.items docs.old docs.new }
+{
+    'taking: for (d, list) in own {
+        docs.set_published(d, Some(list));
+    }
+}

@@ -1,0 +1,321 @@
+// What no clause says: that the calls succeed where there is memory, and what is published of a few texts.
+ghost use Rattle.std.specs.Prelude.{◌≡◌, ◌<◌, IfOk};
+ghost use Rattle.lw_reading.specs.Laws.{IsReadOneWay};
+
+use crate::{WorkFault, Workspace};
+use lw_base::{Items, Name, NoMemory, Steps};
+use lw_io::{MemPatterns, MemStore};
+use lw_lang::{Language, compile};
+use lw_machine::Published;
+use lw_text::{Change, Shown};
+use std::alloc::Global;
+use std::marker::Brand;
+use std::process::Abort;
+use std::sync::ledger::{Blank, Ledger};
+use std::test::Fail;
+
+const STATES: &str =
+    "grammar S entry Model: 'model' name=ID states+=State*; State: 'state' name=ID ('to' next+=[State:ID])* 'end'; hidden terminal WS: /\\s+/; terminal ID: /[_a-zA-Z][\\w_]*/;";
+
+fn language(rt: &impl Abort, alloc: Global) -> Result<Language, NoMemory>
+    ensures { IfOk result (λ language. IsReadOneWay language.grammar) }
+{
+    let root = Name::from_text(alloc, "f.langium")?;
+    let mut files = Vec::new(alloc);
+    files.push((root.copy(alloc)?, STATES.as_bytes().to_vec(alloc)?))?;
+    let mut store = MemStore::new(files, Vec::new(alloc));
+    let mut patterns = MemPatterns::new(Vec::new(alloc));
+    match compile(alloc, &root, 2, &mut store, &mut patterns) {
+        Ok(language) => Ok(language),
+        Err(_) => panic!(rt; "the grammar is not built"),
+    }
+}
+
+/// What happens to the document at an address.
+#[derive(Clone, Copy)]
+enum Event {
+    Put(&'static str),
+    Edit(&'static str),
+    Remove,
+}
+
+/// A list as its address and the codes of what is told.
+fn written(alloc: Global, told: &mut String, published: &Published) -> Result<(), NoMemory> {
+    told.push_str(published.uri.text())?;
+    'codes: for shown in published.list.as_slice() {
+        let code = shown.code;
+        told.push_str(format!(in alloc; "{code}")?.as_str())?;
+    }
+    told.push_str(";")?;
+    Ok(())
+}
+
+/// What happens to a document at a moment, and what is published then.
+type Row = (&'static str, Event, &'static str);
+
+fn change(alloc: Global, text: &str) -> Result<Items<Change>, NoMemory> {
+    let mut changes = Items::new(alloc);
+    changes.push(Change {
+        range: None,
+        text: Name::from_text(alloc, text)?,
+    })?;
+    Ok(changes)
+}
+
+/// What the event publishes by itself.
+fn happen(
+    alloc: Global,
+    workspace: &mut Workspace,
+    address: &Name,
+    event: Event,
+) -> Result<Option<Published>, WorkFault> {
+    match event {
+        Event::Put(text) => {
+            workspace.put(address, Name::from_text(alloc, text)?, Some(1), true)?;
+            Ok(None)
+        }
+        Event::Edit(text) => {
+            workspace.edit(address, change(alloc, text)?.as_slice(), 2)?;
+            Ok(None)
+        }
+        Event::Remove => workspace.remove(address),
+    }
+}
+
+/// What an event and the build behind it publish.
+fn told<L: Ledger>(
+    alloc: Global,
+    workspace: &mut Workspace,
+    steps: &mut Steps<L>,
+    address: &str,
+    event: Event,
+) -> Result<String, WorkFault> {
+    let address = Name::from_text(alloc, address)?;
+    let mut told = String::new(alloc);
+    if let Some(published) = happen(alloc, workspace, &address, event)? {
+        written(alloc, &mut told, &published)?;
+    }
+    let lists = workspace.advance(steps)?;
+    'lists: for published in lists.as_slice() {
+        written(alloc, &mut told, published)?;
+    }
+    Ok(told)
+}
+
+fn played<L: Ledger>(
+    rt: &impl Abort,
+    alloc: Global,
+    blank: Blank,
+    rows: &[Row],
+) -> Result<(), WorkFault>
+    requires name { blank.name ≡ L.name }
+    requires parts { blank.parts ≡ L.parts }
+    requires some { 0 < blank.parts }
+{
+    let (book, share) = blank.open::<L>();
+    let mut steps = Steps::new(book, share);
+    let mut workspace = Workspace::new(alloc, language(rt, alloc)?);
+    'rows: for (address, event, published) in rows {
+        let told = told(alloc, &mut workspace, &mut steps, address, *event)?;
+        assert!(rt; told.as_str() == *published, "{address} publishes {told}");
+    }
+    Ok(())
+}
+
+fn play(rt: &impl Abort, alloc: Global, rows: &[Row]) -> Result<(), WorkFault> {
+    played::<Brand>(rt, alloc, Blank::new(1), rows)
+}
+
+/// Two documents that refer to one another. A list is written as its address and its codes: 2 is a fault of syntax, 3 a reference that
+/// leads nowhere, 5 an export that another document has too.
+const ROWS: [Row; 9] = [
+    ("b", Event::Put("model B state t to s end"), "b3;"),
+    ("a", Event::Put("model A state s to t end"), "a;b;"),
+    ("a", Event::Put("model A state s to t end"), ""),
+    ("b", Event::Edit("model B state u end"), "a3;"),
+    ("b", Event::Edit("model B state u"), "b2;"),
+    (
+        "b",
+        Event::Edit("model B state s end state t end"),
+        "a5;b5;",
+    ),
+    ("a", Event::Remove, "a;b;"),
+    ("a", Event::Put("model A state s to t end"), "a5;b5;"),
+    ("b", Event::Remove, "b;a3;"),
+];
+
+#[test]
+fn documents_refer_to_one_another(rt: HostRuntime) -> Result<(), Fail> {
+    assert!(rt; play(&rt, rt.alloc(), &ROWS).is_ok());
+    Ok(())
+}
+
+// ---- sessions by chance
+
+const ADDRESSES: [&str; 5] = ["a", "b", "c", "d", "e"];
+
+const TEXTS: [&str; 8] = [
+    "model A state s to t end",
+    "model B state t to s end",
+    "model C state u to s to t to u end",
+    "model D state s end state s end",
+    "model D state",
+    "model E state t to u end state v to w end",
+    "?",
+    "model A state w to v end",
+];
+
+/// The next of a row of numbers.
+fn next(seed: u32) -> u32
+    ensures { result < 2147483648 }
+{
+    ((seed as u64 * 1103515245 + 12345) % 2147483648) as u32
+}
+
+/// What was published last at each address.
+type Lasts = [Option<Items<Shown>>; 5];
+
+fn keep(lasts: &mut Lasts, published: Published) {
+    let Published {
+        uri,
+        version: _,
+        list,
+    } = published;
+    for i in 0..5usize {
+        if uri.text() == ADDRESSES[i] {
+            lasts[i] = Some(list);
+            return;
+        }
+    }
+}
+
+/// The number of an event's address, what it is, and the number of the next.
+#[derive(Clone, Copy)]
+struct Draw {
+    at: usize,
+    event: Event,
+    seed: u32,
+}
+
+fn drawn(seed: u32, texts: &[Option<&'static str>; 5]) -> Draw {
+    let first = next(seed);
+    let second = next(first);
+    let third = next(second);
+    let at = (first / 65536 % 5) as usize;
+    let text = TEXTS[(second / 65536 % 8) as usize];
+    let event = match (third / 65536 % 4, texts[at]) {
+        (0, Some(_)) => Event::Remove,
+        (1, Some(_)) => Event::Edit(text),
+        _ => Event::Put(text),
+    };
+    Draw {
+        at,
+        event,
+        seed: third,
+    }
+}
+
+fn build<L: Ledger>(
+    workspace: &mut Workspace,
+    steps: &mut Steps<L>,
+    lasts: &mut Lasts,
+) -> Result<(), NoMemory> {
+    let lists = workspace.advance(steps)?;
+    let mut lists = lists;
+    while let Some(published) = lists.pop() {
+        keep(lasts, published);
+    }
+    Ok(())
+}
+
+fn same(last: &Option<Items<Shown>>, list: &Option<Items<Shown>>) -> bool {
+    match (last, list) {
+        (Some(last), Some(list)) => last.as_slice() == list.as_slice(),
+        (None, None) => true,
+        _ => false,
+    }
+}
+
+/// Does one event after another, and keeps what is published.
+fn wander<L: Ledger>(
+    alloc: Global,
+    workspace: &mut Workspace,
+    steps: &mut Steps<L>,
+    texts: &mut [Option<&'static str>; 5],
+    lasts: &mut Lasts,
+    start: u32,
+) -> Result<(), WorkFault> {
+    let mut seed = start;
+    'events: for _ in 0..12u32 {
+        let one = drawn(seed, texts);
+        seed = one.seed;
+        let address = Name::from_text(alloc, ADDRESSES[one.at])?;
+        happen(alloc, workspace, &address, one.event)?;
+        match one.event {
+            Event::Put(text) => texts[one.at] = Some(text),
+            Event::Edit(text) => texts[one.at] = Some(text),
+            Event::Remove => {
+                texts[one.at] = None;
+                lasts[one.at] = None;
+            }
+        }
+        if seed / 65536 % 3 != 0 {
+            build(workspace, steps, lasts)?;
+        }
+    }
+    build(workspace, steps, lasts)?;
+    Ok(())
+}
+
+/// A session, and a new workspace of the texts that it leaves.
+fn session<L: Ledger>(
+    rt: &impl Abort,
+    alloc: Global,
+    blank: Blank,
+    start: u32,
+) -> Result<(), WorkFault>
+    requires name { blank.name ≡ L.name }
+    requires parts { blank.parts ≡ L.parts }
+    requires some { 0 < blank.parts }
+{
+    let (book, share) = blank.open::<L>();
+    let mut steps = Steps::new(book, share);
+    let mut texts: [Option<&'static str>; 5] = [None; 5];
+    let mut lasts: Lasts = [None, None, None, None, None];
+    let mut workspace = Workspace::new(alloc, language(rt, alloc)?);
+    wander(
+        alloc,
+        &mut workspace,
+        &mut steps,
+        &mut texts,
+        &mut lasts,
+        start,
+    )?;
+    let mut other = Workspace::new(alloc, language(rt, alloc)?);
+    let mut news: Lasts = [None, None, None, None, None];
+    'texts: for i in 0..5usize {
+        if let Some(text) = texts[i] {
+            let address = Name::from_text(alloc, ADDRESSES[i])?;
+            other.put(&address, Name::from_text(alloc, text)?, None, false)?;
+        }
+    }
+    build(&mut other, &mut steps, &mut news)?;
+    'lists: for i in 0..5usize {
+        assert!(rt; same(&lasts[i], &news[i]), "session {start}, document {i}");
+    }
+    Ok(())
+}
+
+fn one_session(rt: &impl Abort, alloc: Global, start: u32) -> Result<(), WorkFault> {
+    session::<Brand>(rt, alloc, Blank::new(1), start)
+}
+
+#[test]
+fn sessions_end_as_new_workspaces(rt: HostRuntime) -> Result<(), Fail> {
+    let mut seed = 7;
+    for _ in 0..200u32 {
+        seed = next(seed);
+        assert!(rt; one_session(&rt, rt.alloc(), seed).is_ok());
+    }
+    Ok(())
+}

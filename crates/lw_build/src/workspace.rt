@@ -1,0 +1,339 @@
+// A workspace.
+ghost use Rattle.std.specs.Prelude.{ℕ, List, ◌≡◌, ◌≢◌, ◌≤◌, ◌<◌, ◌↔◌, ◌+◌, Some, None, Ok, Err, IfOk, IfErr, OnOk, OnErr, MatchOption, IsTrue, true, length, map};
+ghost use Rattle.std.specs.FinMap as all;
+ghost use Rattle.std.specs.FinMap.{get};
+ghost use Rattle.std.specs.Map.Iter.{ShowsInOrder, deref_pair};
+ghost use Rattle.std.specs.Option.{option_map, option_to_list};
+ghost use Rattle.lw_base.specs.declared.limits.TheConstants.{LONGEST_TEXT};
+ghost use Rattle.lw_docs.specs.declared.docs.TheConstants.{MOST_DOCUMENTS};
+ghost use Rattle.lw_docs.specs.Documents.{IsHeld, Numbered, Turns, changed, numbered};
+ghost use Rattle.lw_machine.specs.Building.{BuildsToEnd};
+ghost use Rattle.lw_machine.specs.Documents.{Document, Documents, shown_texts};
+ghost use Rattle.lw_machine.specs.Events.{put, edited, farewell};
+ghost use Rattle.lw_machine.specs.Settling.{IsSettled};
+ghost use Rattle.lw_reading.specs.Laws.{IsReadOneWay};
+ghost use Rattle.lw_text.specs.Changes.{Changes};
+ghost use Rattle.lw_text.specs.declared.units.Encoding.TheVariants.{Utf16};
+ghost use Rattle.lw_build.specs.View.{documents, WorkspaceView};
+ghost use Rattle.lw_build.specs.Agreeing.{Agrees};
+ghost use Rattle.lw_build.specs.Faults.{edit_fault, HasNoRoom, IsRefusal, IsPutFault, IsEditFault, IsRemovalFault};
+
+use crate::WorkFault;
+use crate::readings::Readings;
+use crate::telling::{News, news_of, take_all};
+use lw_base::{DocId, Items, Name, NoMemory, Steps};
+use lw_docs::{DocFault, Docs};
+use lw_index::Index;
+use lw_lang::Language;
+use lw_machine::Published;
+use lw_text::{Change, EditFault, Encoding, Shown, TextDoc};
+use std::alloc::Global;
+use std::collections::btree_map::Iter;
+use std::marker::Model;
+use std::sync::ledger::Ledger;
+
+/// A workspace, seen as the grammar of its language, its documents by address, and whether they are built.
+pub struct Workspace {
+    language: Language,
+    docs: Docs,
+    readings: Readings,
+    is_built: bool,
+    alloc: Global,
+}
+
+impl Drop for Workspace {
+    // In one place, so that whoever drops such a value sees one call and not the drops of all its parts.
+    fn drop(self) {
+        let Workspace {
+            language: _,
+            docs: _,
+            readings: _,
+            is_built: _,
+            alloc: _,
+        } = self;
+    }
+}
+
+impl Model for Workspace {
+    ghost use Rattle.lw_build.specs.View.{WorkspaceView};
+
+    ghost Value = { WorkspaceView };
+
+    ghost use Rattle.std.specs.Coded.{codes};
+    ghost use Rattle.std.specs.FinMap as map;
+    ghost use Rattle.lw_grammar.specs.contracts.rule.Element as element;
+    ghost use Rattle.lw_grammar.specs.contracts.rule.Value0 as value;
+    ghost use Rattle.lw_grammar.specs.contracts.terminal.TermElement as term;
+    ghost use Rattle.lw_machine.specs.contracts.state.State as state;
+
+    ghost coded = { Prim.hlevel (codes, map.code, element.the_row.coded, value.the_row.coded, term.the_row.coded, state.the_row.coded) };
+
+    ghost use Rattle.lw_build.specs.Built.{seen_as, IsWorkspace};
+
+    ghost view = { seen_as };
+
+    ghost invariant = { IsWorkspace };
+}
+
+/// Why a text is refused.
+fn fault_of(fault: EditFault) -> WorkFault
+    ensures { result ≡ edit_fault fault }
+{
+    match fault {
+        EditFault::BadRange(number) => WorkFault::BadRange(number),
+        EditFault::TooLong(size) => WorkFault::TooLong(size),
+        EditFault::NoMemory => WorkFault::NoMemory,
+    }
+}
+
+/// What is published where a document with this last list is removed.
+fn last_words(
+    alloc: Global,
+    uri: &Name,
+    published: &Option<Items<Shown>>,
+) -> Result<Option<Published>, NoMemory>
+    ensures { IfOk result (λ told. farewell uri.now published.now ≡ option_to_list told) }
+{
+    let empty = match published {
+        Some(list) => list.is_empty(),
+        None => true,
+    };
+    if empty {
+        return Ok(None);
+    }
+    Ok(Some(Published {
+        uri: uri.copy(alloc)?,
+        version: None,
+        list: Items::new(alloc),
+    }))
+}
+
+/// Gives a document another text, version and open flag.
+fn renew(docs: &mut Docs, d: DocId, text: TextDoc, version: Option<i64>, is_open: bool)
+    requires { IsHeld docs.old d }
+    ensures { Turns docs.old docs.new d (λ x. record x { text = text; version = version; is_open = is_open }) }
+{
+    docs.set_text(d, text);
+    docs.set_version(d, version);
+    docs.set_open(d, is_open);
+}
+
+impl Workspace {
+    /// A workspace of no documents. It takes no memory.
+    pub fn new(alloc: Global, language: Language) -> Workspace
+        requires { IsReadOneWay language.grammar }
+        ensures grammar { result.grammar ≡ language.grammar }
+        ensures empty { result.kept ≡ all.empty }
+        ensures built { result.is_built ≡ true }
+    {
+        let docs = Docs::new(alloc);
+        docs.numbered();
+        Workspace {
+            language,
+            docs,
+            readings: Readings::new(alloc),
+            is_built: true,
+            alloc,
+        }
+    }
+
+    /// That a workspace may stand for the documents that it is seen as. It does nothing.
+    pub fn agrees(&self)
+        ensures agrees { Agrees self.now (documents self.now) }
+        ensures one_way { IsReadOneWay self.now.grammar }
+        ensures few { all.len self.now.kept ≤ MOST_DOCUMENTS }
+    {
+        self.docs.len();
+    }
+
+    /// Gives a document another text, version and open flag. What was read of it is forgotten.
+    fn change(&mut self, d: DocId, text: TextDoc, version: Option<i64>, is_open: bool)
+        requires { IsHeld self.old.kept d }
+        ensures kept { Turns self.old.kept self.new.kept d (λ x. record x { text = text; version = version; is_open = is_open }) }
+        ensures grammar { self.new.grammar ≡ self.old.grammar }
+    {
+        renew(&mut self.docs, d, text, version, is_open);
+        self.readings.forget(d);
+        self.docs.numbered();
+        self.is_built = false;
+    }
+
+    /// Takes in a document at an address at which there is none.
+    fn add(
+        &mut self,
+        uri: &Name,
+        text: TextDoc,
+        version: Option<i64>,
+        is_open: bool,
+    ) -> Result<(), WorkFault>
+        requires { get self.old.kept uri.now ≡ None }
+        ensures kept { OnOk result ((d : DocId) × (self.new.kept ≡ all.insert self.old.kept uri.now (numbered d (changed uri.now text version is_open)))) }
+        ensures grammar { self.new.grammar ≡ self.old.grammar }
+        ensures fault { IfErr result (IsRefusal self.old) }
+        ensures room { OnOk result (all.len self.old.kept ≢ MOST_DOCUMENTS) }
+        ensures refused { OnErr result (self.new ≡ self.old) }
+    {
+        let own = match uri.copy(self.alloc) {
+            Ok(own) => own,
+            Err(_) => return Err(WorkFault::NoMemory),
+        };
+        match self.docs.add(own, text, version, is_open) {
+            Ok(_) => {}
+            Err(DocFault::TooMany) => return Err(WorkFault::TooMany),
+            Err(DocFault::NoMemory) => return Err(WorkFault::NoMemory),
+        }
+        self.docs.numbered();
+        self.is_built = false;
+        Ok(())
+    }
+
+    /// Puts a text at an address, which may be new. What was read of the text that stood there is forgotten; the list that was published
+    /// last stays. Errors: [`WorkFault::TooLong`], [`WorkFault::TooMany`] for an address that is new, and want of memory. The time is
+    /// linear in the text, and logarithmic in the documents.
+    pub fn put(
+        &mut self,
+        uri: &Name,
+        text: Name,
+        version: Option<i64>,
+        is_open: bool,
+    ) -> Result<(), WorkFault>
+        ensures agrees { OnOk result ((m : Documents) → Agrees self.old m → Agrees self.new (put m uri.now text version is_open)) }
+        ensures fits { OnOk result ((length text ≤ LONGEST_TEXT) × (¬ HasNoRoom self.old uri.now)) }
+        ensures fault { IfErr result (IsPutFault self.old uri.now text) }
+        ensures refused { OnErr result (self.new ≡ self.old) }
+        ensures grammar { self.new.grammar ≡ self.old.grammar }
+    {
+        let text = match TextDoc::new(self.alloc, text) {
+            Ok(text) => text,
+            Err(fault) => return Err(fault_of(fault)),
+        };
+        match self.docs.find(uri) {
+            Some(d) => {
+                self.change(d, text, version, is_open);
+                Ok(())
+            }
+            None => self.add(uri, text, version, is_open),
+        }
+    }
+
+    /// Changes parts of the text of a document, all in order, or none. Positions are counted in UTF-16 units. Errors:
+    /// [`WorkFault::NoDocument`], [`WorkFault::BadRange`] and [`WorkFault::TooLong`] for the first change that cannot be made, and want
+    /// of memory. For each change the time is linear in the text.
+    pub fn edit(&mut self, uri: &Name, changes: &[Change], version: i64) -> Result<(), WorkFault>
+        ensures agrees { OnOk result ((m : Documents) → Agrees self.old m → (d : Document) × (text : List ℕ) × (get m uri.now ≡ Some d) ×
+            Changes Utf16 d.text changes.now (Ok text) × Agrees self.new (all.insert m uri.now (edited d text version))) }
+        ensures fault { IfErr result (IsEditFault self.old uri.now changes.now) }
+        ensures refused { OnErr result (self.new ≡ self.old) }
+        ensures grammar { self.new.grammar ≡ self.old.grammar }
+    {
+        let Some(d) = self.docs.find(uri) else {
+            return Err(WorkFault::NoDocument);
+        };
+        let doc = self.docs.doc(d);
+        let is_open = doc.is_open;
+        let text = match doc.text.edited(self.alloc, changes, Encoding::Utf16) {
+            Ok(text) => text,
+            Err(fault) => return Err(fault_of(fault)),
+        };
+        self.change(d, text, Some(version), is_open);
+        Ok(())
+    }
+
+    /// Takes a document out, and answers what is to be published then: an empty list, where its last list had an entry. Errors:
+    /// [`WorkFault::NoDocument`] and want of memory.
+    pub fn remove(&mut self, uri: &Name) -> Result<Option<Published>, WorkFault>
+        ensures agrees { OnOk result ((m n : Documents) → Agrees self.old m → IsSettled self.old.grammar (shown_texts m) uri.now (all.remove m uri.now) n → Agrees self.new n) }
+        ensures told { IfOk result (λ told. (held : Numbered) × (get self.old.kept uri.now ≡ Some held) × (farewell uri.now held.doc.published ≡ option_to_list told)) }
+        ensures fault { IfErr result (IsRemovalFault self.old uri.now) }
+        ensures refused { OnErr result (self.new ≡ self.old) }
+        ensures grammar { self.new.grammar ≡ self.old.grammar }
+    {
+        let Some(d) = self.docs.find(uri) else {
+            return Err(WorkFault::NoDocument);
+        };
+        let told = match last_words(self.alloc, uri, &self.docs.doc(d).published) {
+            Ok(told) => told,
+            Err(_) => return Err(WorkFault::NoMemory),
+        };
+        self.docs.take_out(d);
+        self.readings.forget(d);
+        self.docs.numbered();
+        self.is_built = false;
+        Ok(told)
+    }
+
+    /// Builds all documents to the end, and answers what is to be published, in the order of addresses: each list that is not the one
+    /// that was published last, under the version of its document. Want of memory is the only error; then nothing was published.
+    /// Where all documents are built it does nothing. Else each text that is new is read, and all are linked and checked; a step is
+    /// counted for each look-up in the index.
+    pub fn advance<L: Ledger>(&mut self, steps: &mut Steps<L>) -> Result<Items<Published>, NoMemory>
+        ensures builds { IfOk result (λ lists. (m : Documents) → Agrees self.old m → BuildsToEnd self.old.grammar m (documents self.new) lists) }
+        ensures built { OnOk result (self.new.is_built ≡ true) }
+        ensures refused { OnErr result (self.new ≡ self.old) }
+        ensures grammar { self.new.grammar ≡ self.old.grammar }
+    {
+        let _ = self.language.types();
+        if self.is_built {
+            return Ok(Items::new(self.alloc));
+        }
+        self.readings
+            .read_all(self.alloc, &self.language, &self.docs)?;
+        let news = news_of(
+            self.alloc,
+            &self.language,
+            &self.docs,
+            &self.readings,
+            steps,
+        )?;
+        let News { lists, own } = news;
+        take_all(&mut self.docs, own);
+        self.docs.numbered();
+        self.is_built = true;
+        Ok(lists)
+    }
+
+    /// The number of the document at an address, where there is one.
+    pub fn find(&self, uri: &Name) -> Option<DocId>
+        ensures { result ≡ option_map (λ held. held.number) (get self.now.kept uri.now) }
+    {
+        self.docs.find(uri)
+    }
+
+    /// The text of the document at an address, where there is one.
+    pub fn text_of(&self, uri: &Name) -> Option<&TextDoc>
+        ensures { MatchOption result (get self.now.kept uri.now ≡ None) (λ text. (held : Numbered) × (get self.now.kept uri.now ≡ Some held) × (held.doc.text ≡ text.now)) }
+    {
+        let d = self.docs.find(uri)?;
+        Some(&self.docs.doc(d).text)
+    }
+
+    /// Whether an editor has the document at an address open: not where there is none.
+    pub fn is_open(&self, uri: &Name) -> bool
+        ensures { IsTrue result ↔ ((held : Numbered) × (get self.now.kept uri.now ≡ Some held) × (held.doc.is_open ≡ true)) }
+    {
+        match self.docs.find(uri) {
+            Some(d) => self.docs.doc(d).is_open,
+            None => false,
+        }
+    }
+
+    /// Its language.
+    pub fn language(&self) -> &Language
+        ensures { result.now.grammar ≡ self.now.grammar }
+    {
+        &self.language
+    }
+
+    /// What its documents export, by their numbers: of those that were read.
+    pub fn index(&self) -> &Index {
+        &self.readings.index
+    }
+
+    /// Its addresses in their order, each with the number of its document.
+    pub fn uris(&self) -> Iter<'_, Name, DocId>
+        ensures rest { result ≡ map (λ e. (e.0, e.1.number)) (all.entries self.now.kept) }
+        ensures runs { ShowsInOrder (deref_pair {K = List ℕ} {X = DocId}) }
+    {
+        self.docs.uris()
+    }
+}

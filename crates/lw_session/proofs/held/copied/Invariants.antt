@@ -1,5 +1,0 @@
-use Rattle.std.proofs.Common.{◌≡◌, take}
-use Rattle.lw_session.proofs.held.copied.Given as goal
-
-abbrev pub invariant-copying : goal.invariant-copying
-invariant-copying l = l.copies ≡ take l.shown-index l.list

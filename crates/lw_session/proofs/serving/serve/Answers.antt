@@ -1,0 +1,28 @@
+use Rattle.std.proofs.Common.{OnErr, sym, subst}
+use Rattle.lw_build.specs.View.{WorkspaceView}
+use Rattle.lw_conversation.specs.Answered.{IsCutShort}
+use Rattle.lw_session.specs.Answering.{standing_of}
+use Rattle.lw_session.proofs.Handling.{error_between, error_not_begun, served}
+use Rattle.lw_session.proofs.serving.serve.Goals as goal
+
+pub returns-in_err-told-clause-cut_short : goal.returns-in_err-told-clause-cut_short
+returns-in_err-told-clause-cut_short g c =
+    let v = c.args.workspace.now in
+    let s = standing_of v c.args.phase in
+    subst (λ (w : WorkspaceView). OnErr c.from_residual.result (IsCutShort v.grammar s c.args.message (standing_of w c.args.phase)))
+    (sym c.in_err-told.ensures.refused) (error_not_begun c.from_residual.result v.grammar s c.args.message)
+
+pub returns-in_err-lists-clause-cut_short : goal.returns-in_err-lists-clause-cut_short
+returns-in_err-lists-clause-cut_short g c =
+    let v = c.args.workspace.now in
+    let s = standing_of v c.args.phase in
+    let result = c.from_residual-in_err-lists.result in
+    subst (λ (w : WorkspaceView). OnErr result (IsCutShort v.grammar s c.args.message (standing_of w c.args.phase))) (sym c.in_err-lists.ensures.refused)
+    (error_between v c.answer.new.workspace c.args.phase c.args.message c.in_ok-told.told c.in_ok-told.ensures.answered c.in_ok-told.ensures.grammar result
+    c.agrees.ensures.agrees)
+
+pub returns-clause-handles : goal.returns-clause-handles
+returns-clause-handles g c =
+    let is = c.in_ok-told.ensures.answered in
+    served c.args.workspace.now c.answer.new.workspace c.args.phase c.args.message c.in_ok-told.told is c.in_ok-told.ensures.grammar c.build.new.workspace
+    c.in_ok-lists.lists (c.in_ok-lists.ensures.built is.changed is.agrees)
