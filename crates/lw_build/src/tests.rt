@@ -9,6 +9,7 @@ use lw_lang::{Language, compile};
 use lw_machine::Published;
 use lw_text::{Change, Shown};
 use std::alloc::Global;
+use std::collections::BTreeMap;
 use std::marker::Brand;
 use std::process::Abort;
 use std::sync::ledger::{Blank, Ledger};
@@ -173,46 +174,27 @@ fn next(seed: u32) -> u32
 }
 
 /// What was published last at each address.
-type Lasts = [Option<Items<Shown>>; 5];
+type Lasts = BTreeMap<Name, Items<Shown>>;
 
-fn keep(lasts: &mut Lasts, published: Published) {
+/// The event that two numbers stand for, at an address that may have a document.
+fn event_of(first: u32, second: u32, is_held: bool) -> Event {
+    let text = TEXTS[(first / 65536 % 8) as usize];
+    match (second / 65536 % 4, is_held) {
+        (0, true) => Event::Remove,
+        (1, true) => Event::Edit(text),
+        _ => Event::Put(text),
+    }
+}
+
+/// Keeps a list as the last of its address.
+fn keep(lasts: &mut Lasts, published: Published) -> Result<(), NoMemory> {
     let Published {
         uri,
         version: _,
         list,
     } = published;
-    for i in 0..5usize {
-        if uri.text() == ADDRESSES[i] {
-            lasts[i] = Some(list);
-            return;
-        }
-    }
-}
-
-/// The number of an event's address, what it is, and the number of the next.
-#[derive(Clone, Copy)]
-struct Draw {
-    at: usize,
-    event: Event,
-    seed: u32,
-}
-
-fn drawn(seed: u32, texts: &[Option<&'static str>; 5]) -> Draw {
-    let first = next(seed);
-    let second = next(first);
-    let third = next(second);
-    let at = (first / 65536 % 5) as usize;
-    let text = TEXTS[(second / 65536 % 8) as usize];
-    let event = match (third / 65536 % 4, texts[at]) {
-        (0, Some(_)) => Event::Remove,
-        (1, Some(_)) => Event::Edit(text),
-        _ => Event::Put(text),
-    };
-    Draw {
-        at,
-        event,
-        seed: third,
-    }
+    lasts.insert(uri, list)?;
+    Ok(())
 }
 
 fn build<L: Ledger>(
@@ -220,20 +202,54 @@ fn build<L: Ledger>(
     steps: &mut Steps<L>,
     lasts: &mut Lasts,
 ) -> Result<(), NoMemory> {
-    let lists = workspace.advance(steps)?;
-    let mut lists = lists;
-    while let Some(published) = lists.pop() {
-        keep(lasts, published);
+    let mut lists = workspace.advance(steps)?;
+    'lists: for _ in 0..lists.len() {
+        if let Some(published) = lists.pop() {
+            keep(lasts, published)?;
+        }
     }
     Ok(())
 }
 
-fn same(last: &Option<Items<Shown>>, list: &Option<Items<Shown>>) -> bool {
-    match (last, list) {
-        (Some(last), Some(list)) => last.as_slice() == list.as_slice(),
-        (None, None) => true,
-        _ => false,
+/// Does an event, and forgets the last list of a document that is removed.
+fn one_event(
+    alloc: Global,
+    workspace: &mut Workspace,
+    lasts: &mut Lasts,
+    address: &Name,
+    event: Event,
+) -> Result<(), WorkFault> {
+    happen(alloc, workspace, address, event)?;
+    if let Event::Remove = event {
+        lasts.remove(address);
     }
+    Ok(())
+}
+
+/// Does one event, builds behind two of three, and answers the next number.
+fn wander_once<L: Ledger>(
+    alloc: Global,
+    workspace: &mut Workspace,
+    steps: &mut Steps<L>,
+    lasts: &mut Lasts,
+    seed: u32,
+) -> Result<u32, WorkFault> {
+    let first = next(seed);
+    let second = next(first);
+    let third = next(second);
+    let address = Name::from_text(alloc, ADDRESSES[(first / 65536 % 5) as usize])?;
+    let is_held = workspace.find(&address).is_some();
+    one_event(
+        alloc,
+        workspace,
+        lasts,
+        &address,
+        event_of(second, third, is_held),
+    )?;
+    if third / 65536 % 3 != 0 {
+        build(workspace, steps, lasts)?;
+    }
+    Ok(third)
 }
 
 /// Does one event after another, and keeps what is published.
@@ -241,72 +257,81 @@ fn wander<L: Ledger>(
     alloc: Global,
     workspace: &mut Workspace,
     steps: &mut Steps<L>,
-    texts: &mut [Option<&'static str>; 5],
     lasts: &mut Lasts,
     start: u32,
 ) -> Result<(), WorkFault> {
     let mut seed = start;
     'events: for _ in 0..12u32 {
-        let one = drawn(seed, texts);
-        seed = one.seed;
-        let address = Name::from_text(alloc, ADDRESSES[one.at])?;
-        happen(alloc, workspace, &address, one.event)?;
-        match one.event {
-            Event::Put(text) => texts[one.at] = Some(text),
-            Event::Edit(text) => texts[one.at] = Some(text),
-            Event::Remove => {
-                texts[one.at] = None;
-                lasts[one.at] = None;
-            }
-        }
-        if seed / 65536 % 3 != 0 {
-            build(workspace, steps, lasts)?;
-        }
+        seed = wander_once(alloc, workspace, steps, lasts, seed)?;
     }
     build(workspace, steps, lasts)?;
     Ok(())
 }
 
-/// A session, and a new workspace of the texts that it leaves.
+/// Puts the texts of a workspace into another.
+fn put_all(alloc: Global, workspace: &Workspace, other: &mut Workspace) -> Result<(), WorkFault> {
+    'texts: for (address, _number) in workspace.uris() {
+        if let Some(text) = workspace.text_of(address) {
+            other.put(address, text.as_name().copy(alloc)?, None, false)?;
+        }
+    }
+    Ok(())
+}
+
+fn same(last: Option<&Items<Shown>>, list: Option<&Items<Shown>>) -> bool {
+    match (last, list) {
+        (Some(last), Some(list)) => last.as_slice() == list.as_slice(),
+        (None, None) => true,
+        _ => false,
+    }
+}
+
+/// Whether two have the same list at each address.
+fn all_same(alloc: Global, lasts: &Lasts, news: &Lasts) -> Result<bool, NoMemory> {
+    'addresses: for address in ADDRESSES {
+        let address = Name::from_text(alloc, address)?;
+        if !same(lasts.get(&address), news.get(&address)) {
+            return Ok(false);
+        }
+    }
+    Ok(true)
+}
+
+/// What a new workspace of the same texts publishes.
+fn published_anew<L: Ledger>(
+    rt: &impl Abort,
+    alloc: Global,
+    workspace: &Workspace,
+    steps: &mut Steps<L>,
+) -> Result<Lasts, WorkFault> {
+    let mut other = Workspace::new(alloc, language(rt, alloc)?);
+    put_all(alloc, workspace, &mut other)?;
+    let mut news = BTreeMap::new(alloc);
+    build(&mut other, steps, &mut news)?;
+    Ok(news)
+}
+
+/// Whether a session and a new workspace of the texts that it leaves publish the same.
 fn session<L: Ledger>(
     rt: &impl Abort,
     alloc: Global,
     blank: Blank,
     start: u32,
-) -> Result<(), WorkFault>
+) -> Result<bool, WorkFault>
     requires name { blank.name ≡ L.name }
     requires parts { blank.parts ≡ L.parts }
     requires some { 0 < blank.parts }
 {
     let (book, share) = blank.open::<L>();
     let mut steps = Steps::new(book, share);
-    let mut texts: [Option<&'static str>; 5] = [None; 5];
-    let mut lasts: Lasts = [None, None, None, None, None];
     let mut workspace = Workspace::new(alloc, language(rt, alloc)?);
-    wander(
-        alloc,
-        &mut workspace,
-        &mut steps,
-        &mut texts,
-        &mut lasts,
-        start,
-    )?;
-    let mut other = Workspace::new(alloc, language(rt, alloc)?);
-    let mut news: Lasts = [None, None, None, None, None];
-    'texts: for i in 0..5usize {
-        if let Some(text) = texts[i] {
-            let address = Name::from_text(alloc, ADDRESSES[i])?;
-            other.put(&address, Name::from_text(alloc, text)?, None, false)?;
-        }
-    }
-    build(&mut other, &mut steps, &mut news)?;
-    'lists: for i in 0..5usize {
-        assert!(rt; same(&lasts[i], &news[i]), "session {start}, document {i}");
-    }
-    Ok(())
+    let mut lasts = BTreeMap::new(alloc);
+    wander(alloc, &mut workspace, &mut steps, &mut lasts, start)?;
+    let news = published_anew(rt, alloc, &workspace, &mut steps)?;
+    Ok(all_same(alloc, &lasts, &news)?)
 }
 
-fn one_session(rt: &impl Abort, alloc: Global, start: u32) -> Result<(), WorkFault> {
+fn one_session(rt: &impl Abort, alloc: Global, start: u32) -> Result<bool, WorkFault> {
     session::<Brand>(rt, alloc, Blank::new(1), start)
 }
 
@@ -315,7 +340,7 @@ fn sessions_end_as_new_workspaces(rt: HostRuntime) -> Result<(), Fail> {
     let mut seed = 7;
     for _ in 0..200u32 {
         seed = next(seed);
-        assert!(rt; one_session(&rt, rt.alloc(), seed).is_ok());
+        assert!(rt; one_session(&rt, rt.alloc(), seed)?, "session {seed}");
     }
     Ok(())
 }
