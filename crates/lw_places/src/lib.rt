@@ -1,0 +1,17 @@
+//! What stands at a place of a document, where the name of what is meant there stands, and where it is mentioned: definitions, over the
+//! trees of all documents and over their texts.
+//!
+//! `specs/Places.antt` says what stands at an offset of a tree ([`Place`]): the name of a node or a reference. `specs/Mentions.antt` says
+//! which node is meant by that, where its name stands, and which references lead to it, over trees. `specs/Asked.antt` says the same of
+//! texts, as a grammar reads them: what an editor is answered that asks for a definition, or for references. Places are byte offsets,
+//! counted from zero.
+//!
+//! There is no code here but the type [`Place`]. Each function has an empty body, and its contract is a law that a reader would expect:
+//! what stands at a place, and what is answered, is settled ([`one_place`], [`one_reply`]), by the texts alone ([`only_texts_matter`]).
+#![tactic(auto)]
+
+mod laws;
+mod place;
+
+pub use laws::{one_place, one_reply, only_texts_matter};
+pub use place::Place;

@@ -1,0 +1,48 @@
+// The definition and the references of what stands at a place.
+ghost use Rattle.std.specs.Prelude.{◌≡◌, ℕ, List, Bool, None, Some, IfOk, MatchOption};
+ghost use Rattle.std.specs.List.{AllZip};
+ghost use Rattle.std.specs.FinMap as map;
+ghost use Rattle.std.specs.Option.{unwrap_or};
+ghost use Rattle.lw_places.specs.Mentions.{AreReferencesAt, IsDefinitionAt, Mention};
+ghost use Rattle.lw_scoping.specs.Links.{Trees};
+ghost use Rattle.lw_query.specs.Viewed.{AreViewsOf, IsMentionAt};
+
+use crate::{Spot, Views};
+use lw_base::{DocId, Items, NoMemory};
+use lw_refs::RefIndex;
+use std::alloc::Global;
+
+/// Where the name stands of what is meant at a byte offset of a document, or None where nothing is.
+pub fn definition<V: Views>(v: &V, doc: DocId, off: u32) -> Option<Spot>
+    ensures { (below : ℕ → ℕ → Type 0) (trees : Trees) (address : List ℕ) → AreViewsOf below (V.tree_at v.now) (V.answers_at v.now) (V.Stands v.now) trees →
+        V.Stands v.now doc.0 address → MatchOption result (IsDefinitionAt below trees address off None)
+        (λ spot. (m : Mention) × IsMentionAt (V.Stands v.now) spot m × IsDefinitionAt below trees address off (Some m)) }
+{
+    let _ = v;
+    let _ = doc;
+    let _ = off;
+    None
+}
+
+/// Where what is meant at a byte offset of a document is mentioned, or None where nothing is.
+pub fn references<V: Views>(
+    alloc: Global,
+    v: &V,
+    refs: &RefIndex,
+    doc: DocId,
+    off: u32,
+    declaration: bool,
+) -> Result<Option<Items<Spot>>, NoMemory>
+    ensures { (below : ℕ → ℕ → Type 0) (trees : Trees) (address : List ℕ) → AreViewsOf below (V.tree_at v.now) (V.answers_at v.now) (V.Stands v.now) trees →
+        ((n : ℕ) → unwrap_or (map.get refs.now n) [] ≡ V.answers_at v.now n) → V.Stands v.now doc.0 address →
+        IfOk result (λ found. MatchOption found (AreReferencesAt below trees address off declaration None)
+        (λ spots. (mentions : List Mention) × AllZip (IsMentionAt (V.Stands v.now)) spots mentions × AreReferencesAt below trees address off declaration (Some mentions))) }
+{
+    let _ = alloc;
+    let _ = v;
+    let _ = refs;
+    let _ = doc;
+    let _ = off;
+    let _ = declaration;
+    Ok(None)
+}

@@ -1,0 +1,13 @@
+//! What stands at a place of a document, where it is defined, and where it is mentioned.
+#![tactic(auto)]
+
+mod asking;
+mod places;
+mod spot;
+mod views;
+
+pub use asking::{definition, references};
+pub use lw_places::Place;
+pub use places::place_at;
+pub use spot::Spot;
+pub use views::Views;
