@@ -4,10 +4,12 @@
 mod asking;
 mod places;
 mod spot;
+mod view;
 mod views;
 
 pub use asking::{definition, references};
 pub use lw_places::Place;
 pub use places::place_at;
 pub use spot::Spot;
+pub use view::View;
 pub use views::Views;
