@@ -1,0 +1,4 @@
+pub mod Led
+pub mod Users
+pub mod Uses
+pub mod Pairs
