@@ -1,9 +1,8 @@
 // The definition and the references of what stands at a place.
 ghost use Rattle.std.specs.Prelude.{◌≡◌, ℕ, List, Bool, None, Some, IfOk, MatchOption};
 ghost use Rattle.std.specs.List.{AllZip};
-ghost use Rattle.std.specs.FinMap as map;
-ghost use Rattle.std.specs.Option.{unwrap_or};
 ghost use Rattle.lw_places.specs.Mentions.{AreReferencesAt, IsDefinitionAt, Mention};
+ghost use Rattle.lw_refs.specs.Led.{answers_in};
 ghost use Rattle.lw_scoping.specs.Links.{Trees};
 ghost use Rattle.lw_query.specs.Viewed.{AreViewsOf, IsMentionAt};
 
@@ -34,7 +33,7 @@ pub fn references<V: Views>(
     declaration: bool,
 ) -> Result<Option<Items<Spot>>, NoMemory>
     ensures { (below : ℕ → ℕ → Type 0) (trees : Trees) (address : List ℕ) → AreViewsOf below (V.tree_at v.now) (V.answers_at v.now) (V.Stands v.now) trees →
-        ((n : ℕ) → unwrap_or (map.get refs.now n) [] ≡ V.answers_at v.now n) → V.Stands v.now doc.0 address →
+        ((n : ℕ) → answers_in refs.now n ≡ V.answers_at v.now n) → V.Stands v.now doc.0 address →
         IfOk result (λ found. MatchOption found (AreReferencesAt below trees address off declaration None)
         (λ spots. (mentions : List Mention) × AllZip (IsMentionAt (V.Stands v.now)) spots mentions × AreReferencesAt below trees address off declaration (Some mentions))) }
 {
