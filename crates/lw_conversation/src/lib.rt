@@ -15,7 +15,7 @@
 //!
 //! There is no code here but the types [`Ended`] and [`Phase`] and the codes of errors. Each function has an empty body, and its contract is
 //! a law that a reader would expect: what a session does is settled ([`one_outcome`]), and leaves nothing to do
-//! behind a message ([`sessions_stay_current`]).
+//! behind a message ([`sessions_stay_current`]); edits are told of documents in the order of their addresses ([`edits_are_in_order`]).
 #![tactic(auto)]
 
 mod ended;
@@ -28,5 +28,5 @@ pub use error_code::{
     INVALID_PARAMS, INVALID_REQUEST, METHOD_NOT_FOUND, PARSE_ERROR, REQUEST_FAILED,
     SERVER_NOT_INITIALIZED,
 };
-pub use laws::{one_outcome, sessions_stay_current};
+pub use laws::{edits_are_in_order, one_outcome, sessions_stay_current};
 pub use phase::Phase;
