@@ -3,3 +3,5 @@ pub mod Lifecycle
 pub mod Answering
 pub mod Loading
 pub mod Seen
+pub mod Locating
+pub mod Editing

@@ -36,7 +36,7 @@ fn reply_texts(alloc: Global, replies: &[Reply]) -> Result<Items<Name>, NoMemory
 }
 
 // The publication of a list, in memory of its own.
-fn publication(alloc: Global, published: &Published) -> Result<Reply, NoMemory>
+pub(crate) fn publication(alloc: Global, published: &Published) -> Result<Reply, NoMemory>
     ensures { IfOk result (λ reply. reply ≡ as_reply published.now) }
 {
     Ok(Reply::Publish(
