@@ -2,3 +2,5 @@ pub mod Known
 pub mod Handling
 pub mod Answers
 pub mod Loads
+pub mod Asked
+pub mod Renames
