@@ -67,7 +67,8 @@ fn refusal_text(
     fault: RenameFault,
 ) -> Result<Name, NoMemory>
     requires { IsPlacedFault workspace.now.grammar (present_texts_of workspace.now.kept) fault }
-    ensures { (refusal : Refusal) → TellsRefusal fault refusal → IfOk result (IsRefusalText workspace.now.grammar (present_texts_of workspace.now.kept) refusal) }
+    ensures told { (refusal : Refusal) → TellsRefusal fault refusal → IfOk result (IsRefusalText workspace.now.grammar (present_texts_of workspace.now.kept) refusal) }
+    ensures starved { fault ≡ RenameFault.NoMemory → IfOk result (λ _. ⊥) }
 {
     match fault {
         RenameFault::NoName => Name::from_text(alloc, "There is no name here."),

@@ -1,11 +1,12 @@
 // A message and the build behind it.
-ghost use Rattle.std.specs.Prelude.{◌≡◌, ◌++◌, [], IfOk, OnErr, map};
+ghost use Rattle.std.specs.Prelude.{◌≡◌, ◌++◌, [], IfOk, OnErr, All, map};
 ghost use Rattle.lw_build.specs.Agreeing.{Agrees};
 ghost use Rattle.lw_build.specs.View.{documents};
 ghost use Rattle.lw_conversation.specs.Answered.{IsCutShort};
 ghost use Rattle.lw_conversation.specs.Effects.{as_reply};
 ghost use Rattle.lw_conversation.specs.Sessions.{Handles};
 ghost use Rattle.lw_machine.specs.Documents.{Documents};
+ghost use Rattle.lw_rpc.specs.Replies.{HasOrderedEdits};
 ghost use Rattle.lw_session.specs.Answering.{IsAnswered, IsBuiltBehind, standing_of};
 
 use crate::asking::ask;
@@ -37,6 +38,7 @@ pub(crate) fn serve<L: Ledger>(
 ) -> Result<Served, NoMemory>
     ensures handles { IfOk result (λ served. Handles workspace.old.grammar (standing_of workspace.old phase) message []
         (standing_of workspace.new served.told.phase) (served.told.replies ++ map as_reply served.lists) served.told.ended) }
+    ensures ordered { IfOk result (λ served. All HasOrderedEdits served.told.replies) }
     ensures cut_short { OnErr result (IsCutShort workspace.old.grammar (standing_of workspace.old phase) message (standing_of workspace.new phase)) }
     ensures grammar { workspace.new.grammar ≡ workspace.old.grammar }
 {
