@@ -2,5 +2,6 @@ pub mod Known
 pub mod Handling
 pub mod Answers
 pub mod Loads
+pub mod Rows
 pub mod Asked
 pub mod Renames
