@@ -31,7 +31,7 @@ use Rattle.lw_tree.specs.Parts.{Parts}
 use Rattle.lw_machine.specs.Documents.{Document, Documents, present_texts}
 use Rattle.lw_places.specs.Asked.{AreReferences, IsDefinition}
 use Rattle.lw_places.specs.Mentions.{Mention}
-use Rattle.lw_places.proofs.OneReply.{one_definition, one_references}
+use Rattle.lw_places.proofs.OneReply.{one_place_of_definition, one_list_of_references}
 use Rattle.lw_renaming.specs.Renamed.{IsRenamed, Refusal}
 use Rattle.lw_renaming.proofs.OneRename.{one_rename}
 use Rattle.lw_conversation.specs.declared.error_code.TheConstants.{REQUEST_FAILED}
@@ -118,7 +118,7 @@ module _ (g : Grammar) (one_way : IsReadOneWay g) where
     one_mention : (a b : ℕ) (p q : Option Mention) → IsAskedAt g m address at a → IsAskedAt g m address at b → IsDefinition g (present_texts m) address a p →
         IsDefinition g (present_texts m) address b q → p ≡ q
     one_mention a b p q is was first second =
-        one_definition g one_way (present_texts m) address a p q first
+        one_place_of_definition g one_way (present_texts m) address a p q first
         (subst (λ o. IsDefinition g (present_texts m) address o q) (sym (one_offset a b is was)) second)
 
     one_definition_told : (p q : Outcome) → TellsDefinition g m address at p → TellsDefinition g m address at q → p ≡ q
@@ -140,7 +140,7 @@ module _ (g : Grammar) (one_way : IsReadOneWay g) where
       one_list_of_mentions : (a b : ℕ) (p q : Option (List Mention)) → IsAskedAt g m address at a → IsAskedAt g m address at b →
           AreReferences g (present_texts m) address a declaration p → AreReferences g (present_texts m) address b declaration q → p ≡ q
       one_list_of_mentions a b p q is was first second =
-          one_references g one_way (present_texts m) address a declaration p q first
+          one_list_of_references g one_way (present_texts m) address a declaration p q first
           (subst (λ o. AreReferences g (present_texts m) address o declaration q) (sym (one_offset a b is was)) second)
 
       one_references_told : (p q : Outcome) → TellsReferences g m address at declaration p → TellsReferences g m address at declaration q → p ≡ q

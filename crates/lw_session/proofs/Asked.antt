@@ -62,7 +62,7 @@ module _ (seen : SeenView) (below : ℕ → ℕ → Type 0) (trees : Trees) (vie
     stands_once : (other : List ℕ) → StandsSeen seen spot.doc.0 other → other ≡ m.address
     stands_once other stands = views.one_address spot.doc.0 other m.address stands at.stands
 
-    pub spot_of_name : (target : List ℕ × ℕ) → IsNameHere below trees target m → IsSpotOf seen spot
+    pub spot_of_name : (target : List ℕ × ℕ) → IsNameHere trees target m → IsSpotOf seen spot
     spot_of_name target is = record {
       address = m.address;
       stands = at.stands;
