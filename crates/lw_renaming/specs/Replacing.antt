@@ -9,7 +9,7 @@ use Rattle.lw_scopes.specs.Links.{Texts}
 
 -- What is left of a text from an offset on, where these spans of the text, given in their order, are replaced. Spans of one text do not overlap; one that
 -- begins before the offset would be passed over.
-pub replaced_from : List ℕ → ℕ → List ℕ → List Span → List ℕ
+abbrev pub replaced_from : List ℕ → ℕ → List ℕ → List Span → List ℕ
 replaced_from new at rest [] = rest
 replaced_from new at rest (s ∷ spans) =
     if nat_lt s.start at then replaced_from new at rest spans
