@@ -5,3 +5,4 @@ pub mod SameShapes
 pub mod Texts
 pub mod OneRebound
 pub mod OneRename
+pub mod Written

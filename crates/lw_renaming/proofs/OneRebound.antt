@@ -20,13 +20,15 @@ module _ (g : Grammar) (one_way : IsReadOneWay g) (texts after : Texts) where
   pub not_rebound : {A : Type 0} (address : List ℕ) (i : ℕ) (x y : Link) → IsRebound g texts after address i x y → LinksStay g texts after address → A
   not_rebound address i x y is stay =
       absurd
-      (is.differ (same_Some x y (sym is.led ∙ one_link texts address is.was stay.0 is.were stay.1 i ∙ one_link after address stay.0 is.now stay.2 is.are i ∙ is.leads)))
+      (is.differ (same_Some x y (sym is.led ∙ one_link texts address is.was stay.0 is.were stay.1 i
+      ∙ one_link after address stay.0 is.now stay.2 is.are i ∙ is.leads)))
 
   module _ (a : List ℕ) (x y z w : Link) where
     not_earlier : (i j : ℕ) → IsRebound g texts after a i x y → IsRebound g texts after a j z w → i < j → ⊥
     not_earlier i j is other low =
         is.differ
-        (same_Some x y (sym is.led ∙ one_link texts a is.was other.was is.were other.were i ∙ other.same_before i low ∙ one_link after a other.now is.now other.are is.are i ∙ is.leads))
+        (same_Some x y (sym is.led ∙ one_link texts a is.was other.was is.were other.were i ∙ other.same_before i low
+        ∙ one_link after a other.now is.now other.are is.are i ∙ is.leads))
 
     same_ends : (i : ℕ) → IsRebound g texts after a i x y → IsRebound g texts after a i z w → Rebound a i x y ≡ Rebound a i z w
     same_ends i is other =

@@ -9,7 +9,20 @@ use Rattle.lw_reading.specs.Laws.{IsReadOneWay}
 use Rattle.lw_scopes.specs.Links.{AreLinks, Texts}
 use Rattle.lw_scopes.proofs.OneList.{one_list_of_links}
 use Rattle.lw_scoping.specs.Links.{Link}
-use Rattle.lw_renaming.specs.Renamed.{IsKeptAt, IsRebound, IsRenamed, IsSpoiledAt, LinksStay, Refusal, no_name, refused, rebound, renamed}
+use Rattle.lw_renaming.specs.Renamed.{
+  AreRenamed,
+  IsKeptAt,
+  IsRebound,
+  IsRenamed,
+  IsSpoiledAt,
+  LinksStay,
+  NothingIsMeant,
+  Refusal,
+  no_name,
+  refused,
+  rebound,
+  renamed,
+}
 use Rattle.lw_renaming.specs.Replacing.{renamed_texts}
 use Rattle.lw_renaming.proofs.Addresses.{stands, before, there, behind}
 use Rattle.lw_renaming.proofs.Mentioned.{not_nothing, one_list_of_mentions}
@@ -20,6 +33,13 @@ module _ (g : Grammar) (one_way : IsReadOneWay g) (texts : Texts) (address : Lis
   abbrev after : List Mention → Texts
   after mentions = renamed_texts new mentions texts
 
+  same_mentions : (mentions others : List Mention) → AreRenamed g texts address offset new mentions → AreRenamed g texts address offset new others →
+      mentions ≡ others
+  same_mentions = one_list_of_mentions g texts address offset new one_way
+
+  not_both : {A : Type 0} (mentions : List Mention) → NothingIsMeant g texts address offset new → AreRenamed g texts address offset new mentions → A
+  not_both mentions none are = not_nothing g texts address offset new one_way mentions none are
+
   abbrev AllKept : List Mention → Type 0
   AllKept mentions = (m : Mention) → Contains mentions m → IsKeptAt g texts (after mentions) m.address
 
@@ -28,13 +48,15 @@ module _ (g : Grammar) (one_way : IsReadOneWay g) (texts : Texts) (address : Lis
     m : Mention
     has : Contains mentions m
     spoiled : IsSpoiledAt g texts (after mentions) m.address refusal
-    kept_before : (other : Mention) → Contains mentions other → slice_cmp nat_cmp other.address m.address ≡ Less → IsKeptAt g texts (after mentions) other.address
+    kept_before : (other : Mention) → Contains mentions other → slice_cmp nat_cmp other.address m.address ≡ Less →
+        IsKeptAt g texts (after mentions) other.address
 
   one_refusal : (mentions : List Mention) (a b : Refusal) → FirstSpoiled mentions a → FirstSpoiled mentions b → a ≡ b
   one_refusal mentions a b is other = elim (stands is.m.address other.m.address) [
     | before less ↦ kept_or_spoiled g one_way texts (after mentions) is.m.address (other.kept_before is.m is.has less) is.spoiled
     | there same ↦
-        one_spoil g one_way texts (after mentions) other.m.address (subst (λ (c : List ℕ). IsSpoiledAt g texts (after mentions) c a) same is.spoiled) other.spoiled
+        one_spoil g one_way texts (after mentions) other.m.address (subst (λ (c : List ℕ). IsSpoiledAt g texts (after mentions) c a) same is.spoiled)
+        other.spoiled
     | behind less ↦ kept_or_spoiled g one_way texts (after mentions) other.m.address (is.kept_before other.m other.has less) other.spoiled
   ]
 
@@ -45,38 +67,40 @@ module _ (g : Grammar) (one_way : IsReadOneWay g) (texts : Texts) (address : Lis
   pub one_outcome : (outcome other : Result (List Mention) Refusal) → IsRenamed g texts address offset new outcome →
       IsRenamed g texts address offset new other → outcome ≡ other
   one_outcome outcome other (no_name _) (no_name _) = refl
-  one_outcome outcome other (no_name none) (refused {mentions = ns} were _ _ _) = not_nothing g texts address offset new one_way ns none were
-  one_outcome outcome other (no_name none) (rebound {mentions = ns} were _ _) = not_nothing g texts address offset new one_way ns none were
-  one_outcome outcome other (no_name none) (renamed {mentions = ns} were _ _) = not_nothing g texts address offset new one_way ns none were
-  one_outcome outcome other (refused {mentions = ms} are _ _ _) (no_name none) = not_nothing g texts address offset new one_way ms none are
-  one_outcome outcome other (rebound {mentions = ms} are _ _) (no_name none) = not_nothing g texts address offset new one_way ms none are
-  one_outcome outcome other (renamed {mentions = ms} are _ _) (no_name none) = not_nothing g texts address offset new one_way ms none are
-  one_outcome outcome other (refused {mentions = ms} {m = m} {refusal = a} are has spoiled kept) (refused {mentions = ns} {m = k} {refusal = b} were had spoils keeps) =
-      let same : ms ≡ ns = one_list_of_mentions g texts address offset new one_way ms ns are were in
+  one_outcome outcome other (no_name none) (refused {mentions = ns} were _ _ _) = not_both ns none were
+  one_outcome outcome other (no_name none) (rebound {mentions = ns} were _ _) = not_both ns none were
+  one_outcome outcome other (no_name none) (renamed {mentions = ns} were _ _) = not_both ns none were
+  one_outcome outcome other (refused {mentions = ms} are _ _ _) (no_name none) = not_both ms none are
+  one_outcome outcome other (rebound {mentions = ms} are _ _) (no_name none) = not_both ms none are
+  one_outcome outcome other (renamed {mentions = ms} are _ _) (no_name none) = not_both ms none are
+  one_outcome outcome other (refused {mentions = ms} {m = m} {refusal = a} are has spoiled kept)
+      (refused {mentions = ns} {m = k} {refusal = b} were had spoils keeps) =
+      let same : ms ≡ ns = same_mentions ms ns are were in
       let one : FirstSpoiled ms a = record { m = m; has = has; spoiled = spoiled; kept_before = kept } in
       ap Err (one_refusal ns a b (subst (λ (x : List Mention). FirstSpoiled x a) same one) (record { m = k; has = had; spoiled = spoils; kept_before = keeps }))
   one_outcome outcome other (refused {mentions = ms} {m = m} {refusal = a} are has spoiled kept) (rebound {mentions = ns} were all _) =
-      not_kept ms ns a (one_list_of_mentions g texts address offset new one_way ms ns are were) (record { m = m; has = has; spoiled = spoiled; kept_before = kept }) all
+      not_kept ms ns a (same_mentions ms ns are were) (record { m = m; has = has; spoiled = spoiled; kept_before = kept }) all
   one_outcome outcome other (refused {mentions = ms} {m = m} {refusal = a} are has spoiled kept) (renamed {mentions = ns} were all _) =
-      not_kept ms ns a (one_list_of_mentions g texts address offset new one_way ms ns are were) (record { m = m; has = has; spoiled = spoiled; kept_before = kept }) all
+      not_kept ms ns a (same_mentions ms ns are were) (record { m = m; has = has; spoiled = spoiled; kept_before = kept }) all
   one_outcome outcome other (rebound {mentions = ms} are all _) (refused {mentions = ns} {m = k} {refusal = b} were had spoils keeps) =
-      not_kept ns ms b (one_list_of_mentions g texts address offset new one_way ns ms were are) (record { m = k; has = had; spoiled = spoils; kept_before = keeps }) all
+      not_kept ns ms b (same_mentions ns ms were are) (record { m = k; has = had; spoiled = spoils; kept_before = keeps }) all
   one_outcome outcome other (renamed {mentions = ms} are all _) (refused {mentions = ns} {m = k} {refusal = b} were had spoils keeps) =
-      not_kept ns ms b (one_list_of_mentions g texts address offset new one_way ns ms were are) (record { m = k; has = had; spoiled = spoils; kept_before = keeps }) all
-  one_outcome outcome other (rebound {mentions = ms} {a = a} {i = i} {before = x} {behind = y} are _ is) (rebound {mentions = ns} {a = b} {i = j} {before = z} {behind = w} were _ was) =
-      let same : ms ≡ ns = one_list_of_mentions g texts address offset new one_way ms ns are were in
+      not_kept ns ms b (same_mentions ns ms were are) (record { m = k; has = had; spoiled = spoils; kept_before = keeps }) all
+  one_outcome outcome other (rebound {mentions = ms} {a = a} {i = i} {before = x} {behind = y} are _ is)
+      (rebound {mentions = ns} {a = b} {i = j} {before = z} {behind = w} were _ was) =
+      let same : ms ≡ ns = same_mentions ms ns are were in
       let one : IsRebound g texts (after ns) a i x y = subst (λ (seen : List Mention). IsRebound g texts (after seen) a i x y) same is in
       ap Err (one_rebound g one_way texts (after ns) a b i j x y z w one was)
   one_outcome outcome other (rebound {mentions = ms} {a = a} {i = i} {before = x} {behind = y} are _ is) (renamed {mentions = ns} were _ stay) =
-      let same : ms ≡ ns = one_list_of_mentions g texts address offset new one_way ms ns are were in
+      let same : ms ≡ ns = same_mentions ms ns are were in
       let one : IsRebound g texts (after ns) a i x y = subst (λ (seen : List Mention). IsRebound g texts (after seen) a i x y) same is in
       not_rebound g one_way texts (after ns) a i x y one (stay a)
   one_outcome outcome other (renamed {mentions = ms} are _ stay) (rebound {mentions = ns} {a = b} {i = j} {before = z} {behind = w} were _ was) =
-      let same : ns ≡ ms = one_list_of_mentions g texts address offset new one_way ns ms were are in
+      let same : ns ≡ ms = same_mentions ns ms were are in
       let one : IsRebound g texts (after ms) b j z w = subst (λ (seen : List Mention). IsRebound g texts (after seen) b j z w) same was in
       not_rebound g one_way texts (after ms) b j z w one (stay b)
   one_outcome outcome other (renamed {mentions = ms} are _ _) (renamed {mentions = ns} were _ _) =
-      ap Ok (one_list_of_mentions g texts address offset new one_way ms ns are were)
+      ap Ok (same_mentions ms ns are were)
 
   pub links_stay : (mentions : List Mention) → IsRenamed g texts address offset new (Ok mentions) → (a : List ℕ) → LinksStay g texts (after mentions) a
   links_stay mentions (renamed _ _ stay) a = stay a

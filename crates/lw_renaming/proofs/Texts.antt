@@ -36,11 +36,14 @@ module _ (g : Grammar) (one_way : IsReadOneWay g) where
     one_spoil (unreadable _ _) (unreadable _ _) = refl
     one_spoil (unreadable is unread) (reshaped _ _ now utf8 reads _) = absurd (cannot_be is unread now utf8 reads)
     one_spoil (reshaped _ _ now utf8 reads _) (unreadable is unread) = absurd (cannot_be is unread now utf8 reads)
-    one_spoil (reshaped {tree = a} {other = b} {n = n} was read is _ reads first) (reshaped {tree = c} {other = d} {n = k} was' read' is' _ reads' first') =
-        let one : IsFirstUnlike g c d n = unlike_too g (same_whole was read was' read') (same_whole is reads is' reads') n first in
+    one_spoil (reshaped {tree = a} {other = b} {n = n} was whole_then is _ reads first)
+        (reshaped {tree = c} {other = d} {n = k} was' read' is' _ reads' first') =
+        let one : IsFirstUnlike g c d n = unlike_too g (same_whole was whole_then was' read') (same_whole is reads is' reads') n first in
         ap (λ (m : ℕ). Shape address m) (one_unlike g c d n k one first')
 
     pub kept_or_spoiled : {A : Type 0} {refusal : Refusal} → IsKeptAt g texts after address → IsSpoiledAt g texts after address refusal → A
     kept_or_spoiled kept (unreadable is unread) = absurd (cannot_be is unread kept.is kept.utf8 kept.still_reads)
-    kept_or_spoiled kept (reshaped {n = n} was read is _ reads first) =
-        absurd (not_unlike g kept.tree kept.other n kept.same_shape (unlike_too g (same_whole was read kept.was kept.reads) (same_whole is reads kept.is kept.still_reads) n first))
+    kept_or_spoiled kept (reshaped {n = n} was whole_then is _ reads first) =
+        absurd
+        (not_unlike g kept.tree kept.other n kept.same_shape
+        (unlike_too g (same_whole was whole_then kept.was kept.reads) (same_whole is reads kept.is kept.still_reads) n first))

@@ -16,7 +16,8 @@ elsewhere b a apart = by (bytes_eq b a) refl
     by false is = is
     by true is = absurd (apart ((bytes_eq-Decides b a).0 is))
 
-no_mention : (a : List ℕ) (mentions : List Mention) → ((m : Mention) → Contains mentions m → m.address ≢ a) → filter (λ (m : Mention). bytes_eq m.address a) mentions ≡ []
+no_mention : (a : List ℕ) (mentions : List Mention) → ((m : Mention) → Contains mentions m → m.address ≢ a) →
+    filter (λ (m : Mention). bytes_eq m.address a) mentions ≡ []
 no_mention a [] none = refl
 no_mention a (m ∷ ms) none =
     cond-false (bytes_eq m.address a) (m ∷ filter (λ (x : Mention). bytes_eq x.address a) ms) (filter (λ (x : Mention). bytes_eq x.address a) ms)
