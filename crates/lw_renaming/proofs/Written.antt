@@ -75,7 +75,7 @@ module _ (g : Grammar) where
     references = λ i. refl;
   }
 
-  type_of : Option (TypeId × Option NodeId × Option PropId) → ℕ
+  abbrev type_of : Option (TypeId × Option NodeId × Option PropId) → ℕ
   type_of None = 0
   type_of (Some as_what) = as_what.0.0
 
