@@ -1,5 +1,5 @@
 -- One reference is the first that a rename rebinds.
-use Rattle.std.proofs.Common.{◌≡◌, ◌≢◌, ◌<◌, ℕ, List, Some, slice_get, inl, inr, refl, sym, ap, ◌∙◌, subst, arith}
+use Rattle.std.proofs.Common.{◌≡◌, ◌<◌, ℕ, List, slice_get, inl, inr, sym, ap, ◌∙◌, subst, arith}
 use Rattle.std.proofs.lemmas.Bool.{cases_lt}
 use Rattle.std.proofs.lemmas.Option.{same_Some}
 use Rattle.lw_grammar.specs.declared.grammar.Grammar.{Grammar}
@@ -7,7 +7,7 @@ use Rattle.lw_reading.specs.Laws.{IsReadOneWay}
 use Rattle.lw_scopes.specs.Links.{AreLinks, Texts}
 use Rattle.lw_scopes.proofs.OneList.{one_list_of_links}
 use Rattle.lw_scoping.specs.Links.{Link}
-use Rattle.lw_renaming.specs.Renamed.{IsRebound, LinksStay, Rebound, Refusal}
+use Rattle.lw_renaming.specs.Renamed.{IsRebound, LinksStay, Rebound}
 use Rattle.lw_renaming.proofs.Addresses.{stands, before, there, behind}
 
 module _ (g : Grammar) (one_way : IsReadOneWay g) (texts after : Texts) where

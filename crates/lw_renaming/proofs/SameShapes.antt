@@ -1,5 +1,5 @@
 -- Two trees differ first at one node at most, and by their tables alone.
-use Rattle.std.proofs.Common.{◌≡◌, ◌<◌, ◌⊎◌, inl, inr, ℕ, List, Option, length, map, slice_get, sym, ap, ◌∙◌, subst₂, arith}
+use Rattle.std.proofs.Common.{◌≡◌, ◌<◌, ◌⊎◌, inl, inr, ℕ, List, length, map, slice_get, sym, ap, ◌∙◌, subst₂, arith}
 use Rattle.std.specs.Option.{option_map}
 use Rattle.std.proofs.lemmas.Bool.{cases_lt}
 use Rattle.lw_grammar.specs.declared.grammar.Grammar.{Grammar}

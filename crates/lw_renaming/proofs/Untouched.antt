@@ -1,13 +1,12 @@
 -- The text of a document without a mention stays as it is.
-use Rattle.std.proofs.Common.{◌≡◌, ◌≢◌, ℕ, suc, List, [], ◌∷◌, Bool, true, false, Option, Some, None, Contains, filter, map, refl, ap, ◌∙◌, subst, arith}
+use Rattle.std.proofs.Common.{◌≡◌, ◌≢◌, ℕ, suc, List, [], ◌∷◌, Bool, true, false, Option, Some, None, Contains, filter, map, refl, ap, ◌∙◌, arith}
 use Rattle.std.specs.Option.{option_map}
 use Rattle.std.specs.Str.{bytes_eq}
 use Rattle.std.proofs.lemmas.Bool.{cond-false}
 use Rattle.std.proofs.lemmas.Slice.Eq.{bytes_eq-Decides}
-use Rattle.lw_base.specs.declared.token.Span.{Span}
 use Rattle.lw_places.specs.Mentions.{Mention}
 use Rattle.lw_scopes.specs.Links.{Texts}
-use Rattle.lw_renaming.specs.Replacing.{renamed_texts, replaced, spans_at}
+use Rattle.lw_renaming.specs.Replacing.{renamed_texts, replaced}
 
 elsewhere : (b a : List ℕ) → b ≢ a → bytes_eq b a ≡ false
 elsewhere b a apart = by (bytes_eq b a) refl

@@ -2,13 +2,11 @@
 -- would change is told, the first of these: a document cannot be read any more, or is read as something of another shape, in the order of addresses; then a
 -- reference, anywhere, leads to another node, or to one where it led nowhere, or nowhere.
 -- Held against the Language Server Protocol 3.17, "Rename Request"; that nothing is rebound is this profile's.
-use Rattle.std.specs.Prelude.{ℕ, ◌≡◌, ◌≢◌, ◌<◌, ◌⊎◌, List, Bool, true, slice_get, Option, Some, None, Result, Ok, Err, Contains}
+use Rattle.std.specs.Prelude.{ℕ, ◌≡◌, ◌≢◌, ◌<◌, List, true, slice_get, Some, None, Result, Ok, Err, Contains}
 use Rattle.std.specs.Cmp.Lexicographic.{slice_cmp}
 use Rattle.std.specs.Ordering.{nat_cmp}
 use Rattle.std.specs.Str.{IsUtf8}
 use Rattle.std.specs.declared.cmp.Ordering.TheVariants.{Less}
-use Rattle.lw_base.specs.declared.numbers.NodeId.{NodeId}
-use Rattle.lw_base.specs.declared.numbers.RefId.{RefId}
 use Rattle.lw_grammar.specs.declared.grammar.Grammar.{Grammar}
 use Rattle.lw_places.specs.Mentions.{AreMentionsOf, IsMeantAt, Mention}
 use Rattle.lw_reading.specs.Reading.{Reads}
