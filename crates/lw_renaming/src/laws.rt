@@ -34,8 +34,8 @@ pub fn only_texts_are_renamed()
         (outcome : Result (List Mention) Refusal) → IsRenamed g texts address offset new outcome → IsRenamed g others address offset new outcome }
 {}
 
-/// Each span is replaced, at the place where it stands as the text is before any is; one that is given twice is replaced once. A document that has no
-/// mention keeps its text.
+/// Each span is replaced, at the place where it stands as the text is before any is; one that is given twice is replaced once. The
+/// mentions in one document replace nothing in another.
 pub fn texts_are_replaced()
     ensures all { replaced (codes "long") (codes "part x uses x") (letter_at 5 ∷ letter_at 12 ∷ []) ≡ codes "part long uses long" }
     ensures once { replaced (codes "long") (codes "part x") (letter_at 5 ∷ letter_at 5 ∷ []) ≡ codes "part long" }
@@ -43,13 +43,13 @@ pub fn texts_are_replaced()
         renamed_texts (codes "y") (letter_in (codes "a") 5 ∷ letter_in (codes "b") 0 ∷ []) texts (codes "a") ≡ Some (codes "uses y") }
 {}
 
-/// Trees that differ in texts and places alone have one shape. Those of two documents that differ in a type do not, and the first node that does is told.
+/// Trees that differ in texts and places alone have one shape. Those that differ in a type do not, and they differ first at that node.
 pub fn texts_and_places_make_no_shape()
     ensures alike { (g : Grammar) → HaveSameShape g twins longer_twins }
     ensures unlike { (g : Grammar) → IsFirstUnlike g twins event_last 2 }
 {}
 
-/// Having one shape goes both ways, a tree has its own, and where two trees have not, they differ first at one node.
+/// Having one shape goes both ways, a tree has its own, and two trees that differ first at a node, which is one, have not.
 pub fn shapes_are_settled()
     ensures itself { (g : Grammar) (tree : Parts) → HaveSameShape g tree tree }
     ensures turned { (g : Grammar) (one other : Parts) → HaveSameShape g one other → HaveSameShape g other one }
