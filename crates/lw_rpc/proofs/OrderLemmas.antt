@@ -50,7 +50,7 @@ put_in_order front (file ∷ others) ordered =
 Precedes-AreOrdered : (files : List FileEdits) → AreOrdered files → AllPairs Precedes files
 Precedes-AreOrdered files ordered i j d below within =
     let uri_of : FileEdits → List ℕ = λ (file : FileEdits). file.uri in
-    let far = ordered i j d.uri below (omega (arith, length-map uri_of files)) in
+    let far = ordered i j d.uri below (omega (arith, length-map files uri_of)) in
     rw (get_or-map uri_of files i d d.uri (omega arith), get_or-map uri_of files j d d.uri within) at far
 
 pub with_members-in_order : (files : List FileEdits) → AreOrdered files → with_members no_members (map file_member files) ≡ members_as (map file_member files)

@@ -1,6 +1,7 @@
 -- No reply has a float in it, and none nests deeper than a reader goes.
 use Rattle.std.proofs.Common.{◌≡◌, ◌≤◌, ℕ, ℤ, pos, negsuc, List, [], ◌∷◌, map, Bool, true, false, ◌||◌, Option, Some, None, Ordering, Less, Equal, Greater, refl, arith}
-use Rattle.std.specs.Ordering.{match_ordering}
+use Rattle.std.specs.Cmp.Lexicographic.{slice_cmp}
+use Rattle.std.specs.Ordering.{nat_cmp, match_ordering}
 use Rattle.serde_json.specs.Data.{Data, Members, no_members, member, put, depth, items_depth, members_depth}
 use Rattle.serde_json.specs.Read.{max_depth}
 use Rattle.serde_json.specs.View.{items_of}
@@ -45,7 +46,8 @@ put_has_no_float key d no_members one all = rw one refl
 put_has_no_float key d (member other e others) one all =
     let own : has_float e ≡ false = or_first (has_float e) (members_have_float others) all in
     let rest : members_have_float others ≡ false = or_second (has_float e) (members_have_float others) all in
-    put_here_has_no_float _ _ _ _ (rw (one, own, rest) refl) (rw (one, rest) refl) (rw (own, put_has_no_float key d others one rest) refl)
+    put_here_has_no_float (slice_cmp nat_cmp key other) (member key d (member other e others)) (member other d others) (member other e (put key d others))
+    (rw (one, own, rest) refl) (rw (one, rest) refl) (rw (own, put_has_no_float key d others one rest) refl)
 
 files_have_no_float : (files : List FileEdits) (found : Members) → members_have_float found ≡ false → members_have_float (spec.with_members found (map spec.file_member files)) ≡ false
 files_have_no_float [] found none = none
@@ -103,7 +105,8 @@ put_here_is_shallow n Greater a b c p q s = s
 put_is_shallow : (n : ℕ) (key : List ℕ) (d : Data) (found : Members) → depth d ≤ n → members_depth found ≤ n → members_depth (put key d found) ≤ n
 put_is_shallow n key d no_members one all = omega arith
 put_is_shallow n key d (member other e others) one all =
-    put_here_is_shallow n _ _ _ _ (omega arith) (omega arith) (omega (arith, put_is_shallow n key d others one (omega arith)))
+    put_here_is_shallow n (slice_cmp nat_cmp key other) (member key d (member other e others)) (member other d others) (member other e (put key d others))
+    (omega arith) (omega arith) (omega (arith, put_is_shallow n key d others one (omega arith)))
 
 files_are_shallow : (files : List FileEdits) (found : Members) → members_depth found ≤ 4 → members_depth (spec.with_members found (map spec.file_member files)) ≤ 4
 files_are_shallow [] found low = low

@@ -64,8 +64,13 @@ edit_from text range s t p q = simp (p, q, append_assoc)
 compact_text-edit_value : (edit : TextEdit) → compact_text (value.edit_value edit) ≡ edit_text edit
 compact_text-edit_value edit = edit_from (string edit.text) (value.range_value edit.start edit.end) _ _ refl (compact_text-range_value edit.start edit.end)
 
+opens : (t : List ℕ) → 58 ∷ 91 ∷ t ≡ codes ":[" ++ t
+opens t = refl
+
 file_from : (file : FileEdits) → quoted (value.file_member file).0 ++ 58 ∷ compact_text (value.file_member file).1 ≡ file_text file
-file_from file = ap (λ t. quoted file.uri ++ 58 ∷ 91 ∷ t) (items_text-map value.edit_value edit_text compact_text-edit_value file.edits)
+file_from file =
+    ap (λ t. quoted file.uri ++ t)
+    (ap (λ t. 58 ∷ 91 ∷ t) (items_text-map value.edit_value edit_text compact_text-edit_value file.edits) ∙ opens (join_with_byte 44 (map edit_text file.edits) ++ 93 ∷ []))
 
 changes_from : (changes : Data) (s : List ℕ) → compact_text changes ≡ s → compact_text (value.object_of ((codes "changes", changes) ∷ [])) ≡ codes "{\"changes\":" ++ s ++ codes "}"
 unfolding serde_json_on_literals

@@ -16,8 +16,8 @@ use serde_json::Value;
 use std::alloc::Global;
 
 /// The bytes of a reply: compact JSON, keys in byte order (JSON-RPC 2.0; Language Server Protocol 3.17).
-/// Time and memory are in proportion to their number, but that of edits the time is also taken to find the
-/// place of each address.
+/// Memory is taken in proportion to their number, and time too, but for keeping the addresses of edits in
+/// order.
 pub fn reply_text(alloc: Global, reply: &Reply) -> Result<Name, NoMemory>
     requires ordered { HasOrderedEdits reply.now }
     ensures bytes { IfOk result (λ text. text ≡ reply_bytes reply.now) }
