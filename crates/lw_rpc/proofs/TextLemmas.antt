@@ -64,13 +64,11 @@ edit_from text range s t p q = simp (p, q, append_assoc)
 compact_text-edit_value : (edit : TextEdit) → compact_text (value.edit_value edit) ≡ edit_text edit
 compact_text-edit_value edit = edit_from (string edit.text) (value.range_value edit.start edit.end) _ _ refl (compact_text-range_value edit.start edit.end)
 
-opens : (t : List ℕ) → 58 ∷ 91 ∷ t ≡ codes ":[" ++ t
-opens t = refl
+file_from : (uri : List ℕ) (edits : Items) (s : List ℕ) → items_text false edits ≡ s ++ 93 ∷ [] → quoted uri ++ 58 ∷ compact_text (array edits) ≡ quoted uri ++ codes ":[" ++ s ++ codes "]"
+file_from uri edits s p = simp (p, append_assoc)
 
-file_from : (file : FileEdits) → quoted (value.file_member file).0 ++ 58 ∷ compact_text (value.file_member file).1 ≡ file_text file
-file_from file =
-    ap (λ t. quoted file.uri ++ t)
-    (ap (λ t. 58 ∷ 91 ∷ t) (items_text-map value.edit_value edit_text compact_text-edit_value file.edits) ∙ opens (join_with_byte 44 (map edit_text file.edits) ++ 93 ∷ []))
+text_of_file : (file : FileEdits) → quoted (value.file_member file).0 ++ 58 ∷ compact_text (value.file_member file).1 ≡ file_text file
+text_of_file file = file_from file.uri (items_of (map value.edit_value file.edits)) _ (items_text-map value.edit_value edit_text compact_text-edit_value file.edits)
 
 changes_from : (changes : Data) (s : List ℕ) → compact_text changes ≡ s → compact_text (value.object_of ((codes "changes", changes) ∷ [])) ≡ codes "{\"changes\":" ++ s ++ codes "}"
 unfolding serde_json_on_literals
@@ -79,7 +77,7 @@ changes_from changes s p = simp (p, append_assoc)
 compact_text-edits_value : (files : List FileEdits) → AreOrdered files → compact_text (value.edits_value files) ≡ edits_text files
 compact_text-edits_value files ordered =
     let changes : compact_text (value.object_of (map value.file_member files)) ≡ 123 ∷ (join_with_byte 44 (map file_text files) ++ 125 ∷ []) =
-    ap (λ found. 123 ∷ members_text false found) (with_members-in_order files ordered) ∙ ap (λ t. 123 ∷ t) (members_text-map value.file_member file_text file_from files) in
+    ap (λ found. 123 ∷ members_text false found) (with_members-in_order files ordered) ∙ ap (λ t. 123 ∷ t) (members_text-map value.file_member file_text text_of_file files) in
     changes_from (value.object_of (map value.file_member files)) _ changes
     ∙ ap (λ t. codes "{\"changes\":{" ++ t) (append_assoc (join_with_byte 44 (map file_text files)) (125 ∷ []) (125 ∷ []))
 
