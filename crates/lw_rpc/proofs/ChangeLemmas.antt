@@ -17,7 +17,7 @@ u32_of-HasCount key d n has = let small : nat_lt n (2 ^ 32) ≡ true = lt-ltb n 
 position_of-IsPos : (d : Data) (at : Pos) → IsPos d at → position_of d ≡ Some at
 position_of-IsPos d at is = rw (u32_of-HasCount (codes "line") d at.line is.has_line, u32_of-HasCount (codes "character") d at.character is.has_character) refl
 
-position_of-HasPos : (key : List ℕ) (d : Data) (at : Pos) → HasPos key d at → option_and_then position_of (get key d) ≡ Some at
+pub position_of-HasPos : (key : List ℕ) (d : Data) (at : Pos) → HasPos key d at → option_and_then position_of (get key d) ≡ Some at
 position_of-HasPos key d at has = ap (option_and_then position_of) has.1 ∙ position_of-IsPos has.0 at has.2
 
 range_of-IsRange : (d : Data) (range : Pos × Pos) → IsRange d range → range_of d ≡ Some range
@@ -66,7 +66,7 @@ IsPos-position_of d at same =
     let parts = at_place-parts _ _ at same in
     record { has_line = HasCount-found (codes "line") d _ at.line refl parts.0; has_character = HasCount-found (codes "character") d _ at.character refl parts.1 }
 
-HasPos-found : (key : List ℕ) (d : Data) (found : Option Data) (at : Pos) → get key d ≡ found → option_and_then position_of found ≡ Some at → HasPos key d at
+pub HasPos-found : (key : List ℕ) (d : Data) (found : Option Data) (at : Pos) → get key d ≡ found → option_and_then position_of found ≡ Some at → HasPos key d at
 HasPos-found key d (Some w) at is same = (w, is, IsPos-position_of w at same)
 HasPos-found key d None at is same = absurd (cc)
 
