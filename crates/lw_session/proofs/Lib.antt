@@ -4,4 +4,3 @@ pub mod Answers
 pub mod Loads
 pub mod Rows
 pub mod Asked
-pub mod Renames

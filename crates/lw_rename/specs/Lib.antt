@@ -1,9 +1,0 @@
-pub mod Files
-pub mod Meaning
-pub mod Mentioning
-pub mod Adding
-pub mod Told
-pub mod Unlike
-pub mod Again
-pub mod Afterwards
-pub mod Leading

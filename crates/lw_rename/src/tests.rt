@@ -1,7 +1,0 @@
-use std::test::Fail;
-
-#[test]
-fn nothing(rt: HostRuntime) -> Result<(), Fail> {
-    let _ = rt;
-    Ok(())
-}
