@@ -1,11 +1,11 @@
 -- The references that lead to a node, gathered document by document.
-use Rattle.std.proofs.Common.{◌≡◌, ◌≢◌, ◌↔◌, ◌⊎◌, ℕ, ◌+◌, ◌-◌, ◌<◌, ◌≤◌, Bool, true, false, cond, List, [], ◌∷◌, ◌++◌, Option, Some, None, Contains, AllPairs, IsTrue, length, get_or, map, take, refl, sym, ap, subst, ◌∙◌, inl, inr, arith}
+use Rattle.std.proofs.Common.{◌≡◌, ◌≢◌, ◌↔◌, ◌⊎◌, ℕ, ◌+◌, ◌-◌, ◌<◌, ◌≤◌, Bool, true, false, cond, List, [], ◌∷◌, ◌++◌, Option, Some, None, Contains, AllPairs, IsTrue, length, get_or, map, take, append-nil, append_assoc, refl, sym, ap, subst, ◌∙◌, inl, inr, arith}
 use Rattle.std.specs.List.{filter, slice_get}
 use Rattle.std.specs.List.Sorted.{IsStrictlySortedBy}
 use Rattle.std.specs.declared.cmp.Ordering.TheVariants.{Less}
 use Rattle.std.specs.BTreeSet.{BTreeSet, IsOrdered}
 use Rattle.std.proofs.lemmas.Bool.{cases_lt}
-use Rattle.std.proofs.lemmas.List.{get_or_append_left, get_or-append_right, length-append, length-map}
+use Rattle.std.proofs.lemmas.List.{get_or_append_left, get_or-append_right, length-append, length-map, map_more, take_all}
 use Rattle.std.proofs.lemmas.List.Elements.{All-from_recursion, All-contains, All-filter, Contains-append_left, Contains-append_right, Contains-append_cases, Contains-push_cases, Contains-get_or, filter_passes}
 use Rattle.std.proofs.lemmas.Option.{same_Some, slice_get-get_or, slice_get-map}
 use Rattle.std.specs.Option.{option_map}
@@ -128,6 +128,17 @@ module _ (answers : List Answer) (uses : List Use) (are : AreUses answers uses) 
     ordered = λ i j d lt within. in_order i j d lt (omega (arith, length-map (slot_of doc) found));
   }
 
+-- they are appended one by one
+module _ (f : Use → SlotId) (old : List SlotId) (found : List Use) where
+  pub none_added : old ≡ old ++ map f (take 0 found)
+  none_added = sym (append-nil old)
+
+  pub one_added : (slots more : List SlotId) (i : ℕ) (d : Use) → i < length found → slots ≡ old ++ map f (take i found) → more ≡ slots ++ f (get_or found i d) ∷ [] → more ≡ old ++ map f (take (i + 1) found)
+  one_added slots more i d lt so_far is = is ∙ ap (λ s. s ++ f (get_or found i d) ∷ []) so_far ∙ append_assoc old (map f (take i found)) (f (get_or found i d) ∷ []) ∙ ap (λ s. old ++ s) (sym (map_more f found i d lt))
+
+  pub all_added : (slots : List SlotId) (n : ℕ) → length found ≤ n → slots ≡ old ++ map f (take n found) → slots ≡ old ++ map f found
+  all_added slots n all so_far = so_far ∙ ap (λ s. old ++ map f s) (take_all n found all)
+
 -- ---- those of all
 
 module _ (documents : Held) (target : Target) where
@@ -152,7 +163,7 @@ module _ (documents : Held) (target : Target) where
     ordered = λ i j d lt within. absurd (omega arith);
     passed = λ slot p has _ _. none_in_nil slot has;
     left = λ slot user. inr (
-        let leads : LeadsInto user.answers target.doc.0 = record { reference = slot.reference.0; target = target; found = user.leads; into = refl; } in
+        let leads : LeadsInto user.answers target.doc.0 = record { reference = slot.reference.0; target = target; found = user.leads; into = refl } in
         let has : Contains pairs.keys (target.doc.0, slot.doc.0) = (btree_set_contains_iff pair_total pair_exact pairs (target.doc.0, slot.doc.0)).0 (paired slot.doc.0 target.doc.0 user.answers user.given leads) in
         kept_in (from_document target.doc.0) (target.doc.0, slot.doc.0) (is_from target.doc.0 (target.doc.0, slot.doc.0) (omega arith)) pairs.keys has);
   }))
@@ -165,13 +176,16 @@ module _ (documents : Held) (target : Target) where
     less q has = pair_below p q (All-contains (λ y. pair_cmp p y ≡ Less) rest q (All-from_recursion (λ y. pair_cmp p y ≡ Less) rest (sorted_head pair_cmp p rest are.sorted)) has)
 
     pub none_beyond : p.0 ≢ target.doc.0 → (slot : SlotId) → Contains slots slot ↔ IsOne slot
-    none_beyond other slot = (are.sound slot, λ user. elim (are.left slot user) as (λ _. Contains slots slot) [
-      | inl has ↦ has
-      | inr ahead ↦ absurd (elim (head_or_rest p rest (target.doc.0, slot.doc.0) ahead) as (λ _. ⊥) [
-        | inl same ↦ other (ap (λ (q : Pair). q.0) same)
-        | inr behind ↦ other (omega (arith, (less (target.doc.0, slot.doc.0) behind).first, are.within p (at_head p rest)))
-      ])
-    ])
+    none_beyond other slot = (
+      are.sound slot,
+      λ user. elim (are.left slot user) as (λ _. Contains slots slot) [
+        | inl has ↦ has
+        | inr ahead ↦ absurd (elim (head_or_rest p rest (target.doc.0, slot.doc.0) ahead) as (λ _. ⊥) [
+          | inl same ↦ other (ap (λ (q : Pair). q.0) same)
+          | inr behind ↦ other (omega (arith, (less (target.doc.0, slot.doc.0) behind).first, are.within p (at_head p rest)))
+        ])
+      ],
+    )
 
     module _ (at : p.0 ≡ target.doc.0) where
       module _ (more : List SlotId) (split : (slot : SlotId) → Contains more slot ↔ (Contains slots slot ⊎ ((slot.doc.0 ≡ p.1) × IsOne slot))) (ordered : AllPairs SlotPrecedes more) where
@@ -196,10 +210,13 @@ module _ (documents : Held) (target : Target) where
 
       -- nothing is held of the document of the pair
       pub gathered_none : held_at documents p.1 ≡ None → AreGathered slots rest
-      gathered_none none = gathered_more slots (λ slot. (λ has. inl has, λ h. elim h as (λ _. Contains slots slot) [
-        | inl has ↦ has
-        | inr new ↦ absurd (wrong new.1.answers (sym none ∙ ap (held_at documents) (sym new.0) ∙ new.1.given))
-      ])) are.ordered
+      gathered_none none = gathered_more slots (λ slot. (
+        λ has. inl has,
+        λ h. elim h as (λ _. Contains slots slot) [
+          | inl has ↦ has
+          | inr new ↦ absurd (wrong new.1.answers (sym none ∙ ap (held_at documents) (sym new.0) ∙ new.1.given))
+        ],
+      )) are.ordered
         where
           wrong : (answers : List Answer) → None ≡ Some answers → ⊥
           wrong answers e = cc
@@ -212,22 +229,25 @@ module _ (documents : Held) (target : Target) where
         of_document slot has =
             let h = (are_in.exact slot).0 has in
             let same : slot.doc.0 ≡ p.1 = ap (λ (d : DocId). d.0) h.0 ∙ doc_is in
-            (same, record { answers = answers; given = ap (held_at documents) same ∙ held; leads = h.1; })
+            (same, record { answers = answers; given = ap (held_at documents) same ∙ held; leads = h.1 })
 
         added_if : (slot : SlotId) → slot.doc.0 ≡ p.1 → IsOne slot → Contains added slot
         added_if slot same user =
             let is : answers ≡ user.answers = one user.answers (sym held ∙ ap (held_at documents) (sym same) ∙ user.given) in
             let there : slot.doc ≡ doc = λ i. record { 0 = (same ∙ sym doc_is) i } in
-            (are_in.exact slot).1 (there, ap (λ as. slice_get as slot.reference.0) is ∙ user.leads)
+            (are_in.exact slot).1 (there, ap (λ list. slice_get list slot.reference.0) is ∙ user.leads)
 
         pub gathered_some : AreGathered (slots ++ added) rest
         gathered_some = gathered_more (slots ++ added)
-            (λ slot. (λ has. elim (Contains-append_cases slots added slot has) as (λ _. Contains slots slot ⊎ ((slot.doc.0 ≡ p.1) × IsOne slot)) [
-              | inl before ↦ inl before
-              | inr new ↦ inr (of_document slot new)
-            ], λ h. elim h as (λ _. Contains (slots ++ added) slot) [
-              | inl before ↦ Contains-append_left slots added slot before
-              | inr new ↦ Contains-append_right slots added slot (added_if slot new.0 new.1)
-            ]))
+            (λ slot. (
+              λ has. elim (Contains-append_cases slots added slot has) as (λ _. Contains slots slot ⊎ ((slot.doc.0 ≡ p.1) × IsOne slot)) [
+                | inl before ↦ inl before
+                | inr new ↦ inr (of_document slot new)
+              ],
+              λ h. elim h as (λ _. Contains (slots ++ added) slot) [
+                | inl before ↦ Contains-append_left slots added slot before
+                | inr new ↦ Contains-append_right slots added slot (added_if slot new.0 new.1)
+              ],
+            ))
             (pairs_joined SlotPrecedes slots added are.ordered are_in.ordered (λ s a before new.
             by_document (omega (arith, are.passed s p before (at_head p rest) at, (of_document a new).0))))

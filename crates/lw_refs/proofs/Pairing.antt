@@ -3,6 +3,8 @@ use Rattle.std.proofs.Common.{◌≡◌, ◌≢◌, ℕ, ◌+◌, ◌<◌, Bool,
 use Rattle.std.specs.Borrow.{Bor}
 use Rattle.std.specs.Option.{IfSome, option_copied}
 use Rattle.std.specs.Ordering.{is_eq}
+use Rattle.std.specs.List.{list_any}
+use Rattle.std.specs.BTreeMap.{is_at}
 use Rattle.std.specs.BTreeSet.{BTreeSet, Updates}
 use Rattle.std.proofs.lemmas.Bool.{cases_lt}
 use Rattle.std.proofs.lemmas.Bool.Decides.{nat_tests}
@@ -29,6 +31,9 @@ removed_keeps before after p q updates other has = updates.0 q ∙ by (is_eq (pa
     by : (b : Bool) → is_eq (pair_cmp p q) ≡ b → cond b false (is_paired before q) ≡ true
     by true is = absurd (other (same_pair p q is))
     by false is = has
+
+pub unchanged_keeps : (before after : BTreeSet Pair) → after.keys ≡ before.keys → AllStay before after
+unchanged_keeps before after same q has = ap (list_any (is_at (pair_cmp q))) same ∙ has
 
 -- ---- entering
 
@@ -89,6 +94,17 @@ left_some before after doc user kept updates none p has stays = removed_keeps be
 pub left_none : (before after : BTreeSet Pair) (doc user : ℕ) → Updates pair_cmp before after (doc, user) false → SomeStay user None before after
 left_none before after doc user updates p has stays = removed_keeps before after (doc, user) p updates (λ same. stays (sym (ap (λ (q : Pair). q.1) same))) has
 
+pub left_by_some : (before after : BTreeSet Pair) (doc user : ℕ) (kept : Option (Bor (List Answer))) (held : Bor (List Answer)) → kept ≡ Some held → Updates pair_cmp before after (doc, user) false →
+    (r : Bool) → (LeadsInto held.now doc → IsTrue r) → r ≡ false → SomeStay user kept before after
+left_by_some before after doc user kept held is updates r leads off = subst (λ k. SomeStay user k before after) (sym is) (left_some before after doc user held updates (λ into. not_both r (leads into) off))
+  where
+    not_both : (r : Bool) → r ≡ true → r ≡ false → ⊥
+    not_both true h k = cc
+    not_both false h k = cc
+
+pub left_by_none : (before after : BTreeSet Pair) (doc user : ℕ) (kept : Option (Bor (List Answer))) → kept ≡ None → Updates pair_cmp before after (doc, user) false → SomeStay user kept before after
+left_by_none before after doc user kept is updates = subst (λ k. SomeStay user k before after) (sym is) (left_none before after doc user updates)
+
 -- ---- sweeping
 
 stays_by : (documents : Held) (user : ℕ) (kept : Option (Bor (List Answer))) → option_copied kept ≡ held_at documents user → (other doc : ℕ) (answers : List Answer) →
@@ -97,7 +113,7 @@ stays_by documents user None is other doc answers at leads same = none answers (
   where
     none : (answers : List Answer) → option_copied {T = List Answer} None ≡ Some answers → ⊥
     none answers e = cc
-stays_by documents user (Some kept) is other doc answers at leads same = subst (λ as. LeadsInto as doc) (sym (one (is ∙ ap (held_at documents) (sym same) ∙ at))) leads
+stays_by documents user (Some kept) is other doc answers at leads same = subst (λ list. LeadsInto list doc) (sym (one (is ∙ ap (held_at documents) (sym same) ∙ at))) leads
   where
     one : Some kept.now ≡ Some answers → kept.now ≡ answers
     one e = cc

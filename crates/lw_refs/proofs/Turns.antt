@@ -4,7 +4,7 @@ use Rattle.std.specs.List.{slice_get}
 use Rattle.std.proofs.lemmas.Bool.{cases_lt}
 use Rattle.std.proofs.lemmas.List.Elements.{Contains-get_or, Contains-append_left, Contains-push, Contains-push_cases}
 use Rattle.std.proofs.lemmas.List.Quantifiers.{all_pairs_push}
-use Rattle.std.proofs.lemmas.Option.{slice_get_within}
+use Rattle.std.proofs.lemmas.Option.{slice_get_within, slice_get-get_or}
 use Rattle.lw_index.specs.declared.parts.Answer.{Answer}
 use Rattle.lw_index.specs.declared.parts.Answer.TheVariants.{Found, Missing}
 use Rattle.lw_index.specs.declared.parts.Target.{Target}
@@ -71,3 +71,7 @@ module _ (answers : List Answer) (place : ℕ) (uses : List Use) (upto : AreUses
           let same : target ≡ target_of_use u = same_target target (target_of_use u) (sym is ∙ ap (slice_get answers) at ∙ leads) in
           subst (Contains (uses ++ use_of target place ∷ [])) (same_use u target place same at) (Contains-push uses (use_of target place))
       back u leads (inr before) = Contains-append_left uses (use_of target place ∷ []) u ((upto.exact u).1 (leads, before))
+
+-- an answer at its place
+pub answer_at : (answers : List Answer) (place : ℕ) (d a : Answer) → place < length answers → get_or answers place d ≡ a → slice_get answers place ≡ Some a
+answer_at answers place d a lt is = slice_get-get_or answers place d lt ∙ ap Some is

@@ -123,7 +123,8 @@ fn leave_one(pair: (u32, u32), kept: Option<&Leads>, pairs: &mut Pairs)
         Some(leads) => leads.leads_into(pair.0),
         None => false,
     };
-    if !stays {
-        pairs.remove(&pair);
+    if stays {
+        return;
     }
+    pairs.remove(&pair);
 }
