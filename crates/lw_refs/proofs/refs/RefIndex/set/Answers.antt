@@ -15,3 +15,7 @@ pub sweep-requires-in-Ok : goal.sweep-requires-in-Ok
 sweep-requires-in-Ok c = paired_with c.self.inside.documents c.insert.new.self c.args.doc.0 c.enter.new.pairs c.in_ok-leads.leads c.in-Ok.ensures.updates.0
     (paired_kept c.self.inside.documents c.self.inside.pairs c.enter.new.pairs c.enter.ensures.kept c.self.invariant)
     (from_ok c.enter.result (sym c.is_err.ensures.value ∙ c.if-is_err.false) c.enter.ensures.entered)
+
+pub returns-in-Ok-clause-ok : goal.returns-in-Ok-clause-ok
+returns-in-Ok-clause-ok c = led_insert c.self.inside.documents c.insert.new.self c.args.doc.0 c.in_ok-leads.leads c.in-Ok.ensures.updates.0 ∙ ap (λ v. map.insert v c.args.doc.0 c.in_ok-leads.leads) c.self.view_is
+    ∙ ap (map.insert c.args.self.now c.args.doc.0) c.in_ok-leads.ensures
