@@ -4,7 +4,7 @@ use Rattle.serde_json.specs.Data.{Data, null, boolean, number, string, array, ob
 use Rattle.serde_json.specs.Find.{get, as_bool}
 use Rattle.lw_text.specs.declared.place.Pos.{Pos}
 use Rattle.lw_rpc.specs.Causes.{HasValue, IsCall, NamesPoint, AsksDefinition, AsksReferences, AsksRename, IsMessage, asks_definition, not_definition, asks_references, not_references, asks_rename, not_rename}
-use Rattle.lw_rpc.specs.Params.{member_at, text_at, truth_at, position_at, point_by, point_of, definition_asked, flag_beside, point_and_flag, references_asked, name_beside, point_and_name, rename_asked}
+use Rattle.lw_rpc.specs.Params.{member_at, text_at, truth_at, point_by, point_of, definition_asked, flag_beside, point_and_flag, references_asked, name_beside, point_and_name, rename_asked}
 use Rattle.lw_rpc.proofs.ChangeLemmas.{position_of-HasPos, HasPos-found}
 use Rattle.lw_rpc.proofs.Found.{str_of, inside, found_in}
 use Rattle.lw_rpc.specs.declared.message.Id.{Id}

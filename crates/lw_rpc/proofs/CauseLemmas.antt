@@ -6,11 +6,11 @@ use Rattle.std.proofs.lemmas.Str.{IsUtf8-from_is_utf8, is_utf8-from_IsUtf8}
 use Rattle.std.specs.Prelude.{IsSome}
 use Rattle.std.specs.Str.{bytes_eq, is_utf8}
 use Rattle.serde_json.specs.Data.{Data, Num, null, boolean, number, string, array, object, Items}
-use Rattle.serde_json.specs.Find.{get, as_str, as_number, as_i64}
+use Rattle.serde_json.specs.Find.{get, as_str, as_i64}
 use Rattle.serde_json.specs.Read.{read}
 use Rattle.lw_rpc.specs.Calls.{Call, request, notification, neither, is_version, id_of, id_from, request_with, named, with_method, without_method, call_from, call_of}
 use Rattle.lw_rpc.specs.Calls as call
-use Rattle.lw_rpc.specs.Causes.{HasValue, IsId, text_id, whole_id, HasId, IsCall, IsResponse, IsKnown, Opens, Edits, AreChanges, IsMessage, bad_json, bad_request, response, unknown, initialize, shutdown, asks_definition, not_definition, asks_references, not_references, asks_rename, not_rename, exit, opened, not_opened, edited, not_edited}
+use Rattle.lw_rpc.specs.Causes.{HasValue, IsId, text_id, whole_id, HasId, IsCall, IsResponse, IsKnown, Opens, Edits, IsMessage, bad_json, bad_request, response, unknown, initialize, shutdown, asks_definition, not_definition, asks_references, not_references, asks_rename, not_rename, exit, opened, not_opened, edited, not_edited}
 use Rattle.lw_rpc.specs.Messages.{call_message, value_message, read_value_message, value_of_body, message_of}
 use Rattle.lw_rpc.specs.Params as params
 use Rattle.lw_rpc.specs.ChangeParams.{changes_of}

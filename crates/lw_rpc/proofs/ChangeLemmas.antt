@@ -1,12 +1,12 @@
 -- The changes that values are, are the ones that their shape gives.
 use Rattle.std.proofs.Common.{◌≡◌, ℕ, ◌<◌, ◌^◌, List, [], ◌∷◌, ◌++◌, append_assoc, Bool, true, false, codes, nat_lt, if◌then◌else◌, Option, Some, None, option_map, option_and_then, refl, ap, sym, subst, ◌∙◌}
 use Rattle.std.proofs.lemmas.Bool.{ltb-true, lt-ltb}
-use Rattle.serde_json.specs.Data.{Data, Num, unsigned, negative, float, null, boolean, number, string, array, object, Items, no_items, item}
-use Rattle.serde_json.specs.Find.{get, as_str, as_number, as_u64}
+use Rattle.serde_json.specs.Data.{Data, unsigned, negative, float, null, boolean, number, string, array, object, Items, no_items, item}
+use Rattle.serde_json.specs.Find.{get}
 use Rattle.lw_text.specs.declared.change.Change.{Change}
 use Rattle.lw_text.specs.declared.place.Pos.{Pos}
 use Rattle.lw_rpc.specs.Causes.{HasCount, IsPos, HasPos, IsRange, HasRange, IsChange, AreChanges, none, next}
-use Rattle.lw_rpc.specs.ChangeParams.{as_u32, u32_of, at_place, position_of, ranged, range_of, optional_range, replacing, change_of, followed, changes_of}
+use Rattle.lw_rpc.specs.ChangeParams.{u32_of, at_place, position_of, ranged, range_of, optional_range, replacing, change_of, followed, changes_of}
 use Rattle.lw_rpc.proofs.Found.{str_of}
 
 -- ---- from the rules to the shape
