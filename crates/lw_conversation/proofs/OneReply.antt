@@ -49,7 +49,7 @@ one_row_of R S one [] [] (z ∷ zs) is was = absurd was
 one_row_of R S one [] (y ∷ ys) zs is was = absurd is
 one_row_of R S one (x ∷ xs) [] zs is was = absurd is
 one_row_of R S one (x ∷ xs) (y ∷ ys) [] is was = absurd was
-one_row_of R S one (x ∷ xs) (y ∷ ys) (z ∷ zs) is was = ap₂ (λ a as. a ∷ as) (one x y z is.0 was.0) (one_row_of R S one xs ys zs is.1 was.1)
+one_row_of R S one (x ∷ xs) (y ∷ ys) (z ∷ zs) is was = ap₂ (λ b bs. b ∷ bs) (one x y z is.0 was.0) (one_row_of R S one xs ys zs is.1 was.1)
 
 -- ---- questions
 

@@ -77,12 +77,12 @@ module _ (phase : Phase) where
   gate_in_order (message.References id address at declaration) = request_in_order id Passes tt
   gate_in_order (message.Rename id address at new) = request_in_order id _ (one_in_order _ tt)
 
-opening_in_order : {m n : Documents} {address text : List ℕ} {version : ℤ} {replies : List Reply} → OpensDocument m address version text n replies → All HasOrderedEdits replies
+opening_in_order : {m : Documents} {address text : List ℕ} {version : ℤ} {n : Documents} {replies : List Reply} → OpensDocument m address version text n replies → All HasOrderedEdits replies
 opening_in_order (too_long _) = one_in_order _ tt
 opening_in_order (too_many _ _) = one_in_order _ tt
 opening_in_order (puts _ _) = none_to_order
 
-editing_in_order : {m n : Documents} {address : List ℕ} {version : ℤ} {changes : List Change} {replies : List Reply} → EditsDocument m address version changes n replies →
+editing_in_order : {m : Documents} {address : List ℕ} {version : ℤ} {changes : List Change} {n : Documents} {replies : List Reply} → EditsDocument m address version changes n replies →
     All HasOrderedEdits replies
 editing_in_order (editing.unknown _) = one_in_order _ tt
 editing_in_order (editing.bad_range _ _) = one_in_order _ tt
