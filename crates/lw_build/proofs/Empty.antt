@@ -8,7 +8,7 @@ use Rattle.lw_docs.specs.Documents.{AreNumbered, ByAddress, Numbered}
 use Rattle.lw_grammar.specs.declared.grammar.Grammar.{Grammar}
 use Rattle.lw_machine.proofs.Places.{order}
 use Rattle.lw_reading.specs.Laws.{IsReadOneWay}
-use Rattle.lw_build.specs.Built.{AreBuilt, IsKept}
+use Rattle.lw_build.specs.Built.{AreBuilt, IsWorkspaceKept}
 use Rattle.lw_build.specs.Readings.{reading_at}
 use Rattle.lw_build.specs.declared.readings.Readings.{Readings}
 use Rattle.lw_build.proofs.Documents.{held_here}
@@ -24,7 +24,7 @@ module _ (g : Grammar) (texts : List (List ℕ)) (kept : ByAddress) (empty : kep
   }
 
   pub none_kept : IsReadOneWay g → AreNumbered kept → (readings : Readings) → readings.index ≡ all.empty → ((n : ℕ) → reading_at readings n ≡ None) →
-      IsKept g texts kept readings true
+      IsWorkspaceKept g texts kept readings true
   none_kept one_way are readings index none = record {
     one_way = one_way;
     numbered = are;

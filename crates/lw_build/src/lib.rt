@@ -20,11 +20,14 @@
 #![tactic(auto)]
 
 mod fault;
+mod linking;
 mod readings;
+mod seen;
 mod telling;
 mod workspace;
 
 pub use fault::WorkFault;
+pub use seen::Seen;
 pub use workspace::Workspace;
 
 #[cfg(test)]

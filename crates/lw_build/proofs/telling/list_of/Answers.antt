@@ -8,7 +8,7 @@ use Rattle.lw_scopes.specs.Faults.{IsFaultShown}
 use Rattle.lw_scopes.specs.Links.{Texts}
 use Rattle.lw_text.specs.declared.shown.Shown.{Shown}
 use Rattle.lw_tree.specs.declared.issue.Issue.{Issue}
-use Rattle.lw_build.specs.Readings.{IsReadingOf}
+use Rattle.lw_build.specs.Readings.{IsReadingOfText}
 use Rattle.lw_build.proofs.telling.list_of.Goals as goal
 
 broken : (g : Grammar) (texts : Texts) (address text : List ℕ) (issue : Issue) (shown : Shown) → texts address ≡ Some text → Reads g text (Broken issue) →
@@ -20,7 +20,7 @@ returns-in_ok-push-in-Broken g c texts trees address are index there here =
     let of = c.args.language.now.grammar in
     let text = c.args.text.now in
     let shown : Shown = c.in_ok-issue_diagnostic-in-Broken.field-0 in
-    let reads = subst (IsReadingOf of c.args.language.now.texts text) c.in-Broken.is c.requires in
+    let reads = subst (IsReadingOfText of c.args.language.now.texts text) c.in-Broken.is c.requires in
     let one = c.in_ok-push-in-Broken.ensures.ok ∙ ap (λ (list : List Shown). list ++ shown ∷ []) c.new-list.ensures in
     subst (AreDiagnostics of texts address) (sym one)
     (broken of texts address text c.in-Broken.issue shown there reads.0 (c.in_ok-issue_diagnostic-in-Broken.ensures of c.tokens.ensures.named))

@@ -4,7 +4,7 @@ use Rattle.lw_docs.specs.Documents.{numbered}
 use Rattle.lw_machine.specs.Building.{BuildsToEnd}
 use Rattle.lw_machine.specs.Documents.{Documents}
 use Rattle.lw_build.specs.Agreeing.{Agrees}
-use Rattle.lw_build.specs.Telling.{places_of}
+use Rattle.lw_build.specs.Telling.{numbered_places}
 use Rattle.lw_build.specs.View.{documents, documents_of}
 use Rattle.lw_build.proofs.Advancing.{builds, current, read_taken, readable_taken, stays_built}
 use Rattle.lw_build.proofs.Agreeing.{view}
@@ -24,7 +24,7 @@ returns-then-self-clause-builds g c =
 pub take_all-requires-clause-held : goal.take_all-requires-clause-held
 take_all-requires-clause-held g c d list has =
     let docs = c.self.inside.docs in
-    let n = is_news c.self.inside.language.grammar docs (places_of docs) c.in_ok-news.news.own.items c.in_ok-news.news.lists c.in_ok-news.ensures d list has in
+    let n = is_news c.self.inside.language.grammar docs (numbered_places docs) c.in_ok-news.news.own.items c.in_ok-news.news.lists c.in_ok-news.ensures d list has in
     (n.doc, ap (get docs) (c.self.invariant.numbered.addresses n.address (numbered d n.doc) n.at) ∙ n.at)
 
 pub invariant_of-self-2 : goal.invariant_of-self-2
