@@ -56,7 +56,7 @@ impl<'a> Seen<'a> {
 
     /// Where the references of all documents lead, found both ways.
     pub fn refs(&self) -> &'a RefIndex
-        ensures { (n : ℕ) → answers_in result.now n ≡ ⟦<Seen as Views>⟧.answers_at self.now n }
+        ensures { (n : ℕ) → answers_in result.now n ≡ ⟦<Seen<'static> as Views>⟧.answers_at self.now n }
     {
         self.refs
     }

@@ -352,7 +352,7 @@ impl Workspace {
         requires built { self.now.is_built ≡ true }
         ensures kept { result.kept ≡ self.now.kept }
         ensures views { (trees : Trees) × AreTreesOfTexts self.now.grammar (present_texts (documents self.now)) trees ×
-            AreViewsOf (IsNumberBelow self.now.grammar) (⟦<Seen as Views>⟧.tree_at result) (⟦<Seen as Views>⟧.answers_at result) (⟦<Seen as Views>⟧.Stands result) trees }
+            AreViewsOf (IsNumberBelow self.now.grammar) (⟦<Seen<'static> as Views>⟧.tree_at result) (⟦<Seen<'static> as Views>⟧.answers_at result) (⟦<Seen<'static> as Views>⟧.Stands result) trees }
     {
         let _ = self.is_built;
         Seen {
