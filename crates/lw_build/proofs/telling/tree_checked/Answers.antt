@@ -1,0 +1,32 @@
+use Rattle.std.proofs.Common.{◌≡◌, ℕ, List, Result, Ok, Err, Some, IfOk, ap, length, sym, subst, ◌∙◌}
+use Rattle.std.specs.List.{AllZip}
+use Rattle.std.proofs.lemmas.Slice.Zip.{AllZip-long}
+use Rattle.lw_check.specs.Sorting.{AreShown}
+use Rattle.lw_grammar.specs.declared.grammar.Grammar.{Grammar}
+use Rattle.lw_query.specs.Viewed.{IsLinkAnswer}
+use Rattle.lw_scopes.specs.Diagnostics as diagnostic
+use Rattle.lw_scopes.specs.Diagnostics.{AreDiagnostics}
+use Rattle.lw_scopes.specs.Links.{AreTreesOfTexts, IsNumberBelow, Texts}
+use Rattle.lw_scoping.specs.Links.{Trees}
+use Rattle.lw_text.specs.declared.shown.Shown.{Shown}
+use Rattle.lw_tree.specs.Parts.{Parts}
+use Rattle.lw_build.specs.Linked as linked
+use Rattle.lw_build.specs.Linked.{IsIndexedAt}
+use Rattle.lw_build.proofs.Linked.{links_from}
+use Rattle.lw_build.proofs.Texts.{text_outwards, text_owners, text_root, text_types}
+use Rattle.lw_build.proofs.telling.tree_checked.Goals as goal
+
+told : (g : Grammar) (texts : Texts) (trees : Trees) (address text : List ℕ) (tree : Parts) → AreTreesOfTexts g texts trees → texts address ≡ Some text →
+    trees address ≡ Some tree → (list : List Shown) → AreShown g trees address tree text list → AreDiagnostics g texts address list
+told g texts trees address text tree are there is list (diagnostics, right, shown) =
+    record { text = text; is_shown = there; is_list = diagnostic.whole trees are is right shown }
+
+pub links-answers-requires-clause-outwards : goal.links-answers-requires-clause-outwards
+links-answers-requires-clause-outwards g c = text_outwards c.args.language.now.grammar c.args.text.now c.args.tree.now c.requires.reads
+
+pub links-answers-requires-clause-owners : goal.links-answers-requires-clause-owners
+links-answers-requires-clause-owners g c = text_owners c.args.language.now.grammar c.args.text.now c.args.tree.now c.requires.reads
+
+pub links-answers-requires-clause-known : goal.links-answers-requires-clause-known
+links-answers-requires-clause-known g c =
+    (c.args.language.now.grammar, c.types-types.ensures, text_types c.args.language.now.grammar c.args.text.now c.args.tree.now c.requires.reads)
