@@ -26,6 +26,8 @@ use Rattle.lw_types.specs.Inferred.{AreTypesOf}
 use Rattle.lw_types.specs.declared.types.Types.{Types}
 use Rattle.lw_build.specs.Agreeing.{Agrees, Known, known, known_here}
 use Rattle.lw_build.specs.Built.{AreBuilt}
+use Rattle.lw_refs.specs.Led.{Led}
+use Rattle.lw_build.specs.Linked.{AreLinked}
 use Rattle.lw_build.specs.Readings.{AreDocumentsRead, IsDocumentRead, IsReadingOfText, reading_at, present_texts_of}
 use Rattle.lw_build.specs.Telling as telling
 use Rattle.lw_build.specs.Telling.{AreListsTaken, AreListsTold, IsListTaken, numbered_places, with_list}
@@ -34,6 +36,7 @@ use Rattle.lw_build.specs.declared.readings.Reading.{Reading}
 use Rattle.lw_build.specs.declared.readings.Readings.{Readings}
 use Rattle.lw_build.proofs.Agreeing.{held_of, same_list, view}
 use Rattle.lw_build.proofs.Documents.{alike_entries, document_of, entries_documents, get_document, held_here}
+use Rattle.lw_build.proofs.Linked.{linked_still}
 use Rattle.lw_build.proofs.News.{after_taken, before_taken, held_place, is_news, own_at}
 use Rattle.lw_build.proofs.Places.{entry_held}
 
@@ -130,6 +133,14 @@ module _ (own : List (DocId × List Shown)) (kept after : ByAddress) (taken : Ar
             indexed = r.indexed ∙ ap (λ u. Some (record { uri = u; exports = r.exports })) like.uri;
             entered = r.entered;
           }
+
+  -- and so are the links
+  pub linked_taken : (g : Grammar) (readings : Readings) (led : Led) → AreLinked g kept readings led → AreLinked g after readings led
+  linked_taken g = linked_still g kept after (λ a. plain (get after a) ∙ ap (option_map (λ (d : DocId). d.0)) (number_taken (get kept a) (get after a) (taken a)) ∙ sym (plain (get kept a)))
+    where
+      plain : (o : Option Numbered) → option_map (λ (h : Numbered). h.number.0) o ≡ option_map (λ (d : DocId). d.0) (option_map (λ (h : Numbered). h.number) o)
+      plain None = refl
+      plain (Some h) = refl
 
   pub readable_taken : (g : Grammar) → ((a : List ℕ) (held : Numbered) → get kept a ≡ Some held → IsReadable g held.doc.text) →
       (a : List ℕ) (held : Numbered) → get after a ≡ Some held → IsReadable g held.doc.text

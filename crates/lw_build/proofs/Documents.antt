@@ -58,19 +58,6 @@ pub entries_documents : (is_built : Bool) (kept : ByAddress) → entries (docume
 unfolding documents_of
 entries_documents is_built kept = entries_each (document_of is_built) kept
 
--- how many
-pub len_documents : (v : WorkspaceView) → len (documents v) ≡ len v.kept
-len_documents v = len-entries (documents v) ∙ ap length (entries_documents v.is_built v.kept) ∙ length-map (entries v.kept) (λ e. (e.0, document_of v.is_built e.1))
-    ∙ sym (len-entries v.kept)
-
-some_mapped : {X Y : Type 0} (f : X → Y) (o : Option X) → is_some (option_map f o) ≡ is_some o
-some_mapped f None = refl
-some_mapped f (Some x) = refl
-
--- whether one is held
-pub holds_document : (v : WorkspaceView) (address : List ℕ) → contains_key (documents v) address ≡ contains_key v.kept address
-holds_document v address = ap is_some (get_document v.is_built v.kept address) ∙ some_mapped (document_of v.is_built) (get v.kept address)
-
 -- ---- at one address
 
 pub document_here : (is_built : Bool) (kept : ByAddress) (address : List ℕ) (held : Numbered) → get kept address ≡ Some held →

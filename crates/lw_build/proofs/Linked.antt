@@ -81,7 +81,7 @@ module _ (below : ℕ → ℕ → Type 0) (Stands Other : ℕ → List ℕ → T
       by given link (viewed.found {doc = doc} {node = node} {address = a} there) = viewed.found (still doc a there)
       by given link viewed.missing = viewed.missing
 
-  all_restood : (refs : List Reference) (answers : List Answer) → AllZip (IsLinkAnswer below Stands trees address tree) refs answers →
+  pub all_restood : (refs : List Reference) (answers : List Answer) → AllZip (IsLinkAnswer below Stands trees address tree) refs answers →
       AllZip (IsLinkAnswer below Other trees address tree) refs answers
   all_restood [] [] all = tt
   all_restood [] (y ∷ ys) all = absurd all

@@ -52,6 +52,7 @@ pub record IsTextSeen (v : SeenView) (n : ℕ) (text : List ℕ) : Type 0 where
 pub record IsViewOf (kept : ByAddress) (readings : Readings) (led : Led) (place : List ℕ × DocId) (view : View) : Type 0 where
   pub number : view.doc ≡ place.1
   pub address : view.uri.now ≡ place.0
+  pub stands : StandsNumbered kept place.1.0 place.0
   pub text : present_texts_of kept place.0 ≡ Some view.text.now
   pub tree : tree_seen view ≡ tree_numbered readings place.1.0
   pub answers : view.answers.now ≡ answers_in led place.1.0

@@ -1,5 +1,5 @@
 // Where the references of a document lead, each into a document that the index holds.
-ghost use Rattle.std.specs.Prelude.{◌<◌, ℕ, List, IfOk, All, length, take};
+ghost use Rattle.std.specs.Prelude.{◌≡◌, ◌<◌, ℕ, List, IfOk, All, length};
 ghost use Rattle.std.specs.List.{AllZip};
 ghost use Rattle.lw_grammar.specs.declared.grammar.Grammar.{Grammar};
 ghost use Rattle.lw_link.specs.Indexed.{IsDocumentOf, IsIndexOf};
@@ -64,7 +64,8 @@ pub(crate) fn links<L: Ledger>(
     requires outwards { ContainersComeFirst tree.now }
     requires owners { All (λ r. r.owner.0 < length tree.now.nodes) tree.now.refs }
     requires known { (g : Grammar) × AreTypesOf g types.now × HasKnownTypes g tree.now }
-    ensures { (g : Grammar) (trees : Trees) (address : List ℕ) → AreTypesOf g types.now → IsIndexOf trees index.now →
+    ensures count { IfOk result (λ found. length found.items ≡ length tree.now.refs) }
+    ensures answers { (g : Grammar) (trees : Trees) (address : List ℕ) → AreTypesOf g types.now → IsIndexOf trees index.now →
         IsDocumentOf trees index.now doc.0 address tree.now →
         IfOk result (λ found. AllZip (IsLinkAnswer (IsNumberBelow g) (IsIndexedAt index.now) trees address tree.now) tree.now.refs found.items) }
 {

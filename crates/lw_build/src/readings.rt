@@ -187,6 +187,7 @@ impl Readings {
         requires kept { AreDocumentsRead language.now.grammar language.now.texts docs.now self.old }
         ensures kept { AreDocumentsRead language.now.grammar language.now.texts docs.now self.new }
         ensures all { OnOk result (AreAllRead docs.now self.new) }
+        ensures more { (n : ℕ) → HasReading self.old n → HasReading self.new n }
     {
         docs.numbered();
         'reading: for (_uri, d) in docs.uris() {

@@ -145,7 +145,7 @@ fn keep_answers(refs: &mut RefIndex, d: DocId, answers: Vec<Answer>) -> Result<(
     ensures ok { OnOk result (refs.new ≡ all.insert refs.old d.0 answers.items) }
     ensures refused { OnErr result (refs.new ≡ refs.old) }
 {
-    if u32::try_from(answers.len()).is_err() {
+    if answers.len() > u32::MAX as usize {
         return Err(NoMemory);
     }
     refs.set(d, answers)

@@ -11,6 +11,8 @@ use Rattle.lw_build.proofs.linking.links.Given as goal
 
 -- the answers of the references so far
 abbrev pub invariant-loop-reference : goal.invariant-loop-reference
-invariant-loop-reference g l =
-    (h : Grammar) (trees : Trees) (address : List ℕ) → AreTypesOf h l.types → IsIndexOf trees l.index → IsDocumentOf trees l.index l.doc.0 address l.tree →
-    AllZip (IsLinkAnswer (IsNumberBelow h) (IsIndexedAt l.index) trees address l.tree) (take l.reference-index l.reference-items) l.found.items
+invariant-loop-reference g l = record {
+  answers : (h : Grammar) (trees : Trees) (address : List ℕ) → AreTypesOf h l.types → IsIndexOf trees l.index → IsDocumentOf trees l.index l.doc.0 address l.tree →
+      AllZip (IsLinkAnswer (IsNumberBelow h) (IsIndexedAt l.index) trees address l.tree) (take l.reference-index l.reference-items) l.found.items;
+  count : length l.found.items ≡ l.reference-index;
+}

@@ -1,17 +1,16 @@
-use Rattle.std.proofs.Common.{◌≡◌, ℕ, List, Result, Ok, Err, Some, IfOk, ap, length, sym, subst, ◌∙◌}
+use Rattle.std.proofs.Common.{◌≡◌, ℕ, List, Some, ap, length, map, sym, subst, ◌∙◌}
 use Rattle.std.specs.List.{AllZip}
-use Rattle.std.proofs.lemmas.Slice.Zip.{AllZip-long}
 use Rattle.lw_check.specs.Sorting.{AreShown}
 use Rattle.lw_grammar.specs.declared.grammar.Grammar.{Grammar}
-use Rattle.lw_query.specs.Viewed.{IsLinkAnswer}
+use Rattle.lw_index.specs.declared.parts.Answer.{Answer}
+use Rattle.lw_link.specs.Indexed.{link_of}
 use Rattle.lw_scopes.specs.Diagnostics as diagnostic
 use Rattle.lw_scopes.specs.Diagnostics.{AreDiagnostics}
 use Rattle.lw_scopes.specs.Links.{AreTreesOfTexts, IsNumberBelow, Texts}
-use Rattle.lw_scoping.specs.Links.{Trees}
+use Rattle.lw_scoping.specs.Links.{LinksTo, Trees}
 use Rattle.lw_text.specs.declared.shown.Shown.{Shown}
 use Rattle.lw_tree.specs.Parts.{Parts}
 use Rattle.lw_build.specs.Linked as linked
-use Rattle.lw_build.specs.Linked.{IsIndexedAt}
 use Rattle.lw_build.proofs.Linked.{links_from}
 use Rattle.lw_build.proofs.Texts.{text_outwards, text_owners, text_root, text_types}
 use Rattle.lw_build.proofs.telling.tree_checked.Goals as goal
@@ -30,3 +29,24 @@ links-answers-requires-clause-owners g c = text_owners c.args.language.now.gramm
 pub links-answers-requires-clause-known : goal.links-answers-requires-clause-known
 links-answers-requires-clause-known g c =
     (c.args.language.now.grammar, c.types-types.ensures, text_types c.args.language.now.grammar c.args.text.now c.args.tree.now c.requires.reads)
+
+pub diagnostics-list-requires : goal.diagnostics-list-requires
+diagnostics-list-requires g c = record {
+  stands = c.requires.stands;
+  root = (text_root c.args.language.now.grammar c.args.text.now c.args.tree.now c.requires.reads).there;
+  symbols = c.requires.locals;
+  count = ap length c.as_slice.ensures.value ∙ c.in_ok-answers.ensures.count;
+  known = (c.args.language.now.grammar, c.types-types.ensures, text_types c.args.language.now.grammar c.args.text.now c.args.tree.now c.requires.reads);
+}
+
+pub returns-in_ok-list : goal.returns-in_ok-list
+returns-in_ok-list g c texts trees address are index there here =
+    let of = c.args.language.now.grammar in
+    let tree = c.args.tree.now in
+    let answers = c.in_ok-answers.ensures.answers of trees address c.types-types.ensures index here in
+    let links = subst (λ (found : List Answer). AllZip (LinksTo (IsNumberBelow of) trees address tree) tree.refs (map (link_of c.args.index.now) found))
+    (sym c.as_slice.ensures.value) (links_from (IsNumberBelow of) c.args.index.now trees address tree tree.refs _ answers) in (
+      told of texts trees address c.args.text.now tree are there here.is_tree c.in_ok-list.list
+          (c.in_ok-list.ensures of trees address c.types-types.ensures index here links),
+      linked.whole answers,
+    )

@@ -20,6 +20,7 @@ reading-preserved c = record {
   next = tt;
   finite = tt;
   kept = c.in_ok-read_one.ensures.kept;
+  more = λ n has. c.in_ok-read_one.ensures.more n (c.reading.invariant.more n has);
   all = λ p there.
       elim (among_push (map deref_pair c.reading.yielded) (c.in-Some._uri.now, c.in-Some.d.now) p
       (subst (Among p) (map_push deref_pair c.reading.yielded (c.in-Some._uri, c.in-Some.d)) there)) [

@@ -10,5 +10,6 @@ invariant-reading l = record {
   next : (goal.iterator-reading).can_next l._uri-iterator;
   finite : (goal.iterator-reading).is_finite l._uri-iterator;
   kept : AreDocumentsRead l.language.grammar l.language.texts l.docs l.self;
+  more : (n : ℕ) → HasReading l.fn.self n → HasReading l.self n;
   all : (p : List ℕ × DocId) → Among p (map deref_pair l.yielded) → HasReading l.self p.1.0;
 }

@@ -32,5 +32,7 @@ invariant_of-self-2 c =
       read = came c.self.inside.language.grammar c.self.inside.language.texts docs c.add.new.self own
           (λ q other. ap (λ (m : ByAddress). get m q) c.in-Ok-add.ensures.added ∙ put_elsewhere docs own come q other)
           c.self.inside.readings c.self.invariant.read none;
+      unread = c.self.invariant.unread;
       built = λ is. absurd (false≢true is);
+      linked = λ is. absurd (false≢true is);
     }

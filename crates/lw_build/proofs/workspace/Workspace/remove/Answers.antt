@@ -12,6 +12,7 @@ use Rattle.lw_build.specs.declared.fault.WorkFault.TheVariants.{NoDocument}
 use Rattle.lw_build.proofs.Agreeing.{removed, view}
 use Rattle.lw_build.proofs.Finding.{at_address, none_found, same_uri, seen}
 use Rattle.lw_build.proofs.Maps.{taken_elsewhere}
+use Rattle.lw_build.proofs.Leading.{unread_forgotten}
 use Rattle.lw_build.proofs.Reading.{forgotten}
 use Rattle.lw_build.proofs.workspace.Workspace.remove.Goals as goal
 
@@ -34,7 +35,9 @@ invariant_of-self c =
           (λ q other. ap (λ (m : ByAddress). get m q) c.take_out.ensures.gone ∙ taken_elsewhere docs x.uri q other)
           c.self.inside.readings c.self.invariant.read c.in-Some.d x c.take_out.ensures.doc c.forget.new.self c.forget.ensures.here c.forget.ensures.others
           c.forget.ensures.index;
+      unread = unread_forgotten c.self.inside.readings c.forget.new.self c.self.inside.refs c.remove.new.self c.in-Some.d.0 c.self.invariant.unread c.remove.ensures c.forget.ensures.others;
       built = λ is. absurd (false≢true is);
+      linked = λ is. absurd (false≢true is);
     }
 
 pub returns-clause-agrees : goal.returns-clause-agrees
