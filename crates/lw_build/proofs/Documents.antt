@@ -7,9 +7,10 @@ use Rattle.std.specs.FinMap.{FinMap, get, len, contains_key, entries, find, from
 use Rattle.std.specs.FinMap.Entries.{below_all}
 use Rattle.std.proofs.lemmas.List.{length-map}
 use Rattle.lw_docs.specs.Documents.{ByAddress, Numbered}
-use Rattle.lw_machine.specs.Documents.{Document}
+use Rattle.lw_machine.specs.Documents.{Document, present_texts}
 use Rattle.lw_machine.proofs.Places.{order}
 use Rattle.lw_build.proofs.Maps.{same_at_addresses}
+use Rattle.lw_build.specs.Readings.{present_texts_of}
 use Rattle.lw_build.specs.View.{WorkspaceView, built_document, cleared_document, documents_of, documents}
 
 -- what one document is
@@ -59,6 +60,14 @@ unfolding documents_of
 entries_documents is_built kept = entries_each (document_of is_built) kept
 
 -- ---- at one address
+
+pub present_here : (is_built : Bool) (kept : ByAddress) (address : List ℕ) → present_texts (documents_of is_built kept) address ≡ present_texts_of kept address
+present_here is_built kept address = ap (option_map (λ (d : Document). d.text)) (get_document is_built kept address) ∙ by is_built (get kept address)
+  where
+    by : (b : Bool) (o : Option Numbered) → option_map (λ (d : Document). d.text) (option_map (document_of b) o) ≡ option_map (λ (h : Numbered). h.doc.text) o
+    by b None = refl
+    by true (Some held) = refl
+    by false (Some held) = refl
 
 pub document_here : (is_built : Bool) (kept : ByAddress) (address : List ℕ) (held : Numbered) → get kept address ≡ Some held →
     get (documents_of is_built kept) address ≡ Some (document_of is_built held)

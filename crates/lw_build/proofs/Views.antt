@@ -1,5 +1,5 @@
 -- All documents as they are lent: each stands where the workspace has it, and its answers are its links.
-use Rattle.std.proofs.Common.{◌≡◌, ◌≢◌, ℕ, zero, suc, List, [], ◌∷◌, length, map, cond, Contains, T, true, false, ◌<◌, is_eq, is_lt, Ordering, Less, Equal, Greater, Option, Some, None, IfSome, option_map, option_and_then, refl, sym, ap, subst, subst₂, ◌∙◌, inl, inr, ◌⊎◌, arith}
+use Rattle.std.proofs.Common.{◌≡◌, ◌≢◌, ℕ, zero, suc, List, [], ◌∷◌, length, map, cond, Contains, T, Bool, true, false, ◌<◌, is_eq, is_lt, Ordering, Less, Equal, Greater, Option, Some, None, IfSome, option_map, option_and_then, refl, sym, ap, subst, subst₂, ◌∙◌, inl, inr, ◌⊎◌, arith}
 use Rattle.std.specs.FinMap.{get, entries, is_sorted, entries_sorted}
 use Rattle.std.specs.FinMap.Entries.{below_all}
 use Rattle.std.specs.List.{All, AllPairs, AllZip, slice_index_or}
@@ -12,6 +12,7 @@ use Rattle.lw_base.specs.declared.numbers.DocId.{DocId}
 use Rattle.lw_docs.specs.Documents.{AreNumbered, ByAddress, Numbered, numbered}
 use Rattle.lw_grammar.specs.declared.grammar.Grammar.{Grammar}
 use Rattle.lw_index.specs.declared.parts.Answer.{Answer}
+use Rattle.lw_machine.specs.Documents.{present_texts}
 use Rattle.lw_machine.proofs.Entries.{both}
 use Rattle.lw_machine.proofs.Places.{Among, first, later, one_or_two, order, test_other, test_same}
 use Rattle.lw_outcomes.proofs.Finite.{here, here_or_there, nothing, there}
@@ -20,16 +21,18 @@ use Rattle.lw_query.specs.Viewed.{AreViewsOf, IsLinkAnswer}
 use Rattle.lw_query.specs.declared.view.View.{View}
 use Rattle.lw_refs.specs.Led.{Led, answers_in}
 use Rattle.lw_rooted.specs.Within.{StandsInText}
-use Rattle.lw_scopes.specs.Links.{IsNumberBelow, IsTreeOfText}
+use Rattle.lw_scopes.specs.Links.{AreTreesOfTexts, IsNumberBelow, IsTreeOfText}
 use Rattle.lw_scoping.specs.Links.{Trees}
 use Rattle.lw_tree.specs.Parts.{Parts}
 use Rattle.lw_build.specs.Linked.{AreLinked, StandsNumbered}
-use Rattle.lw_build.specs.Readings.{AreDocumentsRead, IsReadingOfText, present_texts_of, reading_at, tree_numbered, tree_of, trees_of}
-use Rattle.lw_build.specs.Seen.{IsViewOf}
+use Rattle.lw_build.specs.Readings.{AreAllRead, AreDocumentsRead, IsReadingOfText, present_texts_of, reading_at, tree_numbered, tree_of, trees_of}
+use Rattle.lw_build.specs.Seen.{AreReadingsSeen, IsReadingSeen, IsViewOf}
 use Rattle.lw_build.specs.Telling.{numbered_places}
+use Rattle.lw_build.specs.View.{documents_of}
 use Rattle.lw_build.specs.declared.readings.Reading.{Reading}
 use Rattle.lw_build.specs.declared.readings.Reading.TheVariants.{Whole, Broken}
 use Rattle.lw_build.specs.declared.readings.Readings.{Readings}
+use Rattle.lw_build.proofs.Documents.{present_here}
 use Rattle.lw_build.proofs.Linked.{all_restood, held_numbered, stands_numbered, tree_stands}
 use Rattle.lw_build.proofs.News.{held_place, place_held}
 use Rattle.lw_build.proofs.Places.{among_split, below_each}
@@ -148,6 +151,20 @@ module _ (g : Grammar) (texts : List (List ℕ)) (kept : ByAddress) (are : AreNu
       by (Some reading) is =
           let (r, same) = own_reading g texts kept are readings read held.number held.doc (ap (get kept) (are.addresses address held at) ∙ at) reading is in
           within_of held.doc.text reading (subst (λ (h : Numbered). IsReadingOfText g texts h.doc.text reading) same r.reads)
+
+  -- what is lent
+  pub readings_seen : AreAllRead kept readings → (led : Led) → AreReadingsSeen (record { kept = kept; readings = readings; led = led })
+  readings_seen all led = record { each = each; all = all }
+    where
+      each : (n : ℕ) (reading : Reading) → reading_at readings n ≡ Some reading → IsReadingSeen kept n reading
+      each n reading is =
+          let r = read.each n reading is in
+          record { held = r.held; number = r.number; here = r.here; stands = within_of r.held.doc.text reading r.reads }
+
+  pub present_trees : (b : Bool) → AreAllRead kept readings → AreTreesOfTexts g (present_texts (documents_of b kept)) (trees_of kept readings)
+  present_trees b all address =
+      subst (λ (o : Option (List ℕ)). IsTreeOfText g o (trees_of kept readings address)) (sym (present_here b kept address))
+      (are_trees g texts kept are readings read all address)
 
   module _ (led : Led) (linked : AreLinked g kept readings led) (views : List View) (rows : AllZip (IsViewOf kept readings led) (numbered_places kept) views) where
     abbrev Place : Type 0

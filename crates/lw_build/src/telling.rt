@@ -200,7 +200,7 @@ impl News {
         let doc = docs.doc(d);
         match readings.texts.get(&d.0) {
             Some(reading) => {
-                let Checked { list, answers } = checked(
+                let found = checked(
                     alloc,
                     language,
                     &doc.text,
@@ -209,6 +209,7 @@ impl News {
                     &readings.index,
                     steps,
                 )?;
+                let Checked { list, answers } = found;
                 keep_answers(refs, d, answers)?;
                 self.add(alloc, d, doc, list)
             }

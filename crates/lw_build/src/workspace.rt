@@ -261,16 +261,16 @@ impl Workspace {
         ensures refused { OnErr result (self.new ≡ self.old) }
         ensures grammar { self.new.grammar ≡ self.old.grammar }
     {
-        let Some(d) = self.docs.find(uri) else {
+        let Some(gone) = self.docs.find(uri) else {
             return Err(WorkFault::NoDocument);
         };
-        let told = match last_words(self.alloc, uri, &self.docs.doc(d).published) {
+        let told = match last_words(self.alloc, uri, &self.docs.doc(gone).published) {
             Ok(told) => told,
             Err(_) => return Err(WorkFault::NoMemory),
         };
-        self.docs.take_out(d);
-        self.readings.forget(d);
-        self.refs.remove(d);
+        self.docs.take_out(gone);
+        self.readings.forget(gone);
+        self.refs.remove(gone);
         self.docs.numbered();
         self.is_built = false;
         Ok(told)
