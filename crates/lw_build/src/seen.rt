@@ -18,6 +18,7 @@ use std::alloc::Global;
 use std::marker::Model;
 
 /// What is asked of a workspace that is built, by the numbers of its documents: each is a look-up or two by number.
+#[derive(Drop)]
 pub struct Seen<'a> {
     pub(crate) docs: &'a Docs,
     pub(crate) readings: &'a Readings,
