@@ -92,8 +92,8 @@ pub stand_elsewhere : (below : ℕ → ℕ → Type 0) (Stands Other : ℕ → L
     (trees : Trees) (address : List ℕ) (o : Option Parts) (answers : List Answer) → AreLinkAnswers below Stands trees address o answers →
     AreLinkAnswers below Other trees address o answers
 stand_elsewhere below Stands Other still trees address o answers linked.treeless = linked.treeless
-stand_elsewhere below Stands Other still trees address o answers (linked.whole {tree = tree} all) =
-    linked.whole (all_restood below Stands Other still trees address tree tree.refs _ all)
+stand_elsewhere below Stands Other still trees address o answers (linked.whole {tree = tree} {answers = found} all) =
+    linked.whole (all_restood below Stands Other still trees address tree tree.refs found all)
 
 -- ---- the documents of a workspace
 

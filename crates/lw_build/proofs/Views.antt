@@ -67,7 +67,7 @@ found_by : {X : Type 0} → (View → Option X) → List View → List ℕ → O
 found_by f [] address = None
 found_by f (v ∷ views) address = cond (bytes_eq v.uri.now address) (f v) (found_by f views address)
 
-texts_found : (views : List View) (address : List ℕ) → texts_seen views address ≡ found_by (λ v. Some v.text.now) views address
+texts_found : (views : List View) (address : List ℕ) → texts_seen views address ≡ found_by (λ (v : View). Some v.text.now) views address
 unfolding found_by
 texts_found [] address = refl
 texts_found (v ∷ views) address = ap (cond (bytes_eq v.uri.now address) (Some v.text.now)) (texts_found views address)
@@ -89,14 +89,15 @@ module _ {X : Type 0} (f : View → Option X) (whole : List ℕ → Option X) (a
       found_by f views address ≡ whole address
   unfolding found_by
   found_there [] each v has at = absurd (nothing v has)
-  found_there (w ∷ views) each v has at = elim (one_or_two w.uri.now address) [
-    | inl same ↦ ap (λ b. cond b (f w) (found_by f views address)) (is_same w.uri.now address same) ∙ each w (here w views) ∙ ap whole same
-    | inr other ↦ ap (λ b. cond b (f w) (found_by f views address)) (is_other w.uri.now address other)
-        ∙ elim (here_or_there w views v has) [
-          | inl one ↦ absurd (other (ap (λ (u : View). u.uri.now) one ∙ at))
-          | inr more ↦ found_there views (λ u among. each u (there w views u among)) v more at
-        ]
-  ]
+  found_there (w ∷ views) each v has at =
+      by (one_or_two w.uri.now address) (here_or_there w views v has) (found_there views (λ u among. each u (there w views u among)) v)
+    where
+      by : (w.uri.now ≡ address) ⊎ (w.uri.now ≢ address) → (w ≡ v) ⊎ Contains views v →
+          (Contains views v → v.uri.now ≡ address → found_by f views address ≡ whole address) →
+          cond (bytes_eq w.uri.now address) (f w) (found_by f views address) ≡ whole address
+      by (inl same) or rest = ap (λ b. cond b (f w) (found_by f views address)) (is_same w.uri.now address same) ∙ each w (here w views) ∙ ap whole same
+      by (inr other) (inl one) rest = absurd (other (ap (λ (u : View). u.uri.now) one ∙ at))
+      by (inr other) (inr more) rest = ap (λ b. cond b (f w) (found_by f views address)) (is_other w.uri.now address other) ∙ rest more at
 
   found_nowhere : (views : List View) → ((v : View) → Contains views v → v.uri.now ≢ address) → found_by f views address ≡ None
   unfolding found_by
@@ -124,7 +125,7 @@ module _ (R : List ℕ × DocId → View → Type 0) (at : (p : List ℕ × DocI
   ]
 
   rising : (es : List (List ℕ × Numbered)) (views : List View) → T (is_sorted order es) → AllZip R (map (λ e. (e.0, e.1.number)) es) views → AllPairs Rises views
-  rising es [] sorted all i j d below inside = absurd (omega (arith, inside))
+  rising es [] sorted all = λ i j d below inside. absurd (omega (arith, inside))
   rising [] (v ∷ views) sorted all = absurd all
   rising (e ∷ es) (v ∷ views) sorted all =
       let parts = both (below_all order e.0 es) (is_sorted order es) sorted in
@@ -215,12 +216,12 @@ module _ (g : Grammar) (texts : List (List ℕ)) (kept : ByAddress) (are : AreNu
     pub same_texts : (address : List ℕ) → texts_seen views address ≡ present_texts_of kept address
     same_texts address =
         texts_found views address
-        ∙ all_found (λ v. Some v.text.now) (λ h. Some h.doc.text) (λ v has. text_of v has ∙ sym (text_here (get kept v.uri.now))) address
+        ∙ all_found (λ (v : View). Some v.text.now) (λ (h : Numbered). Some h.doc.text) (λ v has. text_of v has ∙ sym (text_here (get kept v.uri.now))) address
         ∙ text_here (get kept address)
 
     same_trees : (address : List ℕ) → trees_seen views address ≡ trees_of kept readings address
     same_trees address =
-        trees_found views address ∙ all_found tree_seen (λ h. option_and_then tree_of (reading_at readings h.number.0)) tree_of_view address
+        trees_found views address ∙ all_found tree_seen (λ (h : Numbered). option_and_then tree_of (reading_at readings h.number.0)) tree_of_view address
 
     stands_among : (n : ℕ) (address : List ℕ) → StandsNumbered kept n address → StandsAmong views n address
     stands_among n address stands =
