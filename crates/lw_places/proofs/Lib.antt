@@ -1,0 +1,5 @@
+pub mod Orders
+pub mod OnePlace
+pub mod OneMeant
+pub mod SameTrees
+pub mod OneReply

@@ -25,6 +25,14 @@ pub data MentionPrecedes (one other : Mention) : Type 0 where
   by_start : one.address ≡ other.address → one.span.start < other.span.start → MentionPrecedes one other
   by_end : one.address ≡ other.address → one.span.start ≡ other.span.start → one.span.end < other.span.end → MentionPrecedes one other
 
+-- the name of a node stands here
+pub record IsNameHere (trees : Trees) (target : List ℕ × ℕ) (m : Mention) : Type 0 where
+  pub tree : Parts
+  pub is_tree : trees target.0 ≡ Some tree
+  pub text : List ℕ
+  pub named : name_of tree target.1 ≡ Some (text, m.span)
+  pub here : m.address ≡ target.0
+
 -- `below t want`: the type t is the type want or below it
 module _ (below : ℕ → ℕ → Type 0) (trees : Trees) where
   -- what a place of the document at an address leads to: a name to its node, a reference to its target
@@ -40,14 +48,6 @@ module _ (below : ℕ → ℕ → Type 0) (trees : Trees) where
     at_place : {tree : Parts} {place : Option Place} {link : Link} → trees address ≡ Some tree → IsPlaceAt tree offset place →
         LeadsFrom address tree place link → IsMeantAt address offset link
 
-  -- the name of a node stands here
-  pub record IsNameHere (target : List ℕ × ℕ) (m : Mention) : Type 0 where
-    pub tree : Parts
-    pub is_tree : trees target.0 ≡ Some tree
-    pub text : List ℕ
-    pub named : name_of tree target.1 ≡ Some (text, m.span)
-    pub here : m.address ≡ target.0
-
   -- a reference that leads to a node stands here
   pub record IsUseHere (target : List ℕ × ℕ) (m : Mention) : Type 0 where
     pub tree : Parts
@@ -60,7 +60,7 @@ module _ (below : ℕ → ℕ → Type 0) (trees : Trees) where
   -- a node is mentioned here: by a reference, or by its own name where the declaration counts
   pub data IsMentionOf (declaration : Bool) (target : List ℕ × ℕ) (m : Mention) : Type 0 where
     used : IsUseHere target m → IsMentionOf declaration target m
-    declared : declaration ≡ true → IsNameHere target m → IsMentionOf declaration target m
+    declared : declaration ≡ true → IsNameHere trees target m → IsMentionOf declaration target m
 
   -- exactly the mentions of a node, in their order
   pub record AreMentionsOf (declaration : Bool) (target : List ℕ × ℕ) (mentions : List Mention) : Type 0 where
@@ -70,7 +70,7 @@ module _ (below : ℕ → ℕ → Type 0) (trees : Trees) where
   -- where the name stands of what is meant at an offset, or None where nothing is
   pub data IsDefinitionAt (address : List ℕ) (offset : ℕ) : Option Mention → Type 0 where
     nothing_meant : IsMeantAt address offset None → IsDefinitionAt address offset None
-    defined : {target : List ℕ × ℕ} {m : Mention} → IsMeantAt address offset (Some target) → IsNameHere target m → IsDefinitionAt address offset (Some m)
+    defined : {target : List ℕ × ℕ} {m : Mention} → IsMeantAt address offset (Some target) → IsNameHere trees target m → IsDefinitionAt address offset (Some m)
 
   -- the mentions of what is meant at an offset, or None where nothing is
   pub data AreReferencesAt (address : List ℕ) (offset : ℕ) (declaration : Bool) : Option (List Mention) → Type 0 where

@@ -2,7 +2,7 @@
 ghost use Rattle.std.specs.Prelude.{◌≡◌, ℕ, List, Bool, Option};
 ghost use Rattle.lw_grammar.specs.declared.grammar.Grammar.{Grammar};
 ghost use Rattle.lw_reading.specs.Laws.{IsReadOneWay};
-ghost use Rattle.lw_scopes.specs.Links.{Texts};
+ghost use Rattle.lw_scopes.specs.Links.{IsNumberBelow, Texts};
 ghost use Rattle.lw_scoping.specs.Links.{Link, Trees};
 ghost use Rattle.lw_tree.specs.Parts.{Parts};
 ghost use Rattle.lw_places.specs.Asked.{AreReferences, IsDefinition};
@@ -13,10 +13,10 @@ ghost use Rattle.lw_places.specs.declared.place.Place.{Place};
 /// At an offset of a tree one thing stands at most, and it leads to one node at most, which has one list of mentions at most.
 pub fn one_place()
     ensures place { (tree : Parts) (offset : ℕ) (place other : Option Place) → IsPlaceAt tree offset place → IsPlaceAt tree offset other → place ≡ other }
-    ensures meant { (below : ℕ → ℕ → Type 0) (trees : Trees) (address : List ℕ) (offset : ℕ) (link other : Link) →
-        IsMeantAt below trees address offset link → IsMeantAt below trees address offset other → link ≡ other }
-    ensures mentions { (below : ℕ → ℕ → Type 0) (trees : Trees) (declaration : Bool) (target : List ℕ × ℕ) (mentions others : List Mention) →
-        AreMentionsOf below trees declaration target mentions → AreMentionsOf below trees declaration target others → mentions ≡ others }
+    ensures meant { (g : Grammar) (trees : Trees) (address : List ℕ) (offset : ℕ) (link other : Link) →
+        IsMeantAt (IsNumberBelow g) trees address offset link → IsMeantAt (IsNumberBelow g) trees address offset other → link ≡ other }
+    ensures mentions { (g : Grammar) (trees : Trees) (declaration : Bool) (target : List ℕ × ℕ) (mentions others : List Mention) →
+        AreMentionsOf (IsNumberBelow g) trees declaration target mentions → AreMentionsOf (IsNumberBelow g) trees declaration target others → mentions ≡ others }
 {}
 
 /// By a grammar by which a text is read in one way, what is asked for at an offset has one answer at most.
