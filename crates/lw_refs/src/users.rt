@@ -17,12 +17,7 @@ pub(crate) type Pairs = BTreeSet<(u32, u32)>;
 
 /// Takes out the pairs that a document had where its references led there, but those that it has by what is held of it. The time is
 /// that of a look-up for each document that is led into.
-pub(crate) fn sweep(
-    pairs: &mut Pairs,
-    documents: &BTreeMap<u32, Leads>,
-    user: DocId,
-    gone: &Leads,
-)
+pub(crate) fn sweep(pairs: &mut Pairs, documents: &BTreeMap<u32, Leads>, user: DocId, gone: &Leads)
     requires { ArePaired documents.now pairs.old }
     ensures { ArePaired documents.now pairs.new }
 {
