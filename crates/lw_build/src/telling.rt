@@ -78,7 +78,7 @@ struct Checked {
 }
 
 /// What the document of this number comes to, which has this text and this tree, over the index.
-fn tree_checked<L: Ledger>(
+fn check_tree<L: Ledger>(
     alloc: Global,
     language: &Language,
     text: &TextDoc,
@@ -111,7 +111,7 @@ fn tree_checked<L: Ledger>(
 }
 
 /// What the document of this number comes to, which has this text and was read as this, over the index.
-fn checked<L: Ledger>(
+fn check_reading<L: Ledger>(
     alloc: Global,
     language: &Language,
     text: &TextDoc,
@@ -127,7 +127,7 @@ fn checked<L: Ledger>(
 {
     match reading {
         Reading::Whole(tree, locals) => {
-            tree_checked(alloc, language, text, tree, locals, d, index, steps)
+            check_tree(alloc, language, text, tree, locals, d, index, steps)
         }
         Reading::Broken(issue) => {
             let mut list = Items::new(alloc);
@@ -200,7 +200,7 @@ impl News {
         let doc = docs.doc(d);
         match readings.texts.get(&d.0) {
             Some(reading) => {
-                let found = checked(
+                let found = check_reading(
                     alloc,
                     language,
                     &doc.text,

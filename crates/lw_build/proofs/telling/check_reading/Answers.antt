@@ -13,7 +13,7 @@ use Rattle.lw_tree.specs.Parts.{Parts}
 use Rattle.lw_build.specs.Linked as linked
 use Rattle.lw_build.specs.Linked.{AreLinkAnswers, IsIndexedAt}
 use Rattle.lw_build.specs.Readings.{IsReadingOfText, tree_of}
-use Rattle.lw_build.proofs.telling.checked.Goals as goal
+use Rattle.lw_build.proofs.telling.check_reading.Goals as goal
 
 broken : (g : Grammar) (texts : Texts) (address text : List ℕ) (issue : Issue) (shown : Shown) → texts address ≡ Some text → Reads g text (Broken issue) →
     IsFaultShown g text issue shown → AreDiagnostics g texts address (shown ∷ [])

@@ -13,7 +13,7 @@ use Rattle.lw_tree.specs.Parts.{Parts}
 use Rattle.lw_build.specs.Linked as linked
 use Rattle.lw_build.proofs.Linked.{links_from}
 use Rattle.lw_build.proofs.Texts.{text_outwards, text_owners, text_root, text_types}
-use Rattle.lw_build.proofs.telling.tree_checked.Goals as goal
+use Rattle.lw_build.proofs.telling.check_tree.Goals as goal
 
 told : (g : Grammar) (texts : Texts) (trees : Trees) (address text : List ℕ) (tree : Parts) → AreTreesOfTexts g texts trees → texts address ≡ Some text →
     trees address ≡ Some tree → (list : List Shown) → AreShown g trees address tree text list → AreDiagnostics g texts address list
