@@ -62,7 +62,7 @@ module _ {X : Type 0} (p : X → Bool) (x : X) (passes : p x ≡ true) where
       later false has = has
 
 mapped : {X Y : Type 0} (f : X → Y) (xs : List X) (k : ℕ) (d : Y) (e : X) → k < length xs → get_or (map f xs) k d ≡ f (get_or xs k e)
-mapped f xs k d e lt = same_Some _ _ (sym (slice_get-get_or (map f xs) k d (omega (arith, length-map f xs))) ∙ slice_get-map f xs k ∙ ap (option_map f) (slice_get-get_or xs k e lt))
+mapped f xs k d e lt = same_Some _ _ (sym (slice_get-get_or (map f xs) k d (omega (arith, length-map xs f))) ∙ slice_get-map f xs k ∙ ap (option_map f) (slice_get-get_or xs k e lt))
 
 pub pairs_joined : {X : Type 0} (R : X → X → Type 0) (xs ys : List X) → AllPairs R xs → AllPairs R ys → ((x y : X) → Contains xs x → Contains ys y → R x y) → AllPairs R (xs ++ ys)
 pairs_joined {X} R xs ys one other across i j d lt within =
@@ -99,7 +99,7 @@ module _ (answers : List Answer) (uses : List Use) (are : AreUses answers uses) 
 
   there : (slot : SlotId) → Contains slots slot → (slot.doc ≡ doc) × (slice_get answers slot.reference.0 ≡ Some (Found target))
   there slot has =
-      let lt : has.0 < length found = omega (arith, length-map (slot_of doc) found, has.1) in
+      let lt : has.0 < length found = omega (arith, length-map found (slot_of doc), has.1) in
       let u : Use = get_or found has.0 none in
       let is : slot_of doc u ≡ slot = sym (mapped (slot_of doc) found has.0 slot none lt) ∙ has.2 in
       let h = (exact u).0 (Contains-get_or found has.0 none lt) in
@@ -110,7 +110,7 @@ module _ (answers : List Answer) (uses : List Use) (are : AreUses answers uses) 
       let u : Use = record { doc = target.doc.0; node = target.node.0; reference = slot.reference.0 } in
       let has = (exact u).1 ((are.exact u).1 leads, refl, refl) in
       let is : slot_of doc u ≡ slot = λ i. record { doc = sym same i; reference = slot.reference } in
-      subst (Contains slots) is (has.0, omega (arith, length-map (slot_of doc) found, has.1), mapped (slot_of doc) found has.0 (slot_of doc u) u has.1 ∙ ap (slot_of doc) has.2)
+      subst (Contains slots) is (has.0, omega (arith, length-map found (slot_of doc), has.1), mapped (slot_of doc) found has.0 (slot_of doc u) u has.1 ∙ ap (slot_of doc) has.2)
 
   in_order : (i j : ℕ) (d : SlotId) → i < j → j < length found → SlotPrecedes (get_or slots i d) (get_or slots j d)
   in_order i j d lt within =
@@ -125,7 +125,7 @@ module _ (answers : List Answer) (uses : List Use) (are : AreUses answers uses) 
   pub users_in : AreUsersIn answers doc target slots
   users_in = record {
     exact = λ slot. (there slot, λ h. back slot h.0 h.1);
-    ordered = λ i j d lt within. in_order i j d lt (omega (arith, length-map (slot_of doc) found));
+    ordered = λ i j d lt within. in_order i j d lt (omega (arith, length-map found (slot_of doc)));
   }
 
 -- they are appended one by one
@@ -133,11 +133,11 @@ module _ (f : Use → SlotId) (old : List SlotId) (found : List Use) where
   pub none_added : old ≡ old ++ map f (take 0 found)
   none_added = sym (append-nil old)
 
-  pub one_added : (slots more : List SlotId) (i : ℕ) (d : Use) → i < length found → slots ≡ old ++ map f (take i found) → more ≡ slots ++ f (get_or found i d) ∷ [] → more ≡ old ++ map f (take (i + 1) found)
-  one_added slots more i d lt so_far is = is ∙ ap (λ s. s ++ f (get_or found i d) ∷ []) so_far ∙ append_assoc old (map f (take i found)) (f (get_or found i d) ∷ []) ∙ ap (λ s. old ++ s) (sym (map_more f found i d lt))
+  pub one_added : (now more : List SlotId) (i : ℕ) (d : Use) → i < length found → now ≡ old ++ map f (take i found) → more ≡ now ++ f (get_or found i d) ∷ [] → more ≡ old ++ map f (take (i + 1) found)
+  one_added now more i d lt so_far is = is ∙ ap (λ s. s ++ f (get_or found i d) ∷ []) so_far ∙ append_assoc old (map f (take i found)) (f (get_or found i d) ∷ []) ∙ ap (λ s. old ++ s) (sym (map_more f found i d lt))
 
-  pub all_added : (slots : List SlotId) (n : ℕ) → length found ≤ n → slots ≡ old ++ map f (take n found) → slots ≡ old ++ map f found
-  all_added slots n all so_far = so_far ∙ ap (λ s. old ++ map f s) (take_all n found all)
+  pub all_added : (now : List SlotId) (n : ℕ) → length found ≤ n → now ≡ old ++ map f (take n found) → now ≡ old ++ map f found
+  all_added now n all so_far = so_far ∙ ap (λ s. old ++ map f s) (take_all n found all)
 
 -- ---- those of all
 

@@ -5,3 +5,4 @@ pub mod PairOrder
 pub mod Pairing
 pub mod Gathering
 pub mod View
+pub mod Holding

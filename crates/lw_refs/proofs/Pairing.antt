@@ -1,13 +1,14 @@
 -- Pairs that go in and out.
-use Rattle.std.proofs.Common.{◌≡◌, ◌≢◌, ℕ, ◌+◌, ◌<◌, Bool, true, false, cond, List, Option, Some, None, IsTrue, length, get_or, refl, sym, ap, subst, ◌∙◌, inl, inr, arith}
+use Rattle.std.proofs.Common.{◌≡◌, ◌≢◌, ℕ, ◌+◌, ◌<◌, Bool, true, false, not, cond, eqb, List, Option, Some, None, IsTrue, length, get_or, refl, sym, ap, subst, ◌∙◌, inl, inr, arith}
 use Rattle.std.specs.Borrow.{Bor}
-use Rattle.std.specs.Option.{IfSome, option_copied}
+use Rattle.std.specs.Option.{IfSome, option_copied, option_eq}
+use Rattle.std.proofs.lemmas.Bool.{eqb-true}
+use Rattle.std.proofs.lemmas.Option.{same_Some, slice_get-get_or}
 use Rattle.std.specs.Ordering.{is_eq}
 use Rattle.std.specs.List.{list_any}
 use Rattle.std.specs.BTreeMap.{is_at}
 use Rattle.std.specs.BTreeSet.{BTreeSet, Updates}
 use Rattle.std.proofs.lemmas.Bool.{cases_lt}
-use Rattle.std.proofs.lemmas.Bool.Decides.{nat_tests}
 use Rattle.lw_index.specs.declared.parts.Answer.{Answer}
 use Rattle.lw_refs.specs.declared.uses.Use.{Use}
 use Rattle.lw_refs.specs.Uses.{AreUses}
@@ -60,19 +61,40 @@ module _ (initial pairs : BTreeSet Pair) (user : ℕ) (uses : List Use) (count :
         subst (λ (n : ℕ). IsTrue (is_paired after ((get_or uses n d).doc, user))) (sym here) (subst (λ (n : ℕ). IsTrue (is_paired after (n, user))) (sym (at d)) one))
   ]
 
-  pub entered_one : (after : BTreeSet Pair) → Updates pair_cmp pairs after (doc, user) true → AreEnteredUpTo initial after user uses (count + 1) (Some doc)
+  entered_one : (after : BTreeSet Pair) → Updates pair_cmp pairs after (doc, user) true → AreEnteredUpTo initial after user uses (count + 1) (Some doc)
   entered_one after updates = record {
     kept = λ p has. inserted_keeps pairs after (doc, user) updates p (upto.kept p has);
     entered = one_more after (λ k d lt. inserted_keeps pairs after (doc, user) updates _ (upto.entered k d lt)) updates.1;
     recent = updates.1;
   }
 
-  pub entered_before : last ≡ Some doc → AreEnteredUpTo initial pairs user uses (count + 1) last
+  entered_before : last ≡ Some doc → AreEnteredUpTo initial pairs user uses (count + 1) last
   entered_before is = record {
     kept = upto.kept;
     entered = one_more pairs upto.entered (subst (λ o. IfSome o (λ n. IsTrue (is_paired pairs (n, user)))) is upto.recent);
     recent = upto.recent;
   }
+
+any_default : (uses : List Use) (i : ℕ) (d e : Use) → i < length uses → (get_or uses i e).doc ≡ (get_or uses i d).doc
+any_default uses i d e lt = ap (λ (u : Use). u.doc) (same_Some _ _ (sym (slice_get-get_or uses i e lt) ∙ slice_get-get_or uses i d lt))
+
+is_some_of : (o : Option ℕ) (x : ℕ) → not (option_eq eqb o (Some x)) ≡ false → o ≡ Some x
+is_some_of None x h = cc
+is_some_of (Some y) x h = ap Some (eqb-true y x (not_not _ h))
+  where
+    not_not : (b : Bool) → not b ≡ false → b ≡ true
+    not_not true h = refl
+    not_not false h = cc
+
+module _ (initial pairs : BTreeSet Pair) (user : ℕ) (uses : List Use) (count : ℕ) (last : Option ℕ) (upto : AreEnteredUpTo initial pairs user uses count last) (d : Use) (next : Option ℕ)
+    (now : BTreeSet Pair) (within : count < length uses) where
+  pub entered_then : (after : BTreeSet Pair) → now ≡ after → next ≡ Some (get_or uses count d).doc → Updates pair_cmp pairs after ((get_or uses count d).doc, user) true → AreEnteredUpTo initial now user uses (count + 1) next
+  entered_then after same is updates = subst (λ s. AreEnteredUpTo initial s user uses (count + 1) next) (sym same) (subst (λ o. AreEnteredUpTo initial after user uses (count + 1) o) (sym is)
+      (entered_one initial pairs user uses count last upto (get_or uses count d).doc (λ e. any_default uses count d e within) after updates))
+
+  pub entered_else : now ≡ pairs → next ≡ last → not (option_eq eqb last (Some (get_or uses count d).doc)) ≡ false → AreEnteredUpTo initial now user uses (count + 1) next
+  entered_else same is known = subst (λ s. AreEnteredUpTo initial s user uses (count + 1) next) (sym same) (subst (λ o. AreEnteredUpTo initial pairs user uses (count + 1) o) (sym is)
+      (entered_before initial pairs user uses count last upto (get_or uses count d).doc (λ e. any_default uses count d e within) (is_some_of last (get_or uses count d).doc known)))
 
 pub all_entered : (answers : List Answer) (uses : List Use) (pairs : BTreeSet Pair) (user : ℕ) → AreUses answers uses → ((k : ℕ) (d : Use) → k < length uses → IsTrue (is_paired pairs ((get_or uses k d).doc, user))) →
     (doc : ℕ) → LeadsInto answers doc → IsTrue (is_paired pairs (doc, user))
@@ -109,11 +131,11 @@ left_by_none before after doc user kept is updates = subst (λ k. SomeStay user 
 
 stays_by : (documents : Held) (user : ℕ) (kept : Option (Bor (List Answer))) → option_copied kept ≡ held_at documents user → (other doc : ℕ) (answers : List Answer) →
     held_at documents other ≡ Some answers → LeadsInto answers doc → StaysPaired user kept (doc, other)
-stays_by documents user None is other doc answers at leads same = none answers (is ∙ ap (held_at documents) (sym same) ∙ at)
+stays_by documents user None is other doc answers at leads = λ same. none answers (is ∙ ap (held_at documents) (sym same) ∙ at)
   where
     none : (answers : List Answer) → option_copied {T = List Answer} None ≡ Some answers → ⊥
     none answers e = cc
-stays_by documents user (Some kept) is other doc answers at leads same = subst (λ list. LeadsInto list doc) (sym (one (is ∙ ap (held_at documents) (sym same) ∙ at))) leads
+stays_by documents user (Some kept) is other doc answers at leads = λ same. subst (λ (list : List Answer). LeadsInto list doc) (sym (one (is ∙ ap (held_at documents) (sym same) ∙ at))) leads
   where
     one : Some kept.now ≡ Some answers → kept.now ≡ answers
     one e = cc

@@ -12,8 +12,8 @@ loop-place-preserved c =
     let P : List Use → Type 0 = AreUsesUpTo answers (place + 1) in
     elim c.match-answer.branch [
       | in-Found+in_ok-push-in-Found w ↦ (
-          let is : c.match-answer.uses.items ≡ uses ++ use_of w.in-Found.target.now place ∷ [] = ap (λ (v : Vec Use Global). v.items) w.uses-is ∙ w.in_ok-push-in-Found.ensures.items in
-          subst P (sym is) (one_found answers place uses c.loop-place.invariant w.in-Found.target.now (answer_at answers place _ _ c.loop-place-test.true w.in-Found.is)))
+          let is : c.match-answer.uses.items ≡ uses ++ use_of w.in-Found.target place ∷ [] = ap (λ (v : Vec Use Global). v.items) w.uses-is ∙ w.in_ok-push-in-Found.ensures.items in
+          subst P (sym is) (one_found answers place uses c.loop-place.invariant w.in-Found.target (answer_at answers place _ _ c.loop-place-test.true w.in-Found.is)))
       | in-Missing w ↦ subst P (sym (ap (λ (v : Vec Use Global). v.items) w.uses-is)) (one_missing answers place uses c.loop-place.invariant (answer_at answers place _ _ c.loop-place-test.true w.in-Missing.is))
     ]
 
