@@ -4,7 +4,7 @@ ghost use Rattle.std.specs.List.Sorted.{IsStrictlySortedBy};
 ghost use Rattle.lw_query.specs.Gathered.{AreSpotsOf, PutsSpots, key_cmp, spot_of_key};
 ghost use Rattle.lw_query.specs.Spots.{IsSpotOfMention, IsSpotOfSlot};
 
-use crate::spots::{name_spot, use_spot};
+use crate::spots::{declared_spot, use_spot};
 use crate::{Spot, Views};
 use lw_base::{DocId, Items, Name, NoMemory, Span};
 use lw_index::Target;
@@ -73,9 +73,7 @@ pub(crate) fn gather<V: Views>(
 {
     let slots = refs.of(target)?;
     let mut keys = BTreeSet::new(alloc);
-    if declaration {
-        put(v, name_spot(v, target), &mut keys)?;
-    }
+    put(v, declared_spot(v, target, declaration), &mut keys)?;
     put_uses(v, slots.as_slice(), &mut keys)?;
     Ok(Items::from_vec(spots_of(alloc, &keys)?))
 }
