@@ -2,6 +2,7 @@
 use Rattle.std.proofs.Common.{◌≡◌, ◌≢◌, ℕ, zero, suc, List, [], ◌∷◌, length, map, cond, Contains, T, Bool, true, false, ◌<◌, is_eq, is_lt, Ordering, Less, Equal, Greater, Option, Some, None, IfSome, option_map, option_and_then, refl, sym, ap, subst, subst₂, ◌∙◌, inl, inr, ◌⊎◌, arith}
 use Rattle.std.specs.FinMap.{get, entries, is_sorted, entries_sorted}
 use Rattle.std.specs.FinMap.Entries.{below_all}
+use Rattle.std.specs.Borrow.{Bor}
 use Rattle.std.specs.List.{All, AllPairs, AllZip, slice_index_or}
 use Rattle.std.specs.Str.{bytes_eq}
 use Rattle.std.proofs.lemmas.List.Elements.{All-contains_itself}
@@ -26,7 +27,7 @@ use Rattle.lw_scoping.specs.Links.{Trees}
 use Rattle.lw_tree.specs.Parts.{Parts}
 use Rattle.lw_build.specs.Linked.{AreLinked, StandsNumbered}
 use Rattle.lw_build.specs.Readings.{AreAllRead, AreDocumentsRead, IsReadingOfText, present_texts_of, reading_at, tree_numbered, tree_of, trees_of}
-use Rattle.lw_build.specs.Seen.{AreReadingsSeen, IsReadingSeen, IsViewOf}
+use Rattle.lw_build.specs.Seen.{AreReadingsSeen, HasFewReferences, IsReadingSeen, SeenView, IsViewOf}
 use Rattle.lw_build.specs.Telling.{numbered_places}
 use Rattle.lw_build.specs.View.{documents_of}
 use Rattle.lw_build.specs.declared.readings.Reading.{Reading}
@@ -143,6 +144,10 @@ module _ (g : Grammar) (texts : List (List ℕ)) (kept : ByAddress) (are : AreNu
   within_of text (Whole tree locals) is = is.1.0
   within_of text (Broken issue) is = tt
 
+  few_of : (text : List ℕ) (reading : Reading) → IsReadingOfText g texts text reading → IfSome (tree_of reading) HasFewReferences
+  few_of text (Whole tree locals) is = is.1.1.1
+  few_of text (Broken issue) is = tt
+
   -- the tree of a document stands in its text
   pub within : (address : List ℕ) (held : Numbered) → get kept address ≡ Some held → IfSome (tree_numbered readings held.number.0) (StandsInText held.doc.text)
   within address held at = by (reading_at readings held.number.0) refl
@@ -160,7 +165,7 @@ module _ (g : Grammar) (texts : List (List ℕ)) (kept : ByAddress) (are : AreNu
       each : (n : ℕ) (reading : Reading) → reading_at readings n ≡ Some reading → IsReadingSeen kept n reading
       each n reading is =
           let r = read.each n reading is in
-          record { held = r.held; number = r.number; here = r.here; stands = within_of r.held.doc.text reading r.reads }
+          record { held = r.held; number = r.number; here = r.here; stands = within_of r.held.doc.text reading r.reads; few = few_of r.held.doc.text reading r.reads }
 
   pub present_trees : (b : Bool) → AreAllRead kept readings → AreTreesOfTexts g (present_texts (documents_of b kept)) (trees_of kept readings)
   present_trees b all address =
@@ -275,3 +280,14 @@ module _ (g : Grammar) (texts : List (List ℕ)) (kept : ByAddress) (are : AreNu
             let before : i < length views = omega (arith, less, inside) in
             apart (slice_index_or views i d) (slice_index_or views j d) (All-contains_itself views i d before) (All-contains_itself views j d inside)
             (ascending i j d less inside)
+
+-- the references of each tree that is lent have numbers
+pub few_seen : (v : SeenView) → AreReadingsSeen v → (n : ℕ) (o : Option (Bor Parts)) → option_map (λ tree. tree.now) o ≡ tree_numbered v.readings n →
+    IfSome o (λ tree. HasFewReferences tree.now)
+few_seen v are n None is = tt
+few_seen v are n (Some tree) is = by (reading_at v.readings n) refl
+  where
+    by : (o : Option Reading) → reading_at v.readings n ≡ o → HasFewReferences tree.now
+    by None none = absurd (none-some tree.now (sym (is ∙ ap (option_and_then tree_of) none)))
+    by (Some reading) there =
+        subst (λ (o : Option Parts). IfSome o HasFewReferences) (sym (is ∙ ap (option_and_then tree_of) there)) (are.each n reading there).few

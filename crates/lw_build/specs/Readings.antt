@@ -1,7 +1,7 @@
 -- What is kept of texts that were read, and when it belongs to the documents of a workspace: each reading is that of the text of a document, and
 -- the index holds what these documents export.
 -- Held against Langium's document lifecycle: "Parsing" and "Indexing of symbols" take each document by itself.
-use Rattle.std.specs.Prelude.{ℕ, ◌≡◌, List, Option, Some, None, option_and_then, option_map}
+use Rattle.std.specs.Prelude.{ℕ, ◌≡◌, ◌<◌, ◌^◌, List, length, Option, Some, None, option_and_then, option_map}
 use Rattle.std.specs.BTreeMap as tree
 use Rattle.std.specs.FinMap.{get}
 use Rattle.std.specs.Str.{IsUtf8}
@@ -28,9 +28,10 @@ abbrev pub tree_of : Reading → Option Parts
 tree_of (Whole tree locals) = Some tree
 tree_of (Broken issue) = None
 
--- what the text was read as, by the grammar whose kinds have these texts
+-- what the text was read as, by the grammar whose kinds have these texts; the references of a tree have numbers
 abbrev pub IsReadingOfText : Grammar → List (List ℕ) → List ℕ → Reading → Type 0
-IsReadingOfText g texts text (Whole tree locals) = Reads g text (parsed.Whole tree) × StandsInText text tree × AreLocalsOf tree locals
+IsReadingOfText g texts text (Whole tree locals) =
+    Reads g text (parsed.Whole tree) × StandsInText text tree × AreLocalsOf tree locals × (length tree.refs < 2 ^ 32)
 IsReadingOfText g texts text (Broken issue) = Reads g text (parsed.Broken issue) × IsNamed texts issue × IsIssueWithin text issue
 
 -- what is kept of the document of a number

@@ -1,6 +1,6 @@
 -- What is lent of a workspace that is built: its documents by address, what their texts were read as, and where their references lead.
 -- Held against Langium's document lifecycle: what an editor asks is answered once all documents are linked.
-use Rattle.std.specs.Prelude.{ℕ, ◌≡◌, List, Option, Some, IfSome}
+use Rattle.std.specs.Prelude.{ℕ, ◌≡◌, ◌<◌, ◌^◌, List, Option, Some, IfSome, length}
 use Rattle.std.specs.FinMap.{get}
 use Rattle.lw_base.specs.declared.numbers.DocId.{DocId}
 use Rattle.lw_docs.specs.Documents.{ByAddress, Numbered}
@@ -20,12 +20,17 @@ pub record SeenView : Type 0 where
   pub readings : Readings
   pub led : Led
 
+-- the references of a tree have numbers
+abbrev pub HasFewReferences : Parts → Type 0
+HasFewReferences tree = length tree.refs < 2 ^ 32
+
 -- a reading is that of a document, and its tree stands in the text
 pub record IsReadingSeen (kept : ByAddress) (n : ℕ) (reading : Reading) : Type 0 where
   pub held : Numbered
   pub number : held.number.0 ≡ n
   pub here : get kept held.doc.uri ≡ Some held
   pub stands : IfSome (tree_of reading) (StandsInText held.doc.text)
+  pub few : IfSome (tree_of reading) HasFewReferences
 
 pub record AreReadingsSeen (v : SeenView) : Type 0 where
   pub each : (n : ℕ) (reading : Reading) → reading_at v.readings n ≡ Some reading → IsReadingSeen v.kept n reading

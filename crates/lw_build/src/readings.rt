@@ -59,7 +59,7 @@ struct Entered {
     exports: Vec<Export>,
 }
 
-/// What is to be kept of what a text was read as.
+/// What is to be kept of what a text was read as. Want of memory is the only error; so is that there are no numbers for its references.
 fn kept_of(
     alloc: Global,
     language: &Language,
@@ -77,6 +77,9 @@ fn kept_of(
     let _ = text;
     match parsed {
         Parsed::Whole(tree) => {
+            if tree.refs().len() > u32::MAX as usize {
+                return Err(NoMemory);
+            }
             let locals = Locals::of_tree(alloc, &tree)?;
             let exports = entries(alloc, &tree)?;
             Ok(Entered {

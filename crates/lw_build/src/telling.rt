@@ -1,6 +1,5 @@
 // The lists of all documents, and which of them are news.
-ghost use Rattle.std.specs.Prelude.{◌≡◌, ◌≢◌, ◌↔◌, ℕ, List, Some, IfOk, OnOk, OnErr, IsTrue, Contains};
-ghost use Rattle.std.specs.FinMap as all;
+ghost use Rattle.std.specs.Prelude.{◌≡◌, ◌≢◌, ◌<◌, ◌^◌, ◌↔◌, ℕ, List, Some, IfOk, OnOk, IsTrue, Contains, length};
 ghost use Rattle.lw_docs.specs.Documents.{AreNumbered, IsAt, IsHeld};
 ghost use Rattle.lw_docs.specs.declared.doc.Doc.{Doc as OneDoc};
 ghost use Rattle.lw_link.specs.Indexed.{IsDocumentOf, IsIndexOf};
@@ -91,7 +90,9 @@ fn check_tree<L: Ledger>(
     requires reads { Reads language.now.grammar text.now (Whole tree.now) }
     requires stands { StandsInText text.now tree.now }
     requires locals { AreLocalsOf tree.now locals.now }
-    ensures { (texts : Texts) (trees : Trees) (address : List ℕ) → AreTreesOfTexts language.now.grammar texts trees → IsIndexOf trees index.now →
+    requires few { length tree.now.refs < 2 ^ 32 }
+    ensures few { IfOk result (λ checked. length checked.answers.items < 2 ^ 32) }
+    ensures checked { (texts : Texts) (trees : Trees) (address : List ℕ) → AreTreesOfTexts language.now.grammar texts trees → IsIndexOf trees index.now →
         texts address ≡ Some text.now → IsDocumentOf trees index.now d.0 address tree.now →
         IfOk result (λ checked. IsCheckedAs language.now.grammar texts trees index.now address (Some tree.now) checked.list checked.answers.items) }
 {
@@ -121,7 +122,8 @@ fn check_reading<L: Ledger>(
     steps: &mut Steps<L>,
 ) -> Result<Checked, NoMemory>
     requires { IsReadingOfText language.now.grammar language.now.texts text.now reading.now }
-    ensures { (texts : Texts) (trees : Trees) (address : List ℕ) → AreTreesOfTexts language.now.grammar texts trees → IsIndexOf trees index.now →
+    ensures few { IfOk result (λ checked. length checked.answers.items < 2 ^ 32) }
+    ensures checked { (texts : Texts) (trees : Trees) (address : List ℕ) → AreTreesOfTexts language.now.grammar texts trees → IsIndexOf trees index.now →
         texts address ≡ Some text.now → IsDocumentAs trees index.now d.0 address reading.now →
         IfOk result (λ checked. IsCheckedAs language.now.grammar texts trees index.now address (tree_of reading.now) checked.list checked.answers.items) }
 {
@@ -138,17 +140,6 @@ fn check_reading<L: Ledger>(
             })
         }
     }
-}
-
-/// Keeps where the references of a document lead. Want of memory is the only error; so is that there are no numbers for so many.
-fn keep_answers(refs: &mut RefIndex, d: DocId, answers: Vec<Answer>) -> Result<(), NoMemory>
-    ensures ok { OnOk result (refs.new ≡ all.insert refs.old d.0 answers.items) }
-    ensures refused { OnErr result (refs.new ≡ refs.old) }
-{
-    if answers.len() > u32::MAX as usize {
-        return Err(NoMemory);
-    }
-    refs.set(d, answers)
 }
 
 impl News {
@@ -210,7 +201,7 @@ impl News {
                     steps,
                 )?;
                 let Checked { list, answers } = found;
-                keep_answers(refs, d, answers)?;
+                refs.set(d, answers)?;
                 self.add(alloc, d, doc, list)
             }
             None => unreachable!(),

@@ -19,8 +19,8 @@ broken : (g : Grammar) (texts : Texts) (address text : List ℕ) (issue : Issue)
     IsFaultShown g text issue shown → AreDiagnostics g texts address (shown ∷ [])
 broken g texts address text issue shown there reads is = record { text = text; is_shown = there; is_list = diagnostic.broken reads is }
 
-pub returns-in_ok-push-in-Broken : goal.returns-in_ok-push-in-Broken
-returns-in_ok-push-in-Broken g c texts trees address are index there here =
+pub returns-in_ok-push-in-Broken-clause-checked : goal.returns-in_ok-push-in-Broken-clause-checked
+returns-in_ok-push-in-Broken-clause-checked g c texts trees address are index there here =
     let of = c.args.language.now.grammar in
     let text = c.args.text.now in
     let shown : Shown = c.in_ok-issue_diagnostic-in-Broken.field-0 in

@@ -39,8 +39,8 @@ diagnostics-list-requires g c = record {
   known = (c.args.language.now.grammar, c.types-types.ensures, text_types c.args.language.now.grammar c.args.text.now c.args.tree.now c.requires.reads);
 }
 
-pub returns-in_ok-list : goal.returns-in_ok-list
-returns-in_ok-list g c texts trees address are index there here =
+pub returns-in_ok-list-clause-checked : goal.returns-in_ok-list-clause-checked
+returns-in_ok-list-clause-checked g c texts trees address are index there here =
     let of = c.args.language.now.grammar in
     let tree = c.args.tree.now in
     let answers = c.in_ok-answers.ensures.answers of trees address c.types-types.ensures index here in

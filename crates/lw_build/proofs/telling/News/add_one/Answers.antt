@@ -26,12 +26,12 @@ check_reading-found-requires g c =
 
 pub returns-clause-unread : goal.returns-clause-unread
 returns-clause-unread g c =
-    unread_linked c.args.readings.now c.args.refs.now c.keep_answers.new.refs c.args.d.0 (c.in-Some.reading.now, sym c.in-Some.ensures.value) c.requires.unread
-    (answers_stay c.args.refs.now c.keep_answers.new.refs c.args.d.0 c.in_ok-found-in-Some.found.answers.items c.in_ok-keep_answers-in-Some.ensures.ok)
+    unread_linked c.args.readings.now c.args.refs.now c.set.new.self c.args.d.0 (c.in-Some.reading.now, sym c.in-Some.ensures.value) c.requires.unread
+    (answers_stay c.args.refs.now c.set.new.self c.args.d.0 c.in_ok-found-in-Some.found.answers.items c.in_ok-set-in-Some.ensures.ok)
 
 pub returns-clause-others : goal.returns-clause-others
 returns-clause-others g c =
-    answers_stay c.args.refs.now c.keep_answers.new.refs c.args.d.0 c.in_ok-found-in-Some.found.answers.items c.in_ok-keep_answers-in-Some.ensures.ok
+    answers_stay c.args.refs.now c.set.new.self c.args.d.0 c.in_ok-found-in-Some.found.answers.items c.in_ok-set-in-Some.ensures.ok
 
 pub returns-clause-linked : goal.returns-clause-linked
 returns-clause-linked g c =
@@ -42,14 +42,14 @@ returns-clause-linked g c =
     let doc = c.doc-doc.result.now in
     let is = sym c.in-Some.ensures.value in
     let here = is_document of texts docs c.numbered.ensures readings c.requires.read c.requires.all c.args.d doc c.doc-doc.ensures c.in-Some.reading.now is in
-    let found = c.in_ok-found-in-Some.ensures (present_texts_of docs) (trees_of docs readings) doc.uri
+    let found = c.in_ok-found-in-Some.ensures.checked (present_texts_of docs) (trees_of docs readings) doc.uri
     (are_trees of texts docs c.numbered.ensures readings c.requires.read c.requires.all)
     (is_index of texts docs c.numbered.ensures readings c.requires.read c.requires.all) (ap (option_map (λ (h : Numbered). h.doc.text)) c.doc-doc.ensures) here.1 in
     let answers = c.in_ok-found-in-Some.found.answers.items in
-    let links : AreLinksKept of docs readings c.keep_answers.new.refs doc.uri c.args.d.0 =
+    let links : AreLinksKept of docs readings c.set.new.self doc.uri c.args.d.0 =
     subst₂ (λ (o : Option Parts) (kept : List Answer). AreLinkAnswers (IsNumberBelow of) (StandsNumbered docs) (trees_of docs readings) doc.uri o kept)
     (sym (ap (option_and_then tree_of) is))
-    (sym (answers_put c.args.refs.now c.keep_answers.new.refs c.args.d.0 answers c.in_ok-keep_answers-in-Some.ensures.ok))
+    (sym (answers_put c.args.refs.now c.set.new.self c.args.d.0 answers c.in_ok-set-in-Some.ensures.ok))
     (stand_elsewhere (IsNumberBelow of) (IsIndexedAt readings.index) (StandsNumbered docs) (indexed_stands of texts docs readings c.requires.read)
     (trees_of docs readings) doc.uri (tree_of c.in-Some.reading.now) answers found.1) in
     so c.add.result (doc, c.doc-doc.ensures, links)
@@ -63,7 +63,7 @@ returns-clause-told g c =
     let doc = c.doc-doc.result.now in
     let here = is_document of texts docs c.numbered.ensures readings c.requires.read c.requires.all c.args.d doc c.doc-doc.ensures c.in-Some.reading.now
     (sym c.in-Some.ensures.value) in
-    let found = c.in_ok-found-in-Some.ensures (present_texts_of docs) (trees_of docs readings) doc.uri
+    let found = c.in_ok-found-in-Some.ensures.checked (present_texts_of docs) (trees_of docs readings) doc.uri
     (are_trees of texts docs c.numbered.ensures readings c.requires.read c.requires.all)
     (is_index of texts docs c.numbered.ensures readings c.requires.read c.requires.all) (ap (option_map (λ (h : Numbered). h.doc.text)) c.doc-doc.ensures) here.1 in
     weaker c.add.result (λ adds. (c.in_ok-found-in-Some.found.list, doc, c.doc-doc.ensures, found.0, adds)) c.add.ensures

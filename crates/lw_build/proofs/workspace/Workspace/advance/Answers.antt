@@ -8,6 +8,7 @@ use Rattle.lw_build.specs.Telling.{numbered_places}
 use Rattle.lw_build.specs.View.{documents, documents_of}
 use Rattle.lw_build.proofs.Advancing.{builds, current, linked_taken, read_taken, readable_taken, stays_built}
 use Rattle.lw_build.proofs.Agreeing.{view}
+use Rattle.lw_build.proofs.Leading.{unread_more}
 use Rattle.lw_build.proofs.News.{is_news}
 use Rattle.lw_build.proofs.Trees.{are_readable}
 use Rattle.lw_build.proofs.workspace.Workspace.advance.Goals as goal
@@ -20,6 +21,10 @@ returns-then-self-clause-builds g c =
     (subst (λ b. (m : Documents) → Agrees (view of docs b) m → BuildsToEnd of m (documents_of b docs) c.new.result) (sym c.if-self.true)
     (λ m agrees. subst (BuildsToEnd of m (documents_of true docs)) (sym c.new.ensures)
     (stays_built of c.self.invariant.one_way c.types.result.now c.types.ensures docs (c.self.invariant.built c.if-self.true) m agrees)))
+
+pub news_of-news-requires-clause-unread : goal.news_of-news-requires-clause-unread
+news_of-news-requires-clause-unread g c =
+    unread_more c.self.inside.readings c.read_all.new.self c.self.inside.refs c.self.invariant.unread c.in_ok-read_all.ensures.more
 
 pub take_all-requires-clause-held : goal.take_all-requires-clause-held
 take_all-requires-clause-held g c d list has =
