@@ -13,3 +13,4 @@ pub mod Empty
 pub mod OneWay
 pub mod Leading
 pub mod Views
+pub mod Lending

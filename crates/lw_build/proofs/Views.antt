@@ -2,7 +2,6 @@
 use Rattle.std.proofs.Common.{◌≡◌, ◌≢◌, ℕ, zero, suc, List, [], ◌∷◌, length, map, cond, Contains, T, Bool, true, false, ◌<◌, is_eq, is_lt, Ordering, Less, Equal, Greater, Option, Some, None, IfSome, option_map, option_and_then, refl, sym, ap, subst, subst₂, ◌∙◌, inl, inr, ◌⊎◌, arith}
 use Rattle.std.specs.FinMap.{get, entries, is_sorted, entries_sorted}
 use Rattle.std.specs.FinMap.Entries.{below_all}
-use Rattle.std.specs.Borrow.{Bor}
 use Rattle.std.specs.List.{All, AllPairs, AllZip, slice_index_or}
 use Rattle.std.specs.Str.{bytes_eq}
 use Rattle.std.proofs.lemmas.List.Elements.{All-contains_itself}
@@ -27,7 +26,7 @@ use Rattle.lw_scoping.specs.Links.{Trees}
 use Rattle.lw_tree.specs.Parts.{Parts}
 use Rattle.lw_build.specs.Linked.{AreLinked, StandsNumbered}
 use Rattle.lw_build.specs.Readings.{AreAllRead, AreDocumentsRead, IsReadingOfText, present_texts_of, reading_at, tree_numbered, tree_of, trees_of}
-use Rattle.lw_build.specs.Seen.{AreReadingsSeen, HasFewReferences, IsReadingSeen, SeenView, IsViewOf}
+use Rattle.lw_build.specs.Seen.{AreReadingsSeen, HasFewReferences, IsReadingSeen, IsViewOf}
 use Rattle.lw_build.specs.Telling.{numbered_places}
 use Rattle.lw_build.specs.View.{documents_of}
 use Rattle.lw_build.specs.declared.readings.Reading.{Reading}
@@ -160,7 +159,7 @@ module _ (g : Grammar) (texts : List (List ℕ)) (kept : ByAddress) (are : AreNu
 
   -- what is lent
   pub readings_seen : AreAllRead kept readings → (led : Led) → AreReadingsSeen (record { kept = kept; readings = readings; led = led })
-  readings_seen all led = record { each = each; all = all }
+  readings_seen all led = record { numbered = are; each = each; all = all }
     where
       each : (n : ℕ) (reading : Reading) → reading_at readings n ≡ Some reading → IsReadingSeen kept n reading
       each n reading is =
@@ -280,14 +279,3 @@ module _ (g : Grammar) (texts : List (List ℕ)) (kept : ByAddress) (are : AreNu
             let before : i < length views = omega (arith, less, inside) in
             apart (slice_index_or views i d) (slice_index_or views j d) (All-contains_itself views i d before) (All-contains_itself views j d inside)
             (ascending i j d less inside)
-
--- the references of each tree that is lent have numbers
-pub few_seen : (v : SeenView) → AreReadingsSeen v → (n : ℕ) (o : Option (Bor Parts)) → option_map (λ tree. tree.now) o ≡ tree_numbered v.readings n →
-    IfSome o (λ tree. HasFewReferences tree.now)
-few_seen v are n None is = tt
-few_seen v are n (Some tree) is = by (reading_at v.readings n) refl
-  where
-    by : (o : Option Reading) → reading_at v.readings n ≡ o → HasFewReferences tree.now
-    by None none = absurd (none-some tree.now (sym (is ∙ ap (option_and_then tree_of) none)))
-    by (Some reading) there =
-        subst (λ (o : Option Parts). IfSome o HasFewReferences) (sym (is ∙ ap (option_and_then tree_of) there)) (are.each n reading there).few

@@ -3,7 +3,7 @@
 use Rattle.std.specs.Prelude.{ℕ, ◌≡◌, ◌<◌, ◌^◌, List, Option, Some, IfSome, length}
 use Rattle.std.specs.FinMap.{get}
 use Rattle.lw_base.specs.declared.numbers.DocId.{DocId}
-use Rattle.lw_docs.specs.Documents.{ByAddress, Numbered}
+use Rattle.lw_docs.specs.Documents.{AreNumbered, ByAddress, Numbered}
 use Rattle.lw_index.specs.declared.parts.Answer.{Answer}
 use Rattle.lw_query.specs.Built.{tree_seen}
 use Rattle.lw_query.specs.declared.view.View.{View}
@@ -33,6 +33,7 @@ pub record IsReadingSeen (kept : ByAddress) (n : ℕ) (reading : Reading) : Type
   pub few : IfSome (tree_of reading) HasFewReferences
 
 pub record AreReadingsSeen (v : SeenView) : Type 0 where
+  pub numbered : AreNumbered v.kept
   pub each : (n : ℕ) (reading : Reading) → reading_at v.readings n ≡ Some reading → IsReadingSeen v.kept n reading
   pub all : AreAllRead v.kept v.readings
 
