@@ -158,8 +158,8 @@ module _ (g : Grammar) (texts : List (List ℕ)) (kept : ByAddress) (are : AreNu
           within_of held.doc.text reading (subst (λ (h : Numbered). IsReadingOfText g texts h.doc.text reading) same r.reads)
 
   -- what is lent
-  pub readings_seen : AreAllRead kept readings → (led : Led) → AreReadingsSeen (record { kept = kept; readings = readings; led = led })
-  readings_seen all led = record { numbered = are; each = each; all = all }
+  pub readings_seen : AreAllRead kept readings → AreReadingsSeen kept readings
+  readings_seen all = record { numbered = are; each = each; all = all }
     where
       each : (n : ℕ) (reading : Reading) → reading_at readings n ≡ Some reading → IsReadingSeen kept n reading
       each n reading is =

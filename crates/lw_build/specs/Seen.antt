@@ -1,7 +1,8 @@
 -- What is lent of a workspace that is built: its documents by address, what their texts were read as, and where their references lead.
 -- Held against Langium's document lifecycle: what an editor asks is answered once all documents are linked.
-use Rattle.std.specs.Prelude.{ℕ, ◌≡◌, ◌<◌, ◌^◌, List, Option, Some, IfSome, length}
-use Rattle.std.specs.FinMap.{get}
+use Rattle.std.specs.Prelude.{ℕ, ◌≡◌, ◌<◌, ◌^◌, List, Option, Some, IfSome, option_and_then, length, map}
+use Rattle.std.specs.FinMap.{FinMap, from_entries, get}
+use Rattle.std.specs.Ordering.{nat_cmp}
 use Rattle.lw_base.specs.declared.numbers.DocId.{DocId}
 use Rattle.lw_docs.specs.Documents.{AreNumbered, ByAddress, Numbered}
 use Rattle.lw_index.specs.declared.parts.Answer.{Answer}
@@ -15,10 +16,19 @@ use Rattle.lw_build.specs.Readings.{AreAllRead, present_texts_of, reading_at, tr
 use Rattle.lw_build.specs.declared.readings.Reading.{Reading}
 use Rattle.lw_build.specs.declared.readings.Readings.{Readings}
 
+-- the trees by the numbers of their documents; none where a text is broken
 pub record SeenView : Type 0 where
   pub kept : ByAddress
-  pub readings : Readings
+  pub trees : FinMap nat_cmp (Option Parts)
   pub led : Led
+
+-- what is seen of these documents, readings and answers
+abbrev pub lent : ByAddress → Readings → Led → SeenView
+lent kept readings led = record {
+  kept = kept;
+  trees = from_entries {R = nat_cmp} (map (λ e. (e.0, tree_of e.1)) readings.texts.entries);
+  led = led;
+}
 
 -- the references of a tree have numbers
 abbrev pub HasFewReferences : Parts → Type 0
@@ -32,14 +42,14 @@ pub record IsReadingSeen (kept : ByAddress) (n : ℕ) (reading : Reading) : Type
   pub stands : IfSome (tree_of reading) (StandsInText held.doc.text)
   pub few : IfSome (tree_of reading) HasFewReferences
 
-pub record AreReadingsSeen (v : SeenView) : Type 0 where
-  pub numbered : AreNumbered v.kept
-  pub each : (n : ℕ) (reading : Reading) → reading_at v.readings n ≡ Some reading → IsReadingSeen v.kept n reading
-  pub all : AreAllRead v.kept v.readings
+pub record AreReadingsSeen (kept : ByAddress) (readings : Readings) : Type 0 where
+  pub numbered : AreNumbered kept
+  pub each : (n : ℕ) (reading : Reading) → reading_at readings n ≡ Some reading → IsReadingSeen kept n reading
+  pub all : AreAllRead kept readings
 
 -- the tree of the document of a number, what is answered for its references, and where it stands
 abbrev pub seen_tree : SeenView → ℕ → Option Parts
-seen_tree v = tree_numbered v.readings
+seen_tree v n = option_and_then (λ tree. tree) (get v.trees n)
 
 abbrev pub seen_answers : SeenView → ℕ → List Answer
 seen_answers v = answers_in v.led

@@ -26,13 +26,21 @@ pub struct Seen<'a> {
 }
 
 impl<'a> Model for Seen<'a> {
-    ghost use Rattle.lw_build.specs.Seen.{AreReadingsSeen, SeenView};
+    ghost use Rattle.lw_build.specs.Seen.{SeenView};
 
     ghost Value = { SeenView };
 
-    ghost view = { λ s. record { kept = s.docs.now; readings = s.readings.now; led = s.refs.now } };
+    ghost use Rattle.std.specs.Coded.{codes};
+    ghost use Rattle.std.specs.FinMap as map;
+    ghost use Rattle.lw_machine.specs.contracts.state.State as state;
 
-    ghost invariant = { λ s. AreReadingsSeen (record { kept = s.docs.now; readings = s.readings.now; led = s.refs.now }) };
+    ghost coded = { Prim.hlevel (codes, map.code, state.the_row.coded) };
+
+    ghost use Rattle.lw_build.specs.Seen.{AreReadingsSeen, lent};
+
+    ghost view = { λ s. lent s.docs.now s.readings.now s.refs.now };
+
+    ghost invariant = { λ s. AreReadingsSeen s.docs.now s.readings.now };
 }
 
 impl<'a> Seen<'a> {
@@ -51,6 +59,7 @@ impl<'a> Seen<'a> {
     pub fn text(&self, doc: DocId) -> Option<&'a TextDoc>
         ensures { MatchOption result ((address : List ℕ) → ¬ StandsSeen self.now doc.0 address) (λ text. IsTextSeen self.now doc.0 text.now) }
     {
+        let _ = &self.docs;
         let found = self.doc(doc)?;
         Some(&found.text)
     }

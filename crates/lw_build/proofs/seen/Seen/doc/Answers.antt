@@ -7,7 +7,7 @@ use Rattle.lw_build.proofs.seen.Seen.doc.Goals as goal
 
 pub doc-requires : goal.doc-requires
 doc-requires c =
-    held_seen _ c.self.invariant c.args.doc
+    held_seen c.self.inside.docs.now c.self.inside.readings.now c.self.invariant c.args.doc
     (subst (λ b. MatchBool b (HasReading c.self.inside.readings.now c.args.doc.0) (reading_at c.self.inside.readings.now c.args.doc.0 ≡ None)) c.if-has.true c.has.ensures)
 
 pub returns-then : goal.returns-then
@@ -16,5 +16,5 @@ returns-then c = subst (λ (v : SeenView). IsAt v.kept c.args.doc c.doc.result.n
 pub returns-else : goal.returns-else
 returns-else c address =
     subst (λ (v : SeenView). ¬ StandsSeen v c.args.doc.0 address) c.self.view_is
-    (nowhere_seen _ c.self.invariant c.args.doc.0
+    (nowhere_seen c.self.inside.docs.now c.self.inside.readings.now c.self.invariant c.args.doc.0
     (subst (λ b. MatchBool b (HasReading c.self.inside.readings.now c.args.doc.0) (reading_at c.self.inside.readings.now c.args.doc.0 ≡ None)) c.if-has.false c.has.ensures) address)
