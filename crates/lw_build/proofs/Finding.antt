@@ -16,7 +16,7 @@ use Rattle.lw_text.specs.declared.change.EditFault.TheVariants as edit
 use Rattle.lw_text.specs.declared.units.Encoding.TheVariants.{Utf16}
 use Rattle.lw_build.specs.Agreeing.{Agrees}
 use Rattle.lw_build.specs.Faults as faults
-use Rattle.lw_build.specs.Faults.{IsEditFault, IsPutFault, IsRefusal, edit_fault}
+use Rattle.lw_build.specs.Faults.{IsEditFault, IsPutFault, IsAddRefusal, edit_fault}
 use Rattle.lw_build.specs.View.{WorkspaceView}
 use Rattle.lw_build.specs.declared.fault.WorkFault.{WorkFault}
 use Rattle.lw_build.proofs.Agreeing.{view}
@@ -82,6 +82,6 @@ pub put_refused : (v : WorkspaceView) (a text : List ℕ) (fault : EditFault) �
 put_refused v a text fault (inl is) long = subst (λ f. IsPutFault v a text (edit_fault f)) (sym is) (faults.too_long (long is))
 put_refused v a text fault (inr is) long = subst (λ f. IsPutFault v a text (edit_fault f)) (sym is) faults.no_memory
 
-pub not_added : (v : WorkspaceView) (a text : List ℕ) → get v.kept a ≡ None → length text ≤ LONGEST_TEXT → (fault : WorkFault) → IsRefusal v fault → IsPutFault v a text fault
+pub not_added : (v : WorkspaceView) (a text : List ℕ) → get v.kept a ≡ None → length text ≤ LONGEST_TEXT → (fault : WorkFault) → IsAddRefusal v fault → IsPutFault v a text fault
 not_added v a text none fits fault (faults.full full) = faults.too_many fits (ap is_some none, full)
 not_added v a text none fits fault faults.starved = faults.no_memory

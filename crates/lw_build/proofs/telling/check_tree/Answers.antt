@@ -1,0 +1,52 @@
+use Rattle.std.proofs.Common.{◌≡◌, ℕ, List, Some, ap, length, map, sym, subst, ◌∙◌}
+use Rattle.std.specs.List.{AllZip}
+use Rattle.lw_check.specs.Sorting.{AreShown}
+use Rattle.lw_grammar.specs.declared.grammar.Grammar.{Grammar}
+use Rattle.lw_index.specs.declared.parts.Answer.{Answer}
+use Rattle.lw_link.specs.Indexed.{link_of}
+use Rattle.lw_scopes.specs.Diagnostics as diagnostic
+use Rattle.lw_scopes.specs.Diagnostics.{AreDiagnostics}
+use Rattle.lw_scopes.specs.Links.{AreTreesOfTexts, IsNumberBelow, Texts}
+use Rattle.lw_scoping.specs.Links.{LinksTo, Trees}
+use Rattle.lw_text.specs.declared.shown.Shown.{Shown}
+use Rattle.lw_tree.specs.Parts.{Parts}
+use Rattle.lw_build.specs.Linked as linked
+use Rattle.lw_build.proofs.Linked.{links_from}
+use Rattle.lw_build.proofs.Texts.{text_outwards, text_owners, text_root, text_types}
+use Rattle.lw_build.proofs.telling.check_tree.Goals as goal
+
+told : (g : Grammar) (texts : Texts) (trees : Trees) (address text : List ℕ) (tree : Parts) → AreTreesOfTexts g texts trees → texts address ≡ Some text →
+    trees address ≡ Some tree → (list : List Shown) → AreShown g trees address tree text list → AreDiagnostics g texts address list
+told g texts trees address text tree are there is list (diagnostics, right, shown) =
+    record { text = text; is_shown = there; is_list = diagnostic.whole trees are is right shown }
+
+pub links-answers-requires-clause-outwards : goal.links-answers-requires-clause-outwards
+links-answers-requires-clause-outwards g c = text_outwards c.args.language.now.grammar c.args.text.now c.args.tree.now c.requires.reads
+
+pub links-answers-requires-clause-owners : goal.links-answers-requires-clause-owners
+links-answers-requires-clause-owners g c = text_owners c.args.language.now.grammar c.args.text.now c.args.tree.now c.requires.reads
+
+pub links-answers-requires-clause-known : goal.links-answers-requires-clause-known
+links-answers-requires-clause-known g c =
+    (c.args.language.now.grammar, c.types-types.ensures, text_types c.args.language.now.grammar c.args.text.now c.args.tree.now c.requires.reads)
+
+pub diagnostics-list-requires : goal.diagnostics-list-requires
+diagnostics-list-requires g c = record {
+  stands = c.requires.stands;
+  root = (text_root c.args.language.now.grammar c.args.text.now c.args.tree.now c.requires.reads).there;
+  symbols = c.requires.locals;
+  count = ap length c.as_slice.ensures.value ∙ c.in_ok-answers.ensures.count;
+  known = (c.args.language.now.grammar, c.types-types.ensures, text_types c.args.language.now.grammar c.args.text.now c.args.tree.now c.requires.reads);
+}
+
+pub returns-in_ok-list-clause-checked : goal.returns-in_ok-list-clause-checked
+returns-in_ok-list-clause-checked g c texts trees address are index there here =
+    let of = c.args.language.now.grammar in
+    let tree = c.args.tree.now in
+    let answers = c.in_ok-answers.ensures.answers of trees address c.types-types.ensures index here in
+    let links = subst (λ (found : List Answer). AllZip (LinksTo (IsNumberBelow of) trees address tree) tree.refs (map (link_of c.args.index.now) found))
+    (sym c.as_slice.ensures.value) (links_from (IsNumberBelow of) c.args.index.now trees address tree tree.refs _ answers) in (
+      told of texts trees address c.args.text.now tree are there here.is_tree c.in_ok-list.list
+          (c.in_ok-list.ensures of trees address c.types-types.ensures index here links),
+      linked.whole answers,
+    )
