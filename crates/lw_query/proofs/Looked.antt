@@ -1,7 +1,7 @@
 -- The first name or reference that is found by looking is the first place.
-use Rattle.std.proofs.Common.{ℕ, zero, suc, ◌≡◌, ◌≤◌, ◌<◌, ◌==◌, ◌&&◌, ◌⊎◌, inl, inr, Bool, true, false, cond, List, [], ◌∷◌, Option, Some, None, MatchOption, length, slice_get, get_or, position, nat_le, nat_lt, refl, sym, ap, subst, ◌∙◌, arith}
+use Rattle.std.proofs.Common.{ℕ, ◌≡◌, ◌≤◌, ◌<◌, ◌⊎◌, inl, inr, Bool, true, false, cond, List, [], ◌∷◌, Option, Some, None, MatchOption, length, slice_get, get_or, position, nat_lt, refl, sym, ap, subst, ◌∙◌, arith}
 use Rattle.std.specs.Option.{option_map_or}
-use Rattle.std.proofs.lemmas.Option.{get_or_from_slice_get, same_Some, slice_get-get_or, slice_get_within}
+use Rattle.std.proofs.lemmas.Option.{get_or_from_slice_get, slice_get-get_or, slice_get_within}
 use Rattle.std.specs.List.{position_or_len}
 use Rattle.std.proofs.lemmas.Bool.Decides.{nat_tests}
 use Rattle.std.proofs.lemmas.Grind.{common_steps}
@@ -12,10 +12,10 @@ use Rattle.lw_base.specs.declared.numbers.RefId.{RefId}
 use Rattle.lw_base.specs.declared.token.Span.{Span}
 use Rattle.lw_tree.specs.declared.node.Reference.{Reference}
 use Rattle.lw_tree.specs.Parts.{Parts, name_of}
-use Rattle.lw_places.specs.Places.{ComesNoLater, IsFirstPlace, IsPlaceAt, NoPlace, TakesUp, name, reference, names, name_first, references, inside, at_end, nothing}
+use Rattle.lw_places.specs.Places.{ComesNoLater, IsFirstPlace, IsPlaceAt, NoPlace, TakesUp, name, reference, names, name_first, references, at_end, nothing}
 use Rattle.lw_places.specs.declared.place.Place.{Place}
 use Rattle.lw_places.specs.declared.place.Place.TheVariants.{Named, Refers}
-use Rattle.lw_query.specs.Looking.{IsAt, IsFirstName, NoName, is_at, is_named_at}
+use Rattle.lw_query.specs.Looking.{IsAt, IsFirstName, NoName, is_at}
 use Rattle.lw_query.specs.declared.places.Side.{Side}
 use Rattle.lw_query.specs.declared.places.Side.TheVariants.{Inside, AtEnd}
 use Rattle.lw_query.proofs.Rows.{differ}

@@ -4,18 +4,14 @@ use Rattle.std.specs.Option.{option_map, unwrap_or}
 use Rattle.std.proofs.lemmas.Bool.Decides.{nat_tests}
 use Rattle.std.proofs.lemmas.Option.{same_Some}
 use Rattle.lw_base.specs.declared.numbers.DocId.{DocId}
-use Rattle.lw_base.specs.declared.numbers.NodeId.{NodeId}
 use Rattle.lw_base.specs.declared.numbers.RefId.{RefId}
 use Rattle.lw_base.specs.declared.token.Span.{Span}
 use Rattle.lw_index.specs.declared.parts.Answer.{Answer}
 use Rattle.lw_index.specs.declared.parts.Answer.TheVariants.{Found, Missing}
 use Rattle.lw_index.specs.declared.parts.Target.{Target}
-use Rattle.lw_scoping.specs.Links.{Link, LinksTo, Trees}
-use Rattle.lw_tree.specs.declared.node.Reference.{Reference}
+use Rattle.lw_scoping.specs.Links.{Link, Trees}
 use Rattle.lw_tree.specs.Parts.{Parts, name_of}
-use Rattle.lw_places.specs.Mentions.{
-  IsDefinitionAt, IsMeantAt, IsNameHere, LeadsFrom, Mention, no_place, named, refers, treeless, at_place, nothing_meant, defined
-}
+use Rattle.lw_places.specs.Mentions.{IsDefinitionAt, IsMeantAt, IsNameHere, Mention, no_place, named, refers, treeless, at_place, nothing_meant, defined}
 use Rattle.lw_places.specs.Places.{IsPlaceAt}
 use Rattle.lw_places.specs.declared.place.Place.{Place}
 use Rattle.lw_places.specs.declared.place.Place.TheVariants.{Named, Refers}
@@ -23,7 +19,7 @@ use Rattle.lw_query.specs.Spots.{place_answer, target_spot}
 use Rattle.lw_query.specs.Viewed.{AreViewsOf, IsLinkAnswer, IsMentionAt, LeadsAs, found, missing}
 use Rattle.lw_query.specs.declared.spot.Spot.{Spot}
 use Rattle.lw_query.proofs.Led.{is_led}
-use Rattle.lw_query.proofs.Named.{HasName, IsNamedLink, IsThere, meant_named, place_there}
+use Rattle.lw_query.proofs.Named.{HasName, meant_named, place_there}
 use Rattle.lw_query.proofs.Rows.{beside, differ}
 
 module _ (below : ℕ → ℕ → Type 0) (tree_at : ℕ → Option Parts) (answers_at : ℕ → List Answer) (Stands : ℕ → List ℕ → Type 0) (trees : Trees)

@@ -7,7 +7,6 @@ use Rattle.std.specs.declared.cmp.Ordering.TheVariants.{Less, Equal, Greater}
 use Rattle.std.proofs.lemmas.List.{take_more}
 use Rattle.std.proofs.lemmas.List.Elements.{Contains-append_left, Contains-push, Contains-push_cases}
 use Rattle.std.proofs.lemmas.Option.{get_or_from_slice_get, same_Some}
-use Rattle.lw_base.specs.declared.token.Span.{Span}
 use Rattle.lw_index.specs.declared.parts.Target.{Target}
 use Rattle.lw_refs.specs.Led.{Led}
 use Rattle.lw_refs.specs.Users.{IsUser}
@@ -100,11 +99,11 @@ module _ (Stands : ℕ → List ℕ → Type 0) where
   puts_both One Other Both a b c either left right first second = record {
     kept = λ spot keeps. second.kept spot (first.kept spot keeps);
     put_in = λ spot address is stands. elim (either spot is) [
-      inl one ↦ second.kept spot (first.put_in spot address one stands)
+      | inl one ↦ second.kept spot (first.put_in spot address one stands)
       | inr other ↦ second.put_in spot address other stands
     ];
     only = λ k has. elim (second.only k has) [
-      inl before ↦ elim (first.only k before) [ inl was ↦ inl was | inr put ↦ inr (left (spot_of_key k) put.0, put.1) ]
+      | inl before ↦ elim (first.only k before) [ inl was ↦ inl was | inr put ↦ inr (left (spot_of_key k) put.0, put.1) ]
       | inr put ↦ inr (right (spot_of_key k) put.0, put.1)
     ];
   }

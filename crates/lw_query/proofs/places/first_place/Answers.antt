@@ -1,5 +1,5 @@
 -- What is found by looking is first.
-use Rattle.std.proofs.Common.{◌≡◌, List, None, Some, position, sym, ap, ◌∙◌}
+use Rattle.std.proofs.Common.{List, position, sym, ap, ◌∙◌}
 use Rattle.lw_tree.specs.declared.node.Reference.{Reference}
 use Rattle.lw_query.specs.Looking.{is_at}
 use Rattle.lw_query.proofs.Looked.{name_is_first, nothing_there, reference_is_first}
