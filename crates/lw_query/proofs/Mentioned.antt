@@ -1,5 +1,32 @@
 -- What is gathered are the mentions of a node.
-use Rattle.std.proofs.Common.{ℕ, ◌≡◌, ◌<◌, ◌⊎◌, inl, inr, Bool, true, List, [], ◌∷◌, Option, Some, None, Contains, All, AllPairs, length, map, slice_get, refl, sym, ap, subst, ◌∙◌, arith}
+use Rattle.std.proofs.Common.{
+  ℕ,
+  ◌≡◌,
+  ◌<◌,
+  ◌⊎◌,
+  inl,
+  inr,
+  Bool,
+  true,
+  List,
+  [],
+  ◌∷◌,
+  Option,
+  Some,
+  None,
+  Contains,
+  All,
+  AllPairs,
+  length,
+  map,
+  slice_get,
+  refl,
+  sym,
+  ap,
+  subst,
+  ◌∙◌,
+  arith,
+}
 use Rattle.std.specs.List.{AllZip}
 use Rattle.std.specs.List.Sorted.{IsStrictlySortedBy}
 use Rattle.std.specs.Option.{option_map}
@@ -62,7 +89,8 @@ module _ (Stands : ℕ → List ℕ → Type 0) (one_number : (n m : ℕ) (addre
   in_order [] sorted all = λ i j d lt low. absurd (omega (arith, low))
   in_order (k ∷ ks) sorted all =
       let after = all_both (λ (y : SpotKey). key_cmp k y ≡ Less) (IsAddressed Stands) (λ y. MentionPrecedes (mention_of_key k) (mention_of_key y))
-      (λ y less there. key_precedes k y less (All-head (IsAddressed Stands) k ks all) there) ks (sorted_head key_cmp k ks sorted) (All-tail (IsAddressed Stands) k ks all) in
+      (λ y less there. key_precedes k y less (All-head (IsAddressed Stands) k ks all) there) ks
+      (sorted_head key_cmp k ks sorted) (All-tail (IsAddressed Stands) k ks all) in
       AllPairs-cons MentionPrecedes (mention_of_key k) (map mention_of_key ks) (All-map (MentionPrecedes (mention_of_key k)) mention_of_key ks after)
       (in_order ks (sorted_tail key_cmp k ks sorted) (All-tail (IsAddressed Stands) k ks all))
 
@@ -91,8 +119,8 @@ use_of_spot tree_at slot spot there = by (tree_at slot.doc.0) refl there
 -- ---- the mentions
 
 module _ (below : ℕ → ℕ → Type 0) (tree_at : ℕ → Option Parts) (answers_at : ℕ → List Answer) (Stands : ℕ → List ℕ → Type 0) (trees : Trees)
-    (views : AreViewsOf below tree_at answers_at Stands trees) (led : Led) (given : (n : ℕ) → answers_in led n ≡ answers_at n) (declaration : Bool) (target : Target)
-    (address : List ℕ) (stands : Stands target.doc.0 address) (tree : Parts) (is_tree : tree_at target.doc.0 ≡ Some tree) (low : target.node.0 < length tree.nodes) where
+    (views : AreViewsOf below tree_at answers_at Stands trees) (led : Led) (given : (n : ℕ) → answers_in led n ≡ answers_at n) (declaration : Bool)
+    (target : Target) (address : List ℕ) (stands : Stands target.doc.0 address) (tree : Parts) (is_tree : tree_at target.doc.0 ≡ Some tree) (low : target.node.0 < length tree.nodes) where
   abbrev place : List ℕ × ℕ
   place = (address, target.node.0)
 
@@ -162,7 +190,8 @@ module _ (below : ℕ → ℕ → Type 0) (tree_at : ℕ → Option Parts) (answ
   name_spot_at m counts d =
       let at : tree_at target.doc.0 ≡ Some d.tree = views.same_tree target.doc.0 address stands ∙ d.is_tree in
       let same : tree ≡ d.tree = same_Some tree d.tree (sym is_tree ∙ at) in
-      let there = name_spot_of below tree_at answers_at Stands trees views target d.tree at (subst (λ (t : Parts). target.node.0 < length t.nodes) same low) d.text m.span d.named in
+      let there = name_spot_of below tree_at answers_at Stands trees views target d.tree at
+      (subst (λ (t : Parts). target.node.0 < length t.nodes) same low) d.text m.span d.named in
       record {
         spot = record { doc = target.doc; span = m.span };
         wanted = spots.declared counts there;
@@ -209,7 +238,8 @@ module _ (below : ℕ → ℕ → Type 0) (tree_at : ℕ → Option Parts) (answ
 
     pub are_mentions : (ms : List Mention) × AllZip (IsMentionAt Stands) found ms × AreMentionsOf below trees declaration place ms
     are_mentions =
-        let zipped = zip_images (IsMentionAt Stands) spot_of_key mention_of_key (IsAddressed Stands) (λ k stand. record { stands = stand; span = refl }) are.keys all_stand in (
+        let zipped = zip_images (IsMentionAt Stands) spot_of_key mention_of_key (IsAddressed Stands)
+        (λ k stand. record { stands = stand; span = refl }) are.keys all_stand in (
           mentions,
           subst (λ (xs : List Spot). AllZip (IsMentionAt Stands) xs mentions) (sym are.same) zipped,
           record { exact = λ m. (listed m, lists m); ordered = in_order Stands views.one_number are.keys are.ordered all_stand },

@@ -1,5 +1,37 @@
 -- One spot after another is put in.
-use Rattle.std.proofs.Common.{ℕ, zero, suc, ◌≡◌, ◌+◌, ◌<◌, ◌↔◌, ◌⊎◌, inl, inr, Bool, true, false, List, [], ◌∷◌, ◌++◌, Option, Some, None, Contains, length, slice_get, take, if◌then◌else◌, refl, sym, ap, subst, ◌∙◌, arith}
+use Rattle.std.proofs.Common.{
+  ℕ,
+  zero,
+  suc,
+  ◌≡◌,
+  ◌+◌,
+  ◌<◌,
+  ◌↔◌,
+  ◌⊎◌,
+  inl,
+  inr,
+  Bool,
+  true,
+  false,
+  List,
+  [],
+  ◌∷◌,
+  ◌++◌,
+  Option,
+  Some,
+  None,
+  Contains,
+  length,
+  slice_get,
+  take,
+  if◌then◌else◌,
+  refl,
+  sym,
+  ap,
+  subst,
+  ◌∙◌,
+  arith,
+}
 use Rattle.std.specs.BTreeSet.{insert_key}
 use Rattle.std.specs.Ordering.{match_ordering}
 use Rattle.std.specs.declared.cmp.Ordering.{Ordering}
@@ -84,10 +116,14 @@ module _ (Stands : ℕ → List ℕ → Type 0) where
   puts_key old k stands = record {
     kept = λ spot keeps. record { key = keeps.key; among = still old k keeps.key keeps.among; is = keeps.is };
     put_in = λ spot address is _. subst (KeepsSpot (insert_key key_cmp old k)) (same_Some (spot_of_key k) spot is) (kept_now old k);
-    only = λ x has. elim (nothing_else old k x has) [ inl was ↦ inl was | inr is ↦ inr (ap (λ y. Some (spot_of_key y)) is, subst (λ (y : SpotKey). Stands y.3 y.0.now) is stands) ];
+    only = λ x has. elim (nothing_else old k x has) [
+      | inl was ↦ inl was
+      | inr is ↦ inr (ap (λ y. Some (spot_of_key y)) is, subst (λ (y : SpotKey). Stands y.3 y.0.now) is stands)
+    ];
   }
 
-  pub puts_none : (Wanted : Spot → Type 0) (old : List SpotKey) → ((spot : Spot) (address : List ℕ) → Wanted spot → Stands spot.doc.0 address → ⊥) → PutsSpots Stands Wanted old old
+  pub puts_none : (Wanted : Spot → Type 0) (old : List SpotKey) → ((spot : Spot) (address : List ℕ) → Wanted spot → Stands spot.doc.0 address → ⊥) →
+      PutsSpots Stands Wanted old old
   puts_none Wanted old never = record {
     kept = λ spot keeps. keeps;
     put_in = λ spot address is stands. absurd (never spot address is stands);
@@ -155,7 +191,8 @@ module _ (Stands : ℕ → List ℕ → Type 0) (tree_at : ℕ → Option Parts)
     pub one_more : (a b c : List SpotKey) → PutsSpots Stands (IsSpotOfSlot tree_at (take i slots)) a b → PutsSpots Stands (λ s. put ≡ Some s) b c →
         PutsSpots Stands (IsSpotOfSlot tree_at (take (i + 1) slots)) a c
     one_more a b c first second =
-        puts_both Stands (IsSpotOfSlot tree_at (take i slots)) (λ s. put ≡ Some s) (IsSpotOfSlot tree_at (take (i + 1) slots)) a b c either before now first second
+        puts_both Stands (IsSpotOfSlot tree_at (take i slots)) (λ s. put ≡ Some s) (IsSpotOfSlot tree_at (take (i + 1) slots)) a b c either before now
+        first second
 
   -- ---- the name and the references of a node
 
@@ -180,4 +217,5 @@ module _ (Stands : ℕ → List ℕ → Type 0) (tree_at : ℕ → Option Parts)
     pub gathered : (a b c : List SpotKey) → PutsSpots Stands (λ s. put ≡ Some s) a b → PutsSpots Stands (IsSpotOfSlot tree_at slots) b c →
         PutsSpots Stands (IsSpotOfMention tree_at led declaration target) a c
     gathered a b c first second =
-        puts_both Stands (λ s. put ≡ Some s) (IsSpotOfSlot tree_at slots) (IsSpotOfMention tree_at led declaration target) a b c name_or_use the_name a_use first second
+        puts_both Stands (λ s. put ≡ Some s) (IsSpotOfSlot tree_at slots) (IsSpotOfMention tree_at led declaration target) a b c name_or_use the_name
+        a_use first second
