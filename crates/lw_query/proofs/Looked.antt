@@ -45,7 +45,7 @@ use Rattle.lw_tree.specs.Parts.{Parts, name_of}
 use Rattle.lw_places.specs.Places.{ComesNoLater, IsFirstPlace, IsPlaceAt, NoPlace, TakesUp, name, reference, names, name_first, references, at_end, nothing}
 use Rattle.lw_places.specs.declared.place.Place.{Place}
 use Rattle.lw_places.specs.declared.place.Place.TheVariants.{Named, Refers}
-use Rattle.lw_query.specs.Looking.{IsAt, IsFirstName, NoName, is_at}
+use Rattle.lw_query.specs.Looking.{IsOnSide, IsFirstName, NoName, is_at}
 use Rattle.lw_query.specs.declared.places.Side.{Side}
 use Rattle.lw_query.specs.declared.places.Side.TheVariants.{Inside, AtEnd}
 use Rattle.lw_query.proofs.Rows.{differ}
@@ -56,11 +56,11 @@ never is isnt = absurd (by (sym is ∙ isnt))
     by : true ≡ false → ⊥
     by e = cc
 
-pub at_test : (side : Side) (offset : ℕ) (s : Span) → is_at side offset s ≡ true → IsAt side offset s
+pub at_test : (side : Side) (offset : ℕ) (s : Span) → is_at side offset s ≡ true → IsOnSide side offset s
 at_test Inside offset s is = grind (arith, common_steps)
 at_test AtEnd offset s is = grind (arith, common_steps)
 
-pub test_at : (side : Side) (offset : ℕ) (s : Span) → IsAt side offset s → is_at side offset s ≡ true
+pub test_at : (side : Side) (offset : ℕ) (s : Span) → IsOnSide side offset s → is_at side offset s ≡ true
 test_at Inside offset s is = grind (arith, common_steps)
 test_at AtEnd offset s is = grind (arith, common_steps)
 
@@ -97,12 +97,12 @@ module _ (side : Side) (offset : ℕ) (tree : Parts) where
   named_by n (Some x) is = (x, refl, is)
 
   no_name_passes : NoName (is_at side offset) tree → (n : ℕ) (text : List ℕ) (s : Span) → n < length tree.nodes →
-      name_of tree n ≡ Some (text, s) → IsAt side offset s → ⊥
+      name_of tree n ≡ Some (text, s) → IsOnSide side offset s → ⊥
   no_name_passes none n text s low is at =
       never (ap (λ (x : Option (List ℕ × Span)). option_map_or (λ (y : List ℕ × Span). is_at side offset y.1) x false) is ∙ test_at side offset s at) (none n low)
 
   before_first : (n : ℕ) → IsFirstName (is_at side offset) tree n → (m : ℕ) (text : List ℕ) (s : Span) → m < n →
-      name_of tree m ≡ Some (text, s) → IsAt side offset s → ⊥
+      name_of tree m ≡ Some (text, s) → IsOnSide side offset s → ⊥
   before_first n is m text s lt named at =
       never (ap (λ (x : Option (List ℕ × Span)). option_map_or (λ (y : List ℕ × Span). is_at side offset y.1) x false) named ∙ test_at side offset s at)
       (is.first m lt)
@@ -112,7 +112,7 @@ module _ (side : Side) (offset : ℕ) (tree : Parts) where
   later_or_not : (n m : ℕ) → (n ≤ m) ⊎ (m < n)
   later_or_not n m = grind arith
 
-  comes_first : (n : NodeId) → IsFirstName (is_at side offset) tree n.0 → (other : Place) (s : Span) → TakesUp tree other s → IsAt side offset s →
+  comes_first : (n : NodeId) → IsFirstName (is_at side offset) tree n.0 → (other : Place) (s : Span) → TakesUp tree other s → IsOnSide side offset s →
       ComesNoLater (Named n) other
   comes_first n is other s (name {n = m} {text = text} {s = s'} low named) at = by (later_or_not n.0 m.0)
     where
@@ -121,7 +121,7 @@ module _ (side : Side) (offset : ℕ) (tree : Parts) where
       by (inr lt) = absurd (before_first n.0 is m.0 text s' lt named at)
   comes_first n is other s (reference _) at = name_first
 
-  pub name_is_first : (n : NodeId) → IsFirstName (is_at side offset) tree n.0 → IsFirstPlace (IsAt side offset) tree (Named n)
+  pub name_is_first : (n : NodeId) → IsFirstName (is_at side offset) tree n.0 → IsFirstPlace (IsOnSide side offset) tree (Named n)
   name_is_first n is =
       let (x, named, passes) = named_by n.0 (name_of tree n.0) is.does in
       record {
@@ -133,7 +133,7 @@ module _ (side : Side) (offset : ℕ) (tree : Parts) where
 
   reference_comes_first : NoName (is_at side offset) tree → (i : RefId) →
       ((j : ℕ) (y : Reference) → j < i.0 → slice_get tree.refs j ≡ Some y → is_at side offset y.span ≡ false) →
-      (other : Place) (s : Span) → TakesUp tree other s → IsAt side offset s → ComesNoLater (Refers i) other
+      (other : Place) (s : Span) → TakesUp tree other s → IsOnSide side offset s → ComesNoLater (Refers i) other
   reference_comes_first none i before other s (name {n = m} {text = text} {s = s'} low named) at = absurd (no_name_passes none m.0 text s' low named at)
   reference_comes_first none i before other s (reference {i = j} {r = r} there) at = by (later_or_not i.0 j.0)
     where
@@ -142,7 +142,7 @@ module _ (side : Side) (offset : ℕ) (tree : Parts) where
       by (inr lt) = never (test_at side offset r.span at) (before j.0 r lt there)
 
   pub reference_is_first : NoName (is_at side offset) tree → (i : ℕ) → position (λ (r : Reference). is_at side offset r.span) tree.refs ≡ Some i →
-      IsFirstPlace (IsAt side offset) tree (Refers (record { 0 = i }))
+      IsFirstPlace (IsOnSide side offset) tree (Refers (record { 0 = i }))
   reference_is_first none i is =
       let (r, there, passes, before) = first_passes (λ (r : Reference). is_at side offset r.span) tree.refs i is in
       record {
@@ -152,14 +152,14 @@ module _ (side : Side) (offset : ℕ) (tree : Parts) where
         first = reference_comes_first none (record { 0 = i }) before;
       }
 
-  pub nothing_there : NoName (is_at side offset) tree → position (λ (r : Reference). is_at side offset r.span) tree.refs ≡ None → NoPlace (IsAt side offset) tree
+  pub nothing_there : NoName (is_at side offset) tree → position (λ (r : Reference). is_at side offset r.span) tree.refs ≡ None → NoPlace (IsOnSide side offset) tree
   nothing_there none is p s (name {n = m} {text = text} {s = s'} low named) at = no_name_passes none m.0 text s' low named at
   nothing_there none is p s (reference {i = j} {r = r} there) at =
       never (test_at side offset r.span at) (none_passes (λ (x : Reference). is_at side offset x.span) tree.refs is j.0 r there)
 
 -- ---- what stands there
 
-pub place_behind : (tree : Parts) (offset : ℕ) → NoPlace (IsAt Inside offset) tree → (place : Option Place) →
-    MatchOption place (NoPlace (IsAt AtEnd offset) tree) (IsFirstPlace (IsAt AtEnd offset) tree) → IsPlaceAt tree offset place
+pub place_behind : (tree : Parts) (offset : ℕ) → NoPlace (IsOnSide Inside offset) tree → (place : Option Place) →
+    MatchOption place (NoPlace (IsOnSide AtEnd offset) tree) (IsFirstPlace (IsOnSide AtEnd offset) tree) → IsPlaceAt tree offset place
 place_behind tree offset none None is = nothing none is
 place_behind tree offset none (Some p) is = at_end none is

@@ -122,14 +122,6 @@ module _ (Stands : ℕ → List ℕ → Type 0) where
     ];
   }
 
-  pub puts_none : (Wanted : Spot → Type 0) (old : List SpotKey) → ((spot : Spot) (address : List ℕ) → Wanted spot → Stands spot.doc.0 address → ⊥) →
-      PutsSpots Stands Wanted old old
-  puts_none Wanted old never = record {
-    kept = λ spot keeps. keeps;
-    put_in = λ spot address is stands. absurd (never spot address is stands);
-    only = λ k has. inl has;
-  }
-
   pub puts_both : (One Other Both : Spot → Type 0) (a b c : List SpotKey) → ((s : Spot) → Both s → One s ⊎ Other s) → ((s : Spot) → One s → Both s) →
       ((s : Spot) → Other s → Both s) → PutsSpots Stands One a b → PutsSpots Stands Other b c → PutsSpots Stands Both a c
   puts_both One Other Both a b c either left right first second = record {
@@ -144,24 +136,9 @@ module _ (Stands : ℕ → List ℕ → Type 0) where
     ];
   }
 
-  pub puts_same : (One Other : Spot → Type 0) (a b : List SpotKey) → ((s : Spot) → One s → Other s) → ((s : Spot) → Other s → One s) → PutsSpots Stands One a b →
-      PutsSpots Stands Other a b
-  puts_same One Other a b forth back put = record {
-    kept = put.kept;
-    put_in = λ spot address is stands. put.put_in spot address (back spot is) stands;
-    only = λ k has. elim (put.only k has) [ inl was ↦ inl was | inr new ↦ inr (forth (spot_of_key k) new.0, new.1) ];
-  }
-
 -- ---- one reference after another
 
 module _ (Stands : ℕ → List ℕ → Type 0) (tree_at : ℕ → Option Parts) where
-  pub none_yet : (slots : List SlotId) (old : List SpotKey) → PutsSpots Stands (IsSpotOfSlot tree_at (take 0 slots)) old old
-  none_yet slots old = puts_none Stands (IsSpotOfSlot tree_at (take 0 slots)) old (λ spot address is stands. nothing_in slots is.among)
-    where
-      nothing_in : (xs : List SlotId) {x : SlotId} → Contains (take 0 xs) x → ⊥
-      nothing_in [] (i, low, _) = omega (arith, low)
-      nothing_in (y ∷ ys) (i, low, _) = omega (arith, low)
-
   module _ (slots : List SlotId) (i : ℕ) (slot : SlotId) (low : i < length slots) (at : slice_get slots i ≡ Some slot) (put : Option Spot)
       (is_put : put ≡ slot_spot (tree_at slot.doc.0) slot) where
     more : take (i + 1) slots ≡ take i slots ++ slot ∷ []

@@ -9,9 +9,9 @@ use Rattle.lw_query.specs.declared.places.Side.{Side}
 use Rattle.lw_query.specs.declared.places.Side.TheVariants.{Inside, AtEnd}
 
 -- the offset is inside of these bytes, or at their end
-abbrev pub IsAt : Side → ℕ → Span → Type 0
-IsAt Inside offset = Covers offset
-IsAt AtEnd offset = IsJustBehind offset
+abbrev pub IsOnSide : Side → ℕ → Span → Type 0
+IsOnSide Inside offset = Covers offset
+IsOnSide AtEnd offset = IsJustBehind offset
 
 -- the same as a test
 abbrev pub is_at : Side → ℕ → Span → Bool

@@ -1,7 +1,7 @@
 // What stands at a place.
 ghost use Rattle.std.specs.Prelude.{◌≡◌, ◌<◌, ◌^◌, MatchOption, length, position};
 ghost use Rattle.lw_places.specs.Places.{IsFirstPlace, IsPlaceAt, NoPlace};
-ghost use Rattle.lw_query.specs.Looking.{IsAt, IsFirstName, NoName, is_at, is_named_at as has_name_at};
+ghost use Rattle.lw_query.specs.Looking.{IsOnSide, IsFirstName, NoName, is_at, is_named_at as has_name_at};
 
 use lw_base::{NodeId, RefId, Span};
 use lw_places::Place;
@@ -60,7 +60,7 @@ fn first_reference(refs: &[Reference], side: Side, off: u32) -> Option<usize>
 /// The first name that stands there, else the first reference.
 fn first_place(tree: &Tree, side: Side, off: u32) -> Option<Place>
     requires { length tree.now.refs < 2 ^ 32 }
-    ensures { MatchOption result (NoPlace (IsAt side off) tree.now) (IsFirstPlace (IsAt side off) tree.now) }
+    ensures { MatchOption result (NoPlace (IsOnSide side off) tree.now) (IsFirstPlace (IsOnSide side off) tree.now) }
 {
     if let Some(n) = first_name(tree, side, off) {
         return Some(Place::Named(n));

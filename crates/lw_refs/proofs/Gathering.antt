@@ -19,8 +19,8 @@ use Rattle.lw_index.specs.declared.parts.Target.{Target}
 use Rattle.lw_refs.specs.declared.slot.SlotId.{SlotId}
 use Rattle.lw_refs.specs.declared.uses.Use.{Use}
 use Rattle.lw_refs.specs.Users.{SlotPrecedes, by_document, by_reference, AreUsersIn}
-use Rattle.lw_refs.specs.Uses.{target_of_use, AreUses, ComesBefore}
-use Rattle.lw_refs.specs.Pairs.{Pair, pair_cmp, LeadsInto, Held, held_at, ArePaired, IsHeldUser}
+use Rattle.lw_refs.specs.Uses.{target_of_use, AreUses, UsePrecedes}
+use Rattle.lw_refs.specs.Pairs.{Pair, pair_cmp, LeadsInto, HeldAnswers, held_at, ArePaired, IsHeldUser}
 use Rattle.lw_refs.proofs.PairOrder.{pair_total, pair_exact, IsBelow, pair_below, from_document, is_from, from_is}
 
 -- ---- lists
@@ -87,7 +87,7 @@ abbrev pub slot_of : DocId → Use → SlotId
 slot_of doc u = record { doc = doc; reference = record { 0 = u.reference } }
 
 module _ (answers : List Answer) (uses : List Use) (are : AreUses answers uses) (doc : DocId) (target : Target) (found : List Use)
-    (exact : (u : Use) → Contains found u ↔ (Contains uses u × (u.doc ≡ target.doc.0) × (u.node ≡ target.node.0))) (ordered : AllPairs ComesBefore found) where
+    (exact : (u : Use) → Contains found u ↔ (Contains uses u × (u.doc ≡ target.doc.0) × (u.node ≡ target.node.0))) (ordered : AllPairs UsePrecedes found) where
   abbrev none : Use
   none = record { doc = 0; node = 0; reference = 0 }
 
@@ -141,7 +141,7 @@ module _ (f : Use → SlotId) (old : List SlotId) (found : List Use) where
 
 -- ---- those of all
 
-module _ (documents : Held) (target : Target) where
+module _ (documents : HeldAnswers) (target : Target) where
   abbrev IsOne : SlotId → Type 0
   IsOne slot = IsHeldUser documents target slot
 

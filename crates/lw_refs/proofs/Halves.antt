@@ -5,7 +5,7 @@ use Rattle.std.proofs.lemmas.Bool.{cases_lt}
 use Rattle.std.proofs.lemmas.Bool.Decides.{nat_tests}
 use Rattle.std.proofs.lemmas.List.{get_or-take, get_or-drop, length-take, length-drop}
 use Rattle.lw_refs.specs.declared.uses.Use.{Use}
-use Rattle.lw_refs.specs.Uses.{ComesBefore, is_before, is_behind}
+use Rattle.lw_refs.specs.Uses.{UsePrecedes, is_before, is_behind}
 
 -- ---- the tests on numbers
 
@@ -40,13 +40,13 @@ both_ways false h k = cc
 equal_or_before : {G : Type 0} (i j : ℕ) → i ≤ j → (i ≡ j → G) → (i < j → G) → G
 equal_or_before {G} i j le same before = elim (cases_lt i j) as (λ _. G) [ inl lt ↦ before lt | inr ge ↦ same (omega arith) ]
 
-module _ (doc node : ℕ) (xs : List Use) (ordered : AllPairs ComesBefore xs) where
-  before_back : (a b : Use) → ComesBefore a b → is_before doc node b ≡ true → is_before doc node a ≡ true
+module _ (doc node : ℕ) (xs : List Use) (ordered : AllPairs UsePrecedes xs) where
+  before_back : (a b : Use) → UsePrecedes a b → is_before doc node b ≡ true → is_before doc node a ≡ true
   before_back a b h is =
       let x = below_of b.doc b.node doc node is in
       less_of a.doc a.node doc node (omega (arith, h.0, x.0)) (λ e. omega (arith, e, h.0, h.1, x.0, x.1))
 
-  not_behind_back : (a b : Use) → ComesBefore a b → not (is_behind doc node b) ≡ true → not (is_behind doc node a) ≡ true
+  not_behind_back : (a b : Use) → UsePrecedes a b → not (is_behind doc node b) ≡ true → not (is_behind doc node a) ≡ true
   not_behind_back a b h is =
       let x = not_less doc node b.doc b.node (not_true _ is) in
       not_of_false _ (not_less_of doc node a.doc a.node (omega (arith, h.0, x.0)) (λ e. omega (arith, e, h.0, h.1, x.0, x.1)))
@@ -123,15 +123,15 @@ module _ (doc node : ℕ) (xs : List Use) (ordered : AllPairs ComesBefore xs) wh
               ] in
               (k - start, omega (arith, room), place_in (k - start) u (omega arith) ∙ ap (λ n. get_or xs n u) (omega arith) ∙ is)
 
-      pub stretch_ordered : AllPairs ComesBefore stretch
+      pub stretch_ordered : AllPairs UsePrecedes stretch
       stretch_ordered i j d lt within =
           let n : j < end - start = omega (arith, room) in
-          subst (λ v. ComesBefore v (get_or stretch j d)) (sym (place_in i d (omega arith)))
-          (subst (λ v. ComesBefore (get_or xs (start + i) d) v) (sym (place_in j d n)) (ordered (start + i) (start + j) d (omega arith) (omega arith)))
+          subst (λ v. UsePrecedes v (get_or stretch j d)) (sym (place_in i d (omega arith)))
+          (subst (λ v. UsePrecedes (get_or xs (start + i) d) v) (sym (place_in j d n)) (ordered (start + i) (start + j) d (omega arith) (omega arith)))
 
 -- ---- the first of a document
 
-module _ (doc : ℕ) (xs : List Use) (ordered : AllPairs ComesBefore xs) (start : ℕ) (first : IsPartitionPoint (λ u. is_before doc 0 u ≡ true) (λ u. is_before doc 0 u ≡ false) xs start) where
+module _ (doc : ℕ) (xs : List Use) (ordered : AllPairs UsePrecedes xs) (start : ℕ) (first : IsPartitionPoint (λ u. is_before doc 0 u ≡ true) (λ u. is_before doc 0 u ≡ false) xs start) where
   pub first_into : (u : Use) → Contains xs u → u.doc ≡ doc → (start < length xs) × ((get_or xs start u).doc ≡ doc)
   first_into u has e = by has.0 has.1 has.2
     where

@@ -9,7 +9,7 @@ use Rattle.std.specs.FinMap as map
 use Rattle.std.proofs.lemmas.Map.Lookups.{exact_unsigned}
 use Rattle.std.proofs.lemmas.Map.Views.{tells_apart}
 use Rattle.lw_index.specs.declared.parts.Answer.{Answer}
-use Rattle.lw_refs.specs.Pairs.{Pair, is_paired, LeadsInto, Held, held_at, ArePaired}
+use Rattle.lw_refs.specs.Pairs.{Pair, is_paired, LeadsInto, HeldAnswers, held_at, ArePaired}
 use Rattle.lw_refs.proofs.Pairing.{AllStay}
 use Rattle.lw_refs.proofs.View.{led_by}
 
@@ -17,16 +17,16 @@ pub from_ok : {T E P : Type 0} (r : Result T E) → is_err r ≡ false → OnOk 
 from_ok (Ok x) is p = p
 from_ok (Err x) is p = cc
 
-pub paired_kept : (documents : Held) (before after : BTreeSet Pair) → AllStay before after → ArePaired documents before → ArePaired documents after
+pub paired_kept : (documents : HeldAnswers) (before after : BTreeSet Pair) → AllStay before after → ArePaired documents before → ArePaired documents after
 paired_kept documents before after stay paired user doc answers at leads = stay (doc, user) (paired user doc answers at leads)
 
-pub paired_same : (before after : Held) (pairs : BTreeSet Pair) → after.entries ≡ before.entries → ArePaired before pairs → ArePaired after pairs
+pub paired_same : (before after : HeldAnswers) (pairs : BTreeSet Pair) → after.entries ≡ before.entries → ArePaired before pairs → ArePaired after pairs
 paired_same before after pairs same paired user doc answers at leads = paired user doc answers (sym (ap (lookup (is_at (nat_cmp user))) same) ∙ at) leads
 
-pub led_same : (before after : Held) → after.entries ≡ before.entries → led_by after ≡ led_by before
+pub led_same : (before after : HeldAnswers) → after.entries ≡ before.entries → led_by after ≡ led_by before
 led_same before after same = ap (map.from_entries {R = nat_cmp}) same
 
-module _ (before after : Held) (k : ℕ) (pairs : BTreeSet Pair) where
+module _ (before after : HeldAnswers) (k : ℕ) (pairs : BTreeSet Pair) where
   pub paired_with : (answers : List Answer) → ((q : ℕ) → held_at after q ≡ cond (eq_by_cmp nat_cmp k q) (Some answers) (held_at before q)) → ArePaired before pairs →
       ((doc : ℕ) → LeadsInto answers doc → IsTrue (is_paired pairs (doc, k))) → ArePaired after pairs
   paired_with answers at paired entered user doc other is leads = by (eq_by_cmp nat_cmp k user) refl (sym (at user) ∙ is)

@@ -10,7 +10,7 @@ use Rattle.std.proofs.lemmas.List.Sorted.{Contains-permutation, IsPermutation-sy
 use Rattle.std.proofs.lemmas.Map.Keys.{Less-from_sorted, IsDistinct-from_apart, IsDistinct-IsPermutation, apart_from_distinct, sorted_from_all_adjacent}
 use Rattle.lw_index.specs.declared.parts.Answer.{Answer}
 use Rattle.lw_refs.specs.declared.uses.Use.{Use}
-use Rattle.lw_refs.specs.Uses.{AreUses, AreUsesInTurn, ComesBefore}
+use Rattle.lw_refs.specs.Uses.{AreUses, AreUsesInTurn, UsePrecedes}
 
 -- ---- the order
 
@@ -33,7 +33,7 @@ module _ {G : Type 0} (a b : ℕ) (rest : Ordering) where
 pub below : (a b : ℕ) → nat_cmp a b ≡ Less → a < b
 below a b is = ranked a b Less (sym is)
 
-comes_before : (x y : Use) → use_cmp x y ≡ Less → ComesBefore x y
+comes_before : (x y : Use) → use_cmp x y ≡ Less → UsePrecedes x y
 comes_before x y is =
     first_or x.doc y.doc _ is (λ lt. (omega arith, λ e. absurd (omega arith), λ e f. absurd (omega arith)))
     (λ same is. first_or x.node y.node _ is (λ lt. (omega arith, λ e. omega arith, λ e f. absurd (omega arith)))

@@ -12,7 +12,7 @@ use Rattle.std.proofs.lemmas.Bool.{cases_lt}
 use Rattle.lw_index.specs.declared.parts.Answer.{Answer}
 use Rattle.lw_refs.specs.declared.uses.Use.{Use}
 use Rattle.lw_refs.specs.Uses.{AreUses}
-use Rattle.lw_refs.specs.Pairs.{Pair, pair_cmp, is_paired, LeadsInto, StaysPaired, Held, held_at, ArePaired}
+use Rattle.lw_refs.specs.Pairs.{Pair, pair_cmp, is_paired, LeadsInto, StaysPaired, HeldAnswers, held_at, ArePaired}
 use Rattle.lw_refs.proofs.PairOrder.{same_pair}
 
 -- every pair of the one is one of the other
@@ -42,13 +42,6 @@ pub record AreEnteredUpTo (initial pairs : BTreeSet Pair) (user : ℕ) (uses : L
   pub kept : AllStay initial pairs
   pub entered : (k : ℕ) (d : Use) → k < count → IsTrue (is_paired pairs ((get_or uses k d).doc, user))
   pub recent : IfSome last (λ doc. IsTrue (is_paired pairs (doc, user)))
-
-pub none_entered : (initial pairs : BTreeSet Pair) (user : ℕ) (uses : List Use) → pairs ≡ initial → AreEnteredUpTo initial pairs user uses 0 None
-none_entered initial pairs user uses same = record {
-  kept = λ p has. subst (λ s. IsTrue (is_paired s p)) (sym same) has;
-  entered = λ k d lt. absurd (omega arith);
-  recent = tt;
-}
 
 module _ (initial pairs : BTreeSet Pair) (user : ℕ) (uses : List Use) (count : ℕ) (last : Option ℕ) (upto : AreEnteredUpTo initial pairs user uses count last) (doc : ℕ)
     (at : (d : Use) → (get_or uses count d).doc ≡ doc) where
@@ -129,7 +122,7 @@ left_by_none before after doc user kept is updates = subst (λ k. SomeStay user 
 
 -- ---- sweeping
 
-stays_by : (documents : Held) (user : ℕ) (kept : Option (Bor (List Answer))) → option_copied kept ≡ held_at documents user → (other doc : ℕ) (answers : List Answer) →
+stays_by : (documents : HeldAnswers) (user : ℕ) (kept : Option (Bor (List Answer))) → option_copied kept ≡ held_at documents user → (other doc : ℕ) (answers : List Answer) →
     held_at documents other ≡ Some answers → LeadsInto answers doc → StaysPaired user kept (doc, other)
 stays_by documents user None is other doc answers at leads = λ same. none answers (is ∙ ap (held_at documents) (sym same) ∙ at)
   where
@@ -140,6 +133,6 @@ stays_by documents user (Some kept) is other doc answers at leads = λ same. sub
     one : Some kept.now ≡ Some answers → kept.now ≡ answers
     one e = cc
 
-pub swept : (documents : Held) (before after : BTreeSet Pair) (user : ℕ) (kept : Option (Bor (List Answer))) → option_copied kept ≡ held_at documents user → SomeStay user kept before after →
+pub swept : (documents : HeldAnswers) (before after : BTreeSet Pair) (user : ℕ) (kept : Option (Bor (List Answer))) → option_copied kept ≡ held_at documents user → SomeStay user kept before after →
     ArePaired documents before → ArePaired documents after
 swept documents before after user kept is stay paired other doc answers at leads = stay (doc, other) (paired other doc answers at leads) (stays_by documents user kept is other doc answers at leads)

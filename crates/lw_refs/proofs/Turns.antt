@@ -18,12 +18,6 @@ pub record AreUsesUpTo (answers : List Answer) (count : ℕ) (uses : List Use) :
   pub exact : (u : Use) → Contains uses u ↔ (IsUseOf answers u × (u.reference < count))
   pub in_turn : AllPairs InTurn uses
 
-pub none_yet : (answers : List Answer) (uses : List Use) → uses ≡ [] → AreUsesUpTo answers 0 uses
-none_yet answers uses is = subst (AreUsesUpTo answers 0) (sym is) (record {
-  exact = λ u. (λ has. absurd (omega (arith, has.1)), λ h. absurd (omega (arith, h.1)));
-  in_turn = λ i j d lt within. absurd (omega arith);
-})
-
 pub all_of_them : (answers : List Answer) (count : ℕ) (uses : List Use) → length answers ≤ count → AreUsesUpTo answers count uses → AreUsesInTurn answers uses
 all_of_them answers count uses all upto = record {
   exact = λ u. (λ has. ((upto.exact u).0 has).0, λ is. (upto.exact u).1 (is, (let h : u.reference < length answers = slice_get_within answers u.reference _ is in omega arith)));

@@ -12,22 +12,22 @@ use Rattle.lw_index.specs.declared.parts.Target.{Target}
 use Rattle.lw_refs.specs.declared.slot.SlotId.{SlotId}
 use Rattle.lw_refs.specs.Led.{Led, answers_in}
 use Rattle.lw_refs.specs.Users.{IsUser}
-use Rattle.lw_refs.specs.Pairs.{Held, held_at, IsHeldUser}
+use Rattle.lw_refs.specs.Pairs.{HeldAnswers, held_at, IsHeldUser}
 
-abbrev pub led_by : Held → Led
+abbrev pub led_by : HeldAnswers → Led
 led_by documents = map.from_entries {R = nat_cmp} documents.entries
 
 find_lookup : (q : ℕ) (es : List (ℕ × List Answer)) → find nat_cmp q es ≡ lookup (is_at (nat_cmp q)) es
 find_lookup q [] = refl
 find_lookup q (e ∷ es) = ap (cond (eq_by_cmp nat_cmp q e.0) (Some e.1)) (find_lookup q es)
 
-pub led_get : (documents : Held) (q : ℕ) → map.get (led_by documents) q ≡ held_at documents q
+pub led_get : (documents : HeldAnswers) (q : ℕ) → map.get (led_by documents) q ≡ held_at documents q
 led_get documents q = get-from_entries nat_cmp_total documents.entries q ∙ find_lookup q documents.entries
 
 turned_round : (k q : ℕ) (x y : Option (List Answer)) → cond (eq_by_cmp nat_cmp k q) x y ≡ cond (eq_by_cmp nat_cmp q k) x y
 turned_round k q x y = ap (λ b. cond b x y) ((eq_by_cmp_equiv nat_cmp_total).symm k q)
 
-module _ (before after : Held) (k : ℕ) where
+module _ (before after : HeldAnswers) (k : ℕ) where
   pub led_insert : (answers : List Answer) → ((q : ℕ) → held_at after q ≡ cond (eq_by_cmp nat_cmp k q) (Some answers) (held_at before q)) → led_by after ≡ map.insert (led_by before) k answers
   led_insert answers at =
       same_map nat_cmp_total nat_cmp-IsAntisymmetric _ _ (λ q.
@@ -40,7 +40,7 @@ module _ (before after : Held) (k : ℕ) where
       led_get after q ∙ at q ∙ turned_round k q None (held_at before q) ∙ ap (cond (eq_by_cmp nat_cmp q k) None) (sym (led_get before q))
       ∙ sym (get-remove nat_cmp_total (led_by before) k q))
 
-module _ (documents : Held) (led : Led) (is : led_by documents ≡ led) where
+module _ (documents : HeldAnswers) (led : Led) (is : led_by documents ≡ led) where
   held : (q : ℕ) → map.get led q ≡ held_at documents q
   held q = ap (λ v. map.get v q) (sym is) ∙ led_get documents q
 

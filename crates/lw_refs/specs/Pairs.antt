@@ -35,18 +35,18 @@ StaysPaired user None p = p.1 ≢ user
 StaysPaired user (Some kept) p = p.1 ≡ user → LeadsInto kept.now p.0
 
 -- the documents as they are held
-abbrev pub Held : Type 0
-Held = BTreeMap ℕ (List Answer)
+abbrev pub HeldAnswers : Type 0
+HeldAnswers = BTreeMap ℕ (List Answer)
 
-abbrev pub held_at : Held → ℕ → Option (List Answer)
+abbrev pub held_at : HeldAnswers → ℕ → Option (List Answer)
 held_at documents doc = tree.get nat_cmp documents doc
 
 -- no pair lacks
-abbrev pub ArePaired : Held → BTreeSet Pair → Type 0
+abbrev pub ArePaired : HeldAnswers → BTreeSet Pair → Type 0
 ArePaired documents pairs = (user doc : ℕ) (answers : List Answer) → held_at documents user ≡ Some answers → LeadsInto answers doc → IsTrue (is_paired pairs (doc, user))
 
 -- a reference that leads to the node, by the documents as they are held
-pub record IsHeldUser (documents : Held) (target : Target) (slot : SlotId) : Type 0 where
+pub record IsHeldUser (documents : HeldAnswers) (target : Target) (slot : SlotId) : Type 0 where
   pub answers : List Answer
   pub given : held_at documents slot.doc.0 ≡ Some answers
   pub leads : slice_get answers slot.reference.0 ≡ Some (Found target)

@@ -15,13 +15,13 @@ abbrev pub IsUseOf : List Answer → Use → Type 0
 IsUseOf answers u = slice_get answers u.reference ≡ Some (Found (target_of_use u))
 
 -- by documents, by their nodes, and by references
-abbrev pub ComesBefore : Use → Use → Type 0
-ComesBefore a b = (a.doc ≤ b.doc) × (a.doc ≡ b.doc → a.node ≤ b.node) × (a.doc ≡ b.doc → a.node ≡ b.node → a.reference < b.reference)
+abbrev pub UsePrecedes : Use → Use → Type 0
+UsePrecedes a b = (a.doc ≤ b.doc) × (a.doc ≡ b.doc → a.node ≤ b.node) × (a.doc ≡ b.doc → a.node ≡ b.node → a.reference < b.reference)
 
 -- each reference that leads somewhere, once, in order
 pub record AreUses (answers : List Answer) (uses : List Use) : Type 0 where
   pub exact : (u : Use) → Contains uses u ↔ IsUseOf answers u
-  pub ordered : AllPairs ComesBefore uses
+  pub ordered : AllPairs UsePrecedes uses
 
 -- the same in the order of the references
 pub record AreUsesInTurn (answers : List Answer) (uses : List Use) : Type 0 where

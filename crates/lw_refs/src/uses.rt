@@ -2,7 +2,7 @@
 ghost use Rattle.std.specs.Prelude.{◌≡◌, ◌-◌, ◌^◌, ◌<◌, ◌≤◌, ◌↔◌, true, false, not, length, take, drop, Contains, AllPairs, IfOk};
 ghost use Rattle.std.specs.List.Sorted.{IsPartitionPoint};
 ghost use Rattle.lw_refs.specs.declared.uses.Use.{Use};
-ghost use Rattle.lw_refs.specs.Uses.{AreUses, AreUsesInTurn, ComesBefore, is_before, is_behind};
+ghost use Rattle.lw_refs.specs.Uses.{AreUses, AreUsesInTurn, UsePrecedes, is_before, is_behind};
 
 use lw_base::NoMemory;
 use lw_index::Answer;
@@ -61,7 +61,7 @@ fn comes_behind(found: &Use, doc: u32, node: u32) -> bool
 
 /// How many come before a node.
 fn first_not_before(uses: &[Use], doc: u32, node: u32) -> usize
-    requires { AllPairs ComesBefore uses.now }
+    requires { AllPairs UsePrecedes uses.now }
     ensures bound { result ≤ length uses.now }
     ensures point { IsPartitionPoint (λ u. is_before doc node u ≡ true) (λ u. is_before doc node u ≡ false) uses.now result }
 {
@@ -70,7 +70,7 @@ fn first_not_before(uses: &[Use], doc: u32, node: u32) -> usize
 
 /// How many do not come behind a node.
 fn first_behind(uses: &[Use], doc: u32, node: u32) -> usize
-    requires { AllPairs ComesBefore uses.now }
+    requires { AllPairs UsePrecedes uses.now }
     ensures bound { result ≤ length uses.now }
     ensures point { IsPartitionPoint (λ u. not (is_behind doc node u) ≡ true) (λ u. not (is_behind doc node u) ≡ false) uses.now result }
 {
@@ -88,9 +88,9 @@ fn between(uses: &[Use], start: usize, end: usize) -> &[Use]
 
 /// Those that lead to a node, in the order of their references. Found by halving.
 pub(crate) fn uses_at(uses: &[Use], doc: u32, node: u32) -> &[Use]
-    requires { AllPairs ComesBefore uses.now }
+    requires { AllPairs UsePrecedes uses.now }
     ensures exact { (u : Use) → Contains result.now u ↔ (Contains uses.now u × (u.doc ≡ doc) × (u.node ≡ node)) }
-    ensures ordered { AllPairs ComesBefore result.now }
+    ensures ordered { AllPairs UsePrecedes result.now }
 {
     let start = first_not_before(uses, doc, node);
     let end = first_behind(uses, doc, node);
@@ -99,7 +99,7 @@ pub(crate) fn uses_at(uses: &[Use], doc: u32, node: u32) -> &[Use]
 
 /// Whether one of these leads into a document. Found by halving.
 pub(crate) fn leads_into(uses: &[Use], doc: u32) -> bool
-    requires { AllPairs ComesBefore uses.now }
+    requires { AllPairs UsePrecedes uses.now }
     ensures { (u : Use) → Contains uses.now u → u.doc ≡ doc → result ≡ true }
 {
     match uses.get(first_not_before(uses, doc, 0)) {
