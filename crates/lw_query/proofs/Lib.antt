@@ -1,0 +1,7 @@
+pub mod Rows
+pub mod Looked
+pub mod Led
+pub mod Named
+pub mod Putting
+pub mod Meant
+pub mod Mentioned

@@ -1,2 +1,5 @@
 pub mod Viewed
 pub mod Built
+pub mod Looking
+pub mod Spots
+pub mod Gathered

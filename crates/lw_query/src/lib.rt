@@ -2,8 +2,10 @@
 #![tactic(auto)]
 
 mod asking;
+mod gathering;
 mod places;
 mod spot;
+mod spots;
 mod view;
 mod views;
 

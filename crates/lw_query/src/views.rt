@@ -1,5 +1,5 @@
 // What is seen of documents by number.
-ghost use Rattle.std.specs.Prelude.{◌≡◌, ℕ, List, Option, MatchOption, slice_get};
+ghost use Rattle.std.specs.Prelude.{◌≡◌, ◌<◌, ◌^◌, ℕ, List, Option, IfSome, MatchOption, length, slice_get};
 ghost use Rattle.std.specs.Option.{option_map};
 ghost use Rattle.lw_index.specs.declared.parts.Answer.{Answer as AnAnswer};
 ghost use Rattle.lw_tree.specs.Parts.{Parts};
@@ -19,9 +19,10 @@ pub trait Views {
     /// The document of a number stands at an address.
     ghost Stands: { Self → ℕ → List ℕ → Type 0 };
 
-    /// The tree of a document, where it has one.
+    /// The tree of a document, where it has one. Its references can be numbered.
     fn tree(&self, doc: DocId) -> Option<&Tree>
-        ensures { option_map (λ tree. tree.now) result ≡ tree_at self.now doc.0 };
+        ensures tree { option_map (λ tree. tree.now) result ≡ tree_at self.now doc.0 }
+        ensures few { IfSome result (λ tree. length tree.now.refs < 2 ^ 32) };
 
     /// Where a reference of a document leads, or None where it has no such reference.
     fn answer(&self, doc: DocId, reference: RefId) -> Option<Answer>
