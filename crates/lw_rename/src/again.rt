@@ -1,12 +1,11 @@
 // Edited documents, read again.
-ghost use Rattle.std.specs.Prelude.{◌≡◌, ◌⊎◌, All, IfOk, IfErr, MatchOption, length};
-ghost use Rattle.std.specs.Str.{IsUtf8};
+ghost use Rattle.std.specs.Prelude.{◌≡◌, ◌⊎◌, All, IfOk, IfErr, length};
+ghost use Rattle.lw_numbers.specs.Numbering.{property_names};
 ghost use Rattle.lw_reading.specs.Reading.{Reads};
 ghost use Rattle.lw_reading.specs.declared.parsed.Parsed.TheVariants.{Whole};
 ghost use Rattle.lw_rooted.specs.Within.{IsInText};
-ghost use Rattle.lw_renaming.specs.Renamed.{CannotBeRead};
 ghost use Rattle.lw_renaming.specs.Replacing.{replaced as replaced_text};
-ghost use Rattle.lw_rename.specs.Again.{AreAllAgain, IsAgain, IsFirstSpoiled, IsKeptAs, ReadsWholeAs, Spoils, StandIn};
+ghost use Rattle.lw_rename.specs.Rereading.{AreAllAgain, AreAllIn, IsAgain, IsFirstSpoiled, IsKeptAs, IsSpoiled, ReadsWholeAs, Spoils, StandIn};
 
 use crate::RenameFault;
 use crate::replacing::replaced;
@@ -55,7 +54,7 @@ fn read_replaced(
 
 /// That the document at an address can't be read any more.
 fn not_parsed(alloc: Global, uri: &Name) -> RenameFault
-    ensures { (result ≡ NoMemory) ⊎ (result ≡ NotParsed uri.now) }
+    ensures { (result ≡ RenameFault.NoMemory) ⊎ (result ≡ RenameFault.NotParsed uri.now) }
 {
     match uri.copy(alloc) {
         Ok(uri) => RenameFault::NotParsed(uri),
@@ -65,7 +64,7 @@ fn not_parsed(alloc: Global, uri: &Name) -> RenameFault
 
 /// That the document at an address has another shape at a node.
 fn reshaped(alloc: Global, uri: &Name, node: NodeId) -> RenameFault
-    ensures { (result ≡ NoMemory) ⊎ (result ≡ Shape uri.now node) }
+    ensures { (result ≡ RenameFault.NoMemory) ⊎ (result ≡ RenameFault.Shape uri.now node) }
 {
     match uri.copy(alloc) {
         Ok(uri) => RenameFault::Shape(uri, node),
@@ -92,7 +91,7 @@ fn edited(
     requires reads { Reads language.now.grammar view.now.text.now (Whole tree.now) }
     requires within { All (IsInText view.now.text.now) spans.now }
     ensures kept { IfOk result (IsKeptAs language.now.grammar (replaced_text new.now view.now.text.now spans.now) tree.now) }
-    ensures refused { IfErr result (λ fault. (fault ≡ NoMemory) ⊎
+    ensures refused { IfErr result (λ fault. (fault ≡ RenameFault.NoMemory) ⊎
         Spoils language.now.grammar view.now.uri.now (replaced_text new.now view.now.text.now spans.now) tree.now fault) }
 {
     match read_replaced(alloc, language, view.text, spans, new) {
@@ -115,7 +114,7 @@ fn again(
 ) -> Result<Option<Tree>, RenameFault>
     requires { StandIn language.now.grammar view.now spans.now }
     ensures kept { IfOk result (IsAgain language.now.grammar new.now view.now spans.now) }
-    ensures refused { IfErr result (λ fault. (fault ≡ NoMemory) ⊎ IsSpoiled language.now.grammar new.now view.now spans.now fault) }
+    ensures refused { IfErr result (λ fault. (fault ≡ RenameFault.NoMemory) ⊎ IsSpoiled language.now.grammar new.now view.now spans.now fault) }
 {
     let Some(tree) = view.tree else {
         return Ok(None);
@@ -140,7 +139,7 @@ pub(crate) fn all_again(
     requires long { length spans.now ≡ length views.now }
     requires each { AreAllIn language.now.grammar views.now spans.now }
     ensures kept { IfOk result (λ trees. AreAllAgain language.now.grammar new.now views.now spans.now trees.items) }
-    ensures refused { IfErr result (λ fault. (fault ≡ NoMemory) ⊎ IsFirstSpoiled language.now.grammar new.now views.now spans.now fault) }
+    ensures refused { IfErr result (λ fault. (fault ≡ RenameFault.NoMemory) ⊎ IsFirstSpoiled language.now.grammar new.now views.now spans.now fault) }
 {
     let mut trees = Vec::new(alloc);
     'reading: for i in 0..views.len() {

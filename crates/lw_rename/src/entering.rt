@@ -2,7 +2,8 @@
 ghost use Rattle.std.specs.Prelude.{◌≡◌, IfOk, length};
 ghost use Rattle.std.specs.Option.{option_map};
 ghost use Rattle.lw_link.specs.Indexed.{AreEntriesAt};
-ghost use Rattle.lw_rename.specs.Afterwards.{AreApart, AreRooted, HasRoot, IsIndexAfter, later};
+ghost use Rattle.lw_rename.specs.Afterwards.{AreApart, later};
+ghost use Rattle.lw_rename.specs.Entries.{AreRooted, HasRoot, IsIndexAfter};
 
 use lw_base::NoMemory;
 use lw_index::{Export, Index};
@@ -13,7 +14,7 @@ use std::alloc::Global;
 
 /// The tree that a document has then: the new one, where there is one.
 pub(crate) fn tree_after<'t>(old: Option<&'t Tree>, new: &'t Option<Tree>) -> Option<&'t Tree>
-    ensures { option_map (λ tree. tree.now) result ≡ later new.now (option_map (λ tree. tree.now) old) }
+    ensures { option_map (λ tree. tree.now) result ≡ later new.now (option_map (λ tree. tree.now) old.entry) }
 {
     match new {
         Some(tree) => Some(tree),
@@ -24,7 +25,7 @@ pub(crate) fn tree_after<'t>(old: Option<&'t Tree>, new: &'t Option<Tree>) -> Op
 /// What a document exports.
 fn exports_of(alloc: Global, tree: Option<&Tree>) -> Result<Vec<Export>, NoMemory>
     requires { HasRoot (option_map (λ tree. tree.now) tree) }
-    ensures { IfOk result (λ exports. AreEntriesAt (option_map (λ tree. tree.now) tree) exports.items) }
+    ensures { IfOk result (λ exports. AreEntriesAt (option_map (λ tree. tree.now) tree.entry) exports.items) }
 {
     match tree {
         Some(tree) => entries(alloc, tree),

@@ -1,6 +1,6 @@
 // What is replaced, document by document.
 ghost use Rattle.std.specs.Prelude.{◌≡◌, IfOk, length};
-ghost use Rattle.lw_rename.specs.Files.{AreFilesOf};
+ghost use Rattle.lw_rename.specs.SpansOf.{files_over};
 
 use lw_base::{Items, Name, NoMemory, Span};
 use lw_query::View;
@@ -20,7 +20,7 @@ pub(crate) fn files_of(
     spans: &[Items<Span>],
 ) -> Result<Items<FileSpans>, NoMemory>
     requires { length spans.now ≡ length views.now }
-    ensures { IfOk result (AreFilesOf views.now spans.now) }
+    ensures { IfOk result (λ files. files ≡ files_over views.now spans.now) }
 {
     let mut files = Items::new(alloc);
     'filing: for i in 0..views.len() {

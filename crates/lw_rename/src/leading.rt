@@ -1,6 +1,7 @@
 // Where answers lead, by address.
 ghost use Rattle.std.specs.Prelude.{◌≡◌, ◌↔◌, IfOk, IsTrue, MatchOption, length, map};
-ghost use Rattle.lw_rename.specs.Leading.{IsFirstOther, address_among, link_among, link_told};
+ghost use Rattle.lw_rename.specs.Grouped.{link_told};
+ghost use Rattle.lw_rename.specs.Leads.{IsFirstOther, address_among, link_among};
 
 use lw_base::{DocId, Name, NoMemory, NodeId};
 use lw_index::Answer;

@@ -1,11 +1,13 @@
 // What is meant at a place.
-ghost use Rattle.std.specs.Prelude.{◌≡◌, slice_get};
-ghost use Rattle.lw_rename.specs.Meaning.{IsMeantAmong, MeansAt, place_target};
+ghost use Rattle.std.specs.Prelude.{◌≡◌, IfOk};
+ghost use Rattle.lw_rename.specs.Targets.{IsMeantAmong, MeansAt, place_target};
 
-use lw_base::Name;
+use lw_base::{Name, NoMemory};
 use lw_index::{Answer, Target};
 use lw_query::{Place, View, place_at};
-use std::alloc::Global;
+
+/// How many references of a tree can be told by their numbers.
+const MOST_REFERENCES: usize = 4_294_967_295;
 
 /// What a place of a document leads to: a name to its node, a reference to what it leads to.
 fn target_at(view: &View<'_>, place: Place) -> Option<Target>
@@ -23,23 +25,34 @@ fn target_at(view: &View<'_>, place: Place) -> Option<Target>
     }
 }
 
-/// What is meant at an offset of a document.
-fn meant_in(view: &View<'_>, off: u32) -> Option<Target>
-    ensures { MeansAt view.now off result }
+/// What is meant at an offset of a document. More references than have numbers are more than memory holds.
+fn meant_in(view: &View<'_>, off: u32) -> Result<Option<Target>, NoMemory>
+    ensures { IfOk result (MeansAt view.now off) }
 {
-    let tree = view.tree?;
-    let place = place_at(tree, off)?;
-    target_at(view, place)
+    let Some(tree) = view.tree else {
+        return Ok(None);
+    };
+    if tree.refs().len() > MOST_REFERENCES {
+        return Err(NoMemory);
+    }
+    match place_at(tree, off) {
+        Some(place) => Ok(target_at(view, place)),
+        None => Ok(None),
+    }
 }
 
 /// What is meant at an offset of the document at an address.
-pub(crate) fn meant(views: &[View<'_>], uri: &Name, off: u32) -> Option<Target>
-    ensures { IsMeantAmong views.now uri.now off result }
+pub(crate) fn meant(
+    views: &[View<'_>],
+    uri: &Name,
+    off: u32,
+) -> Result<Option<Target>, NoMemory>
+    ensures { IfOk result (IsMeantAmong views.now uri.now off) }
 {
     'looking: for view in views {
         if view.uri == uri {
             return meant_in(view, off);
         }
     }
-    None
+    Ok(None)
 }

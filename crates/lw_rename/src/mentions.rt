@@ -1,7 +1,10 @@
 // Where a node is mentioned.
-ghost use Rattle.std.specs.Prelude.{◌≡◌, ◌<◌, ◌↔◌, ℕ, IfOk, Contains, AllPairs, Some, List, length, map, slice_get};
+ghost use Rattle.std.specs.Prelude.{◌≡◌, ◌↔◌, IfOk, IsTrue, Contains, AllPairs, Some, map};
+ghost use Rattle.std.specs.Option.{option_map};
 ghost use Rattle.lw_base.specs.declared.token.Span.{Span as ASpan};
-ghost use Rattle.lw_rename.specs.Mentioning.{AreAllSpans, AreSpansOf, IsUseSpan, SpanPrecedes, keyed_span, name_span};
+ghost use Rattle.lw_rename.specs.SpansOf.{AreAllSpans, AreSpansOf, IsUseSpan, SpanPrecedes, keyed_span, name_span};
+ghost use Rattle.lw_rename.specs.declared.mentions.SpanKey.{SpanKey as AKey};
+ghost use Rattle.lw_index.specs.declared.parts.Answer.TheVariants.{Found};
 
 use lw_base::{Items, NoMemory, Span};
 use lw_index::{Answer, Target};
@@ -26,7 +29,7 @@ fn key_of(span: Span) -> SpanKey
 }
 
 fn leads_to(answer: Option<&Answer>, target: Target) -> bool
-    ensures { IsTrue result ↔ (option_map (λ a. a.now) answer ≡ Some (Found target)) }
+    ensures { IsTrue result ↔ (option_map (λ a. a.now) answer.entry ≡ Some (Found target)) }
 {
     match answer {
         Some(Answer::Found(other)) => *other == target,
@@ -41,7 +44,7 @@ fn uses_of(
     answers: &[Answer],
     target: Target,
 ) -> Result<Vec<SpanKey>, NoMemory>
-    ensures { IfOk result (λ keys. (k : SpanKey) → Contains keys.items k ↔ IsUseSpan tree.now answers.now target (keyed_span k)) }
+    ensures { IfOk result (λ keys. (k : AKey) → Contains keys.items k ↔ IsUseSpan tree.now answers.now target (keyed_span k)) }
 {
     let mut keys = Vec::new(alloc);
     'uses: for (i, reference) in tree.refs().iter().enumerate() {

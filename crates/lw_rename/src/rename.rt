@@ -1,4 +1,13 @@
 // A rename over all documents.
+ghost use Rattle.std.specs.Prelude.{◌≡◌, ◌⊎◌, ◌<◌, List, Ok, Err, IfOk, IfErr, OnOk};
+ghost use Rattle.lw_index.specs.declared.parts.Target.{Target as ATarget};
+ghost use Rattle.lw_places.specs.Mentions.{Mention};
+ghost use Rattle.lw_query.specs.Built.{AreBuiltViews, texts_seen};
+ghost use Rattle.lw_renaming.specs.Renamed.{IsRenamed, Refusal};
+ghost use Rattle.lw_rename.specs.Grouped.{AreGrouped, TellsRefusal};
+ghost use Rattle.lw_rename.specs.Outcomes.{StandsAgainst, StandsNothingAgainst};
+ghost use Rattle.lw_rename.specs.SpansOf.{AreAllSpans};
+
 use crate::again::all_again;
 use crate::entering::index_after;
 use crate::files::files_of;
@@ -13,7 +22,7 @@ use std::alloc::Global;
 use std::marker::Brand;
 use std::sync::ledger::{Blank, Ledger};
 
-/// That nothing stands against replacing these spans.
+/// That nothing stands against replacing these spans, or the first that does. The look-ups of the links are counted for nobody.
 fn stands_nothing_against<L: Ledger>(
     alloc: Global,
     language: &Language,
@@ -25,6 +34,10 @@ fn stands_nothing_against<L: Ledger>(
     requires name { blank.name ≡ L.name }
     requires parts { blank.parts ≡ L.parts }
     requires some { 0 < blank.parts }
+    requires built { AreBuiltViews language.now.grammar views.now }
+    requires spans { (target : ATarget) × AreAllSpans target views.now spans.now }
+    ensures nothing { OnOk result (StandsNothingAgainst language.now.grammar new_name.now views.now spans.now) }
+    ensures refused { IfErr result (λ fault. (fault ≡ RenameFault.NoMemory) ⊎ StandsAgainst language.now.grammar new_name.now views.now spans.now fault) }
 {
     let trees = match all_again(alloc, language, views, spans, new_name) {
         Ok(trees) => trees,
@@ -39,7 +52,14 @@ fn stands_nothing_against<L: Ledger>(
     all_stay(alloc, language, views, trees.as_slice(), &index, &mut steps)
 }
 
-/// What is replaced where what stands at a byte offset of the document at an address is called by a new name.
+/// What is replaced in which documents where what stands at a byte offset of the document at an address is called by a new name: the name
+/// itself and each reference to it. The views are all documents, in the order of addresses; where none of them stands at the address,
+/// nothing is meant.
+///
+/// A rename that would change more than that name is refused ([`RenameFault`]), and so is one without memory. Edited documents are
+/// read again and no others; then the references of all documents are linked anew. So it takes time that is linear in all trees, beside
+/// a look-up for each reference that leads out of its document, and memory for the new trees, for the symbols of one tree at a time, and
+/// for an index of what all documents export.
 pub fn rename(
     alloc: Global,
     language: &Language,
@@ -48,21 +68,29 @@ pub fn rename(
     off: u32,
     new_name: &Name,
 ) -> Result<Items<FileSpans>, RenameFault>
+    requires { AreBuiltViews language.now.grammar views.now }
+    ensures renamed { IfOk result (λ files. (mentions : List Mention) × AreGrouped mentions files ×
+        IsRenamed language.now.grammar (texts_seen views.now) uri.now off new_name.now (Ok mentions)) }
+    ensures refused { IfErr result (λ fault. (fault ≡ RenameFault.NoMemory) ⊎ ((refusal : Refusal) × TellsRefusal fault refusal ×
+        IsRenamed language.now.grammar (texts_seen views.now) uri.now off new_name.now (Err refusal))) }
 {
-    let Some(target) = meant(views, uri, off) else {
-        return Err(RenameFault::NoName);
+    let target = match meant(views, uri, off) {
+        Ok(Some(target)) => target,
+        Ok(None) => return Err(RenameFault::NoName),
+        Err(_) => return Err(RenameFault::NoMemory),
     };
     let spans = match spans_of_all(alloc, views, target) {
         Ok(spans) => spans,
         Err(_) => return Err(RenameFault::NoMemory),
     };
+    let blank = Blank::new(1);
     match stands_nothing_against::<Brand>(
         alloc,
         language,
         views,
         spans.as_slice(),
         new_name,
-        Blank::new(1),
+        blank,
     ) {
         Ok(()) => {}
         Err(fault) => return Err(fault),

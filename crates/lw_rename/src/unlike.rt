@@ -1,10 +1,10 @@
 // The first node at which two trees have not the same shape.
-ghost use Rattle.std.specs.Prelude.{◌≡◌, ◌<◌, ◌↔◌, ℕ, All, IsTrue, MatchOption, length};
+ghost use Rattle.std.specs.Prelude.{◌≡◌, ◌<◌, ◌↔◌, ℕ, IsTrue, MatchOption, length};
 ghost use Rattle.std.specs.Option.{option_map};
 ghost use Rattle.lw_grammar.specs.declared.grammar.Grammar.{Grammar};
 ghost use Rattle.lw_numbers.specs.Numbering.{property_names};
 ghost use Rattle.lw_renaming.specs.Shapes.{HaveSameShape, IsFirstUnlike, stands_as as as_it_stands};
-ghost use Rattle.lw_rename.specs.Unlike.{AreAlikeBut, HaveSameValues, IsFirstApart, IsFirstApartAmong, IsLesserNode, OwnersAreNodes, refers_alike};
+ghost use Rattle.lw_rename.specs.Alike.{AreAlikeBut, HaveSameValues, IsFirstApart, IsFirstApartAmong, IsLesserNode, refers_alike};
 
 use crate::shape::have_shapes_of;
 use lw_base::{NodeId, PropId};
@@ -59,7 +59,7 @@ fn refer_alike(one: &Reference, other: &Reference) -> bool
 
 /// Of the nodes that two references stand in, where these are not alike, the first.
 fn first_owner(one: Option<&Reference>, other: Option<&Reference>) -> Option<NodeId>
-    ensures { IsFirstApart (option_map (λ r. r.now) one) (option_map (λ r. r.now) other) result }
+    ensures { IsFirstApart (option_map (λ r. r.now) one.entry) (option_map (λ r. r.now) other.entry) result }
 {
     match (one, other) {
         (Some(one), Some(other)) => {
@@ -101,8 +101,6 @@ fn first_apart(one: &[Reference], other: &[Reference]) -> Option<NodeId>
 /// The first node at which two trees have not the same shape, by the properties below a number. Its time is linear in the trees, and for
 /// each node and property logarithmic in all values.
 pub(crate) fn first_unlike(one: &Tree, other: &Tree, props: u16) -> Option<NodeId>
-    requires one { OwnersAreNodes one.now }
-    requires other { OwnersAreNodes other.now }
     ensures { (g : Grammar) → length (property_names g) ≡ props →
         MatchOption result (HaveSameShape g one.now other.now) (λ n. IsFirstUnlike g one.now other.now n.0) }
 {

@@ -11,7 +11,8 @@ use Rattle.lw_query.specs.Built.{tree_seen}
 use Rattle.lw_query.specs.declared.view.View.{View}
 use Rattle.lw_tree.specs.declared.node.Reference.{Reference}
 use Rattle.lw_tree.specs.Parts.{Parts, name_of}
-use Rattle.lw_rename.specs.Files.{mentions_at}
+use Rattle.lw_rename.specs.Grouped.{mentions_at}
+use Rattle.lw_rename.specs.declared.files.FileSpans.{FileSpans}
 use Rattle.lw_rename.specs.declared.mentions.SpanKey.{SpanKey}
 
 abbrev pub keyed_span : SpanKey → Span
@@ -53,3 +54,13 @@ abbrev pub mentions_over : List View → List (List Span) → List Mention
 mentions_over [] spans = []
 mentions_over (v ∷ views) [] = []
 mentions_over (v ∷ views) (s ∷ spans) = mentions_at v.uri.now s ++ mentions_over views spans
+
+-- the same by documents, those without a mention left out
+abbrev pub file_of : View → List Span → List FileSpans
+file_of v [] = []
+file_of v (s ∷ spans) = record { uri = v.uri.now; spans = s ∷ spans } ∷ []
+
+abbrev pub files_over : List View → List (List Span) → List FileSpans
+files_over [] spans = []
+files_over (v ∷ views) [] = []
+files_over (v ∷ views) (s ∷ spans) = file_of v s ++ files_over views spans

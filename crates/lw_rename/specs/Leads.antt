@@ -14,11 +14,12 @@ abbrev pub link_among : List View → Answer → Link
 link_among views (Found target) = Some (address_among views target.doc.0, target.node.0)
 link_among views Missing = None
 
--- the first link that is another than the one before
-pub record IsFirstOther (was now : List Link) (i : ℕ) : Type 0 where
-  pub before : Link
-  pub behind : Link
+-- the first link that is another than the one before, by its number
+pub record IsOtherAt (was now : List Link) (i : ℕ) (before behind : Link) : Type 0 where
   pub led : slice_get was i ≡ Some before
   pub leads : slice_get now i ≡ Some behind
   pub differ : before ≢ behind
   pub same_before : (j : ℕ) → j < i → slice_get was j ≡ slice_get now j
+
+abbrev pub IsFirstOther : List Link → List Link → ℕ → Type 0
+IsFirstOther was now i = (before : Link) × (behind : Link) × IsOtherAt was now i before behind

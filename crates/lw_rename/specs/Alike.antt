@@ -55,7 +55,3 @@ pub data IsLesserNode : Option NodeId → Option NodeId → Option NodeId → Ty
   second : {n m : NodeId} → m.0 ≤ n.0 → IsLesserNode (Some n) (Some m) (Some m)
   one : {n : NodeId} → IsLesserNode (Some n) None (Some n)
   other : {m : Option NodeId} → IsLesserNode None m m
-
--- each reference stands in a node of the tree
-abbrev pub OwnersAreNodes : Parts → Type 0
-OwnersAreNodes tree = All (λ r. r.owner.0 < length tree.nodes) tree.refs

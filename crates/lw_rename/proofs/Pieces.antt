@@ -1,0 +1,72 @@
+-- A text whose spans are replaced, piece by piece.
+use Rattle.std.proofs.Common.{◌≡◌, ℕ, ◌+◌, ◌-◌, ◌<◌, ◌≤◌, suc, zero, Bool, true, false, List, [], ◌∷◌, ◌++◌, All, length, take, drop, refl, sym, ap, ◌∙◌, subst, arith, append_assoc, length-append}
+use Rattle.std.specs.Prelude.{if◌then◌else◌, nat_lt}
+use Rattle.std.proofs.lemmas.Bool.Decides.{Decides-ltb}
+use Rattle.std.proofs.lemmas.List.{drop-drop}
+use Rattle.lw_base.specs.declared.token.Span.{Span}
+use Rattle.lw_renaming.specs.Replacing.{replaced, replaced_from}
+
+module _ (new text : List ℕ) where
+  -- what is left from an offset on
+  abbrev pub left : ℕ → List Span → List ℕ
+  left at spans = replaced_from new at (drop at text) spans
+
+  pub left_skip : (at : ℕ) (s : Span) (spans : List Span) → s.start < at → left at (s ∷ spans) ≡ left at spans
+  left_skip at s spans before =
+      ap (λ (b : Bool). if b then replaced_from new at (drop at text) spans
+      else take (s.start - at) (drop at text) ++ new ++ replaced_from new s.end (drop (s.end - at) (drop at text)) spans)
+      ((Decides-ltb s.start at).1 before)
+
+  pub left_take : (at : ℕ) (s : Span) (spans : List Span) → at ≤ s.start → s.start ≤ s.end →
+      left at (s ∷ spans) ≡ (take (s.start - at) (drop at text) ++ new) ++ left s.end spans
+  left_take at s spans up wide =
+      ap (λ (b : Bool). if b then replaced_from new at (drop at text) spans
+      else take (s.start - at) (drop at text) ++ new ++ replaced_from new s.end (drop (s.end - at) (drop at text)) spans)
+      (not_below (nat_lt s.start at) refl)
+      ∙ ap (λ (rest : List ℕ). (take (s.start - at) (drop at text) ++ new) ++ replaced_from new s.end rest spans)
+      (drop-drop (s.end - at) at text ∙ ap (λ k. drop k text) (let e : at + (s.end - at) ≡ s.end = omega (arith, up, wide) in e))
+    where
+      not_below : (b : Bool) → nat_lt s.start at ≡ b → b ≡ false
+      not_below true is = absurd (let below = (Decides-ltb s.start at).0 is in omega (arith, up, below))
+      not_below false is = refl
+
+  -- the text so far and what is left are the whole
+  pub record IsSoFar (out : List ℕ) (at : ℕ) (spans all : List Span) : Type 0 where
+    pub whole : out ++ left at spans ≡ replaced new text all
+    pub within : at ≤ length text
+
+  pub from_start : (all : List Span) → IsSoFar [] 0 all all
+  from_start all = record { whole = refl; within = omega arith }
+
+  pub skipped : (out : List ℕ) (at : ℕ) (s : Span) (spans all : List Span) → s.start < at → IsSoFar out at (s ∷ spans) all → IsSoFar out at spans all
+  skipped out at s spans all before is = record { whole = ap (λ (rest : List ℕ). out ++ rest) (sym (left_skip at s spans before)) ∙ is.whole; within = is.within }
+
+  joins : (out at_s rest whole : List ℕ) → out ++ (at_s ++ rest) ≡ whole → (out ++ at_s) ++ rest ≡ whole
+  joins out at_s rest whole is = append_assoc out at_s rest ∙ is
+
+  pub replaced_one : (out : List ℕ) (at : ℕ) (s : Span) (spans all : List Span) → at ≤ s.start → s.start ≤ s.end → s.end ≤ length text → IsSoFar out at (s ∷ spans) all →
+      IsSoFar (out ++ (take (s.start - at) (drop at text) ++ new)) s.end spans all
+  replaced_one out at s spans all up wide inside is = record {
+    whole = joins out (take (s.start - at) (drop at text) ++ new) (left s.end spans) (replaced new text all)
+        (ap (λ (rest : List ℕ). out ++ rest) (sym (left_take at s spans up wide)) ∙ is.whole);
+    within = inside;
+  }
+
+  -- a piece that is too long makes the whole too long
+  pub too_long_at : (most : ℕ) (out : List ℕ) (at : ℕ) (s : Span) (spans all : List Span) → at ≤ s.start → s.start ≤ s.end → IsSoFar out at (s ∷ spans) all →
+      most < length out + length (take (s.start - at) (drop at text) ++ new) → most < length (replaced new text all)
+  too_long_at most out at s spans all up wide is long =
+      let piece : List ℕ = take (s.start - at) (drop at text) ++ new in
+      let parts : length (replaced new text all) ≡ length out + (length piece + length (left s.end spans)) =
+      ap length (sym is.whole) ∙ ap (λ (rest : List ℕ). length (out ++ rest)) (left_take at s spans up wide) ∙ length-append out (piece ++ left s.end spans)
+      ∙ ap (λ n. length out + n) (length-append piece (left s.end spans)) in
+      omega (arith, parts, long)
+
+  pub at_end : (out : List ℕ) (at : ℕ) (all : List Span) → IsSoFar out at [] all → out ++ drop at text ≡ replaced new text all
+  at_end out at all is = is.whole
+
+  pub too_long_end : (most : ℕ) (out : List ℕ) (at : ℕ) (all : List Span) → IsSoFar out at [] all → most < length out + length (drop at text) →
+      most < length (replaced new text all)
+  too_long_end most out at all is long =
+      let parts : length (replaced new text all) ≡ length out + length (drop at text) = ap length (sym is.whole) ∙ length-append out (drop at text) in
+      omega (arith, parts, long)
