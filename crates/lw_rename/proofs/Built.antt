@@ -69,7 +69,7 @@ module _ (g : Grammar) (views : List View) (built : AreBuiltViews g views) where
   trees_are address = by (look address views (apart_of g views built))
     where
       by : IsOnceOrNone address views → IsTreeOfText g (texts_seen views address) (trees_seen views address)
-      by (place.nowhere none) = subst₂ (IsTreeOfText g) (sym (no_text_at address views none)) (sym (no_tree_at address views none)) scope.no_text
+      by (place.nowhere absent) = subst₂ (IsTreeOfText g) (sym (no_text_at address views absent)) (sym (no_tree_at address views absent)) scope.no_text
       by (once {k = k} {v = v} is) =
           subst₂ (IsTreeOfText g) (sym (text_at address views k v is)) (sym (tree_at address views k v is)) (its_view k v (once_place is)).reads
 

@@ -1,6 +1,6 @@
 -- The first node at which two trees have not the same shape.
-use Rattle.std.proofs.Common.{◌≡◌, ◌≢◌, ℕ, ◌+◌, ◌<◌, ◌≤◌, ◌==◌, Bool, true, false, List, [], ◌∷◌, Option, Some, None, All, get_or, MatchOption, slice_get, length, map, max, refl, sym, ap, ◌∙◌, subst, subst₂, arith, inl, inr}
-use Rattle.std.specs.Prelude.{if◌then◌else◌}
+use Rattle.std.proofs.Common.{◌≡◌, ◌≢◌, ℕ, ◌+◌, ◌<◌, ◌≤◌, ◌==◌, Bool, true, false, List, [], ◌∷◌, Option, Some, None, All, get_or, MatchOption, slice_get, length, map, max, min, refl, sym, ap, ◌∙◌, subst, subst₂, arith, inl, inr}
+use Rattle.std.specs.Prelude.{◌⊎◌, if◌then◌else◌}
 use Rattle.std.specs.Option.{option_map}
 use Rattle.std.proofs.lemmas.Bool.{cases_lt}
 use Rattle.std.proofs.lemmas.Bool.Decides.{Decides-eqb}
@@ -34,13 +34,16 @@ some_at (x ∷ xs) n below = (get_or (x ∷ xs) n x, slice_get-get_or (x ∷ xs)
 
 -- ---- one reference and another
 
+abbrev stands_under : Reference → Option (PropId × TypeId)
+stands_under r = Some (r.prop, r.want)
+
 pub refers_here : (r : Reference) (n : ℕ) → r.owner.0 ≡ n → refers_in (Some r) n ≡ Some (r.prop, r.want)
-refers_here r n same = ap (λ (b : Bool). if b then Some (r.prop, r.want) else None) ((Decides-eqb r.owner.0 n).1 same)
+refers_here r n same = ap (λ (b : Bool). if b then stands_under r else None) ((Decides-eqb r.owner.0 n).1 same)
 
 refers_elsewhere : (r : Reference) (n : ℕ) → r.owner.0 ≢ n → refers_in (Some r) n ≡ None
 refers_elsewhere r n apart = by (r.owner.0 == n) refl
   where
-    by : (b : Bool) → (r.owner.0 == n) ≡ b → (if b then Some (r.prop, r.want) else None) ≡ None
+    by : (b : Bool) → (r.owner.0 == n) ≡ b → (if b then stands_under r else None) ≡ None
     by true same = absurd (apart ((Decides-eqb r.owner.0 n).0 same))
     by false unlike = refl
 
@@ -48,7 +51,7 @@ differ : {A : Type 0} {x y : Option A} (a : A) → x ≡ Some a → y ≡ None �
 differ a some none same = none-some a (sym none ∙ sym same ∙ some)
 
 pub alike_refer : (a b : Reference) → refers_alike a b → (n : ℕ) → refers_in (Some a) n ≡ refers_in (Some b) n
-alike_refer a b (owner, prop, want) n = λ i. if (owner i).0 == n then Some (prop i, want i) else None
+alike_refer a b (owner, prop, want) n = λ i. let under : Option (PropId × TypeId) = Some (prop i, want i) in if (owner i).0 == n then under else None
 
 pub only_first : (a : Reference) → IsFirstApart (Some a) None (Some a.owner)
 only_first a = (
@@ -98,50 +101,38 @@ both_apart a b o unlike low lower is = (apart, before)
 pub apart_none : (xs ys : List Reference) → IsFirstApartBelow 0 xs ys None
 apart_none xs ys i n below = absurd (omega (arith, below))
 
-pub apart_more : (count : ℕ) (xs ys : List Reference) (found here both : Option NodeId) → IsFirstApartBelow count xs ys found →
-    IsFirstApart (slice_get xs count) (slice_get ys count) here → IsLesserNode found here both → IsFirstApartBelow (count + 1) xs ys both
-apart_more count xs ys _ _ _ ((i, below, unlike), same) (_, same_here) (first {n = n} {m = m} low) = (
-  (i, omega (arith, below), unlike),
-  λ j k inside less. elim (cases_lt j count) [
-    | inl lower ↦ same j k lower less
-    | inr up ↦
-        let at : count ≡ j = omega (arith, inside, up) in
-        subst (λ j. refers_in (slice_get xs j) k ≡ refers_in (slice_get ys j) k) at (same_here k (omega (arith, less, low)))
-  ],
-)
-apart_more count xs ys _ _ _ (_, same) (unlike, same_here) (second {n = n} {m = m} low) = (
-  (count, omega arith, unlike),
-  λ j k inside less. elim (cases_lt j count) [
-    | inl lower ↦ same j k lower (omega (arith, less, low))
-    | inr up ↦
-        let at : count ≡ j = omega (arith, inside, up) in
-        subst (λ j. refers_in (slice_get xs j) k ≡ refers_in (slice_get ys j) k) at (same_here k less)
-  ],
-)
-apart_more count xs ys _ _ _ ((i, below, unlike), same) same_here (one {n = n}) = (
-  (i, omega (arith, below), unlike),
-  λ j k inside less. elim (cases_lt j count) [
-    | inl lower ↦ same j k lower less
-    | inr up ↦
-        let at : count ≡ j = omega (arith, inside, up) in
-        subst (λ j. refers_in (slice_get xs j) k ≡ refers_in (slice_get ys j) k) at (same_here k)
-  ],
-)
-apart_more count xs ys _ None _ same same_here other = λ j k inside. elim (cases_lt j count) [
-  | inl lower ↦ same j k lower
-  | inr up ↦
-      let at : count ≡ j = omega (arith, inside, up) in
-      subst (λ j. refers_in (slice_get xs j) k ≡ refers_in (slice_get ys j) k) at (same_here k)
-]
-apart_more count xs ys _ (Some m) _ same (unlike, same_here) other = (
-  (count, omega arith, unlike),
-  λ j k inside less. elim (cases_lt j count) [
-    | inl lower ↦ same j k lower
-    | inr up ↦
-        let at : count ≡ j = omega (arith, inside, up) in
-        subst (λ j. refers_in (slice_get xs j) k ≡ refers_in (slice_get ys j) k) at (same_here k less)
-  ],
-)
+module _ (count : ℕ) (xs ys : List Reference) where
+  -- what holds below a count and at it holds below the next
+  up_to : (k : ℕ) → ((i : ℕ) → i < count → refers_in (slice_get xs i) k ≡ refers_in (slice_get ys i) k) →
+      refers_in (slice_get xs count) k ≡ refers_in (slice_get ys count) k → (i : ℕ) → i < count + 1 → refers_in (slice_get xs i) k ≡ refers_in (slice_get ys i) k
+  up_to k before here i inside = elim (cases_lt i count) [
+    | inl lower ↦ before i lower
+    | inr up ↦ subst (λ j. refers_in (slice_get xs j) k ≡ refers_in (slice_get ys j) k) (let e : count ≡ i = omega (arith, inside, up) in e) here
+  ]
+
+  pub apart_more : (found here both : Option NodeId) → IsLesserNode found here both → IsFirstApartBelow count xs ys found →
+      IsFirstApart (slice_get xs count) (slice_get ys count) here → IsFirstApartBelow (count + 1) xs ys both
+  apart_more _ _ _ (first {n = n} {m = m} low) ((i, below, unlike), same) (_, same_here) = (
+    (i, omega (arith, below), unlike),
+    λ j k inside less. up_to k (λ j lower. same j k lower less) (same_here k (omega (arith, less, low))) j inside,
+  )
+  apart_more _ _ _ (second {n = n} {m = m} low) (_, same) (unlike, same_here) = (
+    (count, omega arith, unlike),
+    λ j k inside less. up_to k (λ j lower. same j k lower (omega (arith, less, low))) (same_here k less) j inside,
+  )
+  apart_more _ _ _ (one {n = n}) ((i, below, unlike), same) same_here = (
+    (i, omega (arith, below), unlike),
+    λ j k inside less. up_to k (λ j lower. same j k lower less) (same_here k) j inside,
+  )
+  apart_more _ _ both other same = with_other both same
+    where
+      with_other : (m : Option NodeId) → ((i n : ℕ) → i < count → refers_in (slice_get xs i) n ≡ refers_in (slice_get ys i) n) →
+          IsFirstApart (slice_get xs count) (slice_get ys count) m → IsFirstApartBelow (count + 1) xs ys m
+      with_other None same same_here = λ j k inside. up_to k (λ j lower. same j k lower) (same_here k) j inside
+      with_other (Some m) same (unlike, same_here) = (
+        (count, omega arith, unlike),
+        λ j k inside less. up_to k (λ j lower. same j k lower) (same_here k less) j inside,
+      )
 
 pub apart_all : (count : ℕ) (xs ys : List Reference) (found : Option NodeId) → length xs ≤ count → length ys ≤ count → IsFirstApartBelow count xs ys found →
     IsFirstApartAmong xs ys found
@@ -153,7 +144,7 @@ apart_all count xs ys found long wide is = by found is
         (slice_get_past xs i (omega (arith, long, up)) ∙ sym (slice_get_past ys i (omega (arith, wide, up))))
 
     by : (found : Option NodeId) → IsFirstApartBelow count xs ys found → IsFirstApartAmong xs ys found
-    by None same i n = elim (cases_lt i count) [ inl below ↦ same i n below | inr up ↦ past i n up ]
+    by None same = λ i n. elim (cases_lt i count) [ inl below ↦ same i n below | inr up ↦ past i n up ]
     by (Some o) ((i, _, unlike), same) =
         ((i, unlike), λ j n less. elim (cases_lt j count) [ inl below ↦ same j n below less | inr up ↦ past j n up ])
 
@@ -233,3 +224,17 @@ module _ (g : Grammar) (a b : Parts) (props : ℕ) (count : length (property_nam
     pub same_shape : (n : ℕ) → length a.nodes ≤ n → length b.nodes ≤ n → AreAlikeBelow a b props apart n → HaveSameShape g a b
     same_shape n long wide are k there =
         alike_below n k are (elim there [ inl less ↦ omega (arith, less, long) | inr less ↦ omega (arith, less, wide) ])
+
+-- ---- the lesser of two
+
+pub lesser_node : (n m l : NodeId) → l.0 ≤ n.0 → l.0 ≤ m.0 → (l.0 ≡ n.0) ⊎ (l.0 ≡ m.0) → IsLesserNode (Some n) (Some m) (Some l)
+lesser_node n m l low lower is = elim is [
+  | inl same ↦ subst (λ k. IsLesserNode (Some n) (Some m) (Some (record { 0 = k }))) (sym same) (first (omega (arith, same, lower)))
+  | inr same ↦ subst (λ k. IsLesserNode (Some n) (Some m) (Some (record { 0 = k }))) (sym same) (second (omega (arith, same, low)))
+]
+
+pub one_of_both : (a b c : ℕ) → c ≡ min a b → (c ≡ a) ⊎ (c ≡ b)
+one_of_both a b c is = elim (cases_lt a b) [ inl below ↦ inl (omega (arith, is, below)) | inr up ↦ inr (omega (arith, is, up)) ]
+
+pub in_either : (a b : Parts) (n : ℕ) → n < max (length a.nodes) (length b.nodes) → (n < length a.nodes) ⊎ (n < length b.nodes)
+in_either a b n inside = elim (cases_lt n (length a.nodes)) [ inl below ↦ inl below | inr up ↦ inr (omega (arith, inside, up)) ]

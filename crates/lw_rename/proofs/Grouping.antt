@@ -62,7 +62,7 @@ Comes f other = slice_cmp nat_cmp f.uri other.uri ≡ Less
 
 ascending_one : (v : View) (s : List Span) → AllPairs Comes (file_of v s)
 ascending_one v [] = pairs_none Comes
-ascending_one v (t ∷ s) i j d before inside = absurd (omega (arith, before, inside))
+ascending_one v (t ∷ s) = λ i j d before inside. absurd (omega (arith, before, inside))
 
 ascending : (views : List View) (spans : List (List Span)) → AllPairs (λ v w. slice_cmp nat_cmp v.uri.now w.uri.now ≡ Less) views → AllPairs Comes (files_over views spans)
 ascending [] spans up = pairs_none Comes

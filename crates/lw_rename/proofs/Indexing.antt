@@ -63,7 +63,7 @@ module _ (views : List View) (apart : AreApart views) (trees : List (Option Part
       held address tree there = by (look address views apart)
         where
           by : IsOnceOrNone address views → (n : ℕ) × (d : Document) × (get index n ≡ Some d) × (d.uri ≡ address)
-          by (place.nowhere none) = absurd (none-some tree (sym (no_later_at address views trees none) ∙ there))
+          by (place.nowhere absent) = absurd (none-some tree (sym (no_later_at address views trees absent) ∙ there))
           by (place.once {k = k} {v = v} one) =
               let (d, at, uri) = is.held k v (slice_get_within views k v (once_place one)) (once_place one) in
               (v.doc.0, d, at, uri ∙ once_address one)

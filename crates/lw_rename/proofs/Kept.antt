@@ -160,8 +160,8 @@ module _ (g : Grammar) (new : List ℕ) (views : List View) (built : AreBuiltVie
       its_tree k v s _ at there (kept _ _ is) = scope.whole is.reads
 
       by : IsOnceOrNone address views → IsTreeOfText g (After address) (trees_after views trees address)
-      by (place.nowhere none) =
-          subst₂ (IsTreeOfText g) (sym (none_after address new views spans none)) (sym (no_later_at address views trees none)) scope.no_text
+      by (place.nowhere absent) =
+          subst₂ (IsTreeOfText g) (sym (none_after address new views spans absent)) (sym (no_later_at address views trees absent)) scope.no_text
       by (place.once {k = k} {v = v} one) =
           let at = once_place one in
           let (s, there, _) = zip_left (AreSpansOf target) views spans k v all at in

@@ -1,10 +1,16 @@
 -- Lists by their places, side by side, and in order.
-use Rattle.std.proofs.Common.{◌≡◌, ℕ, ◌<◌, ◌≤◌, ◌+◌, suc, zero, List, [], ◌∷◌, ◌++◌, Option, Some, None, Contains, All, AllPairs, slice_get, length, get_or, map, take, drop, refl, sym, ap, ap₂, ◌∙◌, subst, subst₂, arith, inl, inr}
+use Rattle.std.proofs.Common.{◌≡◌, ℕ, ◌<◌, ◌≤◌, ◌+◌, suc, zero, Bool, true, false, List, [], ◌∷◌, ◌++◌, Option, Some, None, Contains, All, AllPairs, slice_get, length, get_or, map, take, drop, refl, sym, ap, ap₂, ◌∙◌, subst, subst₂, arith, inl, inr}
 use Rattle.std.specs.List.{AllZip}
 use Rattle.std.proofs.lemmas.Bool.{cases_lt}
 use Rattle.std.proofs.lemmas.List.Elements.{All-nil, All-append, All-contains, All-weaker, All-map}
 use Rattle.std.proofs.lemmas.List.Kept.{AllPairs-cons}
 use Rattle.std.proofs.lemmas.Option.{same_Some, none-some, slice_get-get_or, slice_get_within, get_or_from_slice_get}
+
+pub not_both : {b : Bool} → b ≡ true → b ≡ false → ⊥
+not_both is not = apart (sym is ∙ not)
+  where
+    apart : true ≡ false → ⊥
+    apart e = cc
 
 -- ---- by places
 
@@ -147,3 +153,6 @@ one_below_more {P} n k before here below = elim (cases_lt k n) [
   | inl lower ↦ before k lower
   | inr up ↦ subst P (let e : n ≡ k = omega (arith, below, up) in e) here
 ]
+
+pub mapped_read : {X Y : Type 0} (f : X → Y) (xs : List X) (i : ℕ) (d : X) → i < length xs → slice_get (map f xs) i ≡ Some (f (get_or xs i d))
+mapped_read f xs i d inside = mapped_at f xs i (get_or xs i d) (slice_get-get_or xs i d inside)

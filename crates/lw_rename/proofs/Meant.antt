@@ -54,11 +54,11 @@ module _ (g : Grammar) (views : List View) (built : AreBuiltViews g views) (addr
       home = address;
       stands = (v, is_among views k v at, refl, here);
       meant = asked.at_place is_tree is asked.named;
-      within = λ other there. subst (λ (x : Parts). n.0 < length x.nodes) (same_Some tree other (sym is_tree ∙ there)) (below (taken tree offset (Named n) is));
+      within = λ other seen_there. subst (λ (x : Parts). n.0 < length x.nodes) (same_Some tree other (sym is_tree ∙ seen_there)) (below (taken tree offset (Named n) is));
     }
       where
         below : (s : Span) × TakesUp tree (Named n) s → n.0 < length tree.nodes
-        below (s, name inside _) = inside
+        below (s, name lower _) = lower
 
     of_answer : (i : _) (r : Reference) (answer : Answer) → IsPlaceAt tree offset (Some (Refers i)) → slice_get tree.refs i.0 ≡ Some r →
         IsLinkAnswer (IsNumberBelow g) (StandsAmong views) (trees_seen views) v.uri.now tree r answer → Outcome (target_led (Some answer))
@@ -84,8 +84,8 @@ module _ (g : Grammar) (views : List View) (built : AreBuiltViews g views) (addr
       where
         by : (s : Span) × TakesUp tree (Refers i) s → Outcome (target_led (slice_get v.answers.now i.0))
         by (s, reference {r = r} ref) =
-            let (answer, there, leads) = answer_at g views built k v tree i.0 r at seen ref in
-            subst (λ (o : Option Answer). Outcome (target_led o)) (sym there) (of_answer i r answer is ref leads)
+            let (answer, found_there, leads) = answer_at g views built k v tree i.0 r at seen ref in
+            subst (λ (o : Option Answer). Outcome (target_led o)) (sym found_there) (of_answer i r answer is ref leads)
 
   in_view : (k : ℕ) (v : View) (target : Option Target) → slice_get views k ≡ Some v → v.uri.now ≡ address → MeansAt v offset target → Outcome target
   unfolding Outcome
@@ -99,7 +99,7 @@ module _ (g : Grammar) (views : List View) (built : AreBuiltViews g views) (addr
   meant_as _ (nowhere apart) = asked.treeless (by (look address views (apart_of g views built)))
     where
       by : IsOnceOrNone address views → trees_seen views address ≡ None
-      by (place.nowhere none) = no_tree_at address views none
+      by (place.nowhere absent) = no_tree_at address views absent
       by (place.once {k = k} {v = v} is) = absurd (apart v (is_among views k v (once_place is)) (once_address is))
   meant_as target (there {v = v} has here means) = let (k, at) = at_place_of views v has in in_view k v target at here means
 

@@ -158,23 +158,23 @@ module _ (g : Grammar) (views : List View) (built : AreBuiltViews g views) (addr
   found_at a tree there = by (look a views (apart_of g views built))
     where
       by : IsOnceOrNone a views → (k : ℕ) × (v : View) × (slice_get views k ≡ Some v) × (v.uri.now ≡ a) × (tree_seen v ≡ Some tree)
-      by (place.nowhere none) = absurd (none-some tree (sym (no_tree_at a views none) ∙ there))
+      by (place.nowhere absent) = absurd (none-some tree (sym (no_tree_at a views absent) ∙ there))
       by (place.once {k = k} {v = v} one) = (k, v, once_place one, once_address one, sym (tree_at a views k v one) ∙ there)
 
   span_told : (k : ℕ) (v : View) (s : Span) → slice_get views k ≡ Some v → IsSpanTo target v s → Declares (mention_at v.uri.now s)
-  span_told k v s at (used {tree = t} seen use) =
-      let (answer, there, leads) = answer_at g views built k v t use.number use.r at seen use.there in
-      let same : answer ≡ Found target = same_Some answer (Found target) (sym there ∙ use.leads) in
-      let led = subst (λ (a : Answer). IsLinkAnswer (IsNumberBelow g) (StandsAmong views) (trees_seen views) v.uri.now t use.r a) same leads in
+  span_told k v s at (used {tree = t} seen cited) =
+      let (answer, there, leads) = answer_at g views built k v t cited.number cited.r at seen cited.there in
+      let same : answer ≡ Found target = same_Some answer (Found target) (sym there ∙ cited.leads) in
+      let led = subst (λ (a : Answer). IsLinkAnswer (IsNumberBelow g) (StandsAmong views) (trees_seen views) v.uri.now t cited.r a) same leads in
       let (home, stands, link) = led_to target led.link led.leads in
       let home_is : home ≡ is.home = one_standing g views built target.doc.0 home is.home stands is.stands in
       asked.used (record {
         tree = t;
         is_tree = tree_here k v at ∙ seen;
-        r = use.r;
-        among = is_among t.refs use.number use.r use.there;
-        leads = subst (LinksTo (IsNumberBelow g) (trees_seen views) v.uri.now t use.r) (link ∙ ap (λ (a : List ℕ). Some (a, target.node.0)) home_is) led.is_link;
-        here = use.here;
+        r = cited.r;
+        among = is_among t.refs cited.number cited.r cited.there;
+        leads = subst (LinksTo (IsNumberBelow g) (trees_seen views) v.uri.now t cited.r) (link ∙ ap (λ (a : List ℕ). Some (a, target.node.0)) home_is) led.is_link;
+        here = cited.here;
       })
   span_told k v s at (declared {tree = t} seen named) =
       let (number, text, name) = named_here v t target s named in
@@ -216,13 +216,13 @@ module _ (g : Grammar) (views : List View) (built : AreBuiltViews g views) (addr
       subst (λ (a : List ℕ). Contains (mentions_over views spans) (mention_at a m.span)) (sym here) has
 
   from_mention : (m : Mention) → Declares m → Contains (mentions_over views spans) m
-  from_mention m (asked.used use) =
-      let (k, v, at, here, seen) = found_at m.address use.tree use.is_tree in
-      let (i, ref) = at_place_of use.tree.refs use.r use.among in
-      let (answer, there, leads) = answer_at g views built k v use.tree i use.r at seen ref in
-      let links = subst (λ (a : List ℕ). LinksTo (IsNumberBelow g) (trees_seen views) a use.tree use.r (Some (is.home, target.node.0))) (sym here) use.leads in
+  from_mention m (asked.used cited) =
+      let (k, v, at, here, seen) = found_at m.address cited.tree cited.is_tree in
+      let (i, ref) = at_place_of cited.tree.refs cited.r cited.among in
+      let (answer, there, leads) = answer_at g views built k v cited.tree i cited.r at seen ref in
+      let links = subst (λ (a : List ℕ). LinksTo (IsNumberBelow g) (trees_seen views) a cited.tree cited.r (Some (is.home, target.node.0))) (sym here) cited.leads in
       put_in k v m at (sym here)
-      (used seen (record { number = i; r = use.r; there = ref; leads = there ∙ ap Some (leads_as use.r k v use.tree answer links leads); here = use.here }))
+      (used seen (record { number = i; r = cited.r; there = ref; leads = there ∙ ap Some (leads_as cited.r k v cited.tree answer links leads); here = cited.here }))
   from_mention m (asked.declared _ name) =
       let (k, v, at, here, seen) = found_at is.home name.tree name.is_tree in
       let (w, held, other, there) = is.stands in

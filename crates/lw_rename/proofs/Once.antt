@@ -13,7 +13,7 @@ use Rattle.lw_query.specs.Built.{texts_seen, trees_seen, tree_seen}
 use Rattle.lw_query.specs.declared.view.View.{View}
 use Rattle.lw_tree.specs.Parts.{Parts}
 use Rattle.lw_rename.specs.Afterwards.{AreApart, later, trees_after}
-use Rattle.lw_rename.proofs.Listing.{is_among, one_at, pair_at, pairs_head, pairs_tail, all_at}
+use Rattle.lw_rename.proofs.Listing.{is_among, not_both, one_at, pair_at, pairs_head, pairs_tail, all_at}
 
 pub not_less : (a b : List ℕ) → a ≡ b → slice_cmp nat_cmp a b ≡ Less → ⊥
 not_less a b same less = let itself = sym less ∙ ap (slice_cmp nat_cmp a) (sym same) ∙ tied_itself nat_list_cmp_total a in cc
@@ -74,21 +74,18 @@ none_by address (v ∷ views) apart = more (apart 0 v refl) (none_by address vie
 
 pub look : (address : List ℕ) (views : List View) → AreApart views → IsOnceOrNone address views
 look address [] apart = nowhere none
-look address (v ∷ views) apart = by (bytes_eq v.uri.now address) refl
+look address (v ∷ views) apart = by (bytes_eq v.uri.now address) refl (look address views (tail_apart v views apart))
   where
     step : v.uri.now ≢ address → IsOnceOrNone address views → IsOnceOrNone address (v ∷ views)
     step unlike (nowhere rest) = nowhere (more unlike rest)
-    step unlike (once there) = once (behind unlike there)
+    step unlike (once at) = once (behind unlike at)
 
-    by : (t : Bool) → bytes_eq v.uri.now address ≡ t → IsOnceOrNone address (v ∷ views)
-    by true same =
+    by : (t : Bool) → bytes_eq v.uri.now address ≡ t → IsOnceOrNone address views → IsOnceOrNone address (v ∷ views)
+    by true same _ =
         let is = (bytes_eq-Decides v.uri.now address).0 same in
         once (here is (none_by address views (λ k w at other.
             all_at (λ w. v.uri.now ≢ w.uri.now) views k w (pairs_head (λ v w. v.uri.now ≢ w.uri.now) v views apart.addresses) at (is ∙ sym other))))
-    by false unlike = step (λ same. not_both (sym (eq_true v.uri.now address same) ∙ unlike)) (look address views (tail_apart v views apart))
-      where
-        not_both : true ≡ false → ⊥
-        not_both e = cc
+    by false unlike rest = step (λ same. not_both (eq_true v.uri.now address same) unlike) rest
 
 -- two places of one address, and of one number
 pub same_place : (views : List View) → AreApart views → (i j : ℕ) (v w : View) → slice_get views i ≡ Some v → slice_get views j ≡ Some w → v.uri.now ≡ w.uri.now → i ≡ j
@@ -118,49 +115,54 @@ one_of_number views apart i j v w at there same =
     one_at views j v w (ap (slice_get views) (sym (same_number views apart i j v w at there same)) ∙ at) there
 
 -- the document of a place is the one at its address
+once_by : (views : List View) (address : List ℕ) → AreApart views → (k : ℕ) (v : View) → slice_get views k ≡ Some v → v.uri.now ≡ address → IsOnceOrNone address views →
+    OnceAt address views k v
+once_by views address apart k v at same (nowhere absent) = absurd (none_holds address views k v absent at same)
+once_by views address apart k v at same (once {k = j} {v = w} is) =
+    let place : j ≡ k = same_place views apart j k w v (once_place is) at (once_address is ∙ sym same) in
+    let view : w ≡ v = one_at views k w v (ap (slice_get views) (sym place) ∙ once_place is) at in
+    subst (λ n. OnceAt address views n v) place (subst (OnceAt address views j) view is)
+
 pub once_at : (views : List View) → AreApart views → (k : ℕ) (v : View) → slice_get views k ≡ Some v → OnceAt v.uri.now views k v
-once_at views apart k v at = by (look v.uri.now views apart)
-  where
-    by : IsOnceOrNone v.uri.now views → OnceAt v.uri.now views k v
-    by (nowhere none) = absurd (none_holds v.uri.now views k v none at refl)
-    by (once {k = j} {v = w} there) =
-        let place : j ≡ k = same_place views apart j k w v (once_place there) at (once_address there) in
-        let view : w ≡ v = one_at views k w v (ap (slice_get views) (sym place) ∙ once_place there) at in
-        subst (λ n. OnceAt v.uri.now views n v) place (subst (OnceAt v.uri.now views j) view there)
+once_at views apart k v at = once_by views v.uri.now apart k v at refl (look v.uri.now views apart)
 
 -- ---- what is seen at an address
 
-module _ {A : Type 0} {x rest : A} where
-  pub chosen : (a b : List ℕ) → a ≡ b → (if bytes_eq a b then x else rest) ≡ x
-  chosen a b same = ap (λ (t : Bool). if t then x else rest) (eq_true a b same)
+choose : {A : Type 0} (x rest : A) (a b : List ℕ) → a ≡ b → (if bytes_eq a b then x else rest) ≡ x
+choose x rest a b same = ap (λ (t : Bool). if t then x else rest) (eq_true a b same)
 
-  pub passed : (a b : List ℕ) → a ≢ b → (if bytes_eq a b then x else rest) ≡ rest
-  passed a b apart = ap (λ (t : Bool). if t then x else rest) (eq_false a b apart)
+pass : {A : Type 0} (x rest : A) (a b : List ℕ) → a ≢ b → (if bytes_eq a b then x else rest) ≡ rest
+pass x rest a b apart = ap (λ (t : Bool). if t then x else rest) (eq_false a b apart)
 
 module _ (address : List ℕ) where
   pub text_at : (views : List View) (k : ℕ) (v : View) → OnceAt address views k v → texts_seen views address ≡ Some v.text.now
-  text_at _ _ v (here same _) = chosen v.uri.now address same
-  text_at _ _ v (behind {w = w} {views = views} {k = k} apart rest) = passed w.uri.now address apart ∙ text_at views k v rest
+  text_at _ _ v (here {views = views} same _) = choose (Some v.text.now) (texts_seen views address) v.uri.now address same
+  text_at _ _ v (behind {w = w} {views = views} {k = k} apart rest) =
+      pass (Some w.text.now) (texts_seen views address) w.uri.now address apart ∙ text_at views k v rest
 
   pub no_text_at : (views : List View) → NoneAt address views → texts_seen views address ≡ None
   no_text_at _ none = refl
-  no_text_at _ (more {v = v} {views = views} apart rest) = passed v.uri.now address apart ∙ no_text_at views rest
+  no_text_at _ (more {v = v} {views = views} apart rest) = pass (Some v.text.now) (texts_seen views address) v.uri.now address apart ∙ no_text_at views rest
 
   pub tree_at : (views : List View) (k : ℕ) (v : View) → OnceAt address views k v → trees_seen views address ≡ tree_seen v
-  tree_at _ _ v (here same _) = chosen v.uri.now address same
-  tree_at _ _ v (behind {w = w} {views = views} {k = k} apart rest) = passed w.uri.now address apart ∙ tree_at views k v rest
+  tree_at _ _ v (here {views = views} same _) = choose (tree_seen v) (trees_seen views address) v.uri.now address same
+  tree_at _ _ v (behind {w = w} {views = views} {k = k} apart rest) =
+      pass (tree_seen w) (trees_seen views address) w.uri.now address apart ∙ tree_at views k v rest
 
   pub no_tree_at : (views : List View) → NoneAt address views → trees_seen views address ≡ None
   no_tree_at _ none = refl
-  no_tree_at _ (more {v = v} {views = views} apart rest) = passed v.uri.now address apart ∙ no_tree_at views rest
+  no_tree_at _ (more {v = v} {views = views} apart rest) = pass (tree_seen v) (trees_seen views address) v.uri.now address apart ∙ no_tree_at views rest
 
   pub later_at : (views : List View) (trees : List (Option Parts)) (k : ℕ) (v : View) (t : Option Parts) → OnceAt address views k v → slice_get trees k ≡ Some t →
       trees_after views trees address ≡ later t (tree_seen v)
   later_at _ [] k v t is at = absurd (none-some t at)
-  later_at _ (x ∷ trees) _ v t (here same _) at = chosen v.uri.now address same ∙ ap (λ (o : Option Parts). later o (tree_seen v)) (same_Some x t at)
-  later_at _ (x ∷ trees) _ v t (behind {w = w} {views = views} {k = k} apart rest) at = passed w.uri.now address apart ∙ later_at views trees k v t rest at
+  later_at _ (x ∷ trees) _ v t (here {views = views} same _) at =
+      choose (later x (tree_seen v)) (trees_after views trees address) v.uri.now address same ∙ ap (λ (o : Option Parts). later o (tree_seen v)) (same_Some x t at)
+  later_at _ (x ∷ trees) _ v t (behind {w = w} {views = views} {k = k} apart rest) at =
+      pass (later x (tree_seen w)) (trees_after views trees address) w.uri.now address apart ∙ later_at views trees k v t rest at
 
   pub no_later_at : (views : List View) (trees : List (Option Parts)) → NoneAt address views → trees_after views trees address ≡ None
   no_later_at _ trees none = refl
   no_later_at _ [] (more apart rest) = refl
-  no_later_at _ (x ∷ trees) (more {v = v} {views = views} apart rest) = passed v.uri.now address apart ∙ no_later_at views trees rest
+  no_later_at _ (x ∷ trees) (more {v = v} {views = views} apart rest) =
+      pass (later x (tree_seen v)) (trees_after views trees address) v.uri.now address apart ∙ no_later_at views trees rest

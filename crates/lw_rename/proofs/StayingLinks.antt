@@ -124,17 +124,13 @@ module _ (g : Grammar) (new : List ℕ) (views : List View) (built : AreBuiltVie
   stays_at : (k : ℕ) (v : View) → slice_get views k ≡ Some v →
       ((t : Option Parts) (tree : Parts) → StandsWith views trees k v t → later t (tree_seen v) ≡ Some tree → StayIn g views (trees_after views trees) v tree) →
       Stay v.uri.now
-  stays_at k v at stay = by (tree_seen v) refl
+  stays_at k v at stay = by (with_ k v at) (tree_seen v) refl
     where
-      it : IsWith k v
-      it = with_ k v at
-
-      by : (o : Option Parts) → tree_seen v ≡ o → Stay v.uri.now
-      unfolding it
-      by None absent =
+      by : IsWith k v → (o : Option Parts) → tree_seen v ≡ o → Stay v.uri.now
+      by it None absent =
           let once = once_at views (apart_of g views built) k v at in
           no_links v.uri.now (tree_at v.uri.now views k v once ∙ absent) (later_at v.uri.now views trees k v it.t once it.among.new ∙ it.none absent)
-      by (Some old) seen =
+      by it (Some old) seen =
           let (tree, there) = some_later it.t old in
           let has : later it.t (tree_seen v) ≡ Some tree = ap (later it.t) seen ∙ there in
           let one = stay it.t tree it.among has in
@@ -150,7 +146,7 @@ module _ (g : Grammar) (new : List ℕ) (views : List View) (built : AreBuiltVie
   all_stay stay address = by (look address views (apart_of g views built))
     where
       by : IsOnceOrNone address views → Stay address
-      by (place.nowhere none) = no_links address (no_tree_at address views none) (no_later_at address views trees none)
+      by (place.nowhere absent) = no_links address (no_tree_at address views absent) (no_later_at address views trees absent)
       by (place.once {k = k} {v = v} one) =
           let at = once_place one in
           subst Stay (once_address one) (stays_at k v at (λ t tree among seen. stay k v t tree (slice_get_within views k v at) among seen))
@@ -209,7 +205,7 @@ module _ (g : Grammar) (new : List ℕ) (views : List View) (built : AreBuiltVie
       others a less = by (look a views (apart_of g views built))
         where
           by : IsOnceOrNone a views → Stay a
-          by (place.nowhere none) = no_links a (no_tree_at a views none) (no_later_at a views trees none)
+          by (place.nowhere absent) = no_links a (no_tree_at a views absent) (no_later_at a views trees absent)
           by (place.once {k = k} {v = v} one) =
               let at = once_place one in
               let sooner = comes_first k is.place v is.v at is.among.view (subst (λ (b : List ℕ). slice_cmp nat_cmp b is.v.uri.now ≡ Less) (sym (once_address one)) less) in

@@ -33,47 +33,47 @@ same_key k j same = λ i. record { start = (same i).start; end = (same i).end }
 module _ (tree : Parts) (answers : List Answer) (target : Target) where
   -- those of the first so many references
   abbrev pub AreUsesBelow : ℕ → List SpanKey → Type 0
-  AreUsesBelow n keys = (k : SpanKey) → Contains keys k ↔ ((use : IsUseSpan tree answers target (keyed_span k)) × (use.number < n))
+  AreUsesBelow n keys = (k : SpanKey) → Contains keys k ↔ ((cited : IsUseSpan tree answers target (keyed_span k)) × (cited.number < n))
 
   pub no_uses : AreUsesBelow 0 []
-  no_uses k = (λ (i, inside, is). absurd (omega (arith, inside)), λ (use, below). absurd (omega (arith, below)))
+  no_uses k = (λ (i, inside, is). absurd (omega (arith, inside)), λ (cited, below). absurd (omega (arith, below)))
 
   pub one_use_more : (n : ℕ) (keys : List SpanKey) (r : Reference) (key : SpanKey) → AreUsesBelow n keys → slice_get tree.refs n ≡ Some r →
       slice_get answers n ≡ Some (Found target) → keyed_span key ≡ r.span → AreUsesBelow (n + 1) (keys ++ key ∷ [])
   one_use_more n keys r key are ref leads span k = (to, from)
     where
-      to : Contains (keys ++ key ∷ []) k → (use : IsUseSpan tree answers target (keyed_span k)) × (use.number < n + 1)
+      to : Contains (keys ++ key ∷ []) k → (cited : IsUseSpan tree answers target (keyed_span k)) × (cited.number < n + 1)
       to has = elim (Contains-push_cases keys key k has) [
-        | inl old ↦ let (use, below) = (are k).0 old in (use, omega (arith, below))
+        | inl old ↦ let (cited, below) = (are k).0 old in (cited, omega (arith, below))
         | inr same ↦ (record { number = n; r = r; there = ref; leads = leads; here = sym span ∙ ap keyed_span same }, omega arith)
       ]
 
-      from : (use : IsUseSpan tree answers target (keyed_span k)) × (use.number < n + 1) → Contains (keys ++ key ∷ []) k
-      from (use, below) = elim (cases_lt use.number n) [
-        | inl lower ↦ Contains-append_left keys (key ∷ []) k ((are k).1 (use, lower))
+      from : (cited : IsUseSpan tree answers target (keyed_span k)) × (cited.number < n + 1) → Contains (keys ++ key ∷ []) k
+      from (cited, below) = elim (cases_lt cited.number n) [
+        | inl lower ↦ Contains-append_left keys (key ∷ []) k ((are k).1 (cited, lower))
         | inr up ↦
-            let number : use.number ≡ n = omega (arith, below, up) in
-            let same : use.r ≡ r = same_Some use.r r (sym use.there ∙ ap (slice_get tree.refs) number ∙ ref) in
-            let key_is : key ≡ k = same_key key k (span ∙ ap (λ (x : Reference). x.span) (sym same) ∙ use.here) in
+            let number : cited.number ≡ n = omega (arith, below, up) in
+            let same : cited.r ≡ r = same_Some cited.r r (sym cited.there ∙ ap (slice_get tree.refs) number ∙ ref) in
+            let key_is : key ≡ k = same_key key k (span ∙ ap (λ (x : Reference). x.span) (sym same) ∙ cited.here) in
             subst (Contains (keys ++ key ∷ [])) key_is (Contains-push keys key)
       ]
 
   pub no_use_more : (n : ℕ) (keys : List SpanKey) → AreUsesBelow n keys → slice_get answers n ≢ Some (Found target) → AreUsesBelow (n + 1) keys
   no_use_more n keys are not k = (to, from)
     where
-      to : Contains keys k → (use : IsUseSpan tree answers target (keyed_span k)) × (use.number < n + 1)
-      to has = let (use, below) = (are k).0 has in (use, omega (arith, below))
+      to : Contains keys k → (cited : IsUseSpan tree answers target (keyed_span k)) × (cited.number < n + 1)
+      to has = let (cited, below) = (are k).0 has in (cited, omega (arith, below))
 
-      from : (use : IsUseSpan tree answers target (keyed_span k)) × (use.number < n + 1) → Contains keys k
-      from (use, below) = elim (cases_lt use.number n) [
-        | inl lower ↦ (are k).1 (use, lower)
-        | inr up ↦ let number : use.number ≡ n = omega (arith, below, up) in absurd (not (ap (slice_get answers) (sym number) ∙ use.leads))
+      from : (cited : IsUseSpan tree answers target (keyed_span k)) × (cited.number < n + 1) → Contains keys k
+      from (cited, below) = elim (cases_lt cited.number n) [
+        | inl lower ↦ (are k).1 (cited, lower)
+        | inr up ↦ let number : cited.number ≡ n = omega (arith, below, up) in absurd (not (ap (slice_get answers) (sym number) ∙ cited.leads))
       ]
 
   pub all_uses : (n : ℕ) (keys : List SpanKey) → AreUsesBelow n keys → length tree.refs ≤ n → (k : SpanKey) → Contains keys k ↔ IsUseSpan tree answers target (keyed_span k)
   all_uses n keys are up k = (
     λ has. ((are k).0 has).0,
-    λ use. let inside = slice_get_within tree.refs use.number use.r use.there in (are k).1 (use, omega (arith, inside, up)),
+    λ cited. let inside = slice_get_within tree.refs cited.number cited.r cited.there in (are k).1 (cited, omega (arith, inside, up)),
   )
 
 -- ---- brought into order

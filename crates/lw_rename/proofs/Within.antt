@@ -48,9 +48,9 @@ module _ (g : Grammar) (views : List View) (built : AreBuiltViews g views) where
   stands_at k v tree at seen = subst (λ (o : Option Parts). IfSome o (StandsInText v.text.now)) seen (its_view g views built k v at).stands
 
   span_in : (target : Target) (k : ℕ) (v : View) (s : Span) → slice_get views k ≡ Some v → IsSpanTo target v s → IsInText v.text.now s
-  span_in target k v s at (used {tree = tree} seen use) =
-      subst (IsInText v.text.now) use.here
-      (all_at (λ (r : Reference). IsInText v.text.now r.span) tree.refs use.number use.r (stands_at k v tree at seen).refs use.there)
+  span_in target k v s at (used {tree = tree} seen cited) =
+      subst (IsInText v.text.now) cited.here
+      (all_at (λ (r : Reference). IsInText v.text.now r.span) tree.refs cited.number cited.r (stands_at k v tree at seen).refs cited.there)
   span_in target k v s at (declared {tree = tree} seen named) =
       let (_, text, name) = named_here v tree target s named in
       name_in v.text.now tree (stands_at k v tree at seen) target.node.0 text s name

@@ -127,6 +127,16 @@ fn enter(
     Ok(())
 }
 
+fn end(view: View<'_>) {
+    let View {
+        doc: _,
+        uri: _,
+        text: _,
+        tree: _,
+        answers: _,
+    } = view;
+}
+
 fn tried<L: Ledger>(
     alloc: Global,
     blank: Blank,
@@ -150,6 +160,7 @@ fn tried<L: Ledger>(
     enter(alloc, &mut index, DocId(3), &m, &m_tree)?;
     let c_links = links(alloc, language, &c_tree, DocId(7), &index, &mut steps)?;
     let m_links = links(alloc, language, &m_tree, DocId(3), &index, &mut steps)?;
+    let new = Name::from_text(alloc, row.4)?;
     let views = [
         View {
             doc: DocId(7),
@@ -166,9 +177,11 @@ fn tried<L: Ledger>(
             answers: m_links.as_slice(),
         },
     ];
-    let new = Name::from_text(alloc, row.4)?;
     let uri = if row.2 { &c } else { &m };
     let outcome = rename(alloc, language, &views, uri, row.3, &new);
+    let [one, other] = views;
+    end(one);
+    end(other);
     written(alloc, &outcome)
 }
 

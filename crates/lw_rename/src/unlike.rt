@@ -1,5 +1,5 @@
 // The first node at which two trees have not the same shape.
-ghost use Rattle.std.specs.Prelude.{◌≡◌, ◌<◌, ◌↔◌, ℕ, IsTrue, MatchOption, length};
+ghost use Rattle.std.specs.Prelude.{◌≡◌, ◌<◌, ◌↔◌, ℕ, Some, IsTrue, MatchOption, length};
 ghost use Rattle.std.specs.Option.{option_map};
 ghost use Rattle.lw_grammar.specs.declared.grammar.Grammar.{Grammar};
 ghost use Rattle.lw_numbers.specs.Numbering.{property_names};
@@ -58,17 +58,21 @@ fn refer_alike(one: &Reference, other: &Reference) -> bool
 }
 
 /// Of the nodes that two references stand in, where these are not alike, the first.
-fn first_owner(one: Option<&Reference>, other: Option<&Reference>) -> Option<NodeId>
+fn first_owner(one: &Reference, other: &Reference) -> Option<NodeId>
+    ensures { IsFirstApart (Some one.now) (Some other.now) result }
+{
+    if refer_alike(one, other) {
+        return None;
+    }
+    Some(NodeId(one.owner.0.min(other.owner.0)))
+}
+
+/// The same of the references of one number, where each tree may have none of it.
+fn first_at(one: Option<&Reference>, other: Option<&Reference>) -> Option<NodeId>
     ensures { IsFirstApart (option_map (λ r. r.now) one.entry) (option_map (λ r. r.now) other.entry) result }
 {
     match (one, other) {
-        (Some(one), Some(other)) => {
-            if refer_alike(one, other) {
-                None
-            } else {
-                Some(NodeId(one.owner.0.min(other.owner.0)))
-            }
-        }
+        (Some(one), Some(other)) => first_owner(one, other),
         (Some(one), None) => Some(one.owner),
         (None, Some(other)) => Some(other.owner),
         (None, None) => None,
@@ -93,9 +97,19 @@ fn first_apart(one: &[Reference], other: &[Reference]) -> Option<NodeId>
     let mut found = None;
     let count = one.len().max(other.len());
     'references: for i in 0..count {
-        found = least(found, first_owner(one.get(i), other.get(i)));
+        found = least(found, first_at(one.get(i), other.get(i)));
     }
     found
+}
+
+/// The node is the one that is told.
+fn is_told(told: Option<NodeId>, node: NodeId) -> bool
+    ensures { IsTrue result ↔ (told ≡ Some node) }
+{
+    match told {
+        Some(other) => other == node,
+        None => false,
+    }
 }
 
 /// The first node at which two trees have not the same shape, by the properties below a number. Its time is linear in the trees, and for
@@ -108,7 +122,10 @@ pub(crate) fn first_unlike(one: &Tree, other: &Tree, props: u16) -> Option<NodeI
     let count = one.len().max(other.len());
     'nodes: for n in 0..count {
         let node = NodeId(n);
-        if apart == Some(node) || !are_alike_but(one, other, node, props) {
+        if is_told(apart, node) {
+            return Some(node);
+        }
+        if !are_alike_but(one, other, node, props) {
             return Some(node);
         }
     }
