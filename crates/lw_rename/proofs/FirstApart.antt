@@ -124,7 +124,7 @@ module _ (count : ℕ) (xs ys : List Reference) where
     (i, omega (arith, below), unlike),
     λ j k inside less. up_to k (λ j lower. same j k lower less) (same_here k) j inside,
   )
-  apart_more _ _ both other same = with_other both same
+  apart_more _ _ _ (other {m = m}) same same_here = with_other m same same_here
     where
       with_other : (m : Option NodeId) → ((i n : ℕ) → i < count → refers_in (slice_get xs i) n ≡ refers_in (slice_get ys i) n) →
           IsFirstApart (slice_get xs count) (slice_get ys count) m → IsFirstApartBelow (count + 1) xs ys m
@@ -170,7 +170,7 @@ one_more a b props apart n node number are unlike is = record {
     | inr up ↦
         let low = are.not_apart o here in
         let same : o.0 ≡ node.0 = omega (arith, up, low, number) in
-        absurd (unlike (here ∙ ap (λ k. Some (record { 0 = k })) same))
+        absurd (unlike (here ∙ ap (λ k. let n : NodeId = record { 0 = k } in Some n) same))
   ];
 }
 

@@ -106,7 +106,7 @@ module _ (g : Grammar) (new : List ℕ) (views : List View) (built : AreBuiltVie
 
   some_span : (s : List Span) → s ≢ [] → (t : Span) × Contains s t
   some_span [] filled = absurd (filled refl)
-  some_span (t ∷ s) filled = (t, 0, omega arith, refl)
+  some_span (t ∷ s) filled = (t, (0, omega arith, refl))
 
   pub first_refused : (fault : RenameFault) → IsFirstSpoiled g new views spans fault → IsRefusedAt fault
   first_refused fault is =

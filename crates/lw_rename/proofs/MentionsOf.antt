@@ -1,6 +1,6 @@
 -- What is mentioned in each document, by what is seen of documents, is what is mentioned of the node that is meant.
 use Rattle.std.proofs.Common.{◌≡◌, ◌≢◌, ℕ, ◌<◌, suc, zero, Bool, true, false, ◌&&◌, ◌==◌, List, [], ◌∷◌, ◌++◌, Option, Some, None, Contains, All, AllPairs, slice_get, length, map, refl, sym, ap, ◌∙◌, subst, subst₂, arith, inl, inr}
-use Rattle.std.specs.Prelude.{if◌then◌else◌, nat_lt}
+use Rattle.std.specs.Prelude.{◌⊎◌, if◌then◌else◌, nat_lt}
 use Rattle.std.specs.Cmp.Lexicographic.{slice_cmp}
 use Rattle.std.specs.List.{AllZip}
 use Rattle.std.specs.Option.{option_map}
@@ -109,7 +109,7 @@ mentions_ordered target (v ∷ views) (s ∷ spans) up all =
 -- ---- exactly those of the target
 
 -- what a name span says
-named_here : (v : View) (tree : Parts) (target : Target) (s : Span) → name_span v tree target ≡ Some s →
+pub named_here : (v : View) (tree : Parts) (target : Target) (s : Span) → name_span v tree target ≡ Some s →
     (v.doc.0 ≡ target.doc.0) × (text : List ℕ) × (name_of tree target.node.0 ≡ Some (text, s))
 named_here v tree target s is = by ((v.doc.0 == target.doc.0) && nat_lt target.node.0 (length tree.nodes)) refl is
   where
@@ -137,16 +137,10 @@ name_there v tree target s text number inside named =
     ∙ ap (option_map (λ named. named.1)) named
   where
     both : {a b : Bool} → a ≡ true → b ≡ true → (a && b) ≡ true
-    both one other = ap (λ (t : Bool). t && _) one ∙ other
+    both {a} {b} one other = ap (λ (t : Bool). t && b) one ∙ other
 
 module _ (g : Grammar) (views : List View) (built : AreBuiltViews g views) (address : List ℕ) (offset : ℕ) (target : Target)
     (is : IsTargetAt g views address offset target) (spans : List (List Span)) (all : AreAllSpans target views spans) where
-  below : ℕ → ℕ → Type 0
-  below = IsNumberBelow g
-
-  place_of_target : List ℕ × ℕ
-  place_of_target = (is.home, target.node.0)
-
   abbrev Declares : Mention → Type 0
   Declares m = IsMentionOf (IsNumberBelow g) (trees_seen views) true (is.home, target.node.0) m
 

@@ -1,10 +1,15 @@
 -- A text whose spans are replaced, piece by piece.
-use Rattle.std.proofs.Common.{◌≡◌, ℕ, ◌+◌, ◌-◌, ◌<◌, ◌≤◌, suc, zero, Bool, true, false, List, [], ◌∷◌, ◌++◌, All, length, take, drop, refl, sym, ap, ◌∙◌, subst, arith, append_assoc, length-append}
+use Rattle.std.proofs.Common.{◌≡◌, ℕ, ◌+◌, ◌-◌, ◌<◌, ◌≤◌, suc, zero, Bool, true, false, List, [], ◌∷◌, ◌++◌, All, Result, Ok, Err, IfOk, get_or, length, take, drop, refl, sym, ap, ◌∙◌, subst, arith, append_assoc, length-append}
 use Rattle.std.specs.Prelude.{if◌then◌else◌, nat_lt}
 use Rattle.std.proofs.lemmas.Bool.Decides.{Decides-ltb}
 use Rattle.std.proofs.lemmas.List.{drop-drop}
+use Rattle.std.proofs.lemmas.Option.{slice_get-get_or}
+use Rattle.lw_base.specs.declared.limits.TheConstants.{LONGEST_DOCUMENT}
 use Rattle.lw_base.specs.declared.token.Span.{Span}
 use Rattle.lw_renaming.specs.Replacing.{replaced, replaced_from}
+use Rattle.lw_rooted.specs.Within.{IsInText}
+use Rattle.lw_rename.specs.Adding.{IsAdded, added, too_long}
+use Rattle.lw_rename.proofs.Listing.{drop_at, drop_past}
 
 module _ (new text : List ℕ) where
   -- what is left from an offset on
@@ -70,3 +75,51 @@ module _ (new text : List ℕ) where
   too_long_end most out at all is long =
       let parts : length (replaced new text all) ≡ length out + length (drop at text) = ap length (sym is.whole) ∙ length-append out (drop at text) in
       omega (arith, parts, long)
+
+-- ---- one part more
+
+pub added_short : (old before more new : List ℕ) → IsAdded old before new false → IsAdded old (before ++ more) new false
+added_short old before more new (too_long long) = let n = length-append before more in too_long (omega (arith, long, n))
+
+pub added_both : {E : Type 0} (old before mid more new : List ℕ) (r : Result Bool E) → IsAdded old before mid true → IfOk r (IsAdded mid more new) →
+    IfOk r (IsAdded old (before ++ more) new)
+added_both old before mid more new (Err e) first second = tt
+added_both old before mid more new (Ok b) (added same short) (added then_ fits) = added (then_ ∙ ap (λ xs. xs ++ more) same ∙ append_assoc old before more) fits
+added_both old before mid more new (Ok b) (added same short) (too_long long) =
+    let n = ap length same ∙ length-append old before in
+    let m = length-append before more in
+    too_long (omega (arith, long, n, m))
+
+module _ (new text : List ℕ) (all : List Span) (i : ℕ) (d : Span) (inside : i < length all) (within : All (IsInText text) all) where
+  parts : drop i all ≡ get_or all i d ∷ drop (i + 1) all
+  parts = drop_at all i (get_or all i d) (slice_get-get_or all i d inside)
+
+  its : (out : List ℕ) (at : ℕ) → IsSoFar new text out at (drop i all) all → IsSoFar new text out at (get_or all i d ∷ drop (i + 1) all) all
+  its out at is = subst (λ (spans : List Span). IsSoFar new text out at spans all) parts is
+
+  pub step_long : (out after : List ℕ) (at : ℕ) → IsSoFar new text out at (drop i all) all → at ≤ (get_or all i d).start →
+      IsAdded out (take ((get_or all i d).start - at) (drop at text) ++ new) after false → LONGEST_DOCUMENT < length (replaced new text all)
+  step_long out after at is up (too_long long) =
+      too_long_at new text LONGEST_DOCUMENT out at (get_or all i d) (drop (i + 1) all) all up (within i d inside).0 (its out at is) long
+
+  pub step_taken : (out after : List ℕ) (at : ℕ) → IsSoFar new text out at (drop i all) all → at ≤ (get_or all i d).start →
+      IsAdded out (take ((get_or all i d).start - at) (drop at text) ++ new) after true →
+      IsSoFar new text after (get_or all i d).end (drop (i + 1) all) all × (length after ≤ LONGEST_DOCUMENT)
+  step_taken out after at is up (added same short) = (
+    subst (λ (x : List ℕ). IsSoFar new text x (get_or all i d).end (drop (i + 1) all) all) (sym same)
+    (replaced_one new text out at (get_or all i d) (drop (i + 1) all) all up (within i d inside).0 (within i d inside).1 (its out at is)),
+    short,
+  )
+
+  pub step_skipped : (out : List ℕ) (at : ℕ) → IsSoFar new text out at (drop i all) all → (get_or all i d).start < at → IsSoFar new text out at (drop (i + 1) all) all
+  step_skipped out at is before = skipped new text out at (get_or all i d) (drop (i + 1) all) all before (its out at is)
+
+module _ (new text : List ℕ) (all : List Span) (i : ℕ) (past : length all ≤ i) (out : List ℕ) (at : ℕ) (is : IsSoFar new text out at (drop i all) all) where
+  last : IsSoFar new text out at [] all
+  last = subst (λ (spans : List Span). IsSoFar new text out at spans all) (drop_past all i past) is
+
+  pub end_long : (after : List ℕ) → IsAdded out (drop at text) after false → LONGEST_DOCUMENT < length (replaced new text all)
+  end_long after (too_long long) = too_long_end new text LONGEST_DOCUMENT out at all last long
+
+  pub end_whole : (after : List ℕ) → IsAdded out (drop at text) after true → after ≡ replaced new text all
+  end_whole after (added same short) = same ∙ at_end new text out at all last

@@ -94,8 +94,9 @@ fn spans_in(alloc: Global, view: &View<'_>, target: Target) -> Result<Items<Span
         return Ok(Items::new(alloc));
     };
     let mut keys = uses_of(alloc, tree, view.answers, target)?;
-    if let Some(span) = name_of(view, tree, target) {
-        keys.push(key_of(span))?;
+    match name_of(view, tree, target) {
+        Some(span) => keys.push(key_of(span))?,
+        None => {}
     }
     in_order(alloc, keys)
 }

@@ -1,7 +1,9 @@
-use Rattle.std.proofs.Common.{◌≡◌, ℕ, ◌<◌, ◌≤◌, length, refl, sym, ◌∙◌, arith, inl, inr}
+use Rattle.std.proofs.Common.{◌≡◌, ℕ, ◌<◌, ◌≤◌, List, length, refl, sym, subst₂, ◌∙◌, arith, inl, inr}
 use Rattle.std.specs.Prelude.{◌⊎◌}
 use Rattle.std.proofs.lemmas.Bool.{cases_lt}
 use Rattle.lw_tree.specs.Parts.{Parts}
+use Rattle.lw_tree.specs.declared.node.Reference.{Reference}
+use Rattle.lw_rename.specs.Alike.{IsFirstApartAmong}
 use Rattle.lw_rename.proofs.FirstApart.{first_unlike_at, in_either, one_more, same_shape, unlike_apart, unlike_but}
 use Rattle.lw_rename.proofs.Listing.{not_both}
 use Rattle.lw_rename.proofs.unlike.first_unlike.Goals as goal
@@ -12,8 +14,8 @@ returns-then-is_told c g count =
     let b = c.args.other.now in
     let apart = c.first_apart-apart.result in
     let there = in_either a b c.nodes.n (omega (arith, c.max-count.ensures, c.len.ensures, c.len-2.ensures)) in
-    first_unlike_at g a b c.args.props count apart c.first_apart-apart.ensures c.nodes.n there c.nodes.invariant
-    (unlike_apart g a b c.args.props count apart c.first_apart-apart.ensures (record { 0 = c.nodes.n }) (c.is_told.ensures.0 c.if-is_told.true))
+    first_unlike_at g a b c.args.props count apart (subst₂ (λ (x y : List Reference). IsFirstApartAmong x y c.first_apart-apart.result) c.refs.ensures c.refs-2.ensures c.first_apart-apart.ensures) c.nodes.n there c.nodes.invariant
+    (unlike_apart g a b c.args.props count apart (subst₂ (λ (x y : List Reference). IsFirstApartAmong x y c.first_apart-apart.result) c.refs.ensures c.refs-2.ensures c.first_apart-apart.ensures) (record { 0 = c.nodes.n }) (c.is_told.ensures.0 c.if-is_told.true))
 
 pub returns-then-not-are_alike_but : goal.returns-then-not-are_alike_but
 returns-then-not-are_alike_but c g count =
@@ -21,7 +23,7 @@ returns-then-not-are_alike_but c g count =
     let b = c.args.other.now in
     let apart = c.first_apart-apart.result in
     let there = in_either a b c.nodes.n (omega (arith, c.max-count.ensures, c.len.ensures, c.len-2.ensures)) in
-    first_unlike_at g a b c.args.props count apart c.first_apart-apart.ensures c.nodes.n there c.nodes.invariant
+    first_unlike_at g a b c.args.props count apart (subst₂ (λ (x y : List Reference). IsFirstApartAmong x y c.first_apart-apart.result) c.refs.ensures c.refs-2.ensures c.first_apart-apart.ensures) c.nodes.n there c.nodes.invariant
     (unlike_but g a b c.args.props count c.nodes.n there (λ is. not_both (c.are_alike_but.ensures.1 is) c.if-not-are_alike_but.true))
 
 pub nodes-preserved : goal.nodes-preserved
@@ -31,5 +33,6 @@ nodes-preserved c =
 
 pub returns : goal.returns
 returns c g count =
-    same_shape g c.args.one.now c.args.other.now c.args.props count c.first_apart-apart.result c.first_apart-apart.ensures c.nodes.n
+    same_shape g c.args.one.now c.args.other.now c.args.props count c.first_apart-apart.result
+    (subst₂ (λ (x y : List Reference). IsFirstApartAmong x y c.first_apart-apart.result) c.refs.ensures c.refs-2.ensures c.first_apart-apart.ensures) c.nodes.n
     (omega (arith, c.max-count.ensures, c.len.ensures, c.len-2.ensures)) (omega (arith, c.max-count.ensures, c.len.ensures, c.len-2.ensures)) c.nodes.invariant
