@@ -49,9 +49,6 @@ module _ (g : Grammar) where
         (sym (nothing r.owner.0) ∙ sym (same r.owner.0 inside (length b.refs)) ∙ ap (λ (o : Option Reference). refers_in o r.owner.0) at ∙ refers_here r r.owner.0 refl))
   ]
     where
-
-
-
       nothing : (n : ℕ) → refers_as b n (length b.refs) ≡ None
       nothing n = ap (λ (o : Option Reference). refers_in o n) (slice_get_past b.refs (length b.refs) (omega arith))
 

@@ -88,8 +88,7 @@ module _ (g : Grammar) (new : List ℕ) (views : List View) (built : AreBuiltVie
       let once = once_at views (apart_of g views built) k v at in
       (rename.NotParsed v.uri.now, not_parsed, rename.unreadable (after_at v.uri.now new views spans k v s once there) cannot)
   spoiled_at k v s tree _ at there seen (reshaped {n = n} utf8 reads unlike) =
-      let once = once_at views (apart_of g views built) k v at in
-      (
+      let once = once_at views (apart_of g views built) k v at in (
         rename.Shape v.uri.now n.0,
         shape,
         rename.reshaped (text_at v.uri.now views k v once) (reads_at g views built k v tree at seen) (after_at v.uri.now new views spans k v s once there) utf8 reads unlike,

@@ -84,7 +84,7 @@ look address (v ∷ views) apart = by (bytes_eq v.uri.now address) refl (look ad
     by true same _ =
         let is = (bytes_eq-Decides v.uri.now address).0 same in
         once (here is (none_by address views (λ k w at other.
-            all_at (λ w. v.uri.now ≢ w.uri.now) views k w (pairs_head (λ v w. v.uri.now ≢ w.uri.now) v views apart.addresses) at (is ∙ sym other))))
+        all_at (λ w. v.uri.now ≢ w.uri.now) views k w (pairs_head (λ v w. v.uri.now ≢ w.uri.now) v views apart.addresses) at (is ∙ sym other))))
     by false unlike rest = step (λ same. not_both (eq_true v.uri.now address same) unlike) rest
 
 -- two places of one address, and of one number

@@ -107,7 +107,7 @@ module _ (new text : List ℕ) (all : List Span) (i : ℕ) (d : Span) (inside : 
       IsSoFar new text after (get_or all i d).end (drop (i + 1) all) all × (length after ≤ LONGEST_DOCUMENT)
   step_taken out after at is up (added same short) = (
     subst (λ (x : List ℕ). IsSoFar new text x (get_or all i d).end (drop (i + 1) all) all) (sym same)
-    (replaced_one new text out at (get_or all i d) (drop (i + 1) all) all up (within i d inside).0 (within i d inside).1 (its out at is)),
+        (replaced_one new text out at (get_or all i d) (drop (i + 1) all) all up (within i d inside).0 (within i d inside).1 (its out at is)),
     short,
   )
 

@@ -45,9 +45,6 @@ module _ (views : List View) (apart : AreApart views) (trees : List (Option Part
         absurd (omega (arith, place, below))
 
     module _ (exports : List Export) (are : AreEntriesAt (later t (tree_seen v)) exports) where
-      document : Document
-      document = record { uri = v.uri.now; exports = exports }
-
       abbrev After : Indexed
       After = insert index v.doc.0 (record { uri = v.uri.now; exports = exports })
 
@@ -85,8 +82,7 @@ module _ (views : List View) (apart : AreApart views) (trees : List (Option Part
                 (d, put_elsewhere index v.doc.0 _ w.doc.0 (λ same. not_here (same_number views apart k n w v at among.view same) lower) ∙ there, uri)
             | inr up ↦
                 let place : n ≡ k = omega (arith, below, up) in
-                let view : v ≡ w = one_at views k v w (ap (slice_get views) (sym place) ∙ among.view) at in
-                (
+                let view : v ≡ w = one_at views k v w (ap (slice_get views) (sym place) ∙ among.view) at in (
                   record { uri = v.uri.now; exports = exports },
                   ap (λ (x : View). get After x.doc.0) (sym view) ∙ put_here index v.doc.0 _,
                   ap (λ (x : View). x.uri.now) view,

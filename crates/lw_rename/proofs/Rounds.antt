@@ -40,8 +40,7 @@ module _ (g : Grammar) (new : List ℕ) (views : List View) (spans : List (List 
             let place : length trees ≡ k = omega (arith, below, up, more) in
             let number : i ≡ k = sym long ∙ place in
             let view : v ≡ w = one_at views k v w (ap (slice_get views) (sym number) ∙ at) here in
-            let list : s ≡ u = one_at spans k s u (ap (slice_get spans) (sym number) ∙ there) its in
-            (
+            let list : s ≡ u = one_at spans k s u (ap (slice_get spans) (sym number) ∙ there) its in (
               t,
               ap (slice_get (trees ++ t ∷ [])) (sym place) ∙ put_last trees t,
               subst (λ (x : View). IsAgain g new x u t) view (subst (λ (x : List Span). IsAgain g new v x t) list is),

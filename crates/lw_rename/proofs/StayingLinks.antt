@@ -133,8 +133,7 @@ module _ (g : Grammar) (new : List ℕ) (views : List View) (built : AreBuiltVie
       by it (Some old) seen =
           let (tree, there) = some_later it.t old in
           let has : later it.t (tree_seen v) ≡ Some tree = ap (later it.t) seen ∙ there in
-          let one = stay it.t tree it.among has in
-          (
+          let one = stay it.t tree it.among has in (
             one.links,
             subst (AreLinks g (texts_seen views) v.uri.now) one.same (were_links k v old at seen),
             are_links_after k v it.t tree one.links it.among has one.leads,

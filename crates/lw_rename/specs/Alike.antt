@@ -40,14 +40,14 @@ abbrev pub IsFirstApartBelow : ℕ → List Reference → List Reference → Opt
 IsFirstApartBelow count one other found =
     MatchOption found ((i n : ℕ) → i < count → refers_in (slice_get one i) n ≡ refers_in (slice_get other i) n)
     (λ o. ((i : ℕ) × (i < count) × (refers_in (slice_get one i) o.0 ≢ refers_in (slice_get other i) o.0)) ×
-        ((i n : ℕ) → i < count → n < o.0 → refers_in (slice_get one i) n ≡ refers_in (slice_get other i) n))
+    ((i n : ℕ) → i < count → n < o.0 → refers_in (slice_get one i) n ≡ refers_in (slice_get other i) n))
 
 -- of all references
 abbrev pub IsFirstApartAmong : List Reference → List Reference → Option NodeId → Type 0
 IsFirstApartAmong one other found =
     MatchOption found ((i n : ℕ) → refers_in (slice_get one i) n ≡ refers_in (slice_get other i) n)
     (λ o. ((i : ℕ) × (refers_in (slice_get one i) o.0 ≢ refers_in (slice_get other i) o.0)) ×
-        ((i n : ℕ) → n < o.0 → refers_in (slice_get one i) n ≡ refers_in (slice_get other i) n))
+    ((i n : ℕ) → n < o.0 → refers_in (slice_get one i) n ≡ refers_in (slice_get other i) n))
 
 -- the lesser of two nodes, where there are two
 pub data IsLesserNode : Option NodeId → Option NodeId → Option NodeId → Type 0 where

@@ -17,11 +17,7 @@ use lw_tree::Tree;
 use std::alloc::Global;
 
 /// The tree of a text, where it is one that can be read.
-fn read_whole(
-    alloc: Global,
-    language: &Language,
-    bytes: Vec<u8>,
-) -> Result<Option<Tree>, NoMemory>
+fn read_whole(alloc: Global, language: &Language, bytes: Vec<u8>) -> Result<Option<Tree>, NoMemory>
     ensures { IfOk result (ReadsWholeAs language.now.grammar bytes.items) }
 {
     let Some(text) = Name::from_vec(bytes) else {

@@ -42,11 +42,7 @@ fn meant_in(view: &View<'_>, off: u32) -> Result<Option<Target>, NoMemory>
 }
 
 /// What is meant at an offset of the document at an address.
-pub(crate) fn meant(
-    views: &[View<'_>],
-    uri: &Name,
-    off: u32,
-) -> Result<Option<Target>, NoMemory>
+pub(crate) fn meant(views: &[View<'_>], uri: &Name, off: u32) -> Result<Option<Target>, NoMemory>
     ensures { IfOk result (IsMeantAmong views.now uri.now off) }
 {
     'looking: for view in views {

@@ -106,14 +106,7 @@ fn stay<L: Ledger>(
         Err(_) => return Err(RenameFault::NoMemory),
     };
     match first_other(views, view.answers, after.as_slice()) {
-        Some(i) => Err(rebound(
-            alloc,
-            views,
-            view.uri,
-            i,
-            view.answers[i],
-            after[i],
-        )),
+        Some(i) => Err(rebound(alloc, views, view.uri, i, view.answers[i], after[i])),
         None => Ok(()),
     }
 }

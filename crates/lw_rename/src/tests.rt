@@ -49,7 +49,10 @@ fn place(alloc: Global, told: &mut String, at: &Option<(Name, NodeId)>) -> Resul
     Ok(())
 }
 
-fn written(alloc: Global, outcome: &Result<Items<FileSpans>, RenameFault>) -> Result<String, NoMemory> {
+fn written(
+    alloc: Global,
+    outcome: &Result<Items<FileSpans>, RenameFault>,
+) -> Result<String, NoMemory> {
     let mut told = String::new(alloc);
     match outcome {
         Ok(files) => {
@@ -71,12 +74,14 @@ fn written(alloc: Global, outcome: &Result<Items<FileSpans>, RenameFault>) -> Re
             let text = format!(in alloc; "shape {} {}", uri.text(), node.0)?;
             told.push_str(text.as_str())?;
         }
-        Err(RenameFault::Rebound {
-            uri,
-            reference,
-            before,
-            after,
-        }) => {
+        Err(
+            RenameFault::Rebound {
+                uri,
+                reference,
+                before,
+                after,
+            },
+        ) => {
             let text = format!(in alloc; "rebound {} {} ", uri.text(), reference.0)?;
             told.push_str(text.as_str())?;
             place(alloc, &mut told, before)?;
@@ -192,20 +197,118 @@ fn one(rt: &impl Abort, alloc: Global, language: &Language, row: &Row) -> Result
 }
 
 const ROWS: [Row; 14] = [
-    ("model c state t to x end", "model m state x end", false, 14, "q", "c 19-20;m 14-15;"),
-    ("model c state t to x end", "model m state x end", true, 19, "q", "c 19-20;m 14-15;"),
-    ("model c", "model m state a to b end state b end", false, 14, "q", "m 14-15;"),
-    ("model c", "model m state a to b end state b end", false, 31, "q", "m 19-20 31-32;"),
-    ("model c", "model m state a to b end state b end", false, 14, "b", "rebound m 0 m2 m1"),
-    ("model c", "model m state a end state c to z end", false, 14, "z", "rebound m 0 - m1"),
-    ("model c", "model m state a to b end state b end", false, 14, "end", "not parsed m"),
-    ("model c", "model m state a to b end state b end", false, 14, "", "not parsed m"),
-    ("model c", "model m state a to b end state b end", false, 0, "q", "no name"),
-    ("model c", "model m state a to z end state b end", false, 19, "q", "no name"),
-    ("model c", "model m state a to b end state b end", false, 14, "a", "m 14-15;"),
-    ("model c state t to x end", "model m state x end", false, 14, "t", "rebound c 0 m1 c1"),
-    ("model c state t to x end", "model m state x end", false, 14, "end", "not parsed c"),
-    ("model c", "model m state x end", false, 14, "x end state y", "shape m 0"),
+    (
+        "model c state t to x end",
+        "model m state x end",
+        false,
+        14,
+        "q",
+        "c 19-20;m 14-15;",
+    ),
+    (
+        "model c state t to x end",
+        "model m state x end",
+        true,
+        19,
+        "q",
+        "c 19-20;m 14-15;",
+    ),
+    (
+        "model c",
+        "model m state a to b end state b end",
+        false,
+        14,
+        "q",
+        "m 14-15;",
+    ),
+    (
+        "model c",
+        "model m state a to b end state b end",
+        false,
+        31,
+        "q",
+        "m 19-20 31-32;",
+    ),
+    (
+        "model c",
+        "model m state a to b end state b end",
+        false,
+        14,
+        "b",
+        "rebound m 0 m2 m1",
+    ),
+    (
+        "model c",
+        "model m state a end state c to z end",
+        false,
+        14,
+        "z",
+        "rebound m 0 - m1",
+    ),
+    (
+        "model c",
+        "model m state a to b end state b end",
+        false,
+        14,
+        "end",
+        "not parsed m",
+    ),
+    (
+        "model c",
+        "model m state a to b end state b end",
+        false,
+        14,
+        "",
+        "not parsed m",
+    ),
+    (
+        "model c",
+        "model m state a to b end state b end",
+        false,
+        0,
+        "q",
+        "no name",
+    ),
+    (
+        "model c",
+        "model m state a to z end state b end",
+        false,
+        19,
+        "q",
+        "no name",
+    ),
+    (
+        "model c",
+        "model m state a to b end state b end",
+        false,
+        14,
+        "a",
+        "m 14-15;",
+    ),
+    (
+        "model c state t to x end",
+        "model m state x end",
+        false,
+        14,
+        "t",
+        "rebound c 0 m1 c1",
+    ),
+    (
+        "model c state t to x end",
+        "model m state x end",
+        false,
+        14,
+        "end",
+        "not parsed c",
+    ),
+    (
+        "model c",
+        "model m state x end",
+        false,
+        14,
+        "x end state y",
+        "shape m 0",
+    ),
 ];
 
 #[test]

@@ -6,13 +6,16 @@ use Rattle.lw_rename.proofs.leading.first_other.Goals as goal
 
 pub returns-then-not-lead_alike : goal.returns-then-not-lead_alike
 returns-then-not-lead_alike c =
-    let link = link_among c.args.views.now in
-    (_, _, record {
-      led = mapped_read link c.args.before.now c.comparing.i _ (omega arith);
-      leads = mapped_read link c.args.after.now c.comparing.i _ (omega arith);
-      differ = λ same. not_both (c.lead_alike.ensures.1 same) c.if-not-lead_alike.true;
-      same_before = c.comparing.invariant;
-    })
+    let link = link_among c.args.views.now in (
+      _,
+      _,
+      record {
+        led = mapped_read link c.args.before.now c.comparing.i _ (omega arith);
+        leads = mapped_read link c.args.after.now c.comparing.i _ (omega arith);
+        differ = λ same. not_both (c.lead_alike.ensures.1 same) c.if-not-lead_alike.true;
+        same_before = c.comparing.invariant;
+      },
+    )
 
 pub comparing-preserved : goal.comparing-preserved
 comparing-preserved c k below =
