@@ -13,9 +13,9 @@ use Rattle.lw_tree.specs.declared.node.Reference.{Reference}
 use Rattle.lw_tree.specs.declared.node.Value.{Value}
 use Rattle.lw_tree.specs.declared.node.Value.TheVariants.{Text, Number, Huge, Raw, Truth, Child, Refers}
 use Rattle.lw_tree.specs.Parts.{Parts, last_text, name_by, name_of, text_in, text_of, values_at}
-use Rattle.lw_rename.specs.Rereading.{AreAllIn, StandIn}
+use Rattle.lw_rename.specs.Rereading.{AreAllIn}
 use Rattle.lw_rename.specs.SpansOf.{AreAllSpans, AreSpansOf, IsSpanTo, declared, name_span, used}
-use Rattle.lw_rename.proofs.Built.{its_view, reads_at}
+use Rattle.lw_rename.proofs.Built.{its_view}
 use Rattle.lw_rename.proofs.Listing.{all_at, is_among, zip_at}
 use Rattle.lw_rename.proofs.MentionsOf.{named_here}
 
@@ -58,8 +58,6 @@ module _ (g : Grammar) (views : List View) (built : AreBuiltViews g views) where
   all_of : {X : Type 0} (P : X → Type 0) (xs : List X) → ((x : X) → Contains xs x → P x) → All P xs
   all_of P xs each k d inside = each (get_or xs k d) (Contains-get_or xs k d inside)
 
-  pub all_in : (target : Target) (spans : List (List Span)) → AreAllSpans target views spans → AreAllIn g views spans
-  all_in target spans all k v s at there = record {
-    reads = λ tree seen. reads_at g views built k v tree at seen;
-    within = all_of (IsInText v.text.now) s (λ t has. span_in target k v t at (((zip_at (AreSpansOf target) views spans k v s all at there).exact t).0 has));
-  }
+  pub all_in : (target : Target) (spans : List (List Span)) → AreAllSpans target views spans → AreAllIn views spans
+  all_in target spans all k v s at there =
+      all_of (IsInText v.text.now) s (λ t has. span_in target k v t at (((zip_at (AreSpansOf target) views spans k v s all at there).exact t).0 has))

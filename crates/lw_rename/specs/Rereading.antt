@@ -20,6 +20,10 @@ use Rattle.lw_rename.specs.declared.fault.RenameFault.TheVariants.{NotParsed, Sh
 abbrev pub text_after : List ℕ → View → List Span → List ℕ
 text_after new v spans = replaced new v.text.now spans
 
+-- all spans stand in the texts of their documents
+abbrev pub AreAllIn : List View → List (List Span) → Type 0
+AreAllIn views spans = (k : ℕ) (v : View) (s : List Span) → slice_get views k ≡ Some v → slice_get spans k ≡ Some s → All (IsInText v.text.now) s
+
 module _ (g : Grammar) where
   -- what a text is read as, where it can be read
   abbrev pub ReadsWholeAs : List ℕ → Option Parts → Type 0
@@ -35,11 +39,6 @@ module _ (g : Grammar) where
   pub data Spoils (address text : List ℕ) (tree : Parts) : RenameFault → Type 0 where
     unreadable : CannotBeRead g text → Spoils address text tree (NotParsed address)
     reshaped : {other : Parts} {n : NodeId} → IsUtf8 text → Reads g text (Whole other) → IsFirstUnlike g tree other n.0 → Spoils address text tree (Shape address n)
-
-  -- the tree of a document was read from its text, and these spans stand in it
-  pub record StandIn (v : View) (spans : List Span) : Type 0 where
-    pub reads : (tree : Parts) → tree_seen v ≡ Some tree → Reads g v.text.now (Whole tree)
-    pub within : All (IsInText v.text.now) spans
 
   module _ (new : List ℕ) where
     -- the new tree of a document, where it has a tree and something in it is replaced
@@ -77,6 +76,3 @@ module _ (g : Grammar) where
         pub before : List (Option Parts)
         pub long : length before ≡ place
         pub again : AreAgain before
-
-  abbrev pub AreAllIn : List View → List (List Span) → Type 0
-  AreAllIn views spans = (k : ℕ) (v : View) (s : List Span) → slice_get views k ≡ Some v → slice_get spans k ≡ Some s → StandIn v s

@@ -1,11 +1,9 @@
 // Edited documents, read again.
 ghost use Rattle.std.specs.Prelude.{◌≡◌, ◌⊎◌, All, IfOk, IfErr, length};
 ghost use Rattle.lw_numbers.specs.Numbering.{property_names};
-ghost use Rattle.lw_reading.specs.Reading.{Reads};
-ghost use Rattle.lw_reading.specs.declared.parsed.Parsed.TheVariants.{Whole};
 ghost use Rattle.lw_rooted.specs.Within.{IsInText};
 ghost use Rattle.lw_renaming.specs.Replacing.{replaced as replaced_text};
-ghost use Rattle.lw_rename.specs.Rereading.{AreAllAgain, AreAllIn, IsAgain, IsFirstSpoiled, IsKeptAs, IsSpoiled, ReadsWholeAs, Spoils, StandIn};
+ghost use Rattle.lw_rename.specs.Rereading.{AreAllAgain, AreAllIn, IsAgain, IsFirstSpoiled, IsKeptAs, IsSpoiled, ReadsWholeAs, Spoils};
 
 use crate::RenameFault;
 use crate::replacing::replaced;
@@ -84,8 +82,7 @@ fn edited(
     spans: &[Span],
     new: &Name,
 ) -> Result<Tree, RenameFault>
-    requires reads { Reads language.now.grammar view.now.text.now (Whole tree.now) }
-    requires within { All (IsInText view.now.text.now) spans.now }
+    requires { All (IsInText view.now.text.now) spans.now }
     ensures kept { IfOk result (IsKeptAs language.now.grammar (replaced_text new.now view.now.text.now spans.now) tree.now) }
     ensures refused { IfErr result (λ fault. (fault ≡ RenameFault.NoMemory) ⊎
         Spoils language.now.grammar view.now.uri.now (replaced_text new.now view.now.text.now spans.now) tree.now fault) }
@@ -108,7 +105,7 @@ fn again(
     spans: &[Span],
     new: &Name,
 ) -> Result<Option<Tree>, RenameFault>
-    requires { StandIn language.now.grammar view.now spans.now }
+    requires { All (IsInText view.now.text.now) spans.now }
     ensures kept { IfOk result (IsAgain language.now.grammar new.now view.now spans.now) }
     ensures refused { IfErr result (λ fault. (fault ≡ RenameFault.NoMemory) ⊎ IsSpoiled language.now.grammar new.now view.now spans.now fault) }
 {
@@ -133,7 +130,7 @@ pub(crate) fn all_again(
     new: &Name,
 ) -> Result<Vec<Option<Tree>>, RenameFault>
     requires long { length spans.now ≡ length views.now }
-    requires each { AreAllIn language.now.grammar views.now spans.now }
+    requires within { AreAllIn views.now spans.now }
     ensures kept { IfOk result (λ trees. AreAllAgain language.now.grammar new.now views.now spans.now trees.items) }
     ensures refused { IfErr result (λ fault. (fault ≡ RenameFault.NoMemory) ⊎ IsFirstSpoiled language.now.grammar new.now views.now spans.now fault) }
 {
