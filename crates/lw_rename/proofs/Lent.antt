@@ -12,7 +12,7 @@ use Rattle.lw_index.specs.declared.parts.Target.{Target}
 use Rattle.lw_query.specs.Built.{tree_seen}
 use Rattle.lw_query.specs.declared.view.View.{View}
 use Rattle.lw_tree.specs.Parts.{Parts}
-use Rattle.lw_rename.specs.SpansOf.{AreSpansOf, IsSpanTo, IsUseSpan, SpanPrecedes, declared, file_of, files_over, keyed_span, name_span, used}
+use Rattle.lw_rename.specs.SpansOf.{AreSpansOf, IsSpanTo, IsUseSpan, SpanPrecedes, declared, file_of, files_over, key_at, keyed_span, keys_named, name_span, used}
 use Rattle.lw_rename.specs.declared.files.FileSpans.{FileSpans}
 use Rattle.lw_rename.specs.declared.mentions.SpanKey.{SpanKey}
 use Rattle.lw_rename.proofs.Listing.{among_mapped, at_place_of, drop_at, is_among, mapped_from}
@@ -32,9 +32,6 @@ module _ (target : Target) (v : View) (tree : Parts) (seen : tree_seen v ≡ Som
   here_used : (s : Span) → IsSpanTo target v s → IsUseSpan tree v.answers.now target s ⊎ (name_span v tree target ≡ Some s)
   here_used s (used {tree = t} at is) = let same = same_Some t tree (sym at ∙ seen) in inl (subst (λ (x : Parts). IsUseSpan x v.answers.now target s) same is)
   here_used s (declared {tree = t} at is) = let same = same_Some t tree (sym at ∙ seen) in inr (subst (λ (x : Parts). name_span v x target ≡ Some s) same is)
-
-  key_at : Span → SpanKey
-  key_at s = record { start = s.start; end = s.end }
 
   used_among : (keys : List SpanKey) → ((k : SpanKey) → Contains found k → Contains keys k) → (s : Span) → IsUseSpan tree v.answers.now target s →
       Contains (map keyed_span keys) s
@@ -78,6 +75,10 @@ module _ (target : Target) (v : View) (tree : Parts) (seen : tree_seen v ≡ Som
 
       from : IsSpanTo target v s → Contains (map keyed_span keys) s
       from is = by (here_used s is)
+
+  pub all_named : (keys : List SpanKey) (name : Option Span) → keys ≡ found ++ keys_named name → name ≡ name_span v tree target → AreAll keys
+  all_named keys None same name = all_without keys (same ∙ append-nil found) (sym name)
+  all_named keys (Some span) same name = all_with keys (key_at span) span same refl (sym name)
 
   pub in_all : {E : Type 0} (keys : List SpanKey) (r : Result (List Span) E) → AreAll keys → IfOk r (λ spans. (s : Span) → Contains spans s ↔ Contains (map keyed_span keys) s) →
       IfOk r (AllPairs SpanPrecedes) → IfOk r (AreSpansOf target v)

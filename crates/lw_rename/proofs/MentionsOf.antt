@@ -49,10 +49,12 @@ pub record IsIn (views : List View) (spans : List (List Span)) (m : Mention) : T
 pub mention_from : (views : List View) (spans : List (List Span)) (m : Mention) → Contains (mentions_over views spans) m → IsIn views spans m
 mention_from [] spans m (k, inside, is) = absurd (omega (arith, inside))
 mention_from (v ∷ views) [] m (k, inside, is) = absurd (omega (arith, inside))
-mention_from (v ∷ views) (s ∷ spans) m has = by (Contains-append_cases (mentions_at v.uri.now s) (mentions_over views spans) m has)
+mention_from (v ∷ views) (s ∷ spans) m has =
+    by (λ rest. mention_from views spans m rest) (Contains-append_cases (mentions_at v.uri.now s) (mentions_over views spans) m has)
   where
-    by : Contains (mentions_at v.uri.now s) m ⊎ Contains (mentions_over views spans) m → IsIn (v ∷ views) (s ∷ spans) m
-    by (inl own) =
+    by : (Contains (mentions_over views spans) m → IsIn views spans m) → Contains (mentions_at v.uri.now s) m ⊎ Contains (mentions_over views spans) m →
+        IsIn (v ∷ views) (s ∷ spans) m
+    by behind (inl own) =
         let (k, at) = at_place_of (mentions_at v.uri.now s) m own in
         let (t, there, same) = mapped_from (mention_at v.uri.now) s k m at in
         record {
@@ -64,8 +66,8 @@ mention_from (v ∷ views) (s ∷ spans) m has = by (Contains-append_cases (ment
           address = ap (λ (x : Mention). x.address) (sym same);
           among = subst (Contains s) (ap (λ (x : Mention). x.span) same) (is_among s k t there);
         }
-    by (inr rest) =
-        let is = mention_from views spans m rest in
+    by behind (inr rest) =
+        let is = behind rest in
         record { place = suc is.place; v = is.v; its = is.its; view = is.view; list = is.list; address = is.address; among = is.among }
 
 pub mention_into : (views : List View) (spans : List (List Span)) (k : ℕ) (v : View) (its : List Span) (s : Span) → slice_get views k ≡ Some v →

@@ -1,5 +1,5 @@
 -- A text whose spans are replaced, piece by piece.
-use Rattle.std.proofs.Common.{◌≡◌, ℕ, ◌+◌, ◌-◌, ◌<◌, ◌≤◌, suc, zero, Bool, true, false, List, [], ◌∷◌, ◌++◌, All, Result, Ok, Err, IfOk, get_or, length, take, drop, refl, sym, ap, ◌∙◌, subst, arith, append_assoc, length-append}
+use Rattle.std.proofs.Common.{◌≡◌, ℕ, ◌+◌, ◌-◌, ◌<◌, ◌≤◌, suc, zero, Bool, true, false, List, [], ◌∷◌, ◌++◌, All, Result, Ok, Err, IfOk, get_or, length, take, drop, refl, sym, ap, ◌∙◌, subst, arith, append_assoc, length-append, length-drop}
 use Rattle.std.specs.Prelude.{if◌then◌else◌, nat_lt}
 use Rattle.std.proofs.lemmas.Bool.Decides.{Decides-ltb}
 use Rattle.std.proofs.lemmas.List.{drop-drop}
@@ -9,7 +9,7 @@ use Rattle.lw_base.specs.declared.token.Span.{Span}
 use Rattle.lw_renaming.specs.Replacing.{replaced, replaced_from}
 use Rattle.lw_rooted.specs.Within.{IsInText}
 use Rattle.lw_rename.specs.Adding.{IsAdded, added, too_long}
-use Rattle.lw_rename.proofs.Listing.{drop_at, drop_past}
+use Rattle.lw_rename.proofs.Listing.{drop_at, drop_past, take_past}
 
 module _ (new text : List ℕ) where
   -- what is left from an offset on
@@ -118,8 +118,11 @@ module _ (new text : List ℕ) (all : List Span) (i : ℕ) (past : length all �
   last : IsSoFar new text out at [] all
   last = subst (λ (spans : List Span). IsSoFar new text out at spans all) (drop_past all i past) is
 
-  pub end_long : (after : List ℕ) → IsAdded out (drop at text) after false → LONGEST_DOCUMENT < length (replaced new text all)
-  end_long after (too_long long) = too_long_end new text LONGEST_DOCUMENT out at all last long
+  rest : take (length text - at) (drop at text) ≡ drop at text
+  rest = let long = length-drop at text in take_past (drop at text) (length text - at) (omega (arith, long))
 
-  pub end_whole : (after : List ℕ) → IsAdded out (drop at text) after true → after ≡ replaced new text all
-  end_whole after (added same short) = same ∙ at_end new text out at all last
+  pub end_long : (after : List ℕ) → IsAdded out (take (length text - at) (drop at text)) after false → LONGEST_DOCUMENT < length (replaced new text all)
+  end_long after (too_long long) = too_long_end new text LONGEST_DOCUMENT out at all last (subst (λ (x : List ℕ). LONGEST_DOCUMENT < length out + length x) rest long)
+
+  pub end_whole : (after : List ℕ) → IsAdded out (take (length text - at) (drop at text)) after true → after ≡ replaced new text all
+  end_whole after (added same short) = same ∙ ap (λ (x : List ℕ). out ++ x) rest ∙ at_end new text out at all last

@@ -18,6 +18,13 @@ use Rattle.lw_rename.specs.declared.mentions.SpanKey.{SpanKey}
 abbrev pub keyed_span : SpanKey → Span
 keyed_span key = record { start = key.start; end = key.end }
 
+abbrev pub key_at : Span → SpanKey
+key_at s = record { start = s.start; end = s.end }
+
+abbrev pub keys_named : Option Span → List SpanKey
+keys_named None = []
+keys_named (Some s) = key_at s ∷ []
+
 pub data SpanPrecedes (one other : Span) : Type 0 where
   by_start : one.start < other.start → SpanPrecedes one other
   by_end : one.start ≡ other.start → one.end < other.end → SpanPrecedes one other

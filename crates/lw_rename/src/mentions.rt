@@ -1,8 +1,8 @@
 // Where a node is mentioned.
-ghost use Rattle.std.specs.Prelude.{◌≡◌, ◌↔◌, IfOk, IsTrue, Contains, AllPairs, Some, map};
+ghost use Rattle.std.specs.Prelude.{◌≡◌, ◌↔◌, ◌++◌, IfOk, IsTrue, Contains, AllPairs, Some, map};
 ghost use Rattle.std.specs.Option.{option_map};
 ghost use Rattle.lw_base.specs.declared.token.Span.{Span as ASpan};
-ghost use Rattle.lw_rename.specs.SpansOf.{AreAllSpans, AreSpansOf, IsUseSpan, SpanPrecedes, keyed_span, name_span};
+ghost use Rattle.lw_rename.specs.SpansOf.{AreAllSpans, AreSpansOf, IsUseSpan, SpanPrecedes, key_at, keyed_span, keys_named, name_span};
 ghost use Rattle.lw_rename.specs.declared.mentions.SpanKey.{SpanKey as AKey};
 ghost use Rattle.lw_index.specs.declared.parts.Answer.TheVariants.{Found};
 
@@ -20,7 +20,7 @@ pub(crate) struct SpanKey {
 }
 
 fn key_of(span: Span) -> SpanKey
-    ensures { keyed_span result ≡ span }
+    ensures { result ≡ key_at span }
 {
     SpanKey {
         start: span.start,
@@ -68,6 +68,18 @@ fn name_of(view: &View<'_>, tree: &Tree, target: Target) -> Option<Span>
     }
 }
 
+/// These spans, and behind them that of the name, where there is one.
+fn with_name(found: Vec<SpanKey>, name: Option<Span>) -> Result<Vec<SpanKey>, NoMemory>
+    ensures { IfOk result (λ keys. keys.items ≡ found.items ++ keys_named name) }
+{
+    let Some(span) = name else {
+        return Ok(found);
+    };
+    let mut keys = found;
+    keys.push(key_of(span))?;
+    Ok(keys)
+}
+
 /// These spans in their order, each once.
 fn in_order(alloc: Global, keys: Vec<SpanKey>) -> Result<Items<Span>, NoMemory>
     ensures exact { IfOk result (λ spans. (s : ASpan) → Contains spans s ↔ Contains (map keyed_span keys.items) s) }
@@ -93,11 +105,8 @@ fn spans_in(alloc: Global, view: &View<'_>, target: Target) -> Result<Items<Span
     let Some(tree) = view.tree else {
         return Ok(Items::new(alloc));
     };
-    let mut keys = uses_of(alloc, tree, view.answers, target)?;
-    match name_of(view, tree, target) {
-        Some(span) => keys.push(key_of(span))?,
-        None => {}
-    }
+    let found = uses_of(alloc, tree, view.answers, target)?;
+    let keys = with_name(found, name_of(view, tree, target))?;
     in_order(alloc, keys)
 }
 

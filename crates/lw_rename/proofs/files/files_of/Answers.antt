@@ -3,6 +3,7 @@ use Rattle.std.proofs.lemmas.Bool.Decides.{Decides-eqb}
 use Rattle.std.proofs.lemmas.List.{append-nil}
 use Rattle.std.proofs.lemmas.Option.{slice_get_read}
 use Rattle.lw_base.specs.declared.token.Span.{Span}
+use Rattle.lw_query.specs.declared.view.View.{View}
 use Rattle.lw_rename.specs.SpansOf.{file_of, files_over}
 use Rattle.lw_rename.specs.declared.files.FileSpans.{FileSpans}
 use Rattle.lw_rename.proofs.FirstApart.{some_at}
@@ -32,7 +33,7 @@ filing-preserved c =
           ∙ ap (λ (f : List FileSpans). c.filing.files ++ f)
           (filed_one v s _
           (λ empty. not_both ((Decides-eqb (length list) 0).1 (ap length (c.as_slice-list.ensures ∙ empty))) (sym c.is_empty.ensures ∙ w.if-not-is_empty.true))
-          w.in_ok-copy.ensures (w.in_ok-from_slice.ensures ∙ c.as_slice-list.ensures)))
+          (w.in_ok-copy.ensures ∙ ap (λ (x : View). x.uri.now) (sym w.index-views-i.is)) (w.in_ok-from_slice.ensures ∙ c.as_slice-list.ensures)))
       | else-not-is_empty w ↦
           let found = some_at views i c.filing-test.true in
           let empty = none_long s (ap length (sym c.as_slice-list.ensures) ∙ (Decides-eqb (length list) 0).0 (sym c.is_empty.ensures ∙ w.if-not-is_empty.false)) in

@@ -1,5 +1,6 @@
 use Rattle.std.proofs.Common.{◌≡◌, ℕ, ◌≤◌, ◌<◌, ◌+◌, List, Some, length, slice_get, refl, sym, ap, ◌∙◌, subst, arith}
 use Rattle.std.proofs.lemmas.Option.{slice_get_read}
+use Rattle.lw_rename.specs.SpansOf.{keyed_span}
 use Rattle.lw_rename.specs.declared.mentions.SpanKey.{SpanKey}
 use Rattle.lw_rename.proofs.Lent.{got}
 use Rattle.lw_rename.proofs.Listing.{not_both}
@@ -21,7 +22,7 @@ uses-preserved c =
       | then-leads_to+in_ok-push w ↦
           subst (λ (keys : List SpanKey). AreUsesBelow tree answers c.args.target (i + 1) keys) (sym (ap (λ v. v.items) w.keys-is ∙ w.in_ok-push.ensures.items))
           (one_use_more tree answers c.args.target i c.uses.keys.items c.reference-item.result w.key_of.result c.uses.invariant at
-          (sym found ∙ c.leads_to.ensures.0 w.if-leads_to.true) w.key_of.ensures)
+          (sym found ∙ c.leads_to.ensures.0 w.if-leads_to.true) (ap keyed_span w.key_of.ensures))
       | else-leads_to w ↦
           subst (λ (keys : List SpanKey). AreUsesBelow tree answers c.args.target (i + 1) keys) (sym (ap (λ v. v.items) w.keys-is))
           (no_use_more tree answers c.args.target i c.uses.keys.items c.uses.invariant (λ lead. not_both (c.leads_to.ensures.1 (found ∙ lead)) w.if-leads_to.false))
