@@ -1,5 +1,5 @@
 -- One document more is put into the index.
-use Rattle.std.proofs.Common.{◌≡◌, ◌≢◌, ℕ, ◌+◌, ◌<◌, ◌≤◌, true, false, cond, Bool, List, Option, Some, None, Ordering, Less, Equal, Greater, is_eq, slice_get, length, refl, sym, ap, ◌∙◌, subst, arith, inl, inr}
+use Rattle.std.proofs.Common.{◌≡◌, ◌≢◌, ℕ, ◌+◌, ◌<◌, ◌≤◌, true, false, cond, Bool, List, Option, Some, None, Result, Ok, Err, IfOk, Ordering, Less, Equal, Greater, is_eq, slice_get, length, refl, sym, ap, ◌∙◌, subst, arith, inl, inr}
 use Rattle.std.specs.Cmp.{tied_itself, nat_cmp_total}
 use Rattle.std.specs.Ordering.{nat_cmp, eq_by_cmp}
 use Rattle.std.specs.FinMap as map
@@ -9,7 +9,7 @@ use Rattle.std.proofs.lemmas.Option.{same_Some, none-some}
 use Rattle.lw_index.specs.Indexed.{Indexed, IsFreeFor}
 use Rattle.lw_index.specs.declared.parts.Document.{Document}
 use Rattle.lw_index.specs.declared.parts.Export.{Export}
-use Rattle.lw_link.specs.Indexed.{AreEntriesAt}
+use Rattle.lw_link.specs.Indexed.{AreEntriesAt, AreEntriesOf, whole}
 use Rattle.lw_query.specs.Built.{tree_seen}
 use Rattle.lw_query.specs.declared.view.View.{View}
 use Rattle.lw_tree.specs.Parts.{Parts}
@@ -94,3 +94,9 @@ module _ (views : List View) (apart : AreApart views) (trees : List (Option Part
 
       pub entered_more : (after : Indexed) → after ≡ insert index v.doc.0 (record { uri = v.uri.now; exports = exports }) → IsIndexAfter views trees (n + 1) after
       entered_more after same = subst (IsIndexAfter views trees (n + 1)) (sym same) one_entered
+
+-- what a document exports, where it has a tree
+pub entries_of : {V E : Type 0} (items : V → List Export) (tree : Option Parts) (t : Parts) (r : Result V E) → tree ≡ Some t → IfOk r (λ found. AreEntriesOf t (items found)) →
+    IfOk r (λ found. AreEntriesAt tree (items found))
+entries_of items tree t (Err e) same are = tt
+entries_of items tree t (Ok found) same are = subst (λ (o : Option Parts). AreEntriesAt o (items found)) (sym same) (whole are)
