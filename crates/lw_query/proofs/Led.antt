@@ -19,14 +19,14 @@ module _ (Stands : ℕ → List ℕ → Type 0) where
   IsLed (Found target) link = (address : List ℕ) × Stands target.doc.0 address × (link ≡ Some (address, target.node.0))
   IsLed Missing link = link ≡ None
 
-  pub led : (answer : Answer) (link : Link) → LeadsAs Stands answer link → IsLed answer link
-  led answer link (found {address = address} stands) = (address, stands, refl)
-  led answer link missing = refl
+  pub is_led : (answer : Answer) (link : Link) → LeadsAs Stands answer link → IsLed answer link
+  is_led answer link (found {address = address} stands) = (address, stands, refl)
+  is_led answer link missing = refl
 
   -- the answer that leads to a node, where each address has one number
   pub found_by : ((n m : ℕ) (address : List ℕ) → Stands n address → Stands m address → n ≡ m) → (target : Target) (address : List ℕ) →
       Stands target.doc.0 address → (answer : Answer) → LeadsAs Stands answer (Some (address, target.node.0)) → answer ≡ Found target
-  found_by one_number target address stands answer leads = by answer (led answer (Some (address, target.node.0)) leads)
+  found_by one_number target address stands answer leads = by answer (is_led answer (Some (address, target.node.0)) leads)
     where
       by : (a : Answer) → IsLed a (Some (address, target.node.0)) → a ≡ Found target
       by Missing is = absurd (differ (sym is))
@@ -43,7 +43,8 @@ no_user : {A : Type 0} (i : ℕ) {answer : Answer} → slice_get [] i ≡ Some a
 no_user zero is = cc
 no_user (suc i) is = cc
 
-pub user_of : (led : Led) (target : Target) (slot : SlotId) → slice_get (answers_in led slot.doc.0) slot.reference.0 ≡ Some (Found target) → IsUser led target slot
+pub user_of : (led : Led) (target : Target) (slot : SlotId) →
+    slice_get (answers_in led slot.doc.0) slot.reference.0 ≡ Some (Found target) → IsUser led target slot
 user_of led target slot at = by (map.get led slot.doc.0) refl at
   where
     by : (given : Option (List Answer)) → map.get led slot.doc.0 ≡ given →

@@ -1,4 +1,5 @@
 pub mod Rows
+pub mod Keys
 pub mod Looked
 pub mod Led
 pub mod Named

@@ -1,5 +1,5 @@
 -- Lists by their places.
-use Rattle.std.proofs.Common.{ℕ, zero, suc, ◌≡◌, ◌<◌, List, [], ◌∷◌, Option, Some, None, Contains, All, AllPairs, length, map, slice_get, get_or, refl, sym, ap, subst, ◌∙◌, arith}
+use Rattle.std.proofs.Common.{ℕ, zero, suc, ◌≡◌, List, [], ◌∷◌, Some, None, Contains, All, map, slice_get, refl, ap, subst, ◌∙◌}
 use Rattle.std.specs.List.{AllByRecursion, AllZip}
 use Rattle.std.proofs.lemmas.List.Elements.{All-cons, All-head, All-nil, All-tail}
 use Rattle.std.proofs.lemmas.Option.{get_or_from_slice_get, same_Some, slice_get-get_or, slice_get_within}
@@ -35,7 +35,7 @@ at_of xs x (i, inside, is) = (i, slice_get-get_or xs i x inside ∙ ap Some is)
 -- ---- a list and its image
 
 pub in_image : {X Y : Type 0} (f : X → Y) (xs : List X) (x : X) → Contains xs x → Contains (map f xs) (f x)
-in_image f xs x has = let (i, at) = at_of xs x has in contains_at (map f xs) i (f x) (image_at xs i at)
+in_image {X = X} {Y = Y} f xs x has = let (i, at) = at_of xs x has in contains_at (map f xs) i (f x) (image_at xs i at)
   where
     image_at : (ys : List X) (k : ℕ) → slice_get ys k ≡ Some x → slice_get (map f ys) k ≡ Some (f x)
     image_at [] k at = absurd (nothing_at k at)
@@ -43,7 +43,7 @@ in_image f xs x has = let (i, at) = at_of xs x has in contains_at (map f xs) i (
     image_at (y ∷ ys) (suc k) at = image_at ys k at
 
 pub of_image : {X Y : Type 0} (f : X → Y) (xs : List X) (y : Y) → Contains (map f xs) y → (x : X) × Contains xs x × (f x ≡ y)
-of_image f xs y has =
+of_image {X = X} f xs y has =
     let (i, at) = at_of (map f xs) y has in let (x, there, is) = source xs i at in (x, contains_at xs i x there, is)
   where
     source : (zs : List X) (k : ℕ) → slice_get (map f zs) k ≡ Some y → (x : X) × (slice_get zs k ≡ Some x) × (f x ≡ y)

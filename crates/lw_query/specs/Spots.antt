@@ -1,13 +1,24 @@
--- Where names and references stand, by numbered documents, and which of these places are a node's mentions.
+-- Where places of numbered documents lead, where names and references stand, and which of these spots are a node's mentions.
 -- Held against the Language Server Protocol 3.17, "Find References Request".
-use Rattle.std.specs.Prelude.{ℕ, ◌≡◌, Bool, true, List, Option, Some, None, Contains, length, nat_lt, slice_get, if◌then◌else◌}
+use Rattle.std.specs.Prelude.{ℕ, ◌≡◌, Bool, true, List, Option, Some, None, Contains, length, nat_lt, slice_get, unwrap_or, if◌then◌else◌}
 use Rattle.std.specs.Option.{option_map}
+use Rattle.lw_base.specs.declared.numbers.DocId.{DocId}
+use Rattle.lw_index.specs.declared.parts.Answer.{Answer}
+use Rattle.lw_index.specs.declared.parts.Answer.TheVariants.{Found, Missing}
 use Rattle.lw_index.specs.declared.parts.Target.{Target}
+use Rattle.lw_places.specs.declared.place.Place.{Place}
+use Rattle.lw_places.specs.declared.place.Place.TheVariants.{Named, Refers}
 use Rattle.lw_refs.specs.Led.{Led}
 use Rattle.lw_refs.specs.Users.{IsUser}
 use Rattle.lw_refs.specs.declared.slot.SlotId.{SlotId}
 use Rattle.lw_tree.specs.Parts.{Parts, name_of}
 use Rattle.lw_query.specs.declared.spot.Spot.{Spot}
+
+-- where a place of a document leads, by the answers for its references
+abbrev pub place_answer : List Answer → DocId → Option Place → Answer
+place_answer answers doc None = Missing
+place_answer answers doc (Some (Named n)) = Found (record { doc = doc; node = n })
+place_answer answers doc (Some (Refers i)) = unwrap_or (slice_get answers i.0) Missing
 
 -- where a reference stands, by the tree of its document
 abbrev pub slot_spot : Option Parts → SlotId → Option Spot

@@ -6,6 +6,7 @@ ghost use Rattle.lw_places.specs.Mentions.{AreReferencesAt, IsDefinitionAt, IsMe
 ghost use Rattle.lw_refs.specs.Led.{answers_in};
 ghost use Rattle.lw_scopes.specs.Links.{IsNumberBelow};
 ghost use Rattle.lw_scoping.specs.Links.{Link, Trees};
+ghost use Rattle.lw_query.specs.Spots.{place_answer};
 ghost use Rattle.lw_query.specs.Viewed.{AreViewsOf, IsMentionAt, LeadsAs};
 
 use crate::gathering::gather;
@@ -18,19 +19,25 @@ use lw_places::Place;
 use lw_refs::RefIndex;
 use std::alloc::Global;
 
+/// Where a place of a document leads.
+fn answer_at<V: Views>(v: &V, doc: DocId, place: Option<Place>) -> Answer
+    ensures { result ≡ place_answer (V.answers_at v.now doc.0) doc place }
+{
+    match place {
+        None => Answer::Missing,
+        Some(Place::Named(node)) => Answer::Found(Target { doc, node }),
+        Some(Place::Refers(reference)) => v.answer(doc, reference).unwrap_or(Answer::Missing),
+    }
+}
+
 /// The node that is meant at a byte offset of a document.
 fn meant_at<V: Views>(v: &V, doc: DocId, off: u32) -> Answer
     ensures { (g : Grammar) (trees : Trees) (address : List ℕ) → AreViewsOf (IsNumberBelow g) (V.tree_at v.now) (V.answers_at v.now) (V.Stands v.now) trees →
         V.Stands v.now doc.0 address → (link : Link) × LeadsAs (V.Stands v.now) result link × IsMeantAt (IsNumberBelow g) trees address off link }
 {
-    let place = match v.tree(doc) {
-        Some(tree) => place_at(tree, off),
-        None => None,
-    };
-    match place {
+    match v.tree(doc) {
         None => Answer::Missing,
-        Some(Place::Named(node)) => Answer::Found(Target { doc, node }),
-        Some(Place::Refers(reference)) => v.answer(doc, reference).unwrap_or(Answer::Missing),
+        Some(tree) => answer_at(v, doc, place_at(tree, off)),
     }
 }
 

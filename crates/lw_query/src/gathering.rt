@@ -4,7 +4,7 @@ ghost use Rattle.std.specs.List.Sorted.{IsStrictlySortedBy};
 ghost use Rattle.lw_query.specs.Gathered.{AreSpotsOf, PutsSpots, key_cmp, spot_of_key};
 ghost use Rattle.lw_query.specs.Spots.{IsSpotOfMention, IsSpotOfSlot};
 
-use crate::spots::{name_spot, use_spot};
+use crate::spots::{declared_spot, use_spot};
 use crate::{Spot, Views};
 use lw_base::{DocId, Items, Name, NoMemory, Span};
 use lw_index::Target;
@@ -16,11 +16,7 @@ use std::collections::BTreeSet;
 type Keys<'a> = BTreeSet<(&'a Name, u32, u32, u32)>;
 
 /// Puts in a spot, where there is one and its document has an address.
-fn put<'a, V: Views>(
-    v: &'a V,
-    spot: Option<Spot>,
-    keys: &mut Keys<'a>,
-) -> Result<(), NoMemory>
+fn put<'a, V: Views>(v: &'a V, spot: Option<Spot>, keys: &mut Keys<'a>) -> Result<(), NoMemory>
     ensures { OnOk result (PutsSpots (V.Stands v.now) (λ s. spot ≡ Some s) keys.old.keys keys.new.keys) }
 {
     if let Some(spot) = spot {
@@ -32,11 +28,7 @@ fn put<'a, V: Views>(
 }
 
 /// Puts in where each of these references stands. For n references n log n comparisons of addresses.
-fn put_uses<'a, V: Views>(
-    v: &'a V,
-    slots: &[SlotId],
-    keys: &mut Keys<'a>,
-) -> Result<(), NoMemory>
+fn put_uses<'a, V: Views>(v: &'a V, slots: &[SlotId], keys: &mut Keys<'a>) -> Result<(), NoMemory>
     ensures { OnOk result (PutsSpots (V.Stands v.now) (IsSpotOfSlot (V.tree_at v.now) slots.now) keys.old.keys keys.new.keys) }
 {
     for slot in slots {
@@ -73,9 +65,7 @@ pub(crate) fn gather<V: Views>(
 {
     let slots = refs.of(target)?;
     let mut keys = BTreeSet::new(alloc);
-    if declaration {
-        put(v, name_spot(v, target), &mut keys)?;
-    }
+    put(v, declared_spot(v, target, declaration), &mut keys)?;
     put_uses(v, slots.as_slice(), &mut keys)?;
     Ok(Items::from_vec(spots_of(alloc, &keys)?))
 }

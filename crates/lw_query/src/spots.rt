@@ -1,5 +1,5 @@
 // Where names and references stand.
-ghost use Rattle.std.specs.Prelude.{◌≡◌};
+ghost use Rattle.std.specs.Prelude.{◌≡◌, if◌then◌else◌};
 ghost use Rattle.lw_query.specs.Spots.{slot_spot, target_spot};
 
 use crate::{Spot, Views};
@@ -20,6 +20,17 @@ pub(crate) fn name_spot<V: Views>(v: &V, target: Target) -> Option<Spot>
             None => None,
         },
         Some(_) => None,
+    }
+}
+
+/// The same where the declaration counts.
+pub(crate) fn declared_spot<V: Views>(v: &V, target: Target, declaration: bool) -> Option<Spot>
+    ensures { result ≡ (if declaration then target_spot (V.tree_at v.now target.doc.0) target else None) }
+{
+    if declaration {
+        name_spot(v, target)
+    } else {
+        None
     }
 }
 

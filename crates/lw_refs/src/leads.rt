@@ -85,18 +85,12 @@ impl Leads {
 
     /// Takes out the pair of each document that is led into, but where what is kept leads there too. One look-up for each of these.
     pub(crate) fn leave(&self, user: DocId, kept: Option<&Leads>, pairs: &mut Pairs)
-        ensures { (p : ℕ × ℕ) → IsTrue (is_paired pairs.old p) → StaysPaired user.0 kept p → IsTrue (is_paired pairs.new p) }
+        ensures { (p : ℕ × ℕ) → IsTrue (is_paired pairs.old p) → StaysPaired user.0 kept.entry p → IsTrue (is_paired pairs.new p) }
     {
         let mut last = None;
         for found in self.uses.as_slice() {
             if last != Some(found.doc) {
-                let stays = match kept {
-                    Some(leads) => leads.leads_into(found.doc),
-                    None => false,
-                };
-                if !stays {
-                    pairs.remove(&(found.doc, user.0));
-                }
+                leave_one((found.doc, user.0), kept, pairs);
                 last = Some(found.doc);
             }
         }
@@ -119,4 +113,18 @@ impl Leads {
         }
         Ok(())
     }
+}
+
+/// Takes out a pair, but where what is kept of its second document leads into the first.
+fn leave_one(pair: (u32, u32), kept: Option<&Leads>, pairs: &mut Pairs)
+    ensures { (p : ℕ × ℕ) → IsTrue (is_paired pairs.old p) → StaysPaired pair.1 kept.entry p → IsTrue (is_paired pairs.new p) }
+{
+    let stays = match kept {
+        Some(leads) => leads.leads_into(pair.0),
+        None => false,
+    };
+    if stays {
+        return;
+    }
+    pairs.remove(&pair);
 }

@@ -72,19 +72,17 @@ impl RefIndex {
     {
         let leads = Leads::new(self.alloc, answers)?;
         if leads.enter(doc, &mut self.pairs).is_err() {
-            sweep(&mut self.pairs, &self.documents, doc, &leads);
+            sweep(&mut self.pairs, &self.documents, doc, Some(leads));
             return Err(NoMemory);
         }
         match self.documents.insert(doc.0, leads) {
             Err(refused) => {
                 let (_, leads) = refused.value;
-                sweep(&mut self.pairs, &self.documents, doc, &leads);
+                sweep(&mut self.pairs, &self.documents, doc, Some(leads));
                 Err(NoMemory)
             }
             Ok(old) => {
-                if let Some(gone) = old {
-                    sweep(&mut self.pairs, &self.documents, doc, &gone);
-                }
+                sweep(&mut self.pairs, &self.documents, doc, old);
                 Ok(())
             }
         }
@@ -95,9 +93,8 @@ impl RefIndex {
     pub fn remove(&mut self, doc: DocId)
         ensures { self.new ≡ map.remove self.old doc.0 }
     {
-        if let Some(gone) = self.documents.remove(&doc.0) {
-            sweep(&mut self.pairs, &self.documents, doc, &gone);
-        }
+        let gone = self.documents.remove(&doc.0);
+        sweep(&mut self.pairs, &self.documents, doc, gone);
     }
 
     /// Takes out all documents. It takes no memory.

@@ -15,18 +15,21 @@ use std::collections::{BTreeMap, BTreeSet};
 /// Documents that are led into, each with a document that leads there.
 pub(crate) type Pairs = BTreeSet<(u32, u32)>;
 
-/// Takes out the pairs that a document had where its references led there, but those that it has by what is held of it. The time is
-/// that of a look-up for each document that is led into.
+/// Takes out the pairs of a document that what is gone of it led to, but those that it has by what is held of it. The time is that of a
+/// look-up or two for each document that was led into.
 pub(crate) fn sweep(
     pairs: &mut Pairs,
     documents: &BTreeMap<u32, Leads>,
     user: DocId,
-    gone: &Leads,
+    gone: Option<Leads>,
 )
     requires { ArePaired documents.now pairs.old }
     ensures { ArePaired documents.now pairs.new }
 {
-    gone.leave(user, documents.get(&user.0), pairs);
+    let Some(leads) = gone else {
+        return;
+    };
+    leads.leave(user, documents.get(&user.0), pairs);
 }
 
 /// The references that lead to a node, by document and number. The time is that of a look-up for each document with references into the

@@ -1,5 +1,5 @@
 // What the references of one document lead to, in the order of what they lead to.
-ghost use Rattle.std.specs.Prelude.{◌≡◌, ◌^◌, ◌<◌, ◌≤◌, ◌↔◌, true, false, not, length, Contains, AllPairs, IfOk};
+ghost use Rattle.std.specs.Prelude.{◌≡◌, ◌-◌, ◌^◌, ◌<◌, ◌≤◌, ◌↔◌, true, false, not, length, take, drop, Contains, AllPairs, IfOk};
 ghost use Rattle.std.specs.List.Sorted.{IsPartitionPoint};
 ghost use Rattle.lw_refs.specs.declared.uses.Use.{Use};
 ghost use Rattle.lw_refs.specs.Uses.{AreUses, AreUsesInTurn, ComesBefore, is_before, is_behind};
@@ -23,12 +23,13 @@ fn uses_in_turn(alloc: Global, answers: &[Answer]) -> Result<Vec<Use>, NoMemory>
 {
     let mut uses = Vec::new(alloc);
     for (place, answer) in answers.iter().enumerate() {
-        if let Answer::Found(target) = answer {
-            uses.push(Use {
+        match answer {
+            Answer::Found(target) => uses.push(Use {
                 doc: target.doc.0,
                 node: target.node.0,
                 reference: place as u32,
-            })?;
+            })?,
+            Answer::Missing => {}
         }
     }
     Ok(uses)
@@ -76,6 +77,15 @@ fn first_behind(uses: &[Use], doc: u32, node: u32) -> usize
     uses.partition_point(|found| !comes_behind(found, doc, node))
 }
 
+/// Those from one place up to another.
+fn between(uses: &[Use], start: usize, end: usize) -> &[Use]
+    requires order { start ≤ end }
+    requires room { end ≤ length uses.now }
+    ensures { result.now ≡ take (end - start) (drop start uses.now) }
+{
+    &uses[start..end]
+}
+
 /// Those that lead to a node, in the order of their references. Found by halving.
 pub(crate) fn uses_at(uses: &[Use], doc: u32, node: u32) -> &[Use]
     requires { AllPairs ComesBefore uses.now }
@@ -84,7 +94,7 @@ pub(crate) fn uses_at(uses: &[Use], doc: u32, node: u32) -> &[Use]
 {
     let start = first_not_before(uses, doc, node);
     let end = first_behind(uses, doc, node);
-    &uses[start..end]
+    between(uses, start, end)
 }
 
 /// Whether one of these leads into a document. Found by halving.
