@@ -1,3 +1,4 @@
 pub mod Replacing
 pub mod Shapes
 pub mod Renamed
+pub mod Worked

@@ -2,13 +2,11 @@
 -- would change is told, the first of these: a document cannot be read any more, or is read as something of another shape, in the order of addresses; then a
 -- reference, anywhere, leads to another node, or to one where it led nowhere, or nowhere.
 -- Held against the Language Server Protocol 3.17, "Rename Request"; that nothing is rebound is this profile's.
-use Rattle.std.specs.Prelude.{ℕ, ◌≡◌, ◌≢◌, ◌<◌, ◌⊎◌, List, Bool, true, slice_get, Option, Some, None, Result, Ok, Err, Contains}
+use Rattle.std.specs.Prelude.{ℕ, ◌≡◌, ◌≢◌, ◌<◌, List, true, slice_get, Some, None, Result, Ok, Err, Contains}
 use Rattle.std.specs.Cmp.Lexicographic.{slice_cmp}
 use Rattle.std.specs.Ordering.{nat_cmp}
 use Rattle.std.specs.Str.{IsUtf8}
 use Rattle.std.specs.declared.cmp.Ordering.TheVariants.{Less}
-use Rattle.lw_base.specs.declared.numbers.NodeId.{NodeId}
-use Rattle.lw_base.specs.declared.numbers.RefId.{RefId}
 use Rattle.lw_grammar.specs.declared.grammar.Grammar.{Grammar}
 use Rattle.lw_places.specs.Mentions.{AreMentionsOf, IsMeantAt, Mention}
 use Rattle.lw_reading.specs.Reading.{Reads}
@@ -42,8 +40,8 @@ module _ (g : Grammar) where
     -- the document at the address is spoiled: it cannot be read any more, or has another shape
     pub data IsSpoiledAt (address : List ℕ) : Refusal → Type 0 where
       unreadable : {text : List ℕ} → after address ≡ Some text → CannotBeRead text → IsSpoiledAt address (NotParsed address)
-      reshaped : {text now : List ℕ} {tree other : Parts} {n : ℕ} → texts address ≡ Some text → Reads g text (Whole tree) → after address ≡ Some now → IsUtf8 now →
-          Reads g now (Whole other) → IsFirstUnlike g tree other n → IsSpoiledAt address (Shape address n)
+      reshaped : {text now : List ℕ} {tree other : Parts} {n : ℕ} → texts address ≡ Some text → Reads g text (Whole tree) → after address ≡ Some now →
+          IsUtf8 now → Reads g now (Whole other) → IsFirstUnlike g tree other n → IsSpoiledAt address (Shape address n)
 
     -- it is read whole, and has the shape that it had
     pub record IsKeptAt (address : List ℕ) : Type 0 where
@@ -94,7 +92,8 @@ module _ (g : Grammar) where
       no_name : NothingIsMeant → IsRenamed (Err NoName)
       refused : {mentions : List Mention} {m : Mention} {refusal : Refusal} → AreRenamed mentions → Contains mentions m →
           IsSpoiledAt texts (renamed_texts new mentions texts) m.address refusal →
-          ((other : Mention) → Contains mentions other → slice_cmp nat_cmp other.address m.address ≡ Less → IsKeptAt texts (renamed_texts new mentions texts) other.address) →
+          ((other : Mention) → Contains mentions other → slice_cmp nat_cmp other.address m.address ≡ Less →
+          IsKeptAt texts (renamed_texts new mentions texts) other.address) →
           IsRenamed (Err refusal)
       rebound : {mentions : List Mention} {a : List ℕ} {i : ℕ} {before behind : Link} → AreRenamed mentions →
           ((m : Mention) → Contains mentions m → IsKeptAt texts (renamed_texts new mentions texts) m.address) →

@@ -6,9 +6,14 @@
 //!
 //! There is no code here. Each function has an empty body, and its contract is a law that a reader would expect: a rename has one outcome
 //! ([`one_rename`]), by the texts alone ([`only_texts_are_renamed`]); one that is accepted leaves every reference of every document leading
-//! where it led, and every text without a mention as it was ([`renames_rebind_nothing`]).
+//! where it led, and every text without a mention as it was ([`renames_rebind_nothing`]). What texts and shapes come to is shown over small
+//! ones that `specs/Worked.antt` writes out ([`texts_are_replaced`], [`texts_and_places_make_no_shape`]), and shapes are compared as what is
+//! equal is ([`shapes_are_settled`]).
 #![tactic(auto)]
 
 mod laws;
 
-pub use laws::{one_rename, only_texts_are_renamed, renames_rebind_nothing};
+pub use laws::{
+    one_rename, only_texts_are_renamed, renames_rebind_nothing, shapes_are_settled,
+    texts_and_places_make_no_shape, texts_are_replaced,
+};
