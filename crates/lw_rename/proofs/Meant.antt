@@ -1,6 +1,9 @@
 -- What is meant at an offset by what is seen of documents is what is meant there by their trees.
-use Rattle.std.proofs.Common.{◌≡◌, ◌≢◌, ℕ, ◌<◌, List, Option, Some, None, Contains, slice_get, length, refl, sym, ap, ◌∙◌, subst}
+use Rattle.std.proofs.Common.{◌≡◌, ◌≢◌, ℕ, ◌+◌, ◌<◌, true, false, List, Option, Some, None, Result, Ok, Err, IfOk, Contains, slice_get, length, refl, sym, ap, ◌∙◌, subst, arith, inl, inr}
+use Rattle.std.specs.Str.{bytes_eq}
+use Rattle.std.proofs.lemmas.Bool.{cases_lt}
 use Rattle.std.proofs.lemmas.Option.{same_Some, none-some}
+use Rattle.std.proofs.lemmas.Slice.Eq.{bytes_eq-Decides}
 use Rattle.lw_base.specs.declared.numbers.NodeId.{NodeId}
 use Rattle.lw_base.specs.declared.token.Span.{Span}
 use Rattle.lw_grammar.specs.declared.grammar.Grammar.{Grammar}
@@ -21,7 +24,7 @@ use Rattle.lw_tree.specs.declared.node.Reference.{Reference}
 use Rattle.lw_tree.specs.Parts.{Parts}
 use Rattle.lw_rename.specs.Targets.{IsMeantAmong, MeansAt, place_target, target_led, treeless, nothing, something, nowhere, there}
 use Rattle.lw_rename.proofs.Built.{answer_at, apart_of, led_nowhere, led_to, target_within}
-use Rattle.lw_rename.proofs.Listing.{at_place_of, is_among}
+use Rattle.lw_rename.proofs.Listing.{at_place_of, is_among, not_both, one_at}
 use Rattle.lw_rename.proofs.Once.{IsOnceOrNone, OnceAt, look, none_holds, no_tree_at, once_address, once_place, once_at, tree_at}
 use Rattle.lw_rename.proofs.Once as place
 
@@ -110,3 +113,27 @@ module _ (g : Grammar) (views : List View) (built : AreBuiltViews g views) (addr
   pub target_meant : (target : Target) → IsMeantAmong views address offset (Some target) → IsTargetAt g views address offset target
   unfolding Outcome
   target_meant target is = meant_as (Some target) is
+
+-- ---- where it is looked for
+
+pub is_address : {a b : List ℕ} → true ≡ bytes_eq a b → a ≡ b
+is_address {a} {b} same = (bytes_eq-Decides a b).0 (sym same)
+
+pub is_other_address : {a b : List ℕ} → false ≡ bytes_eq a b → a ≢ b
+is_other_address {a} {b} unlike same = not_both ((bytes_eq-Decides a b).1 same) (sym unlike)
+
+pub meant_there : {E : Type 0} (views : List View) (address : List ℕ) (offset : ℕ) (v : View) → Contains views v → v.uri.now ≡ address →
+    (r : Result (Option Target) E) → IfOk r (MeansAt v offset) → IfOk r (IsMeantAmong views address offset)
+meant_there views address offset v has same (Err e) means = tt
+meant_there views address offset v has same (Ok target) means = there has same means
+
+pub not_here_more : (views : List View) (address : List ℕ) (i : ℕ) (v : View) → slice_get views i ≡ Some v → v.uri.now ≢ address →
+    ((k : ℕ) (w : View) → k < i → slice_get views k ≡ Some w → w.uri.now ≢ address) → (k : ℕ) (w : View) → k < i + 1 → slice_get views k ≡ Some w →
+    w.uri.now ≢ address
+not_here_more views address i v at other before k w below found_there = elim (cases_lt k i) [
+  | inl lower ↦ before k w lower found_there
+  | inr up ↦
+      let place : i ≡ k = omega (arith, below, up) in
+      let one = one_at views k v w (ap (slice_get views) (sym place) ∙ at) found_there in
+      λ same. other (ap (λ (x : View). x.uri.now) one ∙ same)
+]
