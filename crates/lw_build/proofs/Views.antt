@@ -1,5 +1,5 @@
 -- All documents as they are lent: each stands where the workspace has it, and its answers are its links.
-use Rattle.std.proofs.Common.{◌≡◌, ◌≢◌, ℕ, zero, suc, List, [], ◌∷◌, length, map, cond, Contains, T, Bool, true, false, ◌<◌, is_eq, is_lt, Ordering, Less, Equal, Greater, Option, Some, None, IfSome, option_map, option_and_then, refl, sym, ap, subst, subst₂, ◌∙◌, inl, inr, ◌⊎◌, arith}
+use Rattle.std.proofs.Common.{◌≡◌, ◌≢◌, ℕ, zero, suc, List, [], ◌∷◌, ◌++◌, length, map, cond, Contains, T, Bool, true, false, ◌<◌, is_eq, is_lt, Ordering, Less, Equal, Greater, Option, Some, None, IfSome, option_map, option_and_then, refl, sym, ap, subst, subst₂, ◌∙◌, inl, inr, ◌⊎◌, arith}
 use Rattle.std.specs.FinMap.{get, entries, is_sorted, entries_sorted}
 use Rattle.std.specs.FinMap.Entries.{below_all}
 use Rattle.std.specs.List.{All, AllPairs, AllZip, slice_index_or}
@@ -12,6 +12,7 @@ use Rattle.lw_base.specs.declared.numbers.DocId.{DocId}
 use Rattle.lw_docs.specs.Documents.{AreNumbered, ByAddress, Numbered, numbered}
 use Rattle.lw_grammar.specs.declared.grammar.Grammar.{Grammar}
 use Rattle.lw_index.specs.declared.parts.Answer.{Answer}
+use Rattle.lw_link.proofs.Rows.{zip_push}
 use Rattle.lw_machine.specs.Documents.{present_texts}
 use Rattle.lw_machine.proofs.Entries.{both}
 use Rattle.lw_machine.proofs.Places.{Among, first, later, one_or_two, order, test_other, test_same}
@@ -60,6 +61,13 @@ module _ {A B : Type 0} (R : A → B → Type 0) where
 
 all_so : {A : Type 0} (P : A → Type 0) (xs : List A) → ((x : A) → Contains xs x → P x) → All P xs
 all_so P xs each k d inside = each (slice_index_or xs k d) (All-contains_itself xs k d inside)
+
+-- one more is lent
+pub views_more : (kept : ByAddress) (readings : Readings) (led : Led) (places : List (List ℕ × DocId)) (views after : List View) (place : List ℕ × DocId) (view : View) →
+    after ≡ views ++ view ∷ [] → AllZip (IsViewOf kept readings led) places views → IsViewOf kept readings led place view →
+    AllZip (IsViewOf kept readings led) (places ++ place ∷ []) after
+views_more kept readings led places views after place view pushed all one =
+    subst (AllZip (IsViewOf kept readings led) (places ++ place ∷ [])) (sym pushed) (zip_push (IsViewOf kept readings led) places views place view all one)
 
 -- ---- what is found among views
 
@@ -140,11 +148,11 @@ module _ (R : List ℕ × DocId → View → Type 0) (at : (p : List ℕ × DocI
 
 module _ (g : Grammar) (texts : List (List ℕ)) (kept : ByAddress) (are : AreNumbered kept) (readings : Readings) (read : AreDocumentsRead g texts kept readings) where
   within_of : (text : List ℕ) (reading : Reading) → IsReadingOfText g texts text reading → IfSome (tree_of reading) (StandsInText text)
-  within_of text (Whole tree locals) is = is.1.0
+  within_of text (Whole tree locals) is = is.1
   within_of text (Broken issue) is = tt
 
   few_of : (text : List ℕ) (reading : Reading) → IsReadingOfText g texts text reading → IfSome (tree_of reading) HasFewReferences
-  few_of text (Whole tree locals) is = is.1.1.1
+  few_of text (Whole tree locals) is = is.3
   few_of text (Broken issue) is = tt
 
   -- the tree of a document stands in its text

@@ -5,12 +5,12 @@ use Rattle.std.specs.Map.Iter.{deref_pair}
 use Rattle.std.proofs.lemmas.Map.Iter.{iter_turn, iter_end}
 use Rattle.lw_base.specs.declared.numbers.DocId.{DocId}
 use Rattle.lw_docs.specs.Documents.{Numbered, numbered}
-use Rattle.lw_link.proofs.Rows.{zip_push}
 use Rattle.lw_query.specs.declared.view.View.{View}
 use Rattle.lw_build.specs.Seen.{IsViewOf}
 use Rattle.lw_build.specs.Telling.{numbered_places}
 use Rattle.lw_build.proofs.Places.{among_at, map_push}
 use Rattle.lw_build.proofs.News.{is_held, place_held}
+use Rattle.lw_build.proofs.Views.{views_more}
 use Rattle.lw_build.proofs.seen.views_of.Goals as goal
 
 pub viewing-init : goal.viewing-init
@@ -36,22 +36,20 @@ viewing-preserved c =
     let uri : doc.uri ≡ c.in-Some._uri.now =
     c.numbered.ensures.apart doc.uri c.in-Some._uri.now (numbered c.in-Some.d.now doc) held c.doc-doc.ensures at (sym same) in
     let here = ap (get docs) (sym uri) ∙ c.doc-doc.ensures in
-    let view : View = record { doc = c.in-Some.d.now; uri = record { now = doc.uri }; text = c.as_name.result; tree = c.tree.result; answers = c.answers.result } in
-    let one : IsViewOf docs c.args.readings.now c.args.refs.now (c.in-Some._uri.now, c.in-Some.d.now) view = record {
-      number = refl;
-      address = uri;
-      stands = ap (option_map (λ (h : Numbered). h.number.0)) here;
-      text = ap (option_map (λ (h : Numbered). h.doc.text)) here ∙ ap Some (sym c.as_name.ensures.text);
-      tree = c.tree.ensures;
-      answers = c.answers.ensures;
-    } in
     record {
       next = tt;
       finite = tt;
-      views = subst₂ (AllZip (IsViewOf docs c.args.readings.now c.args.refs.now)) (sym (map_push deref_pair c.viewing.yielded (c.in-Some._uri, c.in-Some.d)))
-          (sym c.in_ok-push.ensures.items)
-          (zip_push (IsViewOf docs c.args.readings.now c.args.refs.now) (map deref_pair c.viewing.yielded) c.viewing.views.items
-          (c.in-Some._uri.now, c.in-Some.d.now) view c.viewing.invariant.views one);
+      views = subst (λ (places : List (List ℕ × DocId)). AllZip (IsViewOf docs c.args.readings.now c.args.refs.now) places c.push.new.self.items)
+          (sym (map_push deref_pair c.viewing.yielded (c.in-Some._uri, c.in-Some.d)))
+          (views_more docs c.args.readings.now c.args.refs.now (map deref_pair c.viewing.yielded) c.viewing.views.items c.push.new.self.items
+          (c.in-Some._uri.now, c.in-Some.d.now) _ c.in_ok-push.ensures.items c.viewing.invariant.views (record {
+            number = refl;
+            address = uri;
+            stands = ap (option_map (λ (h : Numbered). h.number.0)) here;
+            text = ap (option_map (λ (h : Numbered). h.doc.text)) here ∙ ap Some (sym c.as_name.ensures.text);
+            tree = c.tree.ensures;
+            answers = c.answers.ensures;
+          }));
     }
 
 pub returns : goal.returns

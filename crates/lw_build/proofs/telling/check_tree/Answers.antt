@@ -20,18 +20,18 @@ told : (g : Grammar) (texts : Texts) (trees : Trees) (address text : List ℕ) (
 told g texts trees address text tree are there is list (diagnostics, right, shown) =
     record { text = text; is_shown = there; is_list = diagnostic.whole trees are is right shown }
 
-pub links-answers-requires-clause-outwards : goal.links-answers-requires-clause-outwards
-links-answers-requires-clause-outwards g c = text_outwards c.args.language.now.grammar c.args.text.now c.args.tree.now c.requires.reads
+pub links-requires-clause-outwards : goal.links-requires-clause-outwards
+links-requires-clause-outwards g c = text_outwards c.args.language.now.grammar c.args.text.now c.args.tree.now c.requires.reads
 
-pub links-answers-requires-clause-owners : goal.links-answers-requires-clause-owners
-links-answers-requires-clause-owners g c = text_owners c.args.language.now.grammar c.args.text.now c.args.tree.now c.requires.reads
+pub links-requires-clause-owners : goal.links-requires-clause-owners
+links-requires-clause-owners g c = text_owners c.args.language.now.grammar c.args.text.now c.args.tree.now c.requires.reads
 
-pub links-answers-requires-clause-known : goal.links-answers-requires-clause-known
-links-answers-requires-clause-known g c =
+pub links-requires-clause-known : goal.links-requires-clause-known
+links-requires-clause-known g c =
     (c.args.language.now.grammar, c.types-types.ensures, text_types c.args.language.now.grammar c.args.text.now c.args.tree.now c.requires.reads)
 
-pub diagnostics-list-requires : goal.diagnostics-list-requires
-diagnostics-list-requires g c = record {
+pub diagnostics-requires : goal.diagnostics-requires
+diagnostics-requires g c = record {
   stands = c.requires.stands;
   root = (text_root c.args.language.now.grammar c.args.text.now c.args.tree.now c.requires.reads).there;
   symbols = c.requires.locals;
@@ -39,8 +39,8 @@ diagnostics-list-requires g c = record {
   known = (c.args.language.now.grammar, c.types-types.ensures, text_types c.args.language.now.grammar c.args.text.now c.args.tree.now c.requires.reads);
 }
 
-pub returns-in_ok-list-clause-checked : goal.returns-in_ok-list-clause-checked
-returns-in_ok-list-clause-checked g c texts trees address are index there here =
+pub returns-clause-checked : goal.returns-clause-checked
+returns-clause-checked g c texts trees address are index there here =
     let of = c.args.language.now.grammar in
     let tree = c.args.tree.now in
     let answers = c.in_ok-answers.ensures.answers of trees address c.types-types.ensures index here in

@@ -10,11 +10,11 @@ doc-requires c =
     held_seen c.self.inside.docs.now c.self.inside.readings.now c.self.invariant c.args.doc
     (subst (λ b. MatchBool b (HasReading c.self.inside.readings.now c.args.doc.0) (reading_at c.self.inside.readings.now c.args.doc.0 ≡ None)) c.if-has.true c.has.ensures)
 
-pub returns-then : goal.returns-then
-returns-then c = subst (λ (v : SeenView). IsAt v.kept c.args.doc c.doc.result.now) c.self.view_is c.doc.ensures
+pub returns-then-has : goal.returns-then-has
+returns-then-has c = subst (λ (v : SeenView). IsAt v.kept c.args.doc c.doc.result.now) c.self.view_is c.doc.ensures
 
-pub returns-else : goal.returns-else
-returns-else c address =
+pub returns-else-has : goal.returns-else-has
+returns-else-has c address =
     subst (λ (v : SeenView). ¬ StandsSeen v c.args.doc.0 address) c.self.view_is
     (nowhere_seen c.self.inside.docs.now c.self.inside.readings.now c.self.invariant c.args.doc.0
     (subst (λ b. MatchBool b (HasReading c.self.inside.readings.now c.args.doc.0) (reading_at c.self.inside.readings.now c.args.doc.0 ≡ None)) c.if-has.false c.has.ensures) address)

@@ -1,4 +1,4 @@
-use Rattle.std.proofs.Common.{◌×◌, ◌≡◌, List, Option, option_and_then, option_map, Result, Ok, Err, OnOk, sym, ap, subst₂}
+use Rattle.std.proofs.Common.{◌≡◌, List, Option, option_and_then, option_map, Result, Ok, Err, OnOk, sym, ap, subst₂}
 use Rattle.lw_docs.specs.Documents.{Numbered}
 use Rattle.lw_index.specs.declared.parts.Answer.{Answer}
 use Rattle.lw_scopes.specs.Links.{IsNumberBelow}
@@ -19,8 +19,8 @@ weaker : {A E : Type 0} {P Q : Type 0} (r : Result A E) → (P → Q) → OnOk r
 weaker (Ok x) f is = f is
 weaker (Err e) f is = tt
 
-pub check_reading-found-requires : goal.check_reading-found-requires
-check_reading-found-requires g c =
+pub check_reading-requires : goal.check_reading-requires
+check_reading-requires g c =
     (is_document c.args.language.now.grammar c.args.language.now.texts c.args.docs.now c.numbered.ensures c.args.readings.now c.requires.read c.requires.all c.args.d
     c.doc-doc.result.now c.doc-doc.ensures c.in-Some.reading.now (sym c.in-Some.ensures.value)).0
 

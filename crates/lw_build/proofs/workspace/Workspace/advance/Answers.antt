@@ -22,8 +22,8 @@ returns-then-self-clause-builds g c =
     (λ m agrees. subst (BuildsToEnd of m (documents_of true docs)) (sym c.new.ensures)
     (stays_built of c.self.invariant.one_way c.types.result.now c.types.ensures docs (c.self.invariant.built c.if-self.true) m agrees)))
 
-pub news_of-news-requires-clause-unread : goal.news_of-news-requires-clause-unread
-news_of-news-requires-clause-unread g c =
+pub news_of-requires-clause-unread : goal.news_of-requires-clause-unread
+news_of-requires-clause-unread g c =
     unread_more c.self.inside.readings c.read_all.new.self c.self.inside.refs c.self.invariant.unread c.in_ok-read_all.ensures.more
 
 pub take_all-requires-clause-held : goal.take_all-requires-clause-held
@@ -43,7 +43,7 @@ invariant_of-self-2 g c =
       numbered = c.numbered.ensures;
       read = read_taken own docs c.take_all.new.docs c.take_all.ensures of texts c.read_all.new.self c.in_ok-read_all.ensures.kept;
       unread = c.in_ok-news.ensures.unread;
-      linked = λ is. linked_taken own docs c.take_all.new.docs c.take_all.ensures of c.read_all.new.self c.news_of-news.new.refs c.in_ok-news.ensures.linked;
+      linked = λ is. linked_taken own docs c.take_all.new.docs c.take_all.ensures of c.read_all.new.self c.news_of.new.refs c.in_ok-news.ensures.linked;
       built = λ is. record {
         current = current own docs c.take_all.new.docs c.take_all.ensures of c.self.invariant.numbered c.in_ok-news.news.lists c.in_ok-news.ensures.told;
         readable = readable_taken own docs c.take_all.new.docs c.take_all.ensures of

@@ -15,13 +15,13 @@ use Rattle.lw_build.proofs.workspace.Workspace.seen.Goals as goal
 
 pub invariant_of-result : goal.invariant_of-result
 invariant_of-result c =
-    let is = ap (λ (v : WorkspaceView). v.is_built) c.self.view_is ∙ c.requires in
+    let is = ap (λ (v : WorkspaceView). v.is_built) c.self.view_is ∙ c.requires.built in
     readings_seen c.self.inside.language.grammar c.self.inside.language.texts c.self.inside.docs c.self.invariant.numbered c.self.inside.readings
     c.self.invariant.read (c.self.invariant.linked is).read
 
 pub returns-clause-views : goal.returns-clause-views
 returns-clause-views c =
-    let is = ap (λ (v : WorkspaceView). v.is_built) c.self.view_is ∙ c.requires in
+    let is = ap (λ (v : WorkspaceView). v.is_built) c.self.view_is ∙ c.requires.built in
     let of = c.self.inside.language.grammar in
     let docs = c.self.inside.docs in
     let readings = c.self.inside.readings in

@@ -12,7 +12,7 @@ if_ok (Err e) f is = tt
 
 pub returns-clause-built : goal.returns-clause-built
 returns-clause-built c =
-    let is = ap (λ (v : WorkspaceView). v.is_built) c.self.view_is ∙ c.requires in
+    let is = ap (λ (v : WorkspaceView). v.is_built) c.self.view_is ∙ c.requires.built in
     if_ok c.views_of.result
     (λ views rows. subst (λ (v : WorkspaceView). AreBuiltViews v.grammar views.items) c.self.view_is
     (built_views c.self.inside.language.grammar c.self.inside.language.texts c.self.inside.docs c.self.invariant.numbered c.self.inside.readings
@@ -21,7 +21,7 @@ returns-clause-built c =
 
 pub returns-clause-texts : goal.returns-clause-texts
 returns-clause-texts c =
-    let is = ap (λ (v : WorkspaceView). v.is_built) c.self.view_is ∙ c.requires in
+    let is = ap (λ (v : WorkspaceView). v.is_built) c.self.view_is ∙ c.requires.built in
     if_ok c.views_of.result
     (λ views rows. subst (λ (v : WorkspaceView). (address : List ℕ) → texts_seen views.items address ≡ present_texts (documents v) address) c.self.view_is
     (λ address. same_texts c.self.inside.language.grammar c.self.inside.language.texts c.self.inside.docs c.self.invariant.numbered c.self.inside.readings
