@@ -1,12 +1,12 @@
 -- The references that lead to a node, gathered document by document.
-use Rattle.std.proofs.Common.{◌≡◌, ◌≢◌, ◌↔◌, ◌⊎◌, ℕ, ◌+◌, ◌-◌, ◌<◌, ◌≤◌, Bool, true, false, cond, List, [], ◌∷◌, ◌++◌, Option, Some, None, Contains, AllPairs, IsTrue, length, get_or, map, take, append-nil, append_assoc, refl, sym, ap, subst, ◌∙◌, inl, inr, arith}
+use Rattle.std.proofs.Common.{◌≡◌, ◌≢◌, ◌↔◌, ◌⊎◌, ℕ, ◌+◌, ◌-◌, ◌<◌, ◌≤◌, Bool, true, false, cond, List, [], ◌∷◌, ◌++◌, Some, None, Contains, AllPairs, length, get_or, map, take, append-nil, append_assoc, refl, sym, ap, subst, ◌∙◌, inl, inr, arith}
 use Rattle.std.specs.List.{filter, slice_get}
 use Rattle.std.specs.List.Sorted.{IsStrictlySortedBy}
 use Rattle.std.specs.declared.cmp.Ordering.TheVariants.{Less}
 use Rattle.std.specs.BTreeSet.{BTreeSet, IsOrdered}
 use Rattle.std.proofs.lemmas.Bool.{cases_lt}
 use Rattle.std.proofs.lemmas.List.{get_or_append_left, get_or-append_right, length-append, length-map, map_more, take_all}
-use Rattle.std.proofs.lemmas.List.Elements.{All-from_recursion, All-contains, All-filter, Contains-append_left, Contains-append_right, Contains-append_cases, Contains-push_cases, Contains-get_or, filter_passes}
+use Rattle.std.proofs.lemmas.List.Elements.{All-from_recursion, All-contains, Contains-append_left, Contains-append_right, Contains-append_cases, Contains-push_cases, Contains-get_or, filter_passes}
 use Rattle.std.proofs.lemmas.Option.{same_Some, slice_get-get_or, slice_get-map}
 use Rattle.std.specs.Option.{option_map}
 use Rattle.std.proofs.lemmas.List.Kept.{IsStrictlySortedBy-filter}
@@ -19,8 +19,8 @@ use Rattle.lw_index.specs.declared.parts.Target.{Target}
 use Rattle.lw_refs.specs.declared.slot.SlotId.{SlotId}
 use Rattle.lw_refs.specs.declared.uses.Use.{Use}
 use Rattle.lw_refs.specs.Users.{SlotPrecedes, by_document, by_reference, AreUsersIn}
-use Rattle.lw_refs.specs.Uses.{target_of_use, IsUseOf, AreUses, ComesBefore}
-use Rattle.lw_refs.specs.Pairs.{Pair, pair_cmp, is_paired, LeadsInto, Held, held_at, ArePaired, IsHeldUser}
+use Rattle.lw_refs.specs.Uses.{target_of_use, AreUses, ComesBefore}
+use Rattle.lw_refs.specs.Pairs.{Pair, pair_cmp, LeadsInto, Held, held_at, ArePaired, IsHeldUser}
 use Rattle.lw_refs.proofs.PairOrder.{pair_total, pair_exact, IsBelow, pair_below, from_document, is_from, from_is}
 
 -- ---- lists

@@ -1,5 +1,5 @@
 -- The references that lead to a node, over all documents, and their order. Held against LSP 3.17, "Find References Request": the references of a symbol are those of the whole project, whatever document they stand in. That they go by the number of the document and then by their own, each once, is this profile's.
-use Rattle.std.specs.Prelude.{◌≡◌, ◌↔◌, ◌<◌, ℕ, List, Some, Contains, AllPairs}
+use Rattle.std.specs.Prelude.{◌≡◌, ◌↔◌, ◌<◌, List, Some, Contains, AllPairs}
 use Rattle.std.specs.List.{slice_get}
 use Rattle.std.specs.FinMap as map
 use Rattle.lw_base.specs.declared.numbers.DocId.{DocId}

@@ -1,4 +1,4 @@
-use Rattle.std.proofs.Common.{◌≡◌, ◌+◌, ◌++◌, ◌∷◌, [], List, Vec, Global, ap, subst, sym, ◌∙◌, arith}
+use Rattle.std.proofs.Common.{◌≡◌, ◌+◌, ◌++◌, ◌∷◌, [], List, Vec, Global, ap, subst, sym, ◌∙◌}
 use Rattle.lw_refs.specs.declared.uses.Use.{Use}
 use Rattle.lw_refs.proofs.Turns.{AreUsesUpTo, all_of_them, one_missing, one_found, use_of, answer_at}
 use Rattle.lw_refs.proofs.uses.uses_in_turn.Goals as goal

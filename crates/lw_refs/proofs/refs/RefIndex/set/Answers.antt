@@ -1,7 +1,7 @@
 use Rattle.std.proofs.Common.{sym, ap, ◌∙◌}
 use Rattle.std.specs.FinMap as map
 use Rattle.lw_refs.proofs.View.{led_insert}
-use Rattle.lw_refs.proofs.Holding.{from_ok, paired_kept, paired_same, paired_with, led_same}
+use Rattle.lw_refs.proofs.Holding.{from_ok, paired_kept, paired_same, paired_with}
 use Rattle.lw_refs.proofs.refs.RefIndex.set.Goals as goal
 
 pub sweep-requires : goal.sweep-requires
