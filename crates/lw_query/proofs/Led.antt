@@ -43,7 +43,8 @@ no_user : {A : Type 0} (i : ℕ) {answer : Answer} → slice_get [] i ≡ Some a
 no_user zero is = cc
 no_user (suc i) is = cc
 
-pub user_of : (led : Led) (target : Target) (slot : SlotId) → slice_get (answers_in led slot.doc.0) slot.reference.0 ≡ Some (Found target) → IsUser led target slot
+pub user_of : (led : Led) (target : Target) (slot : SlotId) →
+    slice_get (answers_in led slot.doc.0) slot.reference.0 ≡ Some (Found target) → IsUser led target slot
 user_of led target slot at = by (map.get led slot.doc.0) refl at
   where
     by : (given : Option (List Answer)) → map.get led slot.doc.0 ≡ given →

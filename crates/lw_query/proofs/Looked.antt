@@ -1,7 +1,37 @@
 -- The first name or reference that is found by looking is the first place.
-use Rattle.std.proofs.Common.{ℕ, zero, suc, ◌≡◌, ◌≤◌, ◌<◌, ◌==◌, ◌&&◌, ◌⊎◌, inl, inr, Bool, true, false, cond, List, [], ◌∷◌, Option, Some, None, MatchOption, length, slice_get, get_or, position, nat_le, nat_lt, refl, sym, ap, subst, ◌∙◌, arith}
+use Rattle.std.proofs.Common.{
+  ℕ,
+  ◌≡◌,
+  ◌≤◌,
+  ◌<◌,
+  ◌⊎◌,
+  inl,
+  inr,
+  Bool,
+  true,
+  false,
+  cond,
+  List,
+  [],
+  ◌∷◌,
+  Option,
+  Some,
+  None,
+  MatchOption,
+  length,
+  slice_get,
+  get_or,
+  position,
+  nat_lt,
+  refl,
+  sym,
+  ap,
+  subst,
+  ◌∙◌,
+  arith,
+}
 use Rattle.std.specs.Option.{option_map_or}
-use Rattle.std.proofs.lemmas.Option.{get_or_from_slice_get, same_Some, slice_get-get_or, slice_get_within}
+use Rattle.std.proofs.lemmas.Option.{get_or_from_slice_get, slice_get-get_or, slice_get_within}
 use Rattle.std.specs.List.{position_or_len}
 use Rattle.std.proofs.lemmas.Bool.Decides.{nat_tests}
 use Rattle.std.proofs.lemmas.Grind.{common_steps}
@@ -12,10 +42,10 @@ use Rattle.lw_base.specs.declared.numbers.RefId.{RefId}
 use Rattle.lw_base.specs.declared.token.Span.{Span}
 use Rattle.lw_tree.specs.declared.node.Reference.{Reference}
 use Rattle.lw_tree.specs.Parts.{Parts, name_of}
-use Rattle.lw_places.specs.Places.{ComesNoLater, IsFirstPlace, IsPlaceAt, NoPlace, TakesUp, name, reference, names, name_first, references, inside, at_end, nothing}
+use Rattle.lw_places.specs.Places.{ComesNoLater, IsFirstPlace, IsPlaceAt, NoPlace, TakesUp, name, reference, names, name_first, references, at_end, nothing}
 use Rattle.lw_places.specs.declared.place.Place.{Place}
 use Rattle.lw_places.specs.declared.place.Place.TheVariants.{Named, Refers}
-use Rattle.lw_query.specs.Looking.{IsAt, IsFirstName, NoName, is_at, is_named_at}
+use Rattle.lw_query.specs.Looking.{IsAt, IsFirstName, NoName, is_at}
 use Rattle.lw_query.specs.declared.places.Side.{Side}
 use Rattle.lw_query.specs.declared.places.Side.TheVariants.{Inside, AtEnd}
 use Rattle.lw_query.proofs.Rows.{differ}
@@ -44,8 +74,12 @@ module _ {X : Type 0} (p : X → Bool) where
       (x : X) × (slice_get xs i ≡ Some x) × (p x ≡ true) × ((j : ℕ) (y : X) → j < i → slice_get xs j ≡ Some y → p y ≡ false)
   first_passes [] i is = absurd (differ is)
   first_passes (x ∷ xs) i is =
-      let (low, passes, before) = position-Some p (x ∷ xs) i x is in
-      (get_or (x ∷ xs) i x, slice_get-get_or (x ∷ xs) i x low, passes, λ j y lt at. subst (λ z. p z ≡ false) (get_or_from_slice_get (x ∷ xs) j y x at) (before j lt))
+      let (low, passes, before) = position-Some p (x ∷ xs) i x is in (
+        get_or (x ∷ xs) i x,
+        slice_get-get_or (x ∷ xs) i x low,
+        passes,
+        λ j y lt at. subst (λ z. p z ≡ false) (get_or_from_slice_get (x ∷ xs) j y x at) (before j lt),
+      )
 
   pub none_passes : (xs : List X) → position p xs ≡ None → (j : ℕ) (y : X) → slice_get xs j ≡ Some y → p y ≡ false
   none_passes xs is j y at =
@@ -62,20 +96,24 @@ module _ (side : Side) (offset : ℕ) (tree : Parts) where
   named_by n None is = never is refl
   named_by n (Some x) is = (x, refl, is)
 
-  no_name_passes : NoName (is_at side offset) tree → (n : ℕ) (text : List ℕ) (s : Span) → n < length tree.nodes → name_of tree n ≡ Some (text, s) → IsAt side offset s → ⊥
+  no_name_passes : NoName (is_at side offset) tree → (n : ℕ) (text : List ℕ) (s : Span) → n < length tree.nodes →
+      name_of tree n ≡ Some (text, s) → IsAt side offset s → ⊥
   no_name_passes none n text s low is at =
       never (ap (λ (x : Option (List ℕ × Span)). option_map_or (λ (y : List ℕ × Span). is_at side offset y.1) x false) is ∙ test_at side offset s at) (none n low)
 
-  before_first : (n : ℕ) → IsFirstName (is_at side offset) tree n → (m : ℕ) (text : List ℕ) (s : Span) → m < n → name_of tree m ≡ Some (text, s) → IsAt side offset s → ⊥
+  before_first : (n : ℕ) → IsFirstName (is_at side offset) tree n → (m : ℕ) (text : List ℕ) (s : Span) → m < n →
+      name_of tree m ≡ Some (text, s) → IsAt side offset s → ⊥
   before_first n is m text s lt named at =
-      never (ap (λ (x : Option (List ℕ × Span)). option_map_or (λ (y : List ℕ × Span). is_at side offset y.1) x false) named ∙ test_at side offset s at) (is.first m lt)
+      never (ap (λ (x : Option (List ℕ × Span)). option_map_or (λ (y : List ℕ × Span). is_at side offset y.1) x false) named ∙ test_at side offset s at)
+      (is.first m lt)
 
   -- ---- the first place
 
   later_or_not : (n m : ℕ) → (n ≤ m) ⊎ (m < n)
   later_or_not n m = grind arith
 
-  comes_first : (n : NodeId) → IsFirstName (is_at side offset) tree n.0 → (other : Place) (s : Span) → TakesUp tree other s → IsAt side offset s → ComesNoLater (Named n) other
+  comes_first : (n : NodeId) → IsFirstName (is_at side offset) tree n.0 → (other : Place) (s : Span) → TakesUp tree other s → IsAt side offset s →
+      ComesNoLater (Named n) other
   comes_first n is other s (name {n = m} {text = text} {s = s'} low named) at = by (later_or_not n.0 m.0)
     where
       by : (n.0 ≤ m.0) ⊎ (m.0 < n.0) → ComesNoLater (Named n) (Named m)

@@ -1,21 +1,39 @@
 -- What is meant at a place, and where its name stands, by numbered documents.
-use Rattle.std.proofs.Common.{ℕ, ◌≡◌, ◌<◌, Bool, true, false, List, Option, Some, None, MatchOption, length, nat_lt, slice_get, if◌then◌else◌, refl, sym, ap, subst, ◌∙◌, arith}
+use Rattle.std.proofs.Common.{
+  ℕ,
+  ◌≡◌,
+  ◌<◌,
+  Bool,
+  true,
+  false,
+  List,
+  Option,
+  Some,
+  None,
+  MatchOption,
+  length,
+  nat_lt,
+  slice_get,
+  if◌then◌else◌,
+  refl,
+  sym,
+  ap,
+  subst,
+  ◌∙◌,
+  arith,
+}
 use Rattle.std.specs.Option.{option_map, unwrap_or}
 use Rattle.std.proofs.lemmas.Bool.Decides.{nat_tests}
 use Rattle.std.proofs.lemmas.Option.{same_Some}
 use Rattle.lw_base.specs.declared.numbers.DocId.{DocId}
-use Rattle.lw_base.specs.declared.numbers.NodeId.{NodeId}
 use Rattle.lw_base.specs.declared.numbers.RefId.{RefId}
 use Rattle.lw_base.specs.declared.token.Span.{Span}
 use Rattle.lw_index.specs.declared.parts.Answer.{Answer}
 use Rattle.lw_index.specs.declared.parts.Answer.TheVariants.{Found, Missing}
 use Rattle.lw_index.specs.declared.parts.Target.{Target}
-use Rattle.lw_scoping.specs.Links.{Link, LinksTo, Trees}
-use Rattle.lw_tree.specs.declared.node.Reference.{Reference}
+use Rattle.lw_scoping.specs.Links.{Link, Trees}
 use Rattle.lw_tree.specs.Parts.{Parts, name_of}
-use Rattle.lw_places.specs.Mentions.{
-  IsDefinitionAt, IsMeantAt, IsNameHere, LeadsFrom, Mention, no_place, named, refers, treeless, at_place, nothing_meant, defined
-}
+use Rattle.lw_places.specs.Mentions.{IsDefinitionAt, IsMeantAt, IsNameHere, Mention, no_place, named, refers, treeless, at_place, nothing_meant, defined}
 use Rattle.lw_places.specs.Places.{IsPlaceAt}
 use Rattle.lw_places.specs.declared.place.Place.{Place}
 use Rattle.lw_places.specs.declared.place.Place.TheVariants.{Named, Refers}
@@ -23,7 +41,7 @@ use Rattle.lw_query.specs.Spots.{place_answer, target_spot}
 use Rattle.lw_query.specs.Viewed.{AreViewsOf, IsLinkAnswer, IsMentionAt, LeadsAs, found, missing}
 use Rattle.lw_query.specs.declared.spot.Spot.{Spot}
 use Rattle.lw_query.proofs.Led.{is_led}
-use Rattle.lw_query.proofs.Named.{HasName, IsNamedLink, IsThere, meant_named, place_there}
+use Rattle.lw_query.proofs.Named.{HasName, meant_named, place_there}
 use Rattle.lw_query.proofs.Rows.{beside, differ}
 
 module _ (below : ℕ → ℕ → Type 0) (tree_at : ℕ → Option Parts) (answers_at : ℕ → List Answer) (Stands : ℕ → List ℕ → Type 0) (trees : Trees)
@@ -39,10 +57,12 @@ module _ (below : ℕ → ℕ → Type 0) (tree_at : ℕ → Option Parts) (answ
     read_there : trees address ≡ Some tree
     read_there = sym (views.same_tree doc.0 address stands) ∙ is_tree
 
-    answered_at_reference : (i : RefId) → IsPlaceAt tree offset (Some (Refers i)) → IsMeantBy address offset (unwrap_or (slice_get (answers_at doc.0) i.0) Missing)
+    answered_at_reference : (i : RefId) → IsPlaceAt tree offset (Some (Refers i)) →
+        IsMeantBy address offset (unwrap_or (slice_get (answers_at doc.0) i.0) Missing)
     answered_at_reference i at =
         let (r, in_tree) = place_there tree offset (Some (Refers i)) at in
-        let (given, among, links) = beside (IsLinkAnswer below Stands trees address tree) tree.refs (answers_at doc.0) (views.linked doc.0 address tree stands is_tree) i.0 r in_tree in
+        let (given, among, links) = beside (IsLinkAnswer below Stands trees address tree) tree.refs (answers_at doc.0)
+        (views.linked doc.0 address tree stands is_tree) i.0 r in_tree in
         subst (λ (a : Option Answer). IsMeantBy address offset (unwrap_or a Missing)) (sym among)
         (links.link, links.leads, at_place read_there at (refers in_tree links.is_link))
 
@@ -61,7 +81,8 @@ module _ (below : ℕ → ℕ → Type 0) (tree_at : ℕ → Option Parts) (answ
       name_of tree target.node.0 ≡ Some (text, s) → target_spot (tree_at target.doc.0) target ≡ Some (record { doc = target.doc; span = s })
   name_spot_of target tree is low text s called =
       ap (λ (t : Option Parts). target_spot t target) is
-      ∙ ap (λ (b : Bool). if b then option_map (λ (x : List ℕ × Span). record { doc = target.doc; span = x.1 }) (name_of tree target.node.0) else None) (within target.node.0 (length tree.nodes) low)
+      ∙ ap (λ (b : Bool). if b then option_map (λ (x : List ℕ × Span). record { doc = target.doc; span = x.1 }) (name_of tree target.node.0) else None)
+      (within target.node.0 (length tree.nodes) low)
       ∙ ap (λ (x : Option (List ℕ × Span)). option_map (λ (x : List ℕ × Span). record { doc = target.doc; span = x.1 }) x) called
 
   -- and a spot is that of a name
@@ -73,7 +94,8 @@ module _ (below : ℕ → ℕ → Type 0) (tree_at : ℕ → Option Parts) (answ
     pub doc : spot.doc ≡ target.doc
 
   named_by : (target : Target) (spot : Spot) (tree : Parts) → tree_at target.doc.0 ≡ Some tree → (b : Bool) (x : Option (List ℕ × Span)) →
-      name_of tree target.node.0 ≡ x → (if b then option_map (λ (x : List ℕ × Span). record { doc = target.doc; span = x.1 }) x else None) ≡ Some spot → IsNameSpot target spot
+      name_of tree target.node.0 ≡ x → (if b then option_map (λ (x : List ℕ × Span). record { doc = target.doc; span = x.1 }) x else None) ≡ Some spot →
+      IsNameSpot target spot
   named_by target spot tree is false x at there = absurd (differ there)
   named_by target spot tree is true None at there = absurd (differ there)
   named_by target spot tree is true (Some called) at there =
@@ -126,6 +148,7 @@ module _ (below : ℕ → ℕ → Type 0) (tree_at : ℕ → Option Parts) (answ
     node_defined target meant =
         let f = found_there target meant in
         let at = sym (views.same_tree target.doc.0 f.there f.stands) ∙ f.is_tree in
-        let here : IsNameHere trees (f.there, target.node.0) (record { address = f.there; span = f.has_name.span }) = record { tree = f.tree; is_tree = at; text = f.has_name.text; named = f.has_name.named; here = refl } in
+        let here : IsNameHere trees (f.there, target.node.0) (record { address = f.there; span = f.has_name.span }) =
+        record { tree = f.tree; is_tree = at; text = f.has_name.text; named = f.has_name.named; here = refl } in
         subst (IsDefinedBy address offset) (sym (name_spot_of target f.tree f.is_tree f.has_name.in_tree f.has_name.text f.has_name.span f.has_name.named))
         (record { address = f.there; span = f.has_name.span }, record { stands = f.stands; span = refl }, defined f.meant here)

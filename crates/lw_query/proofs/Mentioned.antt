@@ -1,5 +1,32 @@
 -- What is gathered are the mentions of a node.
-use Rattle.std.proofs.Common.{ℕ, ◌≡◌, ◌<◌, ◌⊎◌, inl, inr, Bool, true, List, [], ◌∷◌, Option, Some, None, Contains, All, AllPairs, IfOk, MatchOption, length, map, slice_get, refl, sym, ap, subst, ◌∙◌, arith}
+use Rattle.std.proofs.Common.{
+  ℕ,
+  ◌≡◌,
+  ◌<◌,
+  ◌⊎◌,
+  inl,
+  inr,
+  Bool,
+  true,
+  List,
+  [],
+  ◌∷◌,
+  Option,
+  Some,
+  None,
+  Contains,
+  All,
+  AllPairs,
+  length,
+  map,
+  slice_get,
+  refl,
+  sym,
+  ap,
+  subst,
+  ◌∙◌,
+  arith,
+}
 use Rattle.std.specs.List.{AllZip}
 use Rattle.std.specs.List.Sorted.{IsStrictlySortedBy}
 use Rattle.std.specs.Option.{option_map}
@@ -17,22 +44,19 @@ use Rattle.lw_index.specs.declared.parts.Target.{Target}
 use Rattle.lw_refs.specs.Led.{Led, answers_in}
 use Rattle.lw_refs.specs.Users.{IsUser}
 use Rattle.lw_refs.specs.declared.slot.SlotId.{SlotId}
-use Rattle.lw_scoping.specs.Links.{Link, LinksTo, Trees}
+use Rattle.lw_scoping.specs.Links.{LinksTo, Trees}
 use Rattle.lw_scoping.proofs.Once.{one_target}
 use Rattle.lw_tree.specs.declared.node.Reference.{Reference}
-use Rattle.lw_tree.specs.Parts.{Parts, name_of}
-use Rattle.lw_places.specs.Mentions.{
-  AreMentionsOf, AreReferencesAt, IsMeantAt, IsMentionOf, IsNameHere, IsUseHere, Mention, MentionPrecedes, by_address, by_start, by_end, used, declared,
-  nothing_meant, mentioned
-}
-use Rattle.lw_query.specs.Gathered.{AreSpotsOf, KeepsSpot, SpotKey, key_cmp, mention_of_key, spot_of_key}
+use Rattle.lw_tree.specs.Parts.{Parts}
+use Rattle.lw_places.specs.Mentions.{AreMentionsOf, IsMentionOf, IsNameHere, IsUseHere, Mention, MentionPrecedes, by_address, by_start, by_end, used, declared}
+use Rattle.lw_query.specs.Gathered.{AreSpotsOf, SpotKey, key_cmp, mention_of_key, spot_of_key}
 use Rattle.lw_query.specs.Spots.{IsSpotOfMention, slot_spot, target_spot}
 use Rattle.lw_query.specs.Spots as spots
 use Rattle.lw_query.specs.Viewed.{AreViewsOf, IsLinkAnswer, IsMentionAt, LeadsAs}
 use Rattle.lw_query.specs.declared.spot.Spot.{Spot}
 use Rattle.lw_query.proofs.Keys.{addresses, ends, less_numbers, same_address, same_end, same_start, starts, then_less}
 use Rattle.lw_query.proofs.Led.{answer_of_user, found_by, is_led, user_of}
-use Rattle.lw_query.proofs.Meant.{IsMeantBy, found_there, name_of_spot, name_spot_of}
+use Rattle.lw_query.proofs.Meant.{name_of_spot, name_spot_of}
 use Rattle.lw_query.proofs.Rows.{all_both, at_of, beside, beside_back, contains_at, differ, in_image, of_image, zip_images}
 
 -- ---- the order
@@ -65,7 +89,8 @@ module _ (Stands : ℕ → List ℕ → Type 0) (one_number : (n m : ℕ) (addre
   in_order [] sorted all = λ i j d lt low. absurd (omega (arith, low))
   in_order (k ∷ ks) sorted all =
       let after = all_both (λ (y : SpotKey). key_cmp k y ≡ Less) (IsAddressed Stands) (λ y. MentionPrecedes (mention_of_key k) (mention_of_key y))
-          (λ y less there. key_precedes k y less (All-head (IsAddressed Stands) k ks all) there) ks (sorted_head key_cmp k ks sorted) (All-tail (IsAddressed Stands) k ks all) in
+      (λ y less there. key_precedes k y less (All-head (IsAddressed Stands) k ks all) there) ks
+      (sorted_head key_cmp k ks sorted) (All-tail (IsAddressed Stands) k ks all) in
       AllPairs-cons MentionPrecedes (mention_of_key k) (map mention_of_key ks) (All-map (MentionPrecedes (mention_of_key k)) mention_of_key ks after)
       (in_order ks (sorted_tail key_cmp k ks sorted) (All-tail (IsAddressed Stands) k ks all))
 
@@ -94,8 +119,8 @@ use_of_spot tree_at slot spot there = by (tree_at slot.doc.0) refl there
 -- ---- the mentions
 
 module _ (below : ℕ → ℕ → Type 0) (tree_at : ℕ → Option Parts) (answers_at : ℕ → List Answer) (Stands : ℕ → List ℕ → Type 0) (trees : Trees)
-    (views : AreViewsOf below tree_at answers_at Stands trees) (led : Led) (given : (n : ℕ) → answers_in led n ≡ answers_at n) (declaration : Bool) (target : Target)
-    (address : List ℕ) (stands : Stands target.doc.0 address) (tree : Parts) (is_tree : tree_at target.doc.0 ≡ Some tree) (low : target.node.0 < length tree.nodes) where
+    (views : AreViewsOf below tree_at answers_at Stands trees) (led : Led) (given : (n : ℕ) → answers_in led n ≡ answers_at n) (declaration : Bool)
+    (target : Target) (address : List ℕ) (stands : Stands target.doc.0 address) (tree : Parts) (is_tree : tree_at target.doc.0 ≡ Some tree) (low : target.node.0 < length tree.nodes) where
   abbrev place : List ℕ × ℕ
   place = (address, target.node.0)
 
@@ -111,9 +136,9 @@ module _ (below : ℕ → ℕ → Type 0) (tree_at : ℕ → Option Parts) (answ
       let s = use_of_spot tree_at slot spot there in
       let stand : Stands slot.doc.0 m.address = subst (λ (x : Spot). Stands x.doc.0 m.address) (sym s.same) at.stands in
       let answer : slice_get (answers_at slot.doc.0) slot.reference.0 ≡ Some (Found target) =
-          ap (λ (xs : List Answer). slice_get xs slot.reference.0) (sym (given slot.doc.0)) ∙ answer_of_user led target slot user in
+      ap (λ (xs : List Answer). slice_get xs slot.reference.0) (sym (given slot.doc.0)) ∙ answer_of_user led target slot user in
       let (r, row, link) = beside_back (R m.address s.tree) s.tree.refs (answers_at slot.doc.0) (views.linked slot.doc.0 m.address s.tree stand s.is_tree)
-          slot.reference.0 (Found target) answer in
+      slot.reference.0 (Found target) answer in
       let (there, stands_there, leads) = is_led Stands (Found target) link.link link.leads in
       let to : link.link ≡ Some place = leads ∙ ap (λ a. Some (a, target.node.0)) (views.one_address target.doc.0 there address stands_there stands) in
       record {
@@ -158,14 +183,15 @@ module _ (below : ℕ → ℕ → Type 0) (tree_at : ℕ → Option Parts) (answ
       let slot : SlotId = record { doc = record { 0 = n }; reference = record { 0 = i } } in
       let user = user_of led target slot (ap (λ (xs : List Answer). slice_get xs i) (given n) ∙ among ∙ ap Some same) in
       let there : slot_spot (tree_at n) slot ≡ Some (record { doc = record { 0 = n }; span = u.r.span }) =
-          ap (λ (t : Option Parts). slot_spot t slot) at_n ∙ ap (option_map (λ (r : Reference). record { doc = record { 0 = n }; span = r.span })) at in
+      ap (λ (t : Option Parts). slot_spot t slot) at_n ∙ ap (option_map (λ (r : Reference). record { doc = record { 0 = n }; span = r.span })) at in
       record { spot = record { doc = record { 0 = n }; span = u.r.span }; wanted = spots.used slot user there; at = record { stands = stand; span = u.here } }
 
   name_spot_at : (m : Mention) → declaration ≡ true → IsNameHere trees place m → HasSpot m
   name_spot_at m counts d =
       let at : tree_at target.doc.0 ≡ Some d.tree = views.same_tree target.doc.0 address stands ∙ d.is_tree in
       let same : tree ≡ d.tree = same_Some tree d.tree (sym is_tree ∙ at) in
-      let there = name_spot_of below tree_at answers_at Stands trees views target d.tree at (subst (λ (t : Parts). target.node.0 < length t.nodes) same low) d.text m.span d.named in
+      let there = name_spot_of below tree_at answers_at Stands trees views target d.tree at
+      (subst (λ (t : Parts). target.node.0 < length t.nodes) same low) d.text m.span d.named in
       record {
         spot = record { doc = target.doc; span = m.span };
         wanted = spots.declared counts there;
@@ -212,8 +238,8 @@ module _ (below : ℕ → ℕ → Type 0) (tree_at : ℕ → Option Parts) (answ
 
     pub are_mentions : (ms : List Mention) × AllZip (IsMentionAt Stands) found ms × AreMentionsOf below trees declaration place ms
     are_mentions =
-        let zipped = zip_images (IsMentionAt Stands) spot_of_key mention_of_key (IsAddressed Stands) (λ k stand. record { stands = stand; span = refl }) are.keys all_stand in
-        (
+        let zipped = zip_images (IsMentionAt Stands) spot_of_key mention_of_key (IsAddressed Stands)
+        (λ k stand. record { stands = stand; span = refl }) are.keys all_stand in (
           mentions,
           subst (λ (xs : List Spot). AllZip (IsMentionAt Stands) xs mentions) (sym are.same) zipped,
           record { exact = λ m. (listed m, lists m); ordered = in_order Stands views.one_number are.keys are.ordered all_stand },

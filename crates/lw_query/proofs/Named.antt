@@ -1,15 +1,15 @@
 -- What is meant at a place is a node of a tree that has a name.
-use Rattle.std.proofs.Common.{ℕ, ◌≡◌, ◌<◌, List, Option, Some, None, length, slice_get, refl, sym, ap, subst, ◌∙◌}
+use Rattle.std.proofs.Common.{ℕ, ◌≡◌, ◌<◌, List, Option, Some, None, length, slice_get, refl, subst}
 use Rattle.std.specs.List.{flat_map}
 use Rattle.std.proofs.lemmas.Option.{same_Some, slice_get_within}
 use Rattle.lw_base.specs.declared.token.Span.{Span}
 use Rattle.lw_tree.specs.declared.node.Reference.{Reference}
 use Rattle.lw_tree.specs.Parts.{Parts, name_of}
 use Rattle.lw_scoping.specs.Firsts.{IsFirstIn, found, none}
-use Rattle.lw_scoping.specs.Links.{Fits, FitsThere, IsOwn, Link, LinksTo, Trees, own, out, nowhere}
+use Rattle.lw_scoping.specs.Links.{Fits, IsOwn, Link, LinksTo, Trees, own, out, nowhere}
 use Rattle.lw_scoping.specs.Symbols.{locals}
 use Rattle.lw_places.specs.Mentions.{IsMeantAt, LeadsFrom, no_place, named, refers, treeless, at_place}
-use Rattle.lw_places.specs.Places.{IsFirstPlace, IsPlaceAt, TakesUp, name, reference, inside, at_end, nothing}
+use Rattle.lw_places.specs.Places.{IsPlaceAt, TakesUp, name, reference, inside, at_end, nothing}
 use Rattle.lw_places.specs.declared.place.Place.{Place}
 use Rattle.lw_places.specs.declared.place.Place.TheVariants.{Named, Refers}
 

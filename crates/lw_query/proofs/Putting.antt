@@ -1,5 +1,37 @@
 -- One spot after another is put in.
-use Rattle.std.proofs.Common.{ℕ, zero, suc, ◌≡◌, ◌+◌, ◌<◌, ◌↔◌, ◌⊎◌, inl, inr, Bool, true, false, List, [], ◌∷◌, ◌++◌, Option, Some, None, Contains, length, slice_get, take, if◌then◌else◌, refl, sym, ap, subst, ◌∙◌, arith}
+use Rattle.std.proofs.Common.{
+  ℕ,
+  zero,
+  suc,
+  ◌≡◌,
+  ◌+◌,
+  ◌<◌,
+  ◌↔◌,
+  ◌⊎◌,
+  inl,
+  inr,
+  Bool,
+  true,
+  false,
+  List,
+  [],
+  ◌∷◌,
+  ◌++◌,
+  Option,
+  Some,
+  None,
+  Contains,
+  length,
+  slice_get,
+  take,
+  if◌then◌else◌,
+  refl,
+  sym,
+  ap,
+  subst,
+  ◌∙◌,
+  arith,
+}
 use Rattle.std.specs.BTreeSet.{insert_key}
 use Rattle.std.specs.Ordering.{match_ordering}
 use Rattle.std.specs.declared.cmp.Ordering.{Ordering}
@@ -7,7 +39,6 @@ use Rattle.std.specs.declared.cmp.Ordering.TheVariants.{Less, Equal, Greater}
 use Rattle.std.proofs.lemmas.List.{take_more}
 use Rattle.std.proofs.lemmas.List.Elements.{Contains-append_left, Contains-push, Contains-push_cases}
 use Rattle.std.proofs.lemmas.Option.{get_or_from_slice_get, same_Some}
-use Rattle.lw_base.specs.declared.token.Span.{Span}
 use Rattle.lw_index.specs.declared.parts.Target.{Target}
 use Rattle.lw_refs.specs.Led.{Led}
 use Rattle.lw_refs.specs.Users.{IsUser}
@@ -85,10 +116,14 @@ module _ (Stands : ℕ → List ℕ → Type 0) where
   puts_key old k stands = record {
     kept = λ spot keeps. record { key = keeps.key; among = still old k keeps.key keeps.among; is = keeps.is };
     put_in = λ spot address is _. subst (KeepsSpot (insert_key key_cmp old k)) (same_Some (spot_of_key k) spot is) (kept_now old k);
-    only = λ x has. elim (nothing_else old k x has) [ inl was ↦ inl was | inr is ↦ inr (ap (λ y. Some (spot_of_key y)) is, subst (λ (y : SpotKey). Stands y.3 y.0.now) is stands) ];
+    only = λ x has. elim (nothing_else old k x has) [
+      | inl was ↦ inl was
+      | inr is ↦ inr (ap (λ y. Some (spot_of_key y)) is, subst (λ (y : SpotKey). Stands y.3 y.0.now) is stands)
+    ];
   }
 
-  pub puts_none : (Wanted : Spot → Type 0) (old : List SpotKey) → ((spot : Spot) (address : List ℕ) → Wanted spot → Stands spot.doc.0 address → ⊥) → PutsSpots Stands Wanted old old
+  pub puts_none : (Wanted : Spot → Type 0) (old : List SpotKey) → ((spot : Spot) (address : List ℕ) → Wanted spot → Stands spot.doc.0 address → ⊥) →
+      PutsSpots Stands Wanted old old
   puts_none Wanted old never = record {
     kept = λ spot keeps. keeps;
     put_in = λ spot address is stands. absurd (never spot address is stands);
@@ -100,11 +135,11 @@ module _ (Stands : ℕ → List ℕ → Type 0) where
   puts_both One Other Both a b c either left right first second = record {
     kept = λ spot keeps. second.kept spot (first.kept spot keeps);
     put_in = λ spot address is stands. elim (either spot is) [
-      inl one ↦ second.kept spot (first.put_in spot address one stands)
+      | inl one ↦ second.kept spot (first.put_in spot address one stands)
       | inr other ↦ second.put_in spot address other stands
     ];
     only = λ k has. elim (second.only k has) [
-      inl before ↦ elim (first.only k before) [ inl was ↦ inl was | inr put ↦ inr (left (spot_of_key k) put.0, put.1) ]
+      | inl before ↦ elim (first.only k before) [ inl was ↦ inl was | inr put ↦ inr (left (spot_of_key k) put.0, put.1) ]
       | inr put ↦ inr (right (spot_of_key k) put.0, put.1)
     ];
   }
@@ -156,7 +191,8 @@ module _ (Stands : ℕ → List ℕ → Type 0) (tree_at : ℕ → Option Parts)
     pub one_more : (a b c : List SpotKey) → PutsSpots Stands (IsSpotOfSlot tree_at (take i slots)) a b → PutsSpots Stands (λ s. put ≡ Some s) b c →
         PutsSpots Stands (IsSpotOfSlot tree_at (take (i + 1) slots)) a c
     one_more a b c first second =
-        puts_both Stands (IsSpotOfSlot tree_at (take i slots)) (λ s. put ≡ Some s) (IsSpotOfSlot tree_at (take (i + 1) slots)) a b c either before now first second
+        puts_both Stands (IsSpotOfSlot tree_at (take i slots)) (λ s. put ≡ Some s) (IsSpotOfSlot tree_at (take (i + 1) slots)) a b c either before now
+        first second
 
   -- ---- the name and the references of a node
 
@@ -181,4 +217,5 @@ module _ (Stands : ℕ → List ℕ → Type 0) (tree_at : ℕ → Option Parts)
     pub gathered : (a b c : List SpotKey) → PutsSpots Stands (λ s. put ≡ Some s) a b → PutsSpots Stands (IsSpotOfSlot tree_at slots) b c →
         PutsSpots Stands (IsSpotOfMention tree_at led declaration target) a c
     gathered a b c first second =
-        puts_both Stands (λ s. put ≡ Some s) (IsSpotOfSlot tree_at slots) (IsSpotOfMention tree_at led declaration target) a b c name_or_use the_name a_use first second
+        puts_both Stands (λ s. put ≡ Some s) (IsSpotOfSlot tree_at slots) (IsSpotOfMention tree_at led declaration target) a b c name_or_use the_name
+        a_use first second

@@ -1,6 +1,6 @@
 -- How what stands at an offset of a tree is looked for: what the offset is inside of first, then what ends there; names before references, each by number.
 -- Held against `lw_places`, which says what stands there.
-use Rattle.std.specs.Prelude.{ℕ, ◌≡◌, ◌<◌, ◌==◌, ◌&&◌, Bool, true, false, List, length, nat_le, nat_lt}
+use Rattle.std.specs.Prelude.{ℕ, ◌≡◌, ◌<◌, ◌==◌, ◌&&◌, Bool, true, false, length, nat_le, nat_lt}
 use Rattle.std.specs.Option.{option_map_or}
 use Rattle.lw_base.specs.declared.token.Span.{Span}
 use Rattle.lw_tree.specs.Parts.{Parts, name_of}

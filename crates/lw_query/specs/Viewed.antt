@@ -14,7 +14,8 @@ use Rattle.lw_query.specs.declared.spot.Spot.{Spot}
 module _ (Stands : ℕ → List ℕ → Type 0) where
   -- where an answer leads, by address and node
   pub data LeadsAs : Answer → Link → Type 0 where
-    found : {doc node : ℕ} {address : List ℕ} → Stands doc address → LeadsAs (Found (record { doc = record { 0 = doc }; node = record { 0 = node } })) (Some (address, node))
+    found : {doc node : ℕ} {address : List ℕ} → Stands doc address →
+        LeadsAs (Found (record { doc = record { 0 = doc }; node = record { 0 = node } })) (Some (address, node))
     missing : LeadsAs Missing None
 
   -- a place of a numbered document is this mention
@@ -23,14 +24,16 @@ module _ (Stands : ℕ → List ℕ → Type 0) where
     pub span : spot.span ≡ m.span
 
 -- An answer for a reference: it leads where the link of the reference does.
-pub record IsLinkAnswer (below : ℕ → ℕ → Type 0) (Stands : ℕ → List ℕ → Type 0) (trees : Trees) (address : List ℕ) (tree : Parts) (r : Reference) (answer : Answer) : Type 0 where
+pub record IsLinkAnswer (below : ℕ → ℕ → Type 0) (Stands : ℕ → List ℕ → Type 0) (trees : Trees) (address : List ℕ) (tree : Parts) (r : Reference)
+    (answer : Answer) : Type 0 where
   pub link : Link
   pub leads : LeadsAs Stands answer link
   pub is_link : LinksTo below trees address tree r link
 
 -- The documents by number stand for trees by address: each number has one address and each address one number, the tree of a number is the one of its address,
 -- and its answers, one for each reference of that tree, are the links.
-pub record AreViewsOf (below : ℕ → ℕ → Type 0) (tree_at : ℕ → Option Parts) (answers_at : ℕ → List Answer) (Stands : ℕ → List ℕ → Type 0) (trees : Trees) : Type 0 where
+pub record AreViewsOf (below : ℕ → ℕ → Type 0) (tree_at : ℕ → Option Parts) (answers_at : ℕ → List Answer) (Stands : ℕ → List ℕ → Type 0)
+    (trees : Trees) : Type 0 where
   pub one_address : (n : ℕ) (address other : List ℕ) → Stands n address → Stands n other → address ≡ other
   pub one_number : (n m : ℕ) (address : List ℕ) → Stands n address → Stands m address → n ≡ m
   pub same_tree : (n : ℕ) (address : List ℕ) → Stands n address → tree_at n ≡ trees address

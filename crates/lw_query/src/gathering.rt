@@ -16,11 +16,7 @@ use std::collections::BTreeSet;
 type Keys<'a> = BTreeSet<(&'a Name, u32, u32, u32)>;
 
 /// Puts in a spot, where there is one and its document has an address.
-fn put<'a, V: Views>(
-    v: &'a V,
-    spot: Option<Spot>,
-    keys: &mut Keys<'a>,
-) -> Result<(), NoMemory>
+fn put<'a, V: Views>(v: &'a V, spot: Option<Spot>, keys: &mut Keys<'a>) -> Result<(), NoMemory>
     ensures { OnOk result (PutsSpots (V.Stands v.now) (λ s. spot ≡ Some s) keys.old.keys keys.new.keys) }
 {
     if let Some(spot) = spot {
@@ -32,11 +28,7 @@ fn put<'a, V: Views>(
 }
 
 /// Puts in where each of these references stands. For n references n log n comparisons of addresses.
-fn put_uses<'a, V: Views>(
-    v: &'a V,
-    slots: &[SlotId],
-    keys: &mut Keys<'a>,
-) -> Result<(), NoMemory>
+fn put_uses<'a, V: Views>(v: &'a V, slots: &[SlotId], keys: &mut Keys<'a>) -> Result<(), NoMemory>
     ensures { OnOk result (PutsSpots (V.Stands v.now) (IsSpotOfSlot (V.tree_at v.now) slots.now) keys.old.keys keys.new.keys) }
 {
     for slot in slots {

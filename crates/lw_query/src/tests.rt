@@ -220,7 +220,12 @@ fn bytes_of(spot: &Spot) -> Bytes {
 
 fn expect(rt: &impl Abort, row: &Row, found: &[Spot], first: &[Bytes], others: &[Bytes]) {
     let expected = first.iter().chain(others.iter());
-    assert!(rt; found.len() == first.len() + others.len(), "at {} of {}", row.1, row.0);
+    assert!(rt;
+        found.len() == first.len() + others.len(),
+        "at {} of {}",
+        row.1,
+        row.0
+    );
     for (spot, bytes) in found.iter().zip(expected) {
         assert!(rt; bytes_of(spot) == *bytes, "at {} of {}", row.1, row.0);
     }

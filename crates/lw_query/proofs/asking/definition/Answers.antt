@@ -14,6 +14,6 @@ pub returns-in-Found : goal.returns-in-Found
 returns-in-Found g c grammar trees address views stands =
     let v = c.args.v.now in
     let defined = node_defined (IsNumberBelow grammar) (g.V.Views.tree_at v) (g.V.Views.answers_at v) (g.V.Views.Stands v) trees views address c.args.off
-        c.in-Found.target (c.in-Found.ensures grammar trees address views stands) in
+    c.in-Found.target (c.in-Found.ensures grammar trees address views stands) in
     subst (IsDefinedBy (IsNumberBelow grammar) (g.V.Views.tree_at v) (g.V.Views.answers_at v) (g.V.Views.Stands v) trees views address c.args.off)
     (sym c.name_spot.ensures) defined

@@ -14,6 +14,6 @@ pub returns-in-Some : goal.returns-in-Some
 returns-in-Some g c grammar trees address views stands =
     let v = c.args.v.now in
     let meant = meant_by_place (IsNumberBelow grammar) (g.V.Views.tree_at v) (g.V.Views.answers_at v) (g.V.Views.Stands v) trees views c.args.doc address
-        stands c.in-Some.tree.now (sym c.in-Some.ensures.tree) c.args.off c.place_at.result c.place_at.ensures in
+    stands c.in-Some.tree.now (sym c.in-Some.ensures.tree) c.args.off c.place_at.result c.place_at.ensures in
     subst (IsMeantBy (IsNumberBelow grammar) (g.V.Views.tree_at v) (g.V.Views.answers_at v) (g.V.Views.Stands v) trees views address c.args.off)
     (sym c.answer_at.ensures) meant

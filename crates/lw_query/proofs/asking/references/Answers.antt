@@ -16,8 +16,8 @@ pub returns-in_ok-gather-in-Found : goal.returns-in_ok-gather-in-Found
 returns-in_ok-gather-in-Found g c grammar trees address views same stands =
     let v = c.args.v.now in
     let f = found_there (IsNumberBelow grammar) (g.V.Views.tree_at v) (g.V.Views.answers_at v) (g.V.Views.Stands v) trees views address c.args.off
-        c.in-Found.target (c.in-Found.ensures grammar trees address views stands) in
+    c.in-Found.target (c.in-Found.ensures grammar trees address views stands) in
     let (mentions, zipped, are) = are_mentions (IsNumberBelow grammar) (g.V.Views.tree_at v) (g.V.Views.answers_at v) (g.V.Views.Stands v) trees views
-        c.args.refs.now same c.args.declaration c.in-Found.target f.there f.stands f.tree f.is_tree f.has_name.in_tree c.in_ok-gather-in-Found.field-0
-        c.in_ok-gather-in-Found.ensures in
+    c.args.refs.now same c.args.declaration c.in-Found.target f.there f.stands f.tree f.is_tree f.has_name.in_tree c.in_ok-gather-in-Found.field-0
+    c.in_ok-gather-in-Found.ensures in
     (mentions, zipped, mentioned f.meant are)

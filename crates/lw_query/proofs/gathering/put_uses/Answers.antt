@@ -1,5 +1,4 @@
 -- One reference more is put in.
-use Rattle.std.proofs.Common.{arith}
 use Rattle.std.proofs.lemmas.Option.{slice_get-get_or}
 use Rattle.lw_query.proofs.Putting.{one_more}
 use Rattle.lw_query.proofs.gathering.put_uses.Goals as goal
