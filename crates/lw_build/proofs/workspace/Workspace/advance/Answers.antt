@@ -1,5 +1,6 @@
 use Rattle.std.proofs.Common.{true, sym, ap, subst, ◌∙◌}
 use Rattle.std.specs.FinMap.{get}
+use Rattle.std.proofs.lemmas.Bool.{false≢true}
 use Rattle.lw_docs.specs.Documents.{numbered}
 use Rattle.lw_machine.specs.Building.{BuildsToEnd}
 use Rattle.lw_machine.specs.Documents.{Documents}
@@ -31,6 +32,16 @@ take_all-requires-clause-held g c d list has =
     let docs = c.self.inside.docs in
     let n = is_news c.self.inside.language.grammar docs (numbered_places docs) c.in_ok-news.news.own.items c.in_ok-news.news.lists c.in_ok-news.ensures.told d list has in
     (n.doc, ap (get docs) (c.self.invariant.numbered.addresses n.address (numbered d n.doc) n.at) ∙ n.at)
+
+pub invariant_of-self : goal.invariant_of-self
+invariant_of-self g c = record {
+  one_way = c.self.invariant.one_way;
+  numbered = c.self.invariant.numbered;
+  read = c.in_err-read_all.ensures.kept;
+  unread = unread_more c.self.inside.readings c.read_all.new.self c.self.inside.refs c.self.invariant.unread c.in_err-read_all.ensures.more;
+  built = c.self.invariant.built;
+  linked = λ is. absurd (false≢true (sym c.if-self.false ∙ is));
+}
 
 pub invariant_of-self-2 : goal.invariant_of-self-2
 invariant_of-self-2 g c =
