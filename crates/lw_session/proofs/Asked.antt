@@ -69,7 +69,7 @@ module _ (seen : SeenView) (below : ℕ → ℕ → Type 0) (trees : Trees) (vie
       only = stands_once;
       tree = is.tree;
       is_tree = views.same_tree spot.doc.0 m.address at.stands ∙ ap trees is.here ∙ is.is_tree;
-      part = subst (IsPartOf is.tree) (sym at.span) (part.name is.named);
+      part = subst (IsPartOf is.tree) (sym at.span) (part.name target.1 is.text is.named);
     }
 
     spot_of_use : (target : List ℕ × ℕ) → IsUseHere below trees target m → IsSpotOf seen spot
@@ -79,7 +79,7 @@ module _ (seen : SeenView) (below : ℕ → ℕ → Type 0) (trees : Trees) (vie
       only = stands_once;
       tree = is.tree;
       is_tree = views.same_tree spot.doc.0 m.address at.stands ∙ is.is_tree;
-      part = part.reference is.among (is.here ∙ sym at.span);
+      part = part.reference is.r is.among (is.here ∙ sym at.span);
     }
 
     pub spot_of_mention : (declaration : Bool) (target : List ℕ × ℕ) → IsMentionOf below trees declaration target m → IsSpotOf seen spot

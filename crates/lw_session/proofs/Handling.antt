@@ -33,6 +33,17 @@ pub error_not_begun : {T E : Type 0} (r : Result T E) (g : Grammar) (s : Standin
 error_not_begun (Ok x) g s m = tt
 error_not_begun (Err e) g s m = not_begun g s m
 
+pub error_there : {A E : Type 0} (r : Result A E) (P : Type 0) → P → OnErr r P
+error_there (Ok x) P is = tt
+error_there (Err e) P is = is
+
+-- so it is where a refusal left the workspace as it was
+pub error_unchanged : {A E : Type 0} (r : Result A E) (v w : WorkspaceView) (phase : Phase) (m : Message) → OnErr r (w ≡ v) →
+    OnErr r (IsCutShort v.grammar (standing_of v phase) m (standing_of w phase))
+error_unchanged (Ok x) v w phase m same = tt
+error_unchanged (Err e) v w phase m same =
+    subst (λ (x : WorkspaceView). IsCutShort v.grammar (standing_of v phase) m (standing_of x phase)) (sym same) (not_begun v.grammar (standing_of v phase) m)
+
 -- where memory is refused behind the build, the documents are those behind it
 cut_behind : (g : Grammar) (s t : Standing) (m : Message) (replies : List Reply) (ended : Ended) → Handles g s m [] t replies ended → IsValid g t.documents →
     IsCutShort g s m (record { documents = t.documents; phase = s.phase })

@@ -19,8 +19,8 @@ use Rattle.lw_session.specs.declared.locating.PlaceAsked.{PlaceAsked}
 
 -- a name or a reference of a tree takes up these bytes
 pub data IsPartOf (tree : Parts) (s : Span) : Type 0 where
-  name : {n : ℕ} {text : List ℕ} → name_of tree n ≡ Some (text, s) → IsPartOf tree s
-  reference : {r : Reference} → Contains tree.refs r → r.span ≡ s → IsPartOf tree s
+  name : (n : ℕ) (text : List ℕ) → name_of tree n ≡ Some (text, s) → IsPartOf tree s
+  reference : (r : Reference) → Contains tree.refs r → r.span ≡ s → IsPartOf tree s
 
 -- a document has the number, at one address, and these bytes are a part of its tree
 pub record IsSpotOf (v : SeenView) (spot : Spot) : Type 0 where
