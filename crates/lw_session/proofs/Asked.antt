@@ -103,7 +103,7 @@ module _ (seen : SeenView) (below : ℕ → ℕ → Type 0) (trees : Trees) (vie
   -- several in a row
   pub spots_of_mentions : (declaration : Bool) (target : List ℕ × ℕ) (spots : List Spot) (mentions : List Mention) →
       AllZip (IsMentionAt (StandsSeen seen)) spots mentions → ((m : Mention) → Contains mentions m → IsMentionOf below trees declaration target m) → All (IsSpotOf seen) spots
-  spots_of_mentions declaration target [] [] at are k d inside = absurd (omega (arith, inside))
+  spots_of_mentions declaration target [] [] at are = λ k d inside. absurd (omega (arith, inside))
   spots_of_mentions declaration target [] (m ∷ ms) at are = absurd at
   spots_of_mentions declaration target (s ∷ ss) [] at are = absurd at
   spots_of_mentions declaration target (s ∷ ss) (m ∷ ms) at are =
