@@ -1,17 +1,16 @@
 -- The documents of the machine that a workspace stands for, at each address, in their order and by their count.
-use Rattle.std.proofs.Common.{◌≡◌, ℕ, List, [], ◌∷◌, map, length, Bool, true, false, cond, ◌&&◌, T, Option, Some, None, is_some, nat_cmp, refl, sym, ap, subst, ◌∙◌}
+use Rattle.std.proofs.Common.{◌≡◌, ℕ, List, [], ◌∷◌, map, Bool, true, false, cond, ◌&&◌, T, Option, Some, None, nat_cmp, refl, sym, ap, subst, ◌∙◌}
 use Rattle.std.specs.Prelude.{if◌then◌else◌, option_map}
 use Rattle.std.specs.Cmp.Lexicographic.{slice_cmp}
 use Rattle.std.specs.Ordering.{eq_by_cmp, is_lt}
-use Rattle.std.specs.FinMap.{FinMap, get, len, contains_key, entries, find, from_sorted, is_sorted, entries_sorted, get-entries, get-from_sorted, entries-from_sorted, len-entries}
+use Rattle.std.specs.FinMap.{FinMap, get, entries, find, from_sorted, is_sorted, entries_sorted, get-entries, get-from_sorted, entries-from_sorted}
 use Rattle.std.specs.FinMap.Entries.{below_all}
-use Rattle.std.proofs.lemmas.List.{length-map}
 use Rattle.lw_docs.specs.Documents.{ByAddress, Numbered}
 use Rattle.lw_machine.specs.Documents.{Document, present_texts}
 use Rattle.lw_machine.proofs.Places.{order}
 use Rattle.lw_build.proofs.Maps.{same_at_addresses}
 use Rattle.lw_build.specs.Readings.{present_texts_of}
-use Rattle.lw_build.specs.View.{WorkspaceView, built_document, cleared_document, documents_of, documents}
+use Rattle.lw_build.specs.View.{built_document, cleared_document, documents_of}
 
 -- what one document is
 abbrev pub document_of : Bool → Numbered → Document

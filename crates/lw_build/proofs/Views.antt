@@ -1,5 +1,5 @@
 -- All documents as they are lent: each stands where the workspace has it, and its answers are its links.
-use Rattle.std.proofs.Common.{◌≡◌, ◌≢◌, ℕ, zero, suc, List, [], ◌∷◌, ◌++◌, length, map, cond, Contains, T, Bool, true, false, ◌<◌, is_eq, is_lt, Ordering, Less, Equal, Greater, Option, Some, None, IfSome, option_map, option_and_then, refl, sym, ap, subst, subst₂, ◌∙◌, inl, inr, ◌⊎◌, arith}
+use Rattle.std.proofs.Common.{◌≡◌, ◌≢◌, ℕ, List, [], ◌∷◌, ◌++◌, length, map, cond, Contains, T, Bool, true, false, ◌<◌, is_eq, is_lt, Ordering, Less, Equal, Greater, Option, Some, None, IfSome, option_map, option_and_then, refl, sym, ap, subst, subst₂, ◌∙◌, inl, inr, ◌⊎◌, arith}
 use Rattle.std.specs.FinMap.{get, entries, is_sorted, entries_sorted}
 use Rattle.std.specs.FinMap.Entries.{below_all}
 use Rattle.std.specs.List.{All, AllPairs, AllZip, slice_index_or}
@@ -9,7 +9,7 @@ use Rattle.std.proofs.lemmas.List.Kept.{AllPairs-cons}
 use Rattle.std.proofs.lemmas.Map.Text.{is_eq-slice_cmp}
 use Rattle.std.proofs.lemmas.Option.{same_Some, none-some}
 use Rattle.lw_base.specs.declared.numbers.DocId.{DocId}
-use Rattle.lw_docs.specs.Documents.{AreNumbered, ByAddress, Numbered, numbered}
+use Rattle.lw_docs.specs.Documents.{AreNumbered, ByAddress, Numbered}
 use Rattle.lw_grammar.specs.declared.grammar.Grammar.{Grammar}
 use Rattle.lw_index.specs.declared.parts.Answer.{Answer}
 use Rattle.lw_link.proofs.Rows.{zip_push}
@@ -18,7 +18,7 @@ use Rattle.lw_machine.proofs.Entries.{both}
 use Rattle.lw_machine.proofs.Places.{Among, first, later, one_or_two, order, test_other, test_same}
 use Rattle.lw_outcomes.proofs.Finite.{here, here_or_there, nothing, there}
 use Rattle.lw_query.specs.Built.{AreBuiltViews, IsBuiltView, StandsAmong, texts_seen, tree_seen, trees_seen}
-use Rattle.lw_query.specs.Viewed.{AreViewsOf, IsLinkAnswer}
+use Rattle.lw_query.specs.Viewed.{IsLinkAnswer}
 use Rattle.lw_query.specs.declared.view.View.{View}
 use Rattle.lw_refs.specs.Led.{Led, answers_in}
 use Rattle.lw_rooted.specs.Within.{StandsInText}
@@ -34,8 +34,8 @@ use Rattle.lw_build.specs.declared.readings.Reading.{Reading}
 use Rattle.lw_build.specs.declared.readings.Reading.TheVariants.{Whole, Broken}
 use Rattle.lw_build.specs.declared.readings.Readings.{Readings}
 use Rattle.lw_build.proofs.Documents.{present_here}
-use Rattle.lw_build.proofs.Linked.{all_restood, held_numbered, stands_numbered, tree_stands}
-use Rattle.lw_build.proofs.News.{held_place, place_held}
+use Rattle.lw_build.proofs.Linked.{all_restood, held_numbered, tree_stands}
+use Rattle.lw_build.proofs.News.{held_place}
 use Rattle.lw_build.proofs.Places.{among_split, below_each}
 use Rattle.lw_build.proofs.Reading.{own_reading}
 use Rattle.lw_build.proofs.Trees.{are_trees}

@@ -1,4 +1,4 @@
-use Rattle.std.proofs.Common.{◌≡◌, List, Option, option_and_then, option_map, Result, Ok, Err, OnOk, sym, ap, subst₂}
+use Rattle.std.proofs.Common.{List, Option, option_and_then, option_map, Result, Ok, Err, OnOk, sym, ap, subst₂}
 use Rattle.lw_docs.specs.Documents.{Numbered}
 use Rattle.lw_index.specs.declared.parts.Answer.{Answer}
 use Rattle.lw_scopes.specs.Links.{IsNumberBelow}

@@ -1,4 +1,4 @@
-use Rattle.std.proofs.Common.{◌≡◌, true, ap, subst, ◌∙◌}
+use Rattle.std.proofs.Common.{◌≡◌, true, subst}
 use Rattle.lw_link.specs.Indexed.{IsIndexOf}
 use Rattle.lw_machine.specs.Documents.{present_texts}
 use Rattle.lw_scopes.specs.Links.{AreTreesOfTexts}
