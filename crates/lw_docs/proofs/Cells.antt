@@ -58,9 +58,6 @@ module _ (slots after : Slots) where
   abbrev same_address : Option Entrant → Type 0
   same_address found = (w : Entrant) → found ≡ Some w → address_in after w.number ≡ address_in slots w.number
 
-  same_Some : (v w : Entrant) → Some v ≡ Some w → v ≡ w
-  same_Some v w e = cc
-
   pub earlier_same : (a b : Option Entrant) → same_address a → same_address b → earlier after a b ≡ earlier slots a b
   earlier_same None b p q = refl
   earlier_same (Some a) None p q = refl

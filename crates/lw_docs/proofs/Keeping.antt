@@ -25,10 +25,6 @@ use Rattle.lw_docs.proofs.View.{address_cmp, doc_of, stands_at, turned_named, tu
 pub in_range : (slots : Slots) (n : ℕ) (x : Doc) → doc_in slots n ≡ Some x → n < length slots
 in_range slots n x is = elim (cases_lt n (length slots)) [ inl less ↦ less | inr past ↦ absurd (no_doc x (sym (get_or_past slots n None past) ∙ is)) ]
 
--- the table has the document of a held number
-pub held_doc : (slots : Slots) (numbers : Numbers) → AreNamed slots numbers → (d : DocId) → IsHeld (held_in slots numbers) d → (x : Doc) × (doc_in slots d.0 ≡ Some x)
-held_doc slots numbers names d (x, is) = (x, doc_of slots numbers names d x is)
-
 spare_same : (slots after : Slots) (spare : List ℕ) → AreSpare slots spare → ((n : ℕ) → doc_in slots n ≡ None → doc_in after n ≡ None) → length after ≡ length slots → AreSpare after spare
 spare_same slots after spare spares none long = record {
   within = λ i less. let h = spares.within i less in omega (arith, h, long);

@@ -106,9 +106,6 @@ module _ {X Y : Type 0} (has : X → Y → Type 0) where
 -- ---- item by item, by their places
 
 module _ {X Y : Type 0} (has : ℕ → X → Y → Type 0) (xs : List X) where
-  at_none : (y : Y) → ¬ AtSomeBelow has 0 xs y
-  at_none y (i, x, below, at, so) = omega (arith, below)
-
   at_more : (n : ℕ) (x : X) → slice_get xs n ≡ Some x → (y : Y) → AtSomeBelow has n xs y ⊎ has n x y → AtSomeBelow has (n + 1) xs y
   at_more n x there y (inl (i, z, below, at, so)) = (i, z, omega (arith, below), at, so)
   at_more n x there y (inr so) = (n, x, omega arith, there, so)
@@ -123,10 +120,6 @@ module _ {X Y : Type 0} (has : ℕ → X → Y → Type 0) (xs : List X) where
         let Q : X → Type 0 = λ w. has n w y in
         inr (subst Q same (subst P place so))
   ]
-
-  -- before the first item
-  pub Finds-at-none : (a : List Y) → Finds (AtSomeBelow has 0 xs) a a
-  Finds-at-none a = Finds-nothing at_none
 
   -- a turn over one more item
   pub Finds-at-more : {a b c : List Y} (n : ℕ) (x : X) → slice_get xs n ≡ Some x → Finds (AtSomeBelow has n xs) a b → Finds (has n x) b c →

@@ -88,9 +88,6 @@ module _ (es : Exporters) (types : set.FinSet nat_cmp) where
     ]
   ]
 
-  pub none_below : IsLeastFound (IsBelow 0) None
-  none_below u x w = absurd (omega (arith, w.1))
-
   pub passed_over : (from found : ℕ) (best : Option Found) → from ≤ found → NoSlots from found → set.contains types found ≡ false → IsLeastFound (IsBelow from) best → IsLeastFound (IsBelow (found + 1)) best
   passed_over from found best le none unwanted least =
       same_least (IsBelow from) (IsBelow (found + 1)) (λ u x w. (w.0, omega (arith, w.1), w.2, w.3))

@@ -1,6 +1,6 @@
 -- Which items lists have, of joined lists too, and of two lists that are tied item by item.
-use Rattle.std.proofs.Common.{◌≡◌, ℕ, zero, suc, List, [], ◌∷◌, Some, slice_get, Contains, ◌⊎◌, inl, inr, refl, subst, arith}
-use Rattle.std.specs.List.{flat_map, AllZip}
+use Rattle.std.proofs.Common.{◌≡◌, ℕ, zero, suc, List, [], ◌∷◌, Some, slice_get, Contains, ◌⊎◌, inl, inr, refl, arith}
+use Rattle.std.specs.List.{flat_map}
 use Rattle.std.proofs.lemmas.List.Elements.{Contains-append_right, Contains-append_cases}
 use Rattle.std.proofs.lemmas.Option.{slice_get_within, get_or_from_slice_get}
 
@@ -37,13 +37,3 @@ module _ {X Y : Type 0} where
           (z : X) × Contains (x ∷ xs) z × Contains (f z) y
       by (inl is) rest = (x, here x xs, is)
       by (inr later) rest = let r = rest later in (r.0, there x xs r.1, r.2)
-
-  -- of two lists that are tied item by item
-  pub zip_left : (R : X → Y → Type 0) (xs : List X) (ys : List Y) (x : X) → AllZip R xs ys → Contains xs x → (y : Y) × Contains ys y × R x y
-  zip_left R [] ys x all h = absurd (in_nothing h)
-  zip_left R (a ∷ xs) [] x all h = absurd all
-  zip_left R (a ∷ xs) (b ∷ ys) x all h = by (in_cons a xs h) (zip_left R xs ys x all.1)
-    where
-      by : (a ≡ x) ⊎ Contains xs x → (Contains xs x → (y : Y) × Contains ys y × R x y) → (y : Y) × Contains (b ∷ ys) y × R x y
-      by (inl is) rest = (b, here b ys, subst (λ z. R z b) is all.0)
-      by (inr later) rest = let r = rest later in (r.0, there b ys r.1, r.2)

@@ -10,7 +10,7 @@ module _ {A B : Type 0} (R : A → B → Type 0) where
   zip_push (u ∷ xs) [] x y all one = absurd all
   zip_push (u ∷ xs) (v ∷ ys) x y all one = (all.0, zip_push xs ys x y all.1 one)
 
-  zip_more : (xs : List A) (ys : List B) (i : ℕ) (x : A) (y : B) → i < length xs → x ≡ get_or xs i x → AllZip R (take i xs) ys → R x y →
+  pub zip_more : (xs : List A) (ys : List B) (i : ℕ) (x : A) (y : B) → i < length xs → x ≡ get_or xs i x → AllZip R (take i xs) ys → R x y →
       AllZip R (take (i + 1) xs) (ys ++ y ∷ [])
   zip_more xs ys i x y inside at all one =
       subst (λ (zs : List A). AllZip R zs (ys ++ y ∷ [])) (sym (take_more xs i x inside))

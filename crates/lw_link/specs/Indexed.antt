@@ -10,6 +10,7 @@ use Rattle.lw_index.specs.declared.parts.Answer.{Answer}
 use Rattle.lw_index.specs.declared.parts.Answer.TheVariants.{Found, Missing}
 use Rattle.lw_index.specs.declared.parts.Document.{Document}
 use Rattle.lw_index.specs.declared.parts.Export.{Export}
+use Rattle.lw_index.specs.declared.parts.Target.{Target}
 use Rattle.lw_index.specs.Exported.{export_of}
 use Rattle.lw_index.specs.Indexed.{Indexed}
 
@@ -44,3 +45,8 @@ address_in index doc = option_map_or (λ d. d.uri) (get index doc) []
 abbrev pub link_of : Indexed → Answer → Link
 link_of index (Found target) = Some (address_in index target.doc.0, target.node.0)
 link_of index Missing = None
+
+-- what an answer leads into is a document that the index holds
+pub data LeadsIntoHeld (index : Indexed) : Answer → Type 0 where
+  found : {target : Target} → (document : Document) → get index target.doc.0 ≡ Some document → LeadsIntoHeld index (Found target)
+  missing : LeadsIntoHeld index Missing

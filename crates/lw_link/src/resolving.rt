@@ -10,7 +10,7 @@ ghost use Rattle.lw_numbers.specs.Numbering.{type_names};
 ghost use Rattle.lw_tree.specs.declared.node.Reference.{Reference};
 ghost use Rattle.lw_outwards.specs.Known.{HasKnownTypes};
 ghost use Rattle.lw_types.specs.Inferred.{AreTypesOf};
-ghost use Rattle.lw_link.specs.Indexed.{IsDocumentOf, IsIndexOf, link_of};
+ghost use Rattle.lw_link.specs.Indexed.{IsDocumentOf, IsIndexOf, LeadsIntoHeld, link_of};
 
 use lw_base::{DocId, NoMemory, RefId, Steps};
 use lw_index::{Answer, Index, Target};
@@ -38,6 +38,7 @@ fn answer_to<L: Ledger>(
     ensures link { (g : Grammar) (trees : Trees) (address : List ℕ) → AreTypesOf g types.now → IsIndexOf trees index.now →
         IsDocumentOf trees index.now doc.0 address tree.now →
         LinksTo (IsNumberBelow g) trees address tree.now reference.now (link_of index.now result) }
+    ensures held { (trees : Trees) (address : List ℕ) → IsDocumentOf trees index.now doc.0 address tree.now → LeadsIntoHeld index.now result }
     ensures ticks { (steps.new ≡ steps.old) ⊎ (steps.new ≡ steps.old + 1) }
 {
     let fits = types.subs(reference.want);
@@ -69,6 +70,7 @@ pub fn resolve<L: Ledger>(
     ensures link { (g : Grammar) (trees : Trees) (address : List ℕ) (r : Reference) → AreTypesOf g types.now → IsIndexOf trees index.now →
         IsDocumentOf trees index.now doc.0 address tree.now → slice_get tree.now.refs reference.0 ≡ Some r →
         LinksTo (IsNumberBelow g) trees address tree.now r (link_of index.now result) }
+    ensures held { (trees : Trees) (address : List ℕ) → IsDocumentOf trees index.now doc.0 address tree.now → LeadsIntoHeld index.now result }
     ensures ticks { (steps.new ≡ steps.old) ⊎ (steps.new ≡ steps.old + 1) }
 {
     let reference = &tree.refs()[reference.0 as usize];
@@ -93,6 +95,8 @@ pub fn answers<L: Ledger>(
     ensures links { (g : Grammar) (trees : Trees) (address : List ℕ) → AreTypesOf g types.now → IsIndexOf trees index.now →
         IsDocumentOf trees index.now doc.0 address tree.now →
         IfOk result (λ found. AllZip (LinksTo (IsNumberBelow g) trees address tree.now) tree.now.refs (map (link_of index.now) found.items)) }
+    ensures held { (trees : Trees) (address : List ℕ) → IsDocumentOf trees index.now doc.0 address tree.now →
+        IfOk result (λ found. All (LeadsIntoHeld index.now) found.items) }
     ensures ticks { (steps.old ≤ steps.new) × (steps.new ≤ steps.old + length tree.now.refs) }
 {
     let mut found = Vec::with_capacity(alloc, tree.refs().len())?;

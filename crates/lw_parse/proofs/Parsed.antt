@@ -34,9 +34,6 @@ module _ (g : Grammar) (kinds : Kinds) (types : (f : GrammarFault) → ¬ IsType
   pub grows_root : GrowsRoot g text mean.sentence (visible_of tokens)
   grows_root = whole_tree g kinds text (is_rootable g types checks) mean.sentence (visible_of tokens) mean.one.sentence (sym mean.one.kinds_are)
 
-  pub root_follows : FollowsMarks g text mean.sentence (visible_of tokens) (Root grows_root.0 ∷ [])
-  root_follows = grows_root.1
-
   -- the tree that is opened of a whole sentence is its tree
   pub only_tree : {tree : Parts} → IsOpenedTree g text mean.sentence (visible_of tokens) tokens tree → IsOnlyTree g kinds text tokens tree
   only_tree {tree} opened =

@@ -11,7 +11,6 @@ use Rattle.std.proofs.lemmas.Map.Views.{tells_apart}
 use Rattle.lw_index.specs.declared.parts.Answer.{Answer}
 use Rattle.lw_refs.specs.Pairs.{Pair, is_paired, LeadsInto, HeldAnswers, held_at, ArePaired}
 use Rattle.lw_refs.proofs.Pairing.{AllStay}
-use Rattle.lw_refs.proofs.View.{led_by}
 
 pub from_ok : {T E P : Type 0} (r : Result T E) → is_err r ≡ false → OnOk r P → P
 from_ok (Ok x) is p = p
@@ -22,9 +21,6 @@ paired_kept documents before after stay paired user doc answers at leads = stay 
 
 pub paired_same : (before after : HeldAnswers) (pairs : BTreeSet Pair) → after.entries ≡ before.entries → ArePaired before pairs → ArePaired after pairs
 paired_same before after pairs same paired user doc answers at leads = paired user doc answers (sym (ap (lookup (is_at (nat_cmp user))) same) ∙ at) leads
-
-pub led_same : (before after : HeldAnswers) → after.entries ≡ before.entries → led_by after ≡ led_by before
-led_same before after same = ap (map.from_entries {R = nat_cmp}) same
 
 module _ (before after : HeldAnswers) (k : ℕ) (pairs : BTreeSet Pair) where
   pub paired_with : (answers : List Answer) → ((q : ℕ) → held_at after q ≡ cond (eq_by_cmp nat_cmp k q) (Some answers) (held_at before q)) → ArePaired before pairs →

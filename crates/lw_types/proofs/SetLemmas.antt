@@ -1,11 +1,11 @@
 -- Sets of types, into some of which one more type is put.
-use Rattle.std.proofs.Common.{◌≡◌, ◌≢◌, ◌<◌, ◌≤◌, ◌+◌, ◌⊎◌, ◌↔◌, ℕ, zero, suc, Bool, true, false, ◌==◌, ◌||◌, List, [], ◌∷◌, ◌++◌, Some, None, length, take, slice_get, slice_set, get_or, Contains, inl, inr, refl, sym, ap, ◌∙◌, subst, true≢false, arith, length-append, length-set}
+use Rattle.std.proofs.Common.{◌≡◌, ◌≢◌, ◌<◌, ◌+◌, ◌⊎◌, ◌↔◌, ℕ, zero, suc, true, ◌==◌, ◌||◌, List, [], ◌∷◌, ◌++◌, Some, length, take, slice_get, slice_set, get_or, Contains, inl, inr, refl, sym, ap, ◌∙◌, subst, true≢false, arith, length-append, length-set}
 use Rattle.std.specs.FinSet.{FinSet, contains, insert, empty, contains-insert, contains-empty}
 use Rattle.std.specs.Ordering.{nat_cmp, eq_by_cmp}
 use Rattle.std.specs.Cmp.{unsigned_tied}
 use Rattle.std.proofs.lemmas.Cmp.{nat_cmp_total}
 use Rattle.std.proofs.lemmas.Bool.{cases_eq, cases_lt, eqb-true, eq-eqb, or_cases, or_left, or_right}
-use Rattle.std.proofs.lemmas.List.{take_all, take_more}
+use Rattle.std.proofs.lemmas.List.{take_more}
 use Rattle.std.proofs.lemmas.List.Elements.{Contains-append_left, Contains-push, Contains-push_cases}
 use Rattle.std.proofs.lemmas.Option.{same_Some, none-some, slice_get_within, slice_get-get_or}
 use Rattle.lw_grammar.specs.declared.grammar.Grammar.{Grammar}
@@ -131,10 +131,6 @@ widens_more {low} {a} {c = c} xs i x inside is before now =
 
     from : (h : ℕ) → Contains (take i xs ++ x ∷ []) h → Contains (take i xs) h ⊎ (h ≡ x)
     from h has = elim (Contains-push_cases (take i xs) x h has) [ inl had ↦ inl had | inr same ↦ inr (sym same) ]
-
--- after the last
-pub widens_all : {low : ℕ} {a b : Sets} (xs : List ℕ) (n : ℕ) → length xs ≤ n → WidensSets (Contains (take n xs)) low a b → WidensSets (Contains xs) low a b
-widens_all {low} {a} {b} xs n past widens = let P : List ℕ → Type 0 = λ ys. WidensSets (Contains ys) low a b in subst P (take_all n xs past) widens
 
 -- ---- one type after the other
 

@@ -1,5 +1,6 @@
 use Rattle.std.proofs.Common.{[], get_or}
 use Rattle.lw_numbers.specs.Numbering.{type_names}
+use Rattle.lw_link.specs.Indexed.{found, missing}
 use Rattle.lw_link.proofs.Known.{want_named}
 use Rattle.lw_link.proofs.Linked.{found_own, found_out, found_nowhere}
 use Rattle.lw_link.proofs.resolving.answer_to.Goals as goal
@@ -24,3 +25,13 @@ returns-in-None-first-clause-link g c h trees address are is_index is_document =
     let named = want_named c.args.types.now c.args.reference.now c.requires.known h are in
     found_nowhere h c.args.reference.now high c.subs-fits.result.now named (c.subs-fits.ensures h high are named) trees c.args.index.now is_index address
     c.args.tree.now c.in-None.ensures c.in-None-first.ensures.first
+
+pub returns-in-Some-clause-held : goal.returns-in-Some-clause-held
+returns-in-Some-clause-held g c trees address is_document = found is_document.document is_document.there
+
+pub returns-in-Some-first-clause-held : goal.returns-in-Some-first-clause-held
+returns-in-Some-first-clause-held g c trees address is_document =
+    found c.in-Some-first.ensures.first.document c.in-Some-first.ensures.first.wanted.exported.held
+
+pub returns-in-None-first-clause-held : goal.returns-in-None-first-clause-held
+returns-in-None-first-clause-held g c trees address is_document = missing

@@ -1,10 +1,11 @@
-use Rattle.std.proofs.Common.{◌≤◌, ◌<◌, List, length, map, inl, inr, subst, ◌∙◌, arith}
+use Rattle.std.proofs.Common.{◌≤◌, ◌<◌, List, [], ◌∷◌, ◌++◌, length, map, inl, inr, subst, ◌∙◌, arith}
 use Rattle.std.specs.List.{AllZip}
 use Rattle.std.proofs.lemmas.List.{take_all}
+use Rattle.std.proofs.lemmas.List.Elements.{All-push, All-same}
 use Rattle.lw_scopes.specs.Links.{IsNumberBelow}
 use Rattle.lw_scoping.specs.Links.{Link, LinksTo}
 use Rattle.lw_tree.specs.declared.node.Reference.{Reference}
-use Rattle.lw_link.specs.Indexed.{link_of}
+use Rattle.lw_link.specs.Indexed.{LeadsIntoHeld, link_of}
 use Rattle.lw_link.proofs.Rows.{mapped_more}
 use Rattle.lw_link.proofs.resolving.answers.Goals as goal
 
@@ -17,6 +18,10 @@ loop-reference-preserved g c = record {
       c.loop-reference.reference-index c.reference-item.result c.answer_to.result inside c.reference-item.is c.in_ok-push.ensures.items
       (c.loop-reference.invariant.links h trees address are is_index is_document)
       (c.answer_to.ensures.link h trees address are is_index is_document);
+  held = λ trees address is_document.
+      All-same (LeadsIntoHeld c.args.index.now) c.push.new.self.items (c.loop-reference.found.items ++ c.answer_to.result ∷ []) c.in_ok-push.ensures.items
+      (All-push (LeadsIntoHeld c.args.index.now) c.loop-reference.found.items c.answer_to.result (c.loop-reference.invariant.held trees address is_document)
+      (c.answer_to.ensures.held trees address is_document));
   count = omega (arith, c.in_ok-push.ensures.len, c.loop-reference.invariant.count);
   since = elim c.answer_to.ensures.ticks [
     | inl same ↦ omega (arith, same, c.loop-reference.invariant.since)
