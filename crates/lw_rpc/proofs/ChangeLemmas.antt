@@ -1,12 +1,12 @@
 -- The changes that values are, are the ones that their shape gives.
-use Rattle.std.proofs.Common.{◌≡◌, ℕ, ◌<◌, ◌^◌, List, [], ◌∷◌, ◌++◌, append_assoc, Bool, true, false, codes, nat_lt, if◌then◌else◌, Option, Some, None, option_map, option_and_then, refl, ap, sym, subst, ◌∙◌}
+use Rattle.std.proofs.Common.{◌≡◌, ℕ, ◌<◌, ◌^◌, List, [], ◌∷◌, ◌++◌, Bool, true, false, codes, nat_lt, if◌then◌else◌, Option, Some, None, option_map, option_and_then, refl, ap, sym, subst, ◌∙◌}
 use Rattle.std.proofs.lemmas.Bool.{ltb-true, lt-ltb}
-use Rattle.serde_json.specs.Data.{Data, Num, unsigned, negative, float, null, boolean, number, string, array, object, Items, no_items, item}
-use Rattle.serde_json.specs.Find.{get, as_str, as_number, as_u64}
+use Rattle.serde_json.specs.Data.{Data, unsigned, negative, float, null, boolean, number, string, array, object, Items, no_items, item}
+use Rattle.serde_json.specs.Find.{get}
 use Rattle.lw_text.specs.declared.change.Change.{Change}
 use Rattle.lw_text.specs.declared.place.Pos.{Pos}
 use Rattle.lw_rpc.specs.Causes.{HasCount, IsPos, HasPos, IsRange, HasRange, IsChange, AreChanges, none, next}
-use Rattle.lw_rpc.specs.ChangeParams.{as_u32, u32_of, at_place, position_of, ranged, range_of, optional_range, replacing, change_of, followed, changes_of}
+use Rattle.lw_rpc.specs.ChangeParams.{u32_of, at_place, position_of, ranged, range_of, optional_range, replacing, change_of, followed, changes_of}
 use Rattle.lw_rpc.proofs.Found.{str_of}
 
 -- ---- from the rules to the shape
@@ -17,7 +17,7 @@ u32_of-HasCount key d n has = let small : nat_lt n (2 ^ 32) ≡ true = lt-ltb n 
 position_of-IsPos : (d : Data) (at : Pos) → IsPos d at → position_of d ≡ Some at
 position_of-IsPos d at is = rw (u32_of-HasCount (codes "line") d at.line is.has_line, u32_of-HasCount (codes "character") d at.character is.has_character) refl
 
-position_of-HasPos : (key : List ℕ) (d : Data) (at : Pos) → HasPos key d at → option_and_then position_of (get key d) ≡ Some at
+pub position_of-HasPos : (key : List ℕ) (d : Data) (at : Pos) → HasPos key d at → option_and_then position_of (get key d) ≡ Some at
 position_of-HasPos key d at has = ap (option_and_then position_of) has.1 ∙ position_of-IsPos has.0 at has.2
 
 range_of-IsRange : (d : Data) (range : Pos × Pos) → IsRange d range → range_of d ≡ Some range
@@ -66,7 +66,7 @@ IsPos-position_of d at same =
     let parts = at_place-parts _ _ at same in
     record { has_line = HasCount-found (codes "line") d _ at.line refl parts.0; has_character = HasCount-found (codes "character") d _ at.character refl parts.1 }
 
-HasPos-found : (key : List ℕ) (d : Data) (found : Option Data) (at : Pos) → get key d ≡ found → option_and_then position_of found ≡ Some at → HasPos key d at
+pub HasPos-found : (key : List ℕ) (d : Data) (found : Option Data) (at : Pos) → get key d ≡ found → option_and_then position_of found ≡ Some at → HasPos key d at
 HasPos-found key d (Some w) at is same = (w, is, IsPos-position_of w at same)
 HasPos-found key d None at is same = absurd (cc)
 
@@ -118,10 +118,3 @@ AreChanges-changes_of (item d others) changes same = AreChanges-followed d other
 abbrev pub behind : List Change → Option (List Change) → Option (List Change)
 behind first (Some others) = Some (first ++ others)
 behind first None = None
-
-pub behind_more : (first : List Change) (change : Change) (others : Option (List Change)) → behind (first ++ change ∷ []) others ≡ behind first (followed (Some change) others)
-behind_more first change (Some others) = ap Some (append_assoc first (change ∷ []) others)
-behind_more first change None = refl
-
-pub behind_none : (first : List Change) (others : Option (List Change)) → behind first (followed None others) ≡ None
-behind_none first others = refl

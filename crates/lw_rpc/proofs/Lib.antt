@@ -1,6 +1,9 @@
+pub mod OrderLemmas
+pub mod ListTexts
 pub mod ReplyLemmas
 pub mod TextLemmas
 pub mod Found
 pub mod ChangeLemmas
+pub mod AskedLemmas
 pub mod CauseLemmas
 pub mod MemberLemmas

@@ -1,8 +1,8 @@
 -- When a body is which message, one rule for each. JSON-RPC 2.0, "Request object", "Notification" and "Response object"; Language Server
--- Protocol 3.17, "Base types", "Request Message", "DidOpenTextDocumentParams", "TextDocumentItem", "DidChangeTextDocumentParams" and
--- "TextDocumentContentChangeEvent".
-use Rattle.std.specs.Prelude.{◌≡◌, ◌⊎◌, ◌<◌, ◌^◌, ℕ, ℤ, List, [], ◌∷◌, codes, Option, Some, None, IsSome, IsUtf8}
-use Rattle.serde_json.specs.Data.{Data, Num, Items, no_items, item, unsigned, string, number, array}
+-- Protocol 3.17, "Base types", "Request Message", "DidOpenTextDocumentParams", "TextDocumentItem", "DidChangeTextDocumentParams",
+-- "TextDocumentContentChangeEvent", "TextDocumentPositionParams", "ReferenceParams" and "RenameParams".
+use Rattle.std.specs.Prelude.{◌≡◌, ◌⊎◌, ◌<◌, ◌^◌, ℕ, ℤ, List, [], ◌∷◌, Bool, codes, Option, Some, None, IsSome, IsUtf8}
+use Rattle.serde_json.specs.Data.{Data, Num, Items, no_items, item, unsigned, boolean, string, number, array}
 use Rattle.serde_json.specs.Find.{get, as_i64}
 use Rattle.serde_json.specs.Read.{read}
 use Rattle.lw_text.specs.declared.change.Change.{Change}
@@ -10,7 +10,7 @@ use Rattle.lw_text.specs.declared.place.Pos.{Pos}
 use Rattle.lw_rpc.specs.declared.message.Id.{Id}
 use Rattle.lw_rpc.specs.declared.message.Id.TheVariants.{Whole, Words}
 use Rattle.lw_rpc.specs.declared.message.Message.{Message}
-use Rattle.lw_rpc.specs.declared.message.Message.TheVariants.{BadJson, BadRequest, Response, Unknown, BadParams, Initialize, Shutdown, Exit, DidOpen, DidChange}
+use Rattle.lw_rpc.specs.declared.message.Message.TheVariants.{BadJson, BadRequest, Response, Unknown, BadParams, Initialize, Shutdown, Definition, References, Rename, Exit, DidOpen, DidChange}
 
 -- the body is UTF-8 and reads as the value
 pub record HasValue (body : List ℕ) (d : Data) : Type 0 where
@@ -41,7 +41,9 @@ pub record IsResponse (d : Data) : Type 0 where
 
 -- the methods of requests, and those of notifications
 abbrev pub IsKnown : Option Id → List ℕ → Type 0
-IsKnown (Some id) method = (method ≡ codes "initialize") ⊎ (method ≡ codes "shutdown")
+IsKnown (Some id) method =
+    (method ≡ codes "initialize") ⊎ ((method ≡ codes "shutdown")
+    ⊎ ((method ≡ codes "textDocument/definition") ⊎ ((method ≡ codes "textDocument/references") ⊎ (method ≡ codes "textDocument/rename"))))
 IsKnown None method = (method ≡ codes "exit") ⊎ ((method ≡ codes "textDocument/didOpen") ⊎ (method ≡ codes "textDocument/didChange"))
 
 -- the parameters of `textDocument/didOpen`
@@ -103,6 +105,35 @@ pub record Edits (d : Data) (uri : List ℕ) (version : ℤ) (changes : List Cha
   pub has_changes : get (codes "contentChanges") params ≡ Some (array values)
   pub are_changes : AreChanges values changes
 
+-- the parameters name a place in a document
+pub record NamesPoint (params : Data) (uri : List ℕ) (at : Pos) : Type 0 where
+  pub document : Data
+  pub has_document : get (codes "textDocument") params ≡ Some document
+  pub has_uri : get (codes "uri") document ≡ Some (string uri)
+  pub has_position : HasPos (codes "position") params at
+
+-- the parameters of `textDocument/definition`
+pub record AsksDefinition (d : Data) (uri : List ℕ) (at : Pos) : Type 0 where
+  pub params : Data
+  pub has_params : get (codes "params") d ≡ Some params
+  pub names_point : NamesPoint params uri at
+
+-- the parameters of `textDocument/references`
+pub record AsksReferences (d : Data) (uri : List ℕ) (at : Pos) (include_declaration : Bool) : Type 0 where
+  pub params : Data
+  pub context : Data
+  pub has_params : get (codes "params") d ≡ Some params
+  pub names_point : NamesPoint params uri at
+  pub has_context : get (codes "context") params ≡ Some context
+  pub has_flag : get (codes "includeDeclaration") context ≡ Some (boolean include_declaration)
+
+-- the parameters of `textDocument/rename`
+pub record AsksRename (d : Data) (uri : List ℕ) (at : Pos) (new_name : List ℕ) : Type 0 where
+  pub params : Data
+  pub has_params : get (codes "params") d ≡ Some params
+  pub names_point : NamesPoint params uri at
+  pub has_new_name : get (codes "newName") params ≡ Some (string new_name)
+
 -- The rules. Each body meets the rule of exactly one message.
 pub data IsMessage (body : List ℕ) : Message → Type 0 where
   bad_json : ((d : Data) → ¬ HasValue body d) → IsMessage body BadJson
@@ -111,6 +142,19 @@ pub data IsMessage (body : List ℕ) : Message → Type 0 where
   unknown : (d : Data) {id : Option Id} {method : List ℕ} → HasValue body d → IsCall d id method → ¬ IsKnown id method → IsMessage body (Unknown id method)
   initialize : (d : Data) {id : Id} → HasValue body d → IsCall d (Some id) (codes "initialize") → IsMessage body (Initialize id)
   shutdown : (d : Data) {id : Id} → HasValue body d → IsCall d (Some id) (codes "shutdown") → IsMessage body (Shutdown id)
+  asks_definition : (d : Data) {id : Id} {uri : List ℕ} {at : Pos} → HasValue body d → IsCall d (Some id) (codes "textDocument/definition")
+      → AsksDefinition d uri at → IsMessage body (Definition id uri at)
+  not_definition : (d : Data) {id : Id} → HasValue body d → IsCall d (Some id) (codes "textDocument/definition")
+      → ((uri : List ℕ) (at : Pos) → ¬ AsksDefinition d uri at) → IsMessage body (BadParams (Some id) (codes "textDocument/definition"))
+  asks_references : (d : Data) {id : Id} {uri : List ℕ} {at : Pos} {include_declaration : Bool} → HasValue body d
+      → IsCall d (Some id) (codes "textDocument/references") → AsksReferences d uri at include_declaration → IsMessage body (References id uri at include_declaration)
+  not_references : (d : Data) {id : Id} → HasValue body d → IsCall d (Some id) (codes "textDocument/references")
+      → ((uri : List ℕ) (at : Pos) (include_declaration : Bool) → ¬ AsksReferences d uri at include_declaration)
+      → IsMessage body (BadParams (Some id) (codes "textDocument/references"))
+  asks_rename : (d : Data) {id : Id} {uri new_name : List ℕ} {at : Pos} → HasValue body d → IsCall d (Some id) (codes "textDocument/rename")
+      → AsksRename d uri at new_name → IsMessage body (Rename id uri at new_name)
+  not_rename : (d : Data) {id : Id} → HasValue body d → IsCall d (Some id) (codes "textDocument/rename")
+      → ((uri : List ℕ) (at : Pos) (new_name : List ℕ) → ¬ AsksRename d uri at new_name) → IsMessage body (BadParams (Some id) (codes "textDocument/rename"))
   exit : (d : Data) → HasValue body d → IsCall d None (codes "exit") → IsMessage body Exit
   opened : (d : Data) {uri : List ℕ} {version : ℤ} {text : List ℕ} → HasValue body d → IsCall d None (codes "textDocument/didOpen") → Opens d uri version text → IsMessage body (DidOpen uri version text)
   not_opened : (d : Data) → HasValue body d → IsCall d None (codes "textDocument/didOpen") → ((uri : List ℕ) (version : ℤ) (text : List ℕ) → ¬ Opens d uri version text) → IsMessage body (BadParams None (codes "textDocument/didOpen"))

@@ -6,17 +6,20 @@ use Rattle.serde_json.specs.Data.{Data}
 use Rattle.serde_json.specs.Find.{get}
 use Rattle.serde_json.specs.Read.{read}
 use Rattle.lw_rpc.specs.Calls.{Call, request, notification, response, neither, call_of}
-use Rattle.lw_rpc.specs.Params.{did_open, did_change}
+use Rattle.lw_rpc.specs.Params.{did_open, did_change, definition_asked, references_asked, rename_asked}
 use Rattle.lw_rpc.specs.declared.message.Id.{Id}
 use Rattle.lw_rpc.specs.declared.message.Message.{Message}
 use Rattle.lw_rpc.specs.declared.message.Message.TheVariants.{BadJson, BadRequest, Response, Unknown, BadParams, Initialize, Shutdown, Exit}
 
 -- The requests. `initialize` and `shutdown` ask nothing of their parameters.
-abbrev pub request_message : Id → List ℕ → Message
-request_message id method =
+abbrev pub request_message : Id → List ℕ → Option Data → Message
+request_message id method params =
     if bytes_eq method (codes "initialize") then Initialize id
     else (if bytes_eq method (codes "shutdown") then Shutdown id
-    else Unknown (Some id) method)
+    else (if bytes_eq method (codes "textDocument/definition") then unwrap_or (definition_asked id params) (BadParams (Some id) method)
+    else (if bytes_eq method (codes "textDocument/references") then unwrap_or (references_asked id params) (BadParams (Some id) method)
+    else (if bytes_eq method (codes "textDocument/rename") then unwrap_or (rename_asked id params) (BadParams (Some id) method)
+    else Unknown (Some id) method))))
 
 -- The notifications. `exit` is known by its method alone.
 abbrev pub notification_message : List ℕ → Option Data → Message
@@ -28,7 +31,7 @@ notification_message method params =
 
 -- by the kind of the message and its parameters
 abbrev pub call_message : Call → Option Data → Message
-call_message (request id method) params = request_message id method
+call_message (request id method) params = request_message id method params
 call_message (notification method) params = notification_message method params
 call_message response params = Response
 call_message neither params = BadRequest

@@ -1,17 +1,23 @@
 -- The bytes of a reply: compact JSON (RFC 8259), keys in byte order, texts quoted as `serde_json` quotes them. JSON-RPC 2.0, "Response
--- object" and "Error object"; Language Server Protocol 3.17, "InitializeResult", "PublishDiagnosticsParams", "Diagnostic" and
--- "LogMessageParams".
-use Rattle.std.specs.Prelude.{ℕ, ℤ, List, [], ◌++◌, map, codes, decimal, Option, Some, None}
+-- object" and "Error object"; Language Server Protocol 3.17, "InitializeResult", "Location", "TextEdit", "WorkspaceEdit",
+-- "PublishDiagnosticsParams", "Diagnostic" and "LogMessageParams".
+use Rattle.std.specs.Prelude.{◌≡◌, ℕ, ℤ, List, [], ◌++◌, map, AllPairs, codes, decimal, Option, Some, None, ⊤}
+use Rattle.std.specs.Cmp.Lexicographic.{slice_cmp}
 use Rattle.std.specs.Fmt.{signed_decimal}
 use Rattle.std.specs.List.{join_with_byte}
+use Rattle.std.specs.Ordering.{nat_cmp}
+use Rattle.std.specs.declared.cmp.Ordering.TheVariants.{Less}
 use Rattle.json.specs.Print.{quoted}
 use Rattle.lw_text.specs.declared.place.Pos.{Pos}
 use Rattle.lw_text.specs.declared.shown.Shown.{Shown}
 use Rattle.lw_rpc.specs.Values.{severity}
 use Rattle.lw_rpc.specs.declared.message.Id.{Id}
 use Rattle.lw_rpc.specs.declared.message.Id.TheVariants.{Whole, Words}
+use Rattle.lw_rpc.specs.declared.reply.FileEdits.{FileEdits}
+use Rattle.lw_rpc.specs.declared.reply.Location.{Location}
+use Rattle.lw_rpc.specs.declared.reply.TextEdit.{TextEdit}
 use Rattle.lw_rpc.specs.declared.reply.Outcome.{Outcome}
-use Rattle.lw_rpc.specs.declared.reply.Outcome.TheVariants.{Nothing, Hello}
+use Rattle.lw_rpc.specs.declared.reply.Outcome.TheVariants.{Nothing, Hello, Spot, Spots, Edits}
 use Rattle.lw_rpc.specs.declared.reply.Reply.{Reply}
 use Rattle.lw_rpc.specs.declared.reply.Reply.TheVariants.{Done, Error, Publish, Log}
 
@@ -28,16 +34,61 @@ id_or_null_text None = codes "null"
 abbrev pub hello_text : List ℕ
 hello_text = codes "{\"capabilities\":{\"completionProvider\":{},\"definitionProvider\":true,\"positionEncoding\":\"utf-16\",\"referencesProvider\":true,\"renameProvider\":true,\"textDocumentSync\":{\"change\":2,\"openClose\":true}},\"serverInfo\":{\"name\":\"langbench\"}}"
 
-abbrev pub outcome_text : Outcome → List ℕ
-outcome_text Nothing = codes "null"
-outcome_text Hello = hello_text
-
 -- lines and characters are counted from zero, characters in UTF-16 units
 abbrev pub position_text : Pos → List ℕ
 position_text place = codes "{\"character\":" ++ decimal place.character ++ codes ",\"line\":" ++ decimal place.line ++ codes "}"
 
 abbrev pub range_text : Pos → Pos → List ℕ
 range_text start end = codes "{\"end\":" ++ position_text end ++ codes ",\"start\":" ++ position_text start ++ codes "}"
+
+abbrev pub location_text : Location → List ℕ
+location_text location =
+    codes "{\"range\":" ++ range_text location.start location.end
+    ++ codes ",\"uri\":" ++ quoted location.uri
+    ++ codes "}"
+
+-- with a comma between two of them
+abbrev pub locations_text : List Location → List ℕ
+locations_text locations = codes "[" ++ join_with_byte 44 (map location_text locations) ++ codes "]"
+
+abbrev pub edit_text : TextEdit → List ℕ
+edit_text edit =
+    codes "{\"newText\":" ++ quoted edit.text
+    ++ codes ",\"range\":" ++ range_text edit.start edit.end
+    ++ codes "}"
+
+-- the edits of a document, under its address
+abbrev pub file_text : FileEdits → List ℕ
+file_text file = quoted file.uri ++ codes ":[" ++ join_with_byte 44 (map edit_text file.edits) ++ codes "]"
+
+abbrev pub edits_text : List FileEdits → List ℕ
+edits_text files = codes "{\"changes\":{" ++ join_with_byte 44 (map file_text files) ++ codes "}}"
+
+abbrev pub outcome_text : Outcome → List ℕ
+outcome_text Nothing = codes "null"
+outcome_text Hello = hello_text
+outcome_text (Spot location) = location_text location
+outcome_text (Spots locations) = locations_text locations
+outcome_text (Edits files) = edits_text files
+
+-- the addresses of the documents are in byte order, each once, as the keys of an object are
+abbrev pub AreOrdered : List FileEdits → Type 0
+AreOrdered files = AllPairs (λ a b. slice_cmp nat_cmp a b ≡ Less) (map (λ (file : FileEdits). file.uri) files)
+
+-- only edits have addresses to be ordered
+abbrev pub HasOrderedFiles : Outcome → Type 0
+HasOrderedFiles Nothing = ⊤
+HasOrderedFiles Hello = ⊤
+HasOrderedFiles (Spot location) = ⊤
+HasOrderedFiles (Spots locations) = ⊤
+HasOrderedFiles (Edits files) = AreOrdered files
+
+-- where the reply is edits, their addresses are in byte order, each once
+abbrev pub HasOrderedEdits : Reply → Type 0
+HasOrderedEdits (Done id outcome) = HasOrderedFiles outcome
+HasOrderedEdits (Error id code message) = ⊤
+HasOrderedEdits (Publish uri at list) = ⊤
+HasOrderedEdits (Log message) = ⊤
 
 abbrev pub diagnostic_text : Shown → List ℕ
 diagnostic_text shown =

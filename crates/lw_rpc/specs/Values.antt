@@ -1,5 +1,5 @@
 -- The JSON value of a reply. JSON-RPC 2.0, "Response object" and "Error object"; Language Server Protocol 3.17, "InitializeResult",
--- "PublishDiagnosticsParams", "Diagnostic" and "LogMessageParams".
+-- "Location", "TextEdit", "WorkspaceEdit", "PublishDiagnosticsParams", "Diagnostic" and "LogMessageParams".
 use Rattle.std.specs.Prelude.{ℕ, ℤ, List, [], ◌∷◌, ◌==◌, map, true, codes, if◌then◌else◌, Option, Some, None}
 use Rattle.serde_json.specs.Data.{Data, null, boolean, number, string, array, object, unsigned, Members, no_members, put}
 use Rattle.serde_json.specs.Find.{of_integer}
@@ -8,8 +8,11 @@ use Rattle.lw_text.specs.declared.place.Pos.{Pos}
 use Rattle.lw_text.specs.declared.shown.Shown.{Shown}
 use Rattle.lw_rpc.specs.declared.message.Id.{Id}
 use Rattle.lw_rpc.specs.declared.message.Id.TheVariants.{Whole, Words}
+use Rattle.lw_rpc.specs.declared.reply.FileEdits.{FileEdits}
+use Rattle.lw_rpc.specs.declared.reply.Location.{Location}
+use Rattle.lw_rpc.specs.declared.reply.TextEdit.{TextEdit}
 use Rattle.lw_rpc.specs.declared.reply.Outcome.{Outcome}
-use Rattle.lw_rpc.specs.declared.reply.Outcome.TheVariants.{Nothing, Hello}
+use Rattle.lw_rpc.specs.declared.reply.Outcome.TheVariants.{Nothing, Hello, Spot, Spots, Edits}
 use Rattle.lw_rpc.specs.declared.reply.Reply.{Reply}
 use Rattle.lw_rpc.specs.declared.reply.Reply.TheVariants.{Done, Error, Publish, Log}
 
@@ -63,16 +66,35 @@ server_info = object_of ((codes "name", string (codes "langbench")) ∷ [])
 abbrev pub hello : Data
 hello = object_of ((codes "capabilities", capabilities) ∷ (codes "serverInfo", server_info) ∷ [])
 
-abbrev pub outcome_value : Outcome → Data
-outcome_value Nothing = null
-outcome_value Hello = hello
-
 -- lines and characters are counted from zero, characters in UTF-16 units
 abbrev pub position_value : Pos → Data
 position_value place = object_of ((codes "character", natural place.character) ∷ (codes "line", natural place.line) ∷ [])
 
 abbrev pub range_value : Pos → Pos → Data
 range_value start end = object_of ((codes "end", position_value end) ∷ (codes "start", position_value start) ∷ [])
+
+-- a part of a document
+abbrev pub location_value : Location → Data
+location_value location = object_of ((codes "range", range_value location.start location.end) ∷ (codes "uri", string location.uri) ∷ [])
+
+-- a text in place of another
+abbrev pub edit_value : TextEdit → Data
+edit_value edit = object_of ((codes "newText", string edit.text) ∷ (codes "range", range_value edit.start edit.end) ∷ [])
+
+-- the edits of a document are a member under its address
+abbrev pub file_member : FileEdits → List ℕ × Data
+file_member file = (file.uri, array (items_of (map edit_value file.edits)))
+
+-- what is to be changed, document by document
+abbrev pub edits_value : List FileEdits → Data
+edits_value files = object_of ((codes "changes", object_of (map file_member files)) ∷ [])
+
+abbrev pub outcome_value : Outcome → Data
+outcome_value Nothing = null
+outcome_value Hello = hello
+outcome_value (Spot location) = location_value location
+outcome_value (Spots locations) = array (items_of (map location_value locations))
+outcome_value (Edits files) = edits_value files
 
 -- Code 5, a name that another document exports too, is a warning; the others are errors.
 abbrev pub severity : ℕ → ℕ

@@ -66,7 +66,8 @@ fn range_of(value: Value) -> Option<(Pos, Pos)>
     Some((start, end))
 }
 
-fn position(value: Value) -> Option<Pos>
+/// The position that the value is.
+pub fn position(value: Value) -> Option<Pos>
     ensures { result ≡ shape.position_of (view value) }
 {
     let Value::Object(mut members) = value else {

@@ -10,19 +10,24 @@
 //!
 //! It promises that [`read_message`] gives exactly that message, each refusal by its own rule alone; that
 //! [`reply_text`] gives exactly those bytes, and that they read back as that value. Either call may be
-//! refused memory instead.
+//! refused memory instead. What is to be changed in documents is an object whose keys are their addresses:
+//! [`reply_text`] asks that [`Outcome::Edits`] has them in byte order, each once.
 //!
 //! A further method is one more case in `specs/Messages.antt`, `specs/Causes.antt` and `src/methods.rt`, and
 //! a further reply one in `specs/Replies.antt`, `specs/Values.antt` and `src/writing.rt`.
 #![tactic(auto)]
 
+mod asked;
 mod changes;
+mod edits;
 mod hello;
+mod locations;
 mod members;
 mod message;
 mod methods;
 mod params;
 mod published;
+mod ranges;
 mod reading;
 mod reply;
 mod values;
@@ -30,7 +35,7 @@ mod writing;
 
 pub use message::{Id, Message};
 pub use reading::read_message;
-pub use reply::{Outcome, Reply};
+pub use reply::{FileEdits, Location, Outcome, Reply, TextEdit};
 pub use writing::reply_text;
 
 #[cfg(test)]

@@ -1,6 +1,6 @@
 // What a body says.
 use lw_base::{Items, Name};
-use lw_text::Change;
+use lw_text::{Change, Pos};
 
 /// The id of a request (JSON-RPC 2.0, "Request object").
 #[derive(Debug, PartialEq, Eq, Drop)]
@@ -38,6 +38,29 @@ pub enum Message {
     /// The request `shutdown`.
     Shutdown {
         id: Id,
+    },
+    /// The request `textDocument/definition`: the document's address, and the place in it that is asked
+    /// about, whose line and character are counted from zero, the character in UTF-16 units.
+    Definition {
+        id: Id,
+        uri: Name,
+        position: Pos,
+    },
+    /// The request `textDocument/references`: the document's address, the place in it that is asked about,
+    /// and whether the declaration is to be among what is found.
+    References {
+        id: Id,
+        uri: Name,
+        position: Pos,
+        include_declaration: bool,
+    },
+    /// The request `textDocument/rename`: the document's address, the place in it whose name is to be
+    /// another, and that name.
+    Rename {
+        id: Id,
+        uri: Name,
+        position: Pos,
+        new_name: Name,
     },
     /// The notification `exit`.
     Exit,

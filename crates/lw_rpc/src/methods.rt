@@ -3,6 +3,7 @@ ghost use Rattle.std.specs.Prelude.{◌≡◌, None, IfOk, option_map, unwrap_or
 ghost use Rattle.serde_json.specs.View.{view};
 ghost use Rattle.lw_rpc.specs.Messages.{request_message, notification_message};
 
+use crate::asked::{definition, references, rename};
 use crate::params::{did_change, did_open};
 use crate::{Id, Message};
 use lw_base::{Name, NoMemory};
@@ -10,12 +11,15 @@ use serde_json::Value;
 use std::alloc::Global;
 
 /// The message of a request.
-pub fn request(id: Id, method: Name) -> Message
-    ensures { result ≡ request_message id method }
+pub fn request(id: Id, method: Name, params: Option<Value>) -> Message
+    ensures { result ≡ request_message id method (option_map view params) }
 {
     match method.text() {
         "initialize" => Message::Initialize { id },
         "shutdown" => Message::Shutdown { id },
+        "textDocument/definition" => definition(id, method, params),
+        "textDocument/references" => references(id, method, params),
+        "textDocument/rename" => rename(id, method, params),
         _ => Message::Unknown {
             id: Some(id),
             method,

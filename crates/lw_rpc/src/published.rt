@@ -4,9 +4,10 @@ ghost use Rattle.serde_json.specs.Data.{array};
 ghost use Rattle.serde_json.specs.View.{view, items_of};
 ghost use Rattle.lw_rpc.specs.Values as spec;
 
+use crate::ranges::range_value;
 use crate::values::{Object, text_value};
 use lw_base::NoMemory;
-use lw_text::{Pos, Shown};
+use lw_text::Shown;
 use serde_json::Value;
 use std::alloc::Global;
 
@@ -55,26 +56,4 @@ fn severity(code: u8) -> u8
     ensures { result ≡ spec.severity code }
 {
     if code == 5 { 2 } else { 1 }
-}
-
-fn range_value(alloc: Global, start: Pos, end: Pos) -> Result<Value, NoMemory>
-    ensures { IfOk result (λ value. view value ≡ spec.range_value start end) }
-{
-    Ok(
-        Object::new(alloc)
-            .with(alloc, "end", position_value(alloc, end)?)?
-            .with(alloc, "start", position_value(alloc, start)?)?
-            .value(),
-    )
-}
-
-fn position_value(alloc: Global, place: Pos) -> Result<Value, NoMemory>
-    ensures { IfOk result (λ value. view value ≡ spec.position_value place) }
-{
-    Ok(
-        Object::new(alloc)
-            .with(alloc, "character", Value::from(place.character))?
-            .with(alloc, "line", Value::from(place.line))?
-            .value(),
-    )
 }

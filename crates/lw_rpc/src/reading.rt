@@ -98,7 +98,7 @@ fn with_method(
         return notification(alloc, method, params);
     };
     match read_id(id) {
-        Some(id) => Ok(request(id, method)),
+        Some(id) => Ok(request(id, method, params)),
         None => Ok(Message::BadRequest),
     }
 }

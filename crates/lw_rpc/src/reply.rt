@@ -1,15 +1,49 @@
 // What is answered.
 use crate::Id;
 use lw_base::{Items, Name};
-use lw_text::Shown;
+use lw_text::{Pos, Shown};
+
+/// A part of a document: its address, where the part starts, and the place behind its end (Language Server
+/// Protocol 3.17, "Location"). Lines and characters are counted from zero, characters in UTF-16 units.
+#[derive(Debug, PartialEq, Eq, Drop)]
+pub struct Location {
+    pub uri: Name,
+    pub start: Pos,
+    pub end: Pos,
+}
+
+/// A change that is asked of an editor: its text, in place of what stands from the start up to the end
+/// (Language Server Protocol 3.17, "TextEdit"). Lines and characters are counted from zero, characters in
+/// UTF-16 units.
+#[derive(Debug, PartialEq, Eq, Drop)]
+pub struct TextEdit {
+    pub start: Pos,
+    pub end: Pos,
+    pub text: Name,
+}
+
+/// The changes of one document, by its address (Language Server Protocol 3.17, "WorkspaceEdit"). All of them
+/// speak of the text that the document has before the first of them.
+#[derive(Debug, Drop)]
+pub struct FileEdits {
+    pub uri: Name,
+    pub edits: Items<TextEdit>,
+}
 
 /// The result of a request.
-#[derive(Debug, PartialEq, Eq, Drop)]
+#[derive(Debug, Drop)]
 pub enum Outcome {
     /// `null`.
     Nothing,
     /// What the server can do, as `initialize` is answered.
     Hello,
+    /// One place, as `textDocument/definition` is answered.
+    Spot(Location),
+    /// Places, of which there may be none, as `textDocument/references` is answered.
+    Spots(Items<Location>),
+    /// What is to be changed, document by document, as `textDocument/rename` is answered. The addresses are
+    /// in byte order, each once.
+    Edits(Items<FileEdits>),
 }
 
 /// A message to the editor.

@@ -1,6 +1,9 @@
 // What the clauses do not say: that the calls answer where there is memory. The bodies and the texts are
 // those of JSON-RPC 2.0 and of the Language Server Protocol 3.17.
-use crate::{Id, Message, Outcome, Reply, read_message, reply_text};
+ghost use Rattle.std.specs.Prelude.{◌≡◌, IfOk};
+ghost use Rattle.lw_rpc.specs.Replies.{AreOrdered, HasOrderedEdits};
+
+use crate::{FileEdits, Id, Location, Message, Outcome, Reply, TextEdit, read_message, reply_text};
 use lw_base::{Items, Name, NoMemory};
 use lw_text::{Pos, Shown};
 use std::alloc::Global;
@@ -74,7 +77,7 @@ const IDS: [Row; 16] = [
 ];
 
 /// The members of a body beside its version: each method in its own kind of message.
-const METHODS: [Row; 12] = [
+const METHODS: [Row; 15] = [
     (
         r#""id":1,"method":"initialize""#,
         "Initialize { id: Whole(1) }",
@@ -117,6 +120,121 @@ const METHODS: [Row; 12] = [
         r#"Unknown { id: None, method: Name { text: "textDocument/DidChange" } }"#,
     ),
     (r#""method":"textDocument/didChange""#, BAD_EDIT),
+    (
+        r#""method":"textDocument/definition","params":{"textDocument":{"uri":"u"},"position":{"line":0,"character":0}}"#,
+        r#"Unknown { id: None, method: Name { text: "textDocument/definition" } }"#,
+    ),
+    (
+        r#""method":"textDocument/references","params":7"#,
+        r#"Unknown { id: None, method: Name { text: "textDocument/references" } }"#,
+    ),
+    (
+        r#""method":"textDocument/rename""#,
+        r#"Unknown { id: None, method: Name { text: "textDocument/rename" } }"#,
+    ),
+];
+
+const BAD_DEFINITION: &str =
+    r#"BadParams { id: Some(Whole(1)), method: Name { text: "textDocument/definition" } }"#;
+
+const BAD_REFERENCES: &str =
+    r#"BadParams { id: Some(Whole(1)), method: Name { text: "textDocument/references" } }"#;
+
+const BAD_RENAME: &str =
+    r#"BadParams { id: Some(Whole(1)), method: Name { text: "textDocument/rename" } }"#;
+
+/// The last part of a request's method, and its parameters.
+const ASKED: [Row; 24] = [
+    (
+        r#"definition","params":{"textDocument":{"uri":"file:///c.s"},"position":{"line":0,"character":19}}"#,
+        r#"Definition { id: Whole(1), uri: Name { text: "file:///c.s" }, position: Pos { line: 0, character: 19 } }"#,
+    ),
+    (
+        r#"definition","params":{"position":{"character":0,"more":[],"line":4294967295},"workDoneToken":1,"textDocument":{"version":null,"uri":""}}"#,
+        r#"Definition { id: Whole(1), uri: Name { text: "" }, position: Pos { line: 4294967295, character: 0 } }"#,
+    ),
+    (r#"definition""#, BAD_DEFINITION),
+    (
+        r#"definition","params":[{"uri":"u"},{"line":0,"character":0}]"#,
+        BAD_DEFINITION,
+    ),
+    (
+        r#"definition","params":{"position":{"line":0,"character":0}}"#,
+        BAD_DEFINITION,
+    ),
+    (
+        r#"definition","params":{"textDocument":{"uri":7},"position":{"line":0,"character":0}}"#,
+        BAD_DEFINITION,
+    ),
+    (
+        r#"definition","params":{"textDocument":"u","position":{"line":0,"character":0}}"#,
+        BAD_DEFINITION,
+    ),
+    (
+        r#"definition","params":{"textDocument":{"uri":"u"}}"#,
+        BAD_DEFINITION,
+    ),
+    (
+        r#"definition","params":{"textDocument":{"uri":"u"},"position":{"line":0}}"#,
+        BAD_DEFINITION,
+    ),
+    (
+        r#"definition","params":{"textDocument":{"uri":"u"},"position":{"line":-1,"character":0}}"#,
+        BAD_DEFINITION,
+    ),
+    (
+        r#"definition","params":{"textDocument":{"uri":"u"},"position":{"line":0,"character":4294967296}}"#,
+        BAD_DEFINITION,
+    ),
+    (
+        r#"references","params":{"textDocument":{"uri":"file:///c.s"},"position":{"line":0,"character":19},"context":{"includeDeclaration":true}}"#,
+        r#"References { id: Whole(1), uri: Name { text: "file:///c.s" }, position: Pos { line: 0, character: 19 }, include_declaration: true }"#,
+    ),
+    (
+        r#"references","params":{"context":{"includeDeclaration":false,"more":0},"position":{"line":0,"character":19},"textDocument":{"uri":"file:///c.s"}}"#,
+        r#"References { id: Whole(1), uri: Name { text: "file:///c.s" }, position: Pos { line: 0, character: 19 }, include_declaration: false }"#,
+    ),
+    (
+        r#"references","params":{"textDocument":{"uri":"u"},"position":{"line":0,"character":0},"includeDeclaration":true}"#,
+        BAD_REFERENCES,
+    ),
+    (
+        r#"references","params":{"textDocument":{"uri":"u"},"position":{"line":0,"character":0},"context":{}}"#,
+        BAD_REFERENCES,
+    ),
+    (
+        r#"references","params":{"textDocument":{"uri":"u"},"position":{"line":0,"character":0},"context":{"includeDeclaration":1}}"#,
+        BAD_REFERENCES,
+    ),
+    (
+        r#"references","params":{"textDocument":{"uri":"u"},"position":{"line":0,"character":0},"context":{"includeDeclaration":"true"}}"#,
+        BAD_REFERENCES,
+    ),
+    (
+        r#"references","params":{"textDocument":{"uri":"u"},"context":{"includeDeclaration":true}}"#,
+        BAD_REFERENCES,
+    ),
+    (r#"references""#, BAD_REFERENCES),
+    (
+        r#"rename","params":{"textDocument":{"uri":"file:///m.s"},"position":{"line":0,"character":14},"newName":"b"}"#,
+        r#"Rename { id: Whole(1), uri: Name { text: "file:///m.s" }, position: Pos { line: 0, character: 14 }, new_name: Name { text: "b" } }"#,
+    ),
+    (
+        r#"rename","params":{"textDocument":{"uri":"file:///m.s"},"position":{"line":0,"character":14}}"#,
+        BAD_RENAME,
+    ),
+    (
+        r#"rename","params":{"textDocument":{"uri":"u"},"position":{"line":0,"character":0},"name":"b","newName":null}"#,
+        BAD_RENAME,
+    ),
+    (
+        r#"rename","params":{"textDocument":{"uri":"u"},"newName":"b"}"#,
+        BAD_RENAME,
+    ),
+    (
+        r#"rename","params":{"position":{"line":0,"character":0},"newName":"b"}"#,
+        BAD_RENAME,
+    ),
 ];
 
 const BAD: &str = r#"BadParams { id: None, method: Name { text: "textDocument/didOpen" } }"#;
@@ -282,6 +400,13 @@ fn messages_have_ids_methods_and_parameters(rt: HostRuntime) -> Result<(), Fail>
 }
 
 #[test]
+fn requests_ask_about_places(rt: HostRuntime) -> Result<(), Fail> {
+    let front = r#"{"jsonrpc":"2.0","id":1,"method":"textDocument/"#;
+    are_messages(&rt, rt.alloc(), front, "}", &ASKED)?;
+    Ok(())
+}
+
+#[test]
 fn changes_have_texts_and_ranges(rt: HostRuntime) -> Result<(), Fail> {
     let front = r#"{"jsonrpc":"2.0","method":"textDocument/didChange","params":"#;
     are_messages(&rt, rt.alloc(), front, "}", &EDITS)?;
@@ -303,7 +428,9 @@ fn bodies_nest(rt: HostRuntime) -> Result<(), Fail> {
 }
 
 /// The reply is written so.
-fn is_text(rt: &impl Abort, alloc: Global, reply: Reply, expected: &str) -> Result<(), NoMemory> {
+fn is_text(rt: &impl Abort, alloc: Global, reply: Reply, expected: &str) -> Result<(), NoMemory>
+    requires { HasOrderedEdits reply }
+{
     let text = reply_text(alloc, &reply)?;
     assert!(rt; text.text() == expected, "{text}");
     Ok(())
@@ -326,7 +453,91 @@ fn results_are_written(rt: HostRuntime) -> Result<(), Fail> {
     Ok(())
 }
 
-fn error(alloc: Global, id: Option<Id>, code: i32, message: &str) -> Result<Reply, NoMemory> {
+/// A part of the first line of a document.
+fn location(alloc: Global, uri: &str, start: u32, end: u32) -> Result<Location, NoMemory> {
+    Ok(Location {
+        uri: Name::from_text(alloc, uri)?,
+        start: Pos {
+            line: 0,
+            character: start,
+        },
+        end: Pos {
+            line: 0,
+            character: end,
+        },
+    })
+}
+
+const SPOT: &str =
+    r#"{"id":1,"jsonrpc":"2.0","result":{"range":{"end":{"character":15,"line":0},"start":{"character":14,"line":0}},"uri":"file:///b.s"}}"#;
+
+const SPOTS: &str =
+    r#"{"id":1,"jsonrpc":"2.0","result":[{"range":{"end":{"character":20,"line":0},"start":{"character":19,"line":0}},"uri":"file:///c.s"},{"range":{"end":{"character":15,"line":0},"start":{"character":14,"line":0}},"uri":"file:///m.s"}]}"#;
+
+#[test]
+fn places_are_written(rt: HostRuntime) -> Result<(), Fail> {
+    let alloc = rt.alloc();
+    let spot = Outcome::Spot(location(alloc, "file:///b.s", 14, 15)?);
+    is_text(&rt, alloc, Reply::Done(Id::Whole(1), spot), SPOT)?;
+    let none = Outcome::Spots(Items::new(alloc));
+    let expected = r#"{"id":2,"jsonrpc":"2.0","result":[]}"#;
+    is_text(&rt, alloc, Reply::Done(Id::Whole(2), none), expected)?;
+    let mut list = Items::new(alloc);
+    list.push(location(alloc, "file:///c.s", 19, 20)?)?;
+    list.push(location(alloc, "file:///m.s", 14, 15)?)?;
+    let spots = Outcome::Spots(list);
+    is_text(&rt, alloc, Reply::Done(Id::Whole(1), spots), SPOTS)?;
+    Ok(())
+}
+
+/// The edit of a document that puts `q` in place of a part of its first line.
+fn file_edits(alloc: Global, uri: &str, start: u32, end: u32) -> Result<FileEdits, NoMemory>
+    ensures { IfOk result (λ file. file.uri ≡ uri.now) }
+{
+    let mut edits = Items::new(alloc);
+    edits.push(TextEdit {
+        start: Pos {
+            line: 0,
+            character: start,
+        },
+        end: Pos {
+            line: 0,
+            character: end,
+        },
+        text: Name::from_text(alloc, "q")?,
+    })?;
+    Ok(FileEdits {
+        uri: Name::from_text(alloc, uri)?,
+        edits,
+    })
+}
+
+fn two_files(alloc: Global) -> Result<Items<FileEdits>, NoMemory>
+    ensures { IfOk result AreOrdered }
+{
+    let mut files = Items::new(alloc);
+    files.push(file_edits(alloc, "file:///c.s", 19, 20)?)?;
+    files.push(file_edits(alloc, "file:///m.s", 14, 15)?)?;
+    Ok(files)
+}
+
+const RENAMED: &str =
+    r#"{"id":1,"jsonrpc":"2.0","result":{"changes":{"file:///c.s":[{"newText":"q","range":{"end":{"character":20,"line":0},"start":{"character":19,"line":0}}}],"file:///m.s":[{"newText":"q","range":{"end":{"character":15,"line":0},"start":{"character":14,"line":0}}}]}}}"#;
+
+#[test]
+fn edits_are_written(rt: HostRuntime) -> Result<(), Fail> {
+    let alloc = rt.alloc();
+    let none = Outcome::Edits(Items::new(alloc));
+    let expected = r#"{"id":2,"jsonrpc":"2.0","result":{"changes":{}}}"#;
+    is_text(&rt, alloc, Reply::Done(Id::Whole(2), none), expected)?;
+    let edits = Outcome::Edits(two_files(alloc)?);
+    is_text(&rt, alloc, Reply::Done(Id::Whole(1), edits), RENAMED)?;
+    Ok(())
+}
+
+fn error(alloc: Global, id: Option<Id>, code: i32, message: &str) -> Result<Reply, NoMemory>
+    ensures { IfOk result HasOrderedEdits }
+{
     Ok(Reply::Error(id, code, Name::from_text(alloc, message)?))
 }
 

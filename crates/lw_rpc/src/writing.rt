@@ -2,10 +2,12 @@
 ghost use Rattle.std.specs.Prelude.{◌≡◌, IfOk, Some};
 ghost use Rattle.serde_json.specs.Read.{read};
 ghost use Rattle.serde_json.specs.View.{view};
-ghost use Rattle.lw_rpc.specs.Replies.{reply_bytes};
+ghost use Rattle.lw_rpc.specs.Replies.{reply_bytes, HasOrderedEdits};
 ghost use Rattle.lw_rpc.specs.Values as spec;
 
+use crate::edits::edits_value;
 use crate::hello::hello_value;
+use crate::locations::{location_value, locations_value};
 use crate::published::publish_params;
 use crate::values::{Object, text_value};
 use crate::{Id, Outcome, Reply};
@@ -14,8 +16,10 @@ use serde_json::Value;
 use std::alloc::Global;
 
 /// The bytes of a reply: compact JSON, keys in byte order (JSON-RPC 2.0; Language Server Protocol 3.17).
-/// Time and memory are in proportion to their number.
+/// Memory is taken in proportion to their number, and time too, but for keeping the addresses of edits in
+/// order.
 pub fn reply_text(alloc: Global, reply: &Reply) -> Result<Name, NoMemory>
+    requires ordered { HasOrderedEdits reply.now }
     ensures bytes { IfOk result (λ text. text ≡ reply_bytes reply.now) }
     ensures reads_back { IfOk result (λ text. read text ≡ Some (spec.value_of reply.now)) }
 {
@@ -106,6 +110,9 @@ fn outcome_value(alloc: Global, outcome: &Outcome) -> Result<Value, NoMemory>
     match outcome {
         Outcome::Nothing => Ok(Value::Null),
         Outcome::Hello => hello_value(alloc),
+        Outcome::Spot(location) => location_value(alloc, location),
+        Outcome::Spots(list) => locations_value(alloc, list.as_slice()),
+        Outcome::Edits(files) => edits_value(alloc, files.as_slice()),
     }
 }
 
