@@ -4,6 +4,7 @@ use lw_index::Answer;
 use lw_tree::Tree;
 
 /// A document as a build left it: its number and its address, its text, what that was read as, and where its references lead.
+#[derive(Drop)]
 pub struct View<'a> {
     pub doc: DocId,
     pub uri: &'a Name,

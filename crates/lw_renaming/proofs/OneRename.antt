@@ -33,12 +33,12 @@ module _ (g : Grammar) (one_way : IsReadOneWay g) (texts : Texts) (address : Lis
   abbrev after : List Mention → Texts
   after mentions = renamed_texts new mentions texts
 
-  same_mentions : (mentions others : List Mention) → AreRenamed g texts address offset new mentions → AreRenamed g texts address offset new others →
+  same_mentions : (mentions others : List Mention) → AreRenamed g texts address offset mentions → AreRenamed g texts address offset others →
       mentions ≡ others
-  same_mentions = one_list_of_mentions g texts address offset new one_way
+  same_mentions = one_list_of_mentions g texts address offset one_way
 
-  not_both : {A : Type 0} (mentions : List Mention) → NothingIsMeant g texts address offset new → AreRenamed g texts address offset new mentions → A
-  not_both mentions none are = not_nothing g texts address offset new one_way mentions none are
+  not_both : {A : Type 0} (mentions : List Mention) → NothingIsMeant g texts address offset → AreRenamed g texts address offset mentions → A
+  not_both mentions none are = not_nothing g texts address offset one_way mentions none are
 
   abbrev AllKept : List Mention → Type 0
   AllKept mentions = (m : Mention) → Contains mentions m → IsKeptAt g texts (after mentions) m.address

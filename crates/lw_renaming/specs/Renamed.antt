@@ -72,7 +72,7 @@ module _ (g : Grammar) where
       pub same_before : (j : ℕ) → j < i → slice_get was j ≡ slice_get now j
       pub others : (a : List ℕ) → slice_cmp nat_cmp a address ≡ Less → LinksStay a
 
-  module _ (texts : Texts) (address : List ℕ) (offset : ℕ) (new : List ℕ) where
+  module _ (texts : Texts) (address : List ℕ) (offset : ℕ) where
     -- what is meant at the offset, and its mentions, the name of its own among them
     pub record AreRenamed (mentions : List Mention) : Type 0 where
       pub trees : Trees
@@ -87,17 +87,18 @@ module _ (g : Grammar) where
       pub are_trees : AreTreesOfTexts g texts trees
       pub none : IsMeantAt (IsNumberBelow g) trees address offset None
 
-    -- the outcome: the mentions that are to be replaced, or why nothing is
-    pub data IsRenamed : Result (List Mention) Refusal → Type 0 where
-      no_name : NothingIsMeant → IsRenamed (Err NoName)
-      refused : {mentions : List Mention} {m : Mention} {refusal : Refusal} → AreRenamed mentions → Contains mentions m →
-          IsSpoiledAt texts (renamed_texts new mentions texts) m.address refusal →
-          ((other : Mention) → Contains mentions other → slice_cmp nat_cmp other.address m.address ≡ Less →
-          IsKeptAt texts (renamed_texts new mentions texts) other.address) →
-          IsRenamed (Err refusal)
-      rebound : {mentions : List Mention} {a : List ℕ} {i : ℕ} {before behind : Link} → AreRenamed mentions →
-          ((m : Mention) → Contains mentions m → IsKeptAt texts (renamed_texts new mentions texts) m.address) →
-          IsRebound texts (renamed_texts new mentions texts) a i before behind → IsRenamed (Err (Rebound a i before behind))
-      renamed : {mentions : List Mention} → AreRenamed mentions →
-          ((m : Mention) → Contains mentions m → IsKeptAt texts (renamed_texts new mentions texts) m.address) →
-          ((a : List ℕ) → LinksStay texts (renamed_texts new mentions texts) a) → IsRenamed (Ok mentions)
+    module _ (new : List ℕ) where
+      -- the outcome: the mentions that are to be replaced, or why nothing is
+      pub data IsRenamed : Result (List Mention) Refusal → Type 0 where
+        no_name : NothingIsMeant → IsRenamed (Err NoName)
+        refused : {mentions : List Mention} {m : Mention} {refusal : Refusal} → AreRenamed mentions → Contains mentions m →
+            IsSpoiledAt texts (renamed_texts new mentions texts) m.address refusal →
+            ((other : Mention) → Contains mentions other → slice_cmp nat_cmp other.address m.address ≡ Less →
+            IsKeptAt texts (renamed_texts new mentions texts) other.address) →
+            IsRenamed (Err refusal)
+        rebound : {mentions : List Mention} {a : List ℕ} {i : ℕ} {before behind : Link} → AreRenamed mentions →
+            ((m : Mention) → Contains mentions m → IsKeptAt texts (renamed_texts new mentions texts) m.address) →
+            IsRebound texts (renamed_texts new mentions texts) a i before behind → IsRenamed (Err (Rebound a i before behind))
+        renamed : {mentions : List Mention} → AreRenamed mentions →
+            ((m : Mention) → Contains mentions m → IsKeptAt texts (renamed_texts new mentions texts) m.address) →
+            ((a : List ℕ) → LinksStay texts (renamed_texts new mentions texts) a) → IsRenamed (Ok mentions)
