@@ -26,14 +26,17 @@ use Rattle.lw_types.specs.Inferred.{AreTypesOf}
 use Rattle.lw_types.specs.declared.types.Types.{Types}
 use Rattle.lw_build.specs.Agreeing.{Agrees, Known, known, known_here}
 use Rattle.lw_build.specs.Built.{AreBuilt}
-use Rattle.lw_build.specs.Readings.{AreRead, IsRead, IsReadingOf, reading_at, texts_of}
+use Rattle.lw_refs.specs.Led.{Led}
+use Rattle.lw_build.specs.Linked.{AreLinked}
+use Rattle.lw_build.specs.Readings.{AreDocumentsRead, IsDocumentRead, IsReadingOfText, reading_at, present_texts_of}
 use Rattle.lw_build.specs.Telling as telling
-use Rattle.lw_build.specs.Telling.{AreTaken, AreTold, IsTaken, places_of, with_list}
+use Rattle.lw_build.specs.Telling.{AreListsTaken, AreListsTold, IsListTaken, numbered_places, with_list}
 use Rattle.lw_build.specs.View.{documents_of}
 use Rattle.lw_build.specs.declared.readings.Reading.{Reading}
 use Rattle.lw_build.specs.declared.readings.Readings.{Readings}
 use Rattle.lw_build.proofs.Agreeing.{held_of, same_list, view}
 use Rattle.lw_build.proofs.Documents.{alike_entries, document_of, entries_documents, get_document, held_here}
+use Rattle.lw_build.proofs.Linked.{linked_still}
 use Rattle.lw_build.proofs.News.{after_taken, before_taken, held_place, is_news, own_at}
 use Rattle.lw_build.proofs.Places.{entry_held}
 
@@ -88,35 +91,35 @@ module _ (g : Grammar) (one_way : IsReadOneWay g) (types : Types) (known_types :
 
 -- ---- where lists are told
 
-module _ (own : List (DocId × List Shown)) (kept after : ByAddress) (taken : AreTaken own kept after) where
-  content_taken : (o p : Option Numbered) → IsTaken own o p →
+module _ (own : List (DocId × List Shown)) (kept after : ByAddress) (taken : AreListsTaken own kept after) where
+  content_taken : (o p : Option Numbered) → IsListTaken own o p →
       option_map content_of (option_map known_here p) ≡ option_map content_of (option_map known_here o)
   content_taken o p telling.nothing = refl
   content_taken o p (telling.stays none) = refl
   content_taken o p (telling.taken has) = refl
 
-  number_taken : (o p : Option Numbered) → IsTaken own o p → option_map (λ (h : Numbered). h.number) p ≡ option_map (λ (h : Numbered). h.number) o
+  number_taken : (o p : Option Numbered) → IsListTaken own o p → option_map (λ (h : Numbered). h.number) p ≡ option_map (λ (h : Numbered). h.number) o
   number_taken o p telling.nothing = refl
   number_taken o p (telling.stays none) = refl
   number_taken o p (telling.taken has) = refl
 
-  text_taken : (o p : Option Numbered) → IsTaken own o p →
+  text_taken : (o p : Option Numbered) → IsListTaken own o p →
       option_and_then (λ (d : Document). d.shown) (option_map (document_of true) p) ≡ option_map (λ (h : Numbered). h.doc.text) o
   text_taken o p telling.nothing = refl
   text_taken o p (telling.stays none) = refl
   text_taken o p (telling.taken has) = refl
 
-  same_places : places_of after ≡ places_of kept
+  same_places : numbered_places after ≡ numbered_places kept
   same_places = alike_entries (λ (h : Numbered). h.number) after kept (λ a. number_taken (get kept a) (get after a) (taken a))
 
-  same_texts : (a : List ℕ) → shown_texts (documents_of true after) a ≡ texts_of kept a
+  same_texts : (a : List ℕ) → shown_texts (documents_of true after) a ≡ present_texts_of kept a
   same_texts a = ap (option_and_then (λ (d : Document). d.shown)) (get_document true after a) ∙ text_taken (get kept a) (get after a) (taken a)
 
   -- what is kept of texts is that of the same texts
-  pub read_taken : (g : Grammar) (texts : List (List ℕ)) (readings : Readings) → AreRead g texts kept readings → AreRead g texts after readings
+  pub read_taken : (g : Grammar) (texts : List (List ℕ)) (readings : Readings) → AreDocumentsRead g texts kept readings → AreDocumentsRead g texts after readings
   read_taken g texts readings read = record { each = each; nothing_else = read.nothing_else }
     where
-      each : (n : ℕ) (reading : Reading) → reading_at readings n ≡ Some reading → IsRead g texts after readings.index n reading
+      each : (n : ℕ) (reading : Reading) → reading_at readings n ≡ Some reading → IsDocumentRead g texts after readings.index n reading
       each n reading is =
           let r = read.each n reading is in
           let (now, there, like) = after_taken own (get kept r.held.doc.uri) (get after r.held.doc.uri) (taken r.held.doc.uri) r.held r.here in
@@ -125,11 +128,19 @@ module _ (own : List (DocId × List Shown)) (kept after : ByAddress) (taken : Ar
             number = ap (λ (d : DocId). d.0) (sym like.number) ∙ r.number;
             here = ap (get after) (sym like.uri) ∙ there;
             utf8 = subst IsUtf8 like.text r.utf8;
-            reads = subst (λ t. IsReadingOf g texts t reading) like.text r.reads;
+            reads = subst (λ t. IsReadingOfText g texts t reading) like.text r.reads;
             exports = r.exports;
             indexed = r.indexed ∙ ap (λ u. Some (record { uri = u; exports = r.exports })) like.uri;
             entered = r.entered;
           }
+
+  -- and so are the links
+  pub linked_taken : (g : Grammar) (readings : Readings) (led : Led) → AreLinked g kept readings led → AreLinked g after readings led
+  linked_taken g = linked_still g kept after (λ a. plain (get after a) ∙ ap (option_map (λ (d : DocId). d.0)) (number_taken (get kept a) (get after a) (taken a)) ∙ sym (plain (get kept a)))
+    where
+      plain : (o : Option Numbered) → option_map (λ (h : Numbered). h.number.0) o ≡ option_map (λ (d : DocId). d.0) (option_map (λ (h : Numbered). h.number) o)
+      plain None = refl
+      plain (Some h) = refl
 
   pub readable_taken : (g : Grammar) → ((a : List ℕ) (held : Numbered) → get kept a ≡ Some held → IsReadable g held.doc.text) →
       (a : List ℕ) (held : Numbered) → get after a ≡ Some held → IsReadable g held.doc.text
@@ -137,16 +148,16 @@ module _ (own : List (DocId × List Shown)) (kept after : ByAddress) (taken : Ar
       let (held, there, like) = before_taken own (get kept a) (get after a) (taken a) now at in
       subst (IsReadable g) like.text (readable a held there)
 
-  module _ (g : Grammar) (are : AreNumbered kept) (lists : List Published) (told : AreTold g kept (places_of kept) own lists) where
+  module _ (g : Grammar) (are : AreNumbered kept) (lists : List Published) (told : AreListsTold g kept (numbered_places kept) own lists) where
     -- each document has its list
-    listed : (a : List ℕ) (now : Numbered) → get after a ≡ Some now → (list : List Shown) × (now.doc.published ≡ Some list) × AreDiagnostics g (texts_of kept) a list
+    listed : (a : List ℕ) (now : Numbered) → get after a ≡ Some now → (list : List Shown) × (now.doc.published ≡ Some list) × AreDiagnostics g (present_texts_of kept) a list
     listed a now at = by (get kept a) (get after a) (taken a) refl at
       where
-        by : (o p : Option Numbered) → IsTaken own o p → get kept a ≡ o → p ≡ Some now →
-            (list : List Shown) × (now.doc.published ≡ Some list) × AreDiagnostics g (texts_of kept) a list
+        by : (o p : Option Numbered) → IsListTaken own o p → get kept a ≡ o → p ≡ Some now →
+            (list : List Shown) × (now.doc.published ≡ Some list) × AreDiagnostics g (present_texts_of kept) a list
         by o p telling.nothing was is = absurd (none-some now is)
         by o p (telling.stays {held = held} none) was is =
-            let has = own_at g kept (places_of kept) own lists told a held.number (held_place kept a held was) in
+            let has = own_at g kept (numbered_places kept) own lists told a held.number (held_place kept a held was) in
             let same : numbered held.number has.doc ≡ held = same_Some (numbered held.number has.doc) held (sym has.at ∙ was) in
             let here : held ≡ now = same_Some held now is in (
               has.list,
@@ -157,9 +168,9 @@ module _ (own : List (DocId × List Shown)) (kept after : ByAddress) (taken : Ar
               has.are,
             )
         by o p (telling.taken {held = held} {list = list} has) was is =
-            let news = is_news g kept (places_of kept) own lists told held.number list has in
+            let news = is_news g kept (numbered_places kept) own lists told held.number list has in
             let address : news.address ≡ a = are.apart news.address a (numbered held.number news.doc) held news.at was refl in
-            (list, ap (λ (h : Numbered). h.doc.published) (sym (same_Some (with_list held list) now is)), subst (λ b. AreDiagnostics g (texts_of kept) b list) address news.are)
+            (list, ap (λ (h : Numbered). h.doc.published) (sym (same_Some (with_list held list) now is)), subst (λ b. AreDiagnostics g (present_texts_of kept) b list) address news.are)
 
     pub current : AreCurrent g (documents_of true after)
     current a d at =
@@ -176,10 +187,10 @@ module _ (own : List (DocId × List Shown)) (kept after : ByAddress) (taken : Ar
       last : (a : List ℕ) (d : DocId) (doc : Doc) → get kept a ≡ Some (numbered d doc) → last_list m a ≡ doc.published
       last a d doc at = same_list (view g kept b) m agrees a ∙ ap (option_and_then (λ (h : Numbered). h.doc.published)) at
 
-      published_now : (a : List ℕ) (now : Numbered) (list : List Shown) → get after a ≡ Some now → AreDiagnostics g (texts_of kept) a list → now.doc.published ≡ Some list
+      published_now : (a : List ℕ) (now : Numbered) (list : List Shown) → get after a ≡ Some now → AreDiagnostics g (present_texts_of kept) a list → now.doc.published ≡ Some list
       published_now a now list at is =
           let (other, published, are_list) = listed a now at in
-          published ∙ ap Some (one_list g one_way (texts_of kept) a other list are_list is)
+          published ∙ ap Some (one_list g one_way (present_texts_of kept) a other list are_list is)
 
       version_now : (a : List ℕ) (now : Numbered) (d : DocId) (doc : Doc) → get after a ≡ Some now → get kept a ≡ Some (numbered d doc) → doc.version ≡ now.doc.version
       version_now a now d doc at was =
@@ -187,7 +198,7 @@ module _ (own : List (DocId × List Shown)) (kept after : ByAddress) (taken : Ar
           ap (λ (h : Numbered). h.doc.version) (same_Some (numbered d doc) held (sym was ∙ there)) ∙ like.version
 
       news_from : (es : List (List ℕ × Numbered)) (mine : List (DocId × List Shown)) (news : List Published) →
-          ((a : List ℕ) (h : Numbered) → Among (a, h) es → get after a ≡ Some h) → AreTold g kept (map (λ e. (e.0, e.1.number)) es) mine news →
+          ((a : List ℕ) (h : Numbered) → Among (a, h) es → get after a ≡ Some h) → AreListsTold g kept (map (λ e. (e.0, e.1.number)) es) mine news →
           AreNews m (map (λ e. (e.0, document_of true e.1)) es) news
       news_from [] mine news each telling.none = law.nothing
       news_from (e ∷ es) mine news each (telling.same {doc = doc} {list = list} at are_list is rest) =
@@ -200,7 +211,7 @@ module _ (own : List (DocId × List Shown)) (kept after : ByAddress) (taken : Ar
 
       pub are_news : AreNews m (entries (documents_of true after)) lists
       are_news = subst (λ es. AreNews m es lists) (sym (entries_documents true after))
-          (news_from (entries after) own lists (entry_held after) (subst (λ places. AreTold g kept places own lists) (sym same_places) told))
+          (news_from (entries after) own lists (entry_held after) (subst (λ places. AreListsTold g kept places own lists) (sym same_places) told))
 
     pub builds : (one_way : IsReadOneWay g) (types : Types) → AreTypesOf g types → ((a : List ℕ) (held : Numbered) → get kept a ≡ Some held → IsReadable g held.doc.text) →
         (b : Bool) (m : Documents) → Agrees (view g kept b) m → BuildsToEnd g m (documents_of true after) lists

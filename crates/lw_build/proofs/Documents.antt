@@ -1,16 +1,16 @@
 -- The documents of the machine that a workspace stands for, at each address, in their order and by their count.
-use Rattle.std.proofs.Common.{◌≡◌, ℕ, List, [], ◌∷◌, map, length, Bool, true, false, cond, ◌&&◌, T, Option, Some, None, is_some, nat_cmp, refl, sym, ap, subst, ◌∙◌}
+use Rattle.std.proofs.Common.{◌≡◌, ℕ, List, [], ◌∷◌, map, Bool, true, false, cond, ◌&&◌, T, Option, Some, None, nat_cmp, refl, sym, ap, subst, ◌∙◌}
 use Rattle.std.specs.Prelude.{if◌then◌else◌, option_map}
 use Rattle.std.specs.Cmp.Lexicographic.{slice_cmp}
 use Rattle.std.specs.Ordering.{eq_by_cmp, is_lt}
-use Rattle.std.specs.FinMap.{FinMap, get, len, contains_key, entries, find, from_sorted, is_sorted, entries_sorted, get-entries, get-from_sorted, entries-from_sorted, len-entries}
+use Rattle.std.specs.FinMap.{FinMap, get, entries, find, from_sorted, is_sorted, entries_sorted, get-entries, get-from_sorted, entries-from_sorted}
 use Rattle.std.specs.FinMap.Entries.{below_all}
-use Rattle.std.proofs.lemmas.List.{length-map}
 use Rattle.lw_docs.specs.Documents.{ByAddress, Numbered}
-use Rattle.lw_machine.specs.Documents.{Document}
+use Rattle.lw_machine.specs.Documents.{Document, present_texts}
 use Rattle.lw_machine.proofs.Places.{order}
 use Rattle.lw_build.proofs.Maps.{same_at_addresses}
-use Rattle.lw_build.specs.View.{WorkspaceView, built_document, cleared_document, documents_of, documents}
+use Rattle.lw_build.specs.Readings.{present_texts_of}
+use Rattle.lw_build.specs.View.{built_document, cleared_document, documents_of}
 
 -- what one document is
 abbrev pub document_of : Bool → Numbered → Document
@@ -58,20 +58,15 @@ pub entries_documents : (is_built : Bool) (kept : ByAddress) → entries (docume
 unfolding documents_of
 entries_documents is_built kept = entries_each (document_of is_built) kept
 
--- how many
-pub len_documents : (v : WorkspaceView) → len (documents v) ≡ len v.kept
-len_documents v = len-entries (documents v) ∙ ap length (entries_documents v.is_built v.kept) ∙ length-map (entries v.kept) (λ e. (e.0, document_of v.is_built e.1))
-    ∙ sym (len-entries v.kept)
-
-some_mapped : {X Y : Type 0} (f : X → Y) (o : Option X) → is_some (option_map f o) ≡ is_some o
-some_mapped f None = refl
-some_mapped f (Some x) = refl
-
--- whether one is held
-pub holds_document : (v : WorkspaceView) (address : List ℕ) → contains_key (documents v) address ≡ contains_key v.kept address
-holds_document v address = ap is_some (get_document v.is_built v.kept address) ∙ some_mapped (document_of v.is_built) (get v.kept address)
-
 -- ---- at one address
+
+pub present_here : (is_built : Bool) (kept : ByAddress) (address : List ℕ) → present_texts (documents_of is_built kept) address ≡ present_texts_of kept address
+present_here is_built kept address = ap (option_map (λ (d : Document). d.text)) (get_document is_built kept address) ∙ by is_built (get kept address)
+  where
+    by : (b : Bool) (o : Option Numbered) → option_map (λ (d : Document). d.text) (option_map (document_of b) o) ≡ option_map (λ (h : Numbered). h.doc.text) o
+    by b None = refl
+    by true (Some held) = refl
+    by false (Some held) = refl
 
 pub document_here : (is_built : Bool) (kept : ByAddress) (address : List ℕ) (held : Numbered) → get kept address ≡ Some held →
     get (documents_of is_built kept) address ≡ Some (document_of is_built held)

@@ -1,17 +1,22 @@
 -- A workspace of no documents.
-use Rattle.std.proofs.Common.{◌≡◌, ℕ, List, true, Some, None, sym, ap, ◌∙◌}
+use Rattle.std.proofs.Common.{◌≡◌, ℕ, List, [], true, Option, Some, None, sym, ap, ◌∙◌}
+use Rattle.std.specs.Option.{option_map_or}
 use Rattle.std.specs.FinMap as all
 use Rattle.std.specs.FinMap.{get, get-empty}
 use Rattle.std.specs.Ordering.{nat_cmp}
 use Rattle.std.proofs.lemmas.Option.{none-some}
 use Rattle.lw_docs.specs.Documents.{AreNumbered, ByAddress, Numbered}
 use Rattle.lw_grammar.specs.declared.grammar.Grammar.{Grammar}
+use Rattle.lw_index.specs.declared.parts.Answer.{Answer}
+use Rattle.lw_refs.specs.Led.{Led}
 use Rattle.lw_machine.proofs.Places.{order}
 use Rattle.lw_reading.specs.Laws.{IsReadOneWay}
-use Rattle.lw_build.specs.Built.{AreBuilt, IsKept}
-use Rattle.lw_build.specs.Readings.{reading_at}
+use Rattle.lw_build.specs.Built.{AreBuilt, IsWorkspaceKept}
+use Rattle.lw_build.specs.Linked.{OnlyReadLead}
+use Rattle.lw_build.specs.Readings.{AreDocumentsRead, reading_at}
 use Rattle.lw_build.specs.declared.readings.Readings.{Readings}
 use Rattle.lw_build.proofs.Documents.{held_here}
+use Rattle.lw_build.proofs.Linked.{are_linked}
 
 module _ (g : Grammar) (texts : List (List ℕ)) (kept : ByAddress) (empty : kept ≡ all.empty) where
   nothing_held : (a : List ℕ) (held : Numbered) → get kept a ≡ Some held → ⊥
@@ -23,14 +28,23 @@ module _ (g : Grammar) (texts : List (List ℕ)) (kept : ByAddress) (empty : kep
     readable = λ a held at. absurd (nothing_held a held at);
   }
 
-  pub none_kept : IsReadOneWay g → AreNumbered kept → (readings : Readings) → readings.index ≡ all.empty → ((n : ℕ) → reading_at readings n ≡ None) →
-      IsKept g texts kept readings true
-  none_kept one_way are readings index none = record {
-    one_way = one_way;
-    numbered = are;
-    read = record {
+  module _ (readings : Readings) (index : readings.index ≡ all.empty) (none : (n : ℕ) → reading_at readings n ≡ None) where
+    none_read : AreDocumentsRead g texts kept readings
+    none_read = record {
       each = λ n reading is. absurd (none-some reading (sym (none n) ∙ is));
       nothing_else = λ n is. ap (λ m. get m n) index ∙ get-empty nat_cmp n;
-    };
-    built = λ is. none_built;
-  }
+    }
+
+    pub none_kept : IsReadOneWay g → AreNumbered kept → (led : Led) → led ≡ all.empty → IsWorkspaceKept g texts kept readings led true
+    none_kept one_way are led unled = record {
+      one_way = one_way;
+      numbered = are;
+      read = none_read;
+      unread = unread;
+      built = λ is. none_built;
+      linked = λ is. are_linked g texts kept readings none_read are (λ address held at. absurd (nothing_held address held at)) led unread
+          (λ address held at. absurd (nothing_held address held at));
+    }
+      where
+        unread : OnlyReadLead readings led
+        unread n is = ap (λ (o : Option (List Answer)). option_map_or (λ answers. answers) o []) (ap (λ (m : Led). get m n) unled ∙ get-empty nat_cmp n)

@@ -1,5 +1,5 @@
 -- What is found at an address, and why something is refused there.
-use Rattle.std.proofs.Common.{◌≡◌, ℕ, ◌<◌, ◌≤◌, List, Option, Some, None, Result, Ok, Err, OnOk, IfErr, option_map, is_some, length, refl, sym, ap, subst, ◌∙◌, inl, inr, ◌⊎◌}
+use Rattle.std.proofs.Common.{◌≡◌, ℕ, ◌<◌, ◌≤◌, List, Option, Some, None, Ok, Err, option_map, is_some, length, refl, sym, ap, subst, ◌∙◌, inl, inr, ◌⊎◌}
 use Rattle.std.specs.FinMap.{get}
 use Rattle.std.proofs.lemmas.Bool.{cases_lt}
 use Rattle.std.proofs.lemmas.Option.{same_Some, none-some}
@@ -16,7 +16,7 @@ use Rattle.lw_text.specs.declared.change.EditFault.TheVariants as edit
 use Rattle.lw_text.specs.declared.units.Encoding.TheVariants.{Utf16}
 use Rattle.lw_build.specs.Agreeing.{Agrees}
 use Rattle.lw_build.specs.Faults as faults
-use Rattle.lw_build.specs.Faults.{IsEditFault, IsPutFault, IsRefusal, edit_fault}
+use Rattle.lw_build.specs.Faults.{IsEditFault, IsPutFault, IsAddRefusal, edit_fault}
 use Rattle.lw_build.specs.View.{WorkspaceView}
 use Rattle.lw_build.specs.declared.fault.WorkFault.{WorkFault}
 use Rattle.lw_build.proofs.Agreeing.{view}
@@ -57,14 +57,6 @@ seen w g kept n p q = subst (λ v. Agrees v n) (λ i. record { grammar = sym p i
 pub not_above : (a b : ℕ) → (a < b → ⊥) → b ≤ a
 not_above a b not = elim (cases_lt a b) [ inl above ↦ absurd (not above) | inr fits ↦ fits ]
 
-pub weaker : {A E : Type 0} {P Q : Type 0} (r : Result A E) → (P → Q) → OnOk r P → OnOk r Q
-weaker (Ok x) f is = f is
-weaker (Err e) f is = tt
-
-pub weaker_fault : {A E : Type 0} {P Q : E → Type 0} (r : Result A E) → ((e : E) → P e → Q e) → IfErr r P → IfErr r Q
-weaker_fault (Ok x) f is = tt
-weaker_fault (Err e) f is = f e is
-
 -- ---- faults
 
 pub are_made : (text : List ℕ) (changes : List Change) (new : List ℕ) → Changes Utf16 text changes (Ok new) → AreMade Utf16 text changes new
@@ -82,6 +74,6 @@ pub put_refused : (v : WorkspaceView) (a text : List ℕ) (fault : EditFault) �
 put_refused v a text fault (inl is) long = subst (λ f. IsPutFault v a text (edit_fault f)) (sym is) (faults.too_long (long is))
 put_refused v a text fault (inr is) long = subst (λ f. IsPutFault v a text (edit_fault f)) (sym is) faults.no_memory
 
-pub not_added : (v : WorkspaceView) (a text : List ℕ) → get v.kept a ≡ None → length text ≤ LONGEST_TEXT → (fault : WorkFault) → IsRefusal v fault → IsPutFault v a text fault
+pub not_added : (v : WorkspaceView) (a text : List ℕ) → get v.kept a ≡ None → length text ≤ LONGEST_TEXT → (fault : WorkFault) → IsAddRefusal v fault → IsPutFault v a text fault
 not_added v a text none fits fault (faults.full full) = faults.too_many fits (ap is_some none, full)
 not_added v a text none fits fault faults.starved = faults.no_memory

@@ -4,9 +4,13 @@ pub mod Documents
 pub mod Texts
 pub mod Reading
 pub mod Trees
+pub mod Linked
 pub mod News
 pub mod Agreeing
 pub mod Advancing
 pub mod Finding
 pub mod Empty
 pub mod OneWay
+pub mod Leading
+pub mod Views
+pub mod Lending

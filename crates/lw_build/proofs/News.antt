@@ -12,9 +12,9 @@ use Rattle.lw_machine.proofs.Places.{Among, first, later, one_or_two}
 use Rattle.lw_outcomes.proofs.Finite.{behind, here, here_or_there, in_either, nothing, there}
 use Rattle.lw_scopes.specs.Diagnostics.{AreDiagnostics}
 use Rattle.lw_text.specs.declared.shown.Shown.{Shown}
-use Rattle.lw_build.specs.Readings.{texts_of}
+use Rattle.lw_build.specs.Readings.{present_texts_of}
 use Rattle.lw_build.specs.Telling as telling
-use Rattle.lw_build.specs.Telling.{Adds, AreTaken, AreTold, IsTaken, places_of, with_list}
+use Rattle.lw_build.specs.Telling.{AddsList, AreListsTaken, AreListsTold, IsListTaken, numbered_places, with_list}
 use Rattle.lw_build.specs.declared.telling.News.{News}
 use Rattle.lw_build.proofs.Maps.{put_here, put_elsewhere}
 use Rattle.lw_build.proofs.Places.{entry_held, held_entry, among_map, map_among, with_nothing}
@@ -22,27 +22,27 @@ use Rattle.lw_build.proofs.Places.{entry_held, held_entry, among_map, map_among,
 -- ---- places
 
 -- what stands at a place is held
-pub place_held : (kept : ByAddress) (address : List ℕ) (d : DocId) → Among (address, d) (places_of kept) →
+pub place_held : (kept : ByAddress) (address : List ℕ) (d : DocId) → Among (address, d) (numbered_places kept) →
     (held : Numbered) × (get kept address ≡ Some held) × (held.number ≡ d)
 place_held kept address d there =
     let (e, among, is) = map_among (λ (e : List ℕ × Numbered). (e.0, e.1.number)) (address, d) (entries kept) there in
     (e.1, ap (get kept) (ap (λ (p : List ℕ × DocId). p.0) (sym is)) ∙ entry_held kept e.0 e.1 among, ap (λ (p : List ℕ × DocId). p.1) is)
 
-pub is_held : (kept : ByAddress) → AreNumbered kept → (address : List ℕ) (d : DocId) → Among (address, d) (places_of kept) → IsHeld kept d
+pub is_held : (kept : ByAddress) → AreNumbered kept → (address : List ℕ) (d : DocId) → Among (address, d) (numbered_places kept) → IsHeld kept d
 is_held kept are address d there =
     let (held, at, is) = place_held kept address d there in
     (held.doc, ap (get kept) (are.addresses address held at) ∙ at ∙ ap Some (λ i. numbered (is i) held.doc))
 
-pub held_place : (kept : ByAddress) (address : List ℕ) (held : Numbered) → get kept address ≡ Some held → Among (address, held.number) (places_of kept)
+pub held_place : (kept : ByAddress) (address : List ℕ) (held : Numbered) → get kept address ≡ Some held → Among (address, held.number) (numbered_places kept)
 held_place kept address held at = among_map (λ (e : List ℕ × Numbered). (e.0, e.1.number)) (address, held) (entries kept) (held_entry kept address held at)
 
 -- ---- what is told
 
 module _ (g : Grammar) (kept : ByAddress) where
   -- one more is told
-  pub told_more : (places : List (List ℕ × DocId)) (own : List (DocId × List Shown)) (lists : List Published) → AreTold g kept places own lists →
-      (p : List ℕ × DocId) (mine : List (DocId × List Shown)) (news : List Published) → AreTold g kept (p ∷ []) mine news →
-      AreTold g kept (places ++ p ∷ []) (own ++ mine) (lists ++ news)
+  pub told_more : (places : List (List ℕ × DocId)) (own : List (DocId × List Shown)) (lists : List Published) → AreListsTold g kept places own lists →
+      (p : List ℕ × DocId) (mine : List (DocId × List Shown)) (news : List Published) → AreListsTold g kept (p ∷ []) mine news →
+      AreListsTold g kept (places ++ p ∷ []) (own ++ mine) (lists ++ news)
   told_more places own lists telling.none p mine news one = one
   told_more places own lists (telling.same at are is rest) p mine news one = telling.same at are is (told_more _ _ _ rest p mine news one)
   told_more places own lists (telling.other at are is rest) p mine news one = telling.other at are is (told_more _ _ _ rest p mine news one)
@@ -52,13 +52,13 @@ module _ (g : Grammar) (kept : ByAddress) where
     pub doc : Doc
     pub at : get kept address ≡ Some (numbered d doc)
     pub list : List Shown
-    pub are : AreDiagnostics g (texts_of kept) address list
+    pub are : AreDiagnostics g (present_texts_of kept) address list
     pub is : (doc.published ≡ Some list) ⊎ Contains own (d, list)
 
   wider : (own : List (DocId × List Shown)) (e : DocId × List Shown) (address : List ℕ) (d : DocId) → HasOwn own address d → HasOwn (e ∷ own) address d
   wider own e address d has = record { doc = has.doc; at = has.at; list = has.list; are = has.are; is = elim has.is [ inl last ↦ inl last | inr new ↦ inr (there e own _ new) ] }
 
-  pub own_at : (places : List (List ℕ × DocId)) (own : List (DocId × List Shown)) (lists : List Published) → AreTold g kept places own lists →
+  pub own_at : (places : List (List ℕ × DocId)) (own : List (DocId × List Shown)) (lists : List Published) → AreListsTold g kept places own lists →
       (address : List ℕ) (d : DocId) → Among (address, d) places → HasOwn own address d
   own_at places own lists telling.none address d among = elim among [ ]
   own_at places own lists (telling.same {doc = doc} {list = list} at are is rest) address d first = record { doc = doc; at = at; list = list; are = are; is = inl is }
@@ -72,9 +72,9 @@ module _ (g : Grammar) (kept : ByAddress) where
     pub address : List ℕ
     pub doc : Doc
     pub at : get kept address ≡ Some (numbered d doc)
-    pub are : AreDiagnostics g (texts_of kept) address list
+    pub are : AreDiagnostics g (present_texts_of kept) address list
 
-  pub is_news : (places : List (List ℕ × DocId)) (own : List (DocId × List Shown)) (lists : List Published) → AreTold g kept places own lists →
+  pub is_news : (places : List (List ℕ × DocId)) (own : List (DocId × List Shown)) (lists : List Published) → AreListsTold g kept places own lists →
       (d : DocId) (list : List Shown) → Contains own (d, list) → IsNews d list
   is_news places own lists telling.none d list has = absurd (nothing (d, list) has)
   is_news places own lists (telling.same at are is rest) d list has = is_news _ _ _ rest d list has
@@ -86,13 +86,13 @@ module _ (g : Grammar) (kept : ByAddress) where
 
   -- the lists of one document
   pub told_one : (address : List ℕ) (d : DocId) (doc : Doc) (list : List Shown) → get kept address ≡ Some (numbered d doc) → doc.uri ≡ address →
-      AreDiagnostics g (texts_of kept) address list → (places : List (List ℕ × DocId)) (before after : News) → AreTold g kept places before.own.items before.lists →
-      Adds d doc list before after → AreTold g kept (places ++ (address, d) ∷ []) after.own.items after.lists
+      AreDiagnostics g (present_texts_of kept) address list → (places : List (List ℕ × DocId)) (before after : News) → AreListsTold g kept places before.own.items before.lists →
+      AddsList d doc list before after → AreListsTold g kept (places ++ (address, d) ∷ []) after.own.items after.lists
   told_one address d doc list at uri are places before after told (telling.same is own lists) =
-      subst₂ (λ o l. AreTold g kept (places ++ (address, d) ∷ []) o l) (with_nothing before.own.items ∙ sym own) (with_nothing before.lists ∙ sym lists)
+      subst₂ (λ o l. AreListsTold g kept (places ++ (address, d) ∷ []) o l) (with_nothing before.own.items ∙ sym own) (with_nothing before.lists ∙ sym lists)
       (told_more places before.own.items before.lists told (address, d) [] [] (telling.same at are is telling.none))
   told_one address d doc list at uri are places before after told (telling.other is own lists) =
-      subst₂ (λ o l. AreTold g kept (places ++ (address, d) ∷ []) o l) (sym own)
+      subst₂ (λ o l. AreListsTold g kept (places ++ (address, d) ∷ []) o l) (sym own)
       (ap (λ (a : List ℕ). before.lists ++ publication a doc.version list ∷ []) (sym uri) ∙ sym lists)
       (told_more places before.own.items before.lists told (address, d) ((d, list) ∷ []) (publication address doc.version list ∷ []) (telling.other at are is telling.none))
 
@@ -106,7 +106,7 @@ pub record IsAsBefore (held now : Numbered) : Type 0 where
   pub version : held.doc.version ≡ now.doc.version
   pub is_open : held.doc.is_open ≡ now.doc.is_open
 
-pub before_taken : (own : List (DocId × List Shown)) (o p : Option Numbered) → IsTaken own o p → (now : Numbered) → p ≡ Some now →
+pub before_taken : (own : List (DocId × List Shown)) (o p : Option Numbered) → IsListTaken own o p → (now : Numbered) → p ≡ Some now →
     (held : Numbered) × (o ≡ Some held) × IsAsBefore held now
 before_taken own o p telling.nothing now is = absurd (none-some now is)
 before_taken own o p (telling.stays {held = held} none) now is =
@@ -117,7 +117,7 @@ before_taken own o p (telling.taken {held = held} {list = list} has) now is =
     (held, refl, record { number = refl; uri = refl; text = refl; version = refl; is_open = refl })
 
 -- what was held before is held, with another list or the same
-pub after_taken : (own : List (DocId × List Shown)) (o p : Option Numbered) → IsTaken own o p → (held : Numbered) → o ≡ Some held →
+pub after_taken : (own : List (DocId × List Shown)) (o p : Option Numbered) → IsListTaken own o p → (held : Numbered) → o ≡ Some held →
     (now : Numbered) × (p ≡ Some now) × IsAsBefore held now
 after_taken own o p telling.nothing held is = absurd (none-some held is)
 after_taken own o p (telling.stays {held = one} none) held is =
@@ -129,11 +129,11 @@ after_taken own o p (telling.taken {held = one} {list = list} has) held is = (
       (record { number = refl; uri = refl; text = refl; version = refl; is_open = refl }),
 )
 
-pub nothing_taken : (o : Option Numbered) → IsTaken [] o o
+pub nothing_taken : (o : Option Numbered) → IsListTaken [] o o
 nothing_taken None = telling.nothing
 nothing_taken (Some held) = telling.stays (λ list has. nothing (held.number, list) has)
 
-pub held_still : (own : List (DocId × List Shown)) (before now : ByAddress) → AreTaken own before now → (d : DocId) → IsHeld before d → IsHeld now d
+pub held_still : (own : List (DocId × List Shown)) (before now : ByAddress) → AreListsTaken own before now → (d : DocId) → IsHeld before d → IsHeld now d
 held_still own before now taken d (x, at) =
     let (after, there, like) = after_taken own (get before x.uri) (get now x.uri) (taken x.uri) (numbered d x) at in
     (after.doc, ap (get now) (sym like.uri) ∙ there ∙ ap Some (λ i. numbered (sym like.number i) after.doc))
@@ -149,18 +149,18 @@ module _ (own : List (DocId × List Shown)) (d : DocId) (list : List Shown) wher
   abbrev longer : List (DocId × List Shown)
   longer = own ++ (d, list) ∷ []
 
-  taken_here : (o p : Option Numbered) (x : Doc) → IsTaken own o p → p ≡ Some (numbered d x) → IsTaken longer o (Some (with_list (numbered d x) list))
+  taken_here : (o p : Option Numbered) (x : Doc) → IsListTaken own o p → p ≡ Some (numbered d x) → IsListTaken longer o (Some (with_list (numbered d x) list))
   taken_here o p x telling.nothing is = absurd (none-some (numbered d x) is)
   taken_here o p x (telling.stays {held = held} none) is =
       let e : held ≡ numbered d x = same_Some held (numbered d x) is in
-      subst (λ h. IsTaken longer (Some held) (Some (with_list h list))) e
+      subst (λ h. IsListTaken longer (Some held) (Some (with_list h list))) e
       (telling.taken (subst (λ (h : Numbered). Contains longer (h.number, list)) (sym e) (behind own ((d, list) ∷ []) (d, list) (here (d, list) []))))
   taken_here o p x (telling.taken {held = held} {list = other} has) is =
       let e : with_list held other ≡ numbered d x = same_Some (with_list held other) (numbered d x) is in
-      subst (λ h. IsTaken longer (Some held) (Some (with_list h list))) e
+      subst (λ h. IsListTaken longer (Some held) (Some (with_list h list))) e
       (telling.taken (subst (λ (h : Numbered). Contains longer (h.number, list)) (sym e) (behind own ((d, list) ∷ []) (d, list) (here (d, list) []))))
 
-  taken_there : (o p : Option Numbered) → IsTaken own o p → ((held : Numbered) → o ≡ Some held → held.number ≢ d) → IsTaken longer o p
+  taken_there : (o p : Option Numbered) → IsListTaken own o p → ((held : Numbered) → o ≡ Some held → held.number ≢ d) → IsListTaken longer o p
   taken_there o p telling.nothing apart = telling.nothing
   taken_there o p (telling.stays {held = held} none) apart = telling.stays (λ l has. elim (in_either own ((d, list) ∷ []) (held.number, l) has) [
     | inl old ↦ none l old
@@ -172,18 +172,18 @@ module _ (own : List (DocId × List Shown)) (d : DocId) (list : List Shown) wher
   taken_there o p (telling.taken {held = held} {list = other} has) apart = telling.taken (in_front own ((d, list) ∷ []) (held.number, other) has)
 
   -- one more is written down
-  pub taken_more : (before now after : ByAddress) → AreNumbered before → AreTaken own before now → IsHeld now d →
-      Turns now after d (λ x. record x { published = Some list }) → AreTaken longer before after
+  pub taken_more : (before now after : ByAddress) → AreNumbered before → AreListsTaken own before now → IsHeld now d →
+      Turns now after d (λ x. record x { published = Some list }) → AreListsTaken longer before after
   taken_more before now after are taken (x, at) turns address =
       elim (one_or_two address x.uri) [
         | inl same ↦
             let here : get after address ≡ Some (with_list (numbered d x) list) =
             ap (get after) same ∙ ap (λ m. get m x.uri) (turns x at) ∙ put_here now x.uri (with_list (numbered d x) list) in
-            subst (IsTaken longer (get before address)) (sym here) (taken_here (get before address) (get now address) x (taken address) (ap (get now) same ∙ at))
+            subst (IsListTaken longer (get before address)) (sym here) (taken_here (get before address) (get now address) x (taken address) (ap (get now) same ∙ at))
         | inr other ↦
             let there : get after address ≡ get now address =
             ap (λ m. get m address) (turns x at) ∙ put_elsewhere now x.uri (with_list (numbered d x) list) address other in
-            subst (IsTaken longer (get before address)) (sym there) (taken_there (get before address) (get now address) (taken address) (apart address other))
+            subst (IsListTaken longer (get before address)) (sym there) (taken_there (get before address) (get now address) (taken address) (apart address other))
       ]
     where
       apart : (address : List ℕ) → address ≢ x.uri → (held : Numbered) → get before address ≡ Some held → held.number ≢ d

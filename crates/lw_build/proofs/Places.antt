@@ -7,7 +7,7 @@ use Rattle.lw_machine.proofs.Places.{order, tied, test_same, Among, first, later
 use Rattle.lw_machine.proofs.Entries.{both, above}
 
 module _ {X : Type 0} where
-  below_each : (a : List ℕ) (es : List (List ℕ × X)) (b : List ℕ) (x : X) → T (below_all order a es) → Among (b, x) es → T (is_lt (order a b))
+  pub below_each : (a : List ℕ) (es : List (List ℕ × X)) (b : List ℕ) (x : X) → T (below_all order a es) → Among (b, x) es → T (is_lt (order a b))
   below_each a [] b x below there = elim there [ ]
   below_each a (e ∷ es) b x below first = (both (is_lt (order a e.0)) (below_all order a es) below).0
   below_each a (e ∷ es) b x below (later there) = below_each a es b x (both (is_lt (order a e.0)) (below_all order a es) below).1 there
@@ -38,7 +38,7 @@ module _ {X : Type 0} where
 
 -- ---- among the items of a list
 
-among_split : {A : Type 0} (y z : A) (zs : List A) → Among y (z ∷ zs) → (y ≡ z) ⊎ Among y zs
+pub among_split : {A : Type 0} (y z : A) (zs : List A) → Among y (z ∷ zs) → (y ≡ z) ⊎ Among y zs
 among_split y z zs first = inl refl
 among_split y z zs (later there) = inr there
 

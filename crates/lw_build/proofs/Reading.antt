@@ -14,15 +14,15 @@ use Rattle.lw_index.specs.declared.parts.Document.{Document}
 use Rattle.lw_index.specs.declared.parts.Export.{Export}
 use Rattle.lw_link.specs.Indexed.{AreEntriesAt}
 use Rattle.lw_machine.proofs.Places.{one_or_two}
-use Rattle.lw_build.specs.Readings.{AreRead, IsRead, IsReadingOf, reading_at, tree_of}
+use Rattle.lw_build.specs.Readings.{AreDocumentsRead, IsDocumentRead, IsReadingOfText, reading_at, tree_of}
 use Rattle.lw_build.specs.declared.readings.Reading.{Reading}
 use Rattle.lw_build.specs.declared.readings.Readings.{Readings}
 use Rattle.lw_build.proofs.Maps.{number_put, number_stays, number_gone, number_left}
 
 module _ (g : Grammar) (texts : List (List ℕ)) where
   -- the same, where the index holds the same of this number, and the document is held
-  pub moved : (kept after : ByAddress) (index later : Indexed) (n : ℕ) (reading : Reading) → (is : IsRead g texts kept index n reading) →
-      get later n ≡ get index n → get after is.held.doc.uri ≡ Some is.held → IsRead g texts after later n reading
+  pub moved : (kept after : ByAddress) (index later : Indexed) (n : ℕ) (reading : Reading) → (is : IsDocumentRead g texts kept index n reading) →
+      get later n ≡ get index n → get after is.held.doc.uri ≡ Some is.held → IsDocumentRead g texts after later n reading
   moved kept after index later n reading is same there = record {
     held = is.held;
     number = is.number;
@@ -39,7 +39,7 @@ module _ (g : Grammar) (texts : List (List ℕ)) where
     same_number : AreNumbered kept → (a b : Numbered) → get kept a.doc.uri ≡ Some a → get kept b.doc.uri ≡ Some b → a.number.0 ≡ b.number.0 → a.doc.uri ≡ b.doc.uri
     same_number are a b at there same = are.apart a.doc.uri b.doc.uri a b at there (λ i. record { 0 = same i })
 
-    pub free : AreNumbered kept → (readings : Readings) → AreRead g texts kept readings → (d : DocId) (doc : Doc) → IsAt kept d doc →
+    pub free : AreNumbered kept → (readings : Readings) → AreDocumentsRead g texts kept readings → (d : DocId) (doc : Doc) → IsAt kept d doc →
         reading_at readings d.0 ≡ None → IsFreeFor readings.index d.0 doc.uri
     free are readings read d doc at none other document there same = by (reading_at readings other) refl
       where
@@ -53,16 +53,16 @@ module _ (g : Grammar) (texts : List (List ℕ)) where
             sym r.number ∙ ap (λ (h : Numbered). h.number.0) held
 
     -- what is kept of a document
-    pub own_reading : AreNumbered kept → (readings : Readings) → AreRead g texts kept readings → (d : DocId) (doc : Doc) → IsAt kept d doc → (reading : Reading) →
-        reading_at readings d.0 ≡ Some reading → (r : IsRead g texts kept readings.index d.0 reading) × (r.held ≡ numbered d doc)
+    pub own_reading : AreNumbered kept → (readings : Readings) → AreDocumentsRead g texts kept readings → (d : DocId) (doc : Doc) → IsAt kept d doc → (reading : Reading) →
+        reading_at readings d.0 ≡ Some reading → (r : IsDocumentRead g texts kept readings.index d.0 reading) × (r.held ≡ numbered d doc)
     own_reading are readings read d doc at reading is =
         let r = read.each d.0 reading is in
         let uri : r.held.doc.uri ≡ doc.uri = same_number are r.held (numbered d doc) r.here at r.number in
         (r, same_Some r.held (numbered d doc) (sym r.here ∙ ap (get kept) uri ∙ at))
 
     -- nothing has changed
-    pub alike : (readings after : Readings) → AreRead g texts kept readings → ((n : ℕ) → reading_at after n ≡ reading_at readings n) →
-        after.index ≡ readings.index → AreRead g texts kept after
+    pub alike : (readings after : Readings) → AreDocumentsRead g texts kept readings → ((n : ℕ) → reading_at after n ≡ reading_at readings n) →
+        after.index ≡ readings.index → AreDocumentsRead g texts kept after
     alike readings after read same index = record {
       each = λ n reading is. let r = read.each n reading (sym (same n) ∙ is) in
           moved kept kept readings.index after.index n reading r (ap (λ m. get m n) index) r.here;
@@ -70,16 +70,16 @@ module _ (g : Grammar) (texts : List (List ℕ)) where
     }
 
     -- one more is read
-    pub more : (readings after : Readings) → AreRead g texts kept readings → (d : DocId) (doc : Doc) → IsAt kept d doc → (reading : Reading) (exports : List Export) →
-        IsUtf8 doc.text → IsReadingOf g texts doc.text reading → AreEntriesAt (tree_of reading) exports → reading_at after d.0 ≡ Some reading →
+    pub more : (readings after : Readings) → AreDocumentsRead g texts kept readings → (d : DocId) (doc : Doc) → IsAt kept d doc → (reading : Reading) (exports : List Export) →
+        IsUtf8 doc.text → IsReadingOfText g texts doc.text reading → AreEntriesAt (tree_of reading) exports → reading_at after d.0 ≡ Some reading →
         ((n : ℕ) → n ≢ d.0 → reading_at after n ≡ reading_at readings n) →
-        after.index ≡ all.insert readings.index d.0 (record { uri = doc.uri; exports = exports }) → AreRead g texts kept after
+        after.index ≡ all.insert readings.index d.0 (record { uri = doc.uri; exports = exports }) → AreDocumentsRead g texts kept after
     more readings after read d doc at reading exports utf8 reads entered here others index = record { each = each; nothing_else = nothing }
       where
         document : Document
         document = record { uri = doc.uri; exports = exports }
 
-        own : IsRead g texts kept after.index d.0 reading
+        own : IsDocumentRead g texts kept after.index d.0 reading
         own = record {
           held = numbered d doc;
           number = refl;
@@ -91,11 +91,11 @@ module _ (g : Grammar) (texts : List (List ℕ)) where
           entered = entered;
         }
 
-        each : (n : ℕ) (r : Reading) → reading_at after n ≡ Some r → IsRead g texts kept after.index n r
+        each : (n : ℕ) (r : Reading) → reading_at after n ≡ Some r → IsDocumentRead g texts kept after.index n r
         each n r is = elim (cases_eq n d.0) [
           | inl same ↦
               let one : reading ≡ r = same_Some reading r (sym here ∙ ap (reading_at after) (sym same) ∙ is) in
-              subst (λ k. IsRead g texts kept after.index k r) (sym same) (subst (IsRead g texts kept after.index d.0) one own)
+              subst (λ k. IsDocumentRead g texts kept after.index k r) (sym same) (subst (IsDocumentRead g texts kept after.index d.0) one own)
           | inr other ↦
               let was = read.each n r (sym (others n other) ∙ is) in
               moved kept kept readings.index after.index n r was
@@ -110,8 +110,8 @@ module _ (g : Grammar) (texts : List (List ℕ)) where
 
   -- the document at one address changes, and what is kept of it goes out
   module _ (kept after : ByAddress) (address : List ℕ) (others : (q : List ℕ) → q ≢ address → get after q ≡ get kept q) (readings : Readings)
-      (read : AreRead g texts kept readings) where
-    stays : (n : ℕ) (reading : Reading) (is : IsRead g texts kept readings.index n reading) → ((held : Numbered) → get kept address ≡ Some held → held.number.0 ≢ n) →
+      (read : AreDocumentsRead g texts kept readings) where
+    stays : (n : ℕ) (reading : Reading) (is : IsDocumentRead g texts kept readings.index n reading) → ((held : Numbered) → get kept address ≡ Some held → held.number.0 ≢ n) →
         get after is.held.doc.uri ≡ Some is.held
     stays n reading is apart = elim (one_or_two is.held.doc.uri address) [
       | inl same ↦ absurd (apart is.held (ap (get kept) (sym same) ∙ is.here) is.number)
@@ -119,10 +119,10 @@ module _ (g : Grammar) (texts : List (List ℕ)) where
     ]
 
     pub forgotten : (d : DocId) (doc : Doc) → get kept address ≡ Some (numbered d doc) → (later : Readings) → reading_at later d.0 ≡ None →
-        ((n : ℕ) → n ≢ d.0 → reading_at later n ≡ reading_at readings n) → later.index ≡ all.remove readings.index d.0 → AreRead g texts after later
+        ((n : ℕ) → n ≢ d.0 → reading_at later n ≡ reading_at readings n) → later.index ≡ all.remove readings.index d.0 → AreDocumentsRead g texts after later
     forgotten d doc at later gone left index = record { each = each; nothing_else = nothing }
       where
-        each : (n : ℕ) (r : Reading) → reading_at later n ≡ Some r → IsRead g texts after later.index n r
+        each : (n : ℕ) (r : Reading) → reading_at later n ≡ Some r → IsDocumentRead g texts after later.index n r
         each n r is = elim (cases_eq n d.0) [
           | inl same ↦ absurd (none-some r (sym gone ∙ ap (reading_at later) (sym same) ∙ is))
           | inr other ↦
@@ -138,7 +138,7 @@ module _ (g : Grammar) (texts : List (List ℕ)) where
         ]
 
     -- a document has come
-    pub came : get kept address ≡ None → AreRead g texts after readings
+    pub came : get kept address ≡ None → AreDocumentsRead g texts after readings
     came none = record {
       each = λ n r is. let was = read.each n r is in
           moved kept after readings.index readings.index n r was refl (stays n r was (λ held there. absurd (none-some held (sym none ∙ there))));

@@ -15,7 +15,7 @@ use Rattle.lw_reading.specs.declared.parsed.Parsed.TheVariants as parsed
 use Rattle.lw_scopes.specs.Links as scope
 use Rattle.lw_scopes.specs.Links.{AreTreesOfTexts, IsTreeOfText}
 use Rattle.lw_tree.specs.Parts.{Parts}
-use Rattle.lw_build.specs.Readings.{AreAllRead, AreRead, IsRead, IsReadingOf, reading_at, texts_of, tree_of, trees_of}
+use Rattle.lw_build.specs.Readings.{AreAllRead, AreDocumentsRead, IsDocumentRead, IsReadingOfText, reading_at, present_texts_of, tree_of, trees_of}
 use Rattle.lw_build.specs.Telling.{IsDocumentAs}
 use Rattle.lw_build.specs.declared.readings.Reading.{Reading}
 use Rattle.lw_build.specs.declared.readings.Reading.TheVariants.{Whole, Broken}
@@ -23,15 +23,15 @@ use Rattle.lw_build.specs.declared.readings.Readings.{Readings}
 use Rattle.lw_build.proofs.Reading.{own_reading}
 
 module _ (g : Grammar) (texts : List (List ℕ)) where
-  tree_is : (text : List ℕ) (reading : Reading) → IsReadingOf g texts text reading → IsTreeOfText g (Some text) (tree_of reading)
+  tree_is : (text : List ℕ) (reading : Reading) → IsReadingOfText g texts text reading → IsTreeOfText g (Some text) (tree_of reading)
   tree_is text (Whole tree locals) is = scope.whole is.0
   tree_is text (Broken issue) is = scope.broken is.0
 
-  readable : (text : List ℕ) (reading : Reading) → IsReadingOf g texts text reading → (p : Parsed) × Reads g text p
+  readable : (text : List ℕ) (reading : Reading) → IsReadingOfText g texts text reading → (p : Parsed) × Reads g text p
   readable text (Whole tree locals) is = (parsed.Whole tree, is.0)
   readable text (Broken issue) is = (parsed.Broken issue, is.0)
 
-  module _ (kept : ByAddress) (are : AreNumbered kept) (readings : Readings) (read : AreRead g texts kept readings) where
+  module _ (kept : ByAddress) (are : AreNumbered kept) (readings : Readings) (read : AreDocumentsRead g texts kept readings) where
     at_address : (address : List ℕ) (held : Numbered) → get kept address ≡ Some held → IsAt kept held.number held.doc
     at_address address held at = ap (get kept) (are.addresses address held at) ∙ at
 
@@ -43,7 +43,7 @@ module _ (g : Grammar) (texts : List (List ℕ)) where
     -- what the index holds of a number
     record IsHeldIn (n : ℕ) (d : Document) : Type 0 where
       reading : Reading
-      is : IsRead g texts kept readings.index n reading
+      is : IsDocumentRead g texts kept readings.index n reading
       there : reading_at readings n ≡ Some reading
       document : record { uri = is.held.doc.uri; exports = is.exports } ≡ d
 
@@ -57,7 +57,7 @@ module _ (g : Grammar) (texts : List (List ℕ)) where
             record { reading = reading; is = is; there = there; document = same_Some _ d (sym is.indexed ∙ at) }
 
     module _ (all : AreAllRead kept readings) where
-      pub are_trees : AreTreesOfTexts g (texts_of kept) (trees_of kept readings)
+      pub are_trees : AreTreesOfTexts g (present_texts_of kept) (trees_of kept readings)
       are_trees address = by (get kept address) refl
         where
           by : (o : Option Numbered) → get kept address ≡ o →
@@ -67,7 +67,7 @@ module _ (g : Grammar) (texts : List (List ℕ)) where
               let (reading, is) = all address held at in
               let (r, same) = own_reading g texts kept are readings read held.number held.doc (at_address address held at) reading is in
               subst (λ o. IsTreeOfText g (Some held.doc.text) (option_and_then tree_of o)) (sym is)
-              (tree_is held.doc.text reading (subst (λ (h : Numbered). IsReadingOf g texts h.doc.text reading) same r.reads))
+              (tree_is held.doc.text reading (subst (λ (h : Numbered). IsReadingOfText g texts h.doc.text reading) same r.reads))
 
       pub are_readable : (address : List ℕ) (held : Numbered) → get kept address ≡ Some held → IsReadable g held.doc.text
       are_readable address held at =
@@ -104,10 +104,10 @@ module _ (g : Grammar) (texts : List (List ℕ)) where
                   (h.number.0, _, r.indexed, ap (λ (x : Numbered). x.doc.uri) same ∙ are.addresses address h at)
 
       pub is_document : (d : DocId) (doc : Doc) → IsAt kept d doc → (reading : Reading) → reading_at readings d.0 ≡ Some reading →
-          IsReadingOf g texts doc.text reading × IsDocumentAs (trees_of kept readings) readings.index d.0 doc.uri reading
+          IsReadingOfText g texts doc.text reading × IsDocumentAs (trees_of kept readings) readings.index d.0 doc.uri reading
       is_document d doc at reading is =
           let (r, same) = own_reading g texts kept are readings read d doc at reading is in (
-            subst (λ (h : Numbered). IsReadingOf g texts h.doc.text reading) same r.reads,
+            subst (λ (h : Numbered). IsReadingOfText g texts h.doc.text reading) same r.reads,
             record {
               document = record { uri = r.held.doc.uri; exports = r.exports };
               there = r.indexed;

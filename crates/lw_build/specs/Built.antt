@@ -7,7 +7,9 @@ use Rattle.lw_grammar.specs.declared.grammar.Grammar.{Grammar}
 use Rattle.lw_machine.specs.Validity.{AreCurrent}
 use Rattle.lw_outcomes.specs.Readable.{IsReadable}
 use Rattle.lw_reading.specs.Laws.{IsReadOneWay}
-use Rattle.lw_build.specs.Readings.{AreRead}
+use Rattle.lw_refs.specs.Led.{Led}
+use Rattle.lw_build.specs.Linked.{AreLinked, OnlyReadLead}
+use Rattle.lw_build.specs.Readings.{AreDocumentsRead}
 use Rattle.lw_build.specs.View.{WorkspaceView, documents_of}
 use Rattle.lw_build.specs.declared.readings.Readings.{Readings}
 use Rattle.lw_build.specs.declared.workspace.Workspace.TheInside.{Inside}
@@ -17,14 +19,16 @@ pub record AreBuilt (g : Grammar) (kept : ByAddress) : Type 0 where
   pub current : AreCurrent g (documents_of true kept)
   pub readable : (address : List ℕ) (held : Numbered) → get kept address ≡ Some held → IsReadable g held.doc.text
 
-pub record IsKept (g : Grammar) (texts : List (List ℕ)) (kept : ByAddress) (readings : Readings) (is_built : Bool) : Type 0 where
+pub record IsWorkspaceKept (g : Grammar) (texts : List (List ℕ)) (kept : ByAddress) (readings : Readings) (led : Led) (is_built : Bool) : Type 0 where
   pub one_way : IsReadOneWay g
   pub numbered : AreNumbered kept
-  pub read : AreRead g texts kept readings
+  pub read : AreDocumentsRead g texts kept readings
+  pub unread : OnlyReadLead readings led
   pub built : is_built ≡ true → AreBuilt g kept
+  pub linked : is_built ≡ true → AreLinked g kept readings led
 
-abbrev pub seen_as : Inside → WorkspaceView
-seen_as w = record { grammar = w.language.grammar; kept = w.docs; is_built = w.is_built }
+abbrev pub seen_workspace : Inside → WorkspaceView
+seen_workspace w = record { grammar = w.language.grammar; kept = w.docs; is_built = w.is_built }
 
 abbrev pub IsWorkspace : Inside → Type 0
-IsWorkspace w = IsKept w.language.grammar w.language.texts w.docs w.readings w.is_built
+IsWorkspace w = IsWorkspaceKept w.language.grammar w.language.texts w.docs w.readings w.refs w.is_built

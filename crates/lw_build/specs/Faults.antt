@@ -38,9 +38,9 @@ pub data IsRemovalFault (v : WorkspaceView) (address : List ℕ) : WorkFault →
   no_memory : IsRemovalFault v address NoMemory
 
 -- why a document is not taken in at an address at which there is none
-pub data IsRefusal (v : WorkspaceView) : WorkFault → Type 0 where
-  full : len v.kept ≡ MOST_DOCUMENTS → IsRefusal v TooMany
-  starved : IsRefusal v NoMemory
+pub data IsAddRefusal (v : WorkspaceView) : WorkFault → Type 0 where
+  full : len v.kept ≡ MOST_DOCUMENTS → IsAddRefusal v TooMany
+  starved : IsAddRefusal v NoMemory
 
 -- what the fault of an edit is here
 abbrev pub edit_fault : EditFault → WorkFault

@@ -14,17 +14,24 @@
 //! told ([`WorkFault`]).
 //!
 //! What a text was read as is kept with its symbols, by the number of its document, until the text changes; so is what it exports, in an
-//! index (`specs/Readings.antt`). So a build reads the texts that are new and no other. It links and checks all documents: it takes one
-//! look-up in the index for each reference that leads out of its document, beside time linear in all trees. While it runs, it needs
-//! memory for the lists that are news, twice.
+//! index (`specs/Readings.antt`), and where its references lead, found both ways (`specs/Linked.antt`). So a build reads the texts that
+//! are new and no other. It links and checks all documents: it takes one look-up in the index for each reference that leads out of its
+//! document, beside time linear in all trees, and n log n for the n references of a document. While it runs, it needs memory for the
+//! lists that are news, twice. What is kept of references takes an answer and a number for each (see `lw_refs`).
+//!
+//! Once all is built, a workspace lends what the questions of an editor need: [`Workspace::seen`] the tree of a document by its number, its
+//! text, and where its references lead, and [`Workspace::views`] the list of all documents. It promises that these are the trees of
+//! the present texts and their links, as `lw_query` says it (`specs/Seen.antt`).
 #![tactic(auto)]
 
 mod fault;
 mod readings;
+mod seen;
 mod telling;
 mod workspace;
 
 pub use fault::WorkFault;
+pub use seen::Seen;
 pub use workspace::Workspace;
 
 #[cfg(test)]

@@ -1,13 +1,14 @@
 // What is kept of the texts that were read: what each was read as, and what all of them export.
 ghost use Rattle.std.specs.Prelude.{◌≡◌, ◌≢◌, ℕ, IfOk, MatchBool, OnOk, OnErr, Some, None};
 ghost use Rattle.std.specs.FinMap as all;
+ghost use Rattle.std.specs.Option.{option_map};
 ghost use Rattle.lw_docs.specs.Documents.{IsHeld};
 ghost use Rattle.lw_index.specs.Indexed.{IsFreeFor};
 ghost use Rattle.lw_link.specs.Indexed.{AreEntriesAt};
 ghost use Rattle.lw_reading.specs.Issues.{IfBroken, IfWhole, IsIssueWithin, IsNamed};
 ghost use Rattle.lw_reading.specs.Reading.{Reads};
 ghost use Rattle.lw_rooted.specs.Within.{StandsInText};
-ghost use Rattle.lw_build.specs.Readings.{AreAllRead, AreRead, HasReading, IsReadingOf, reading_at, tree_of};
+ghost use Rattle.lw_build.specs.Readings.{AreAllRead, AreDocumentsRead, HasReading, IsReadingOfText, reading_at, tree_numbered, tree_of};
 
 use lw_base::{DocId, Name, NoMemory};
 use lw_docs::{Doc, Docs};
@@ -24,6 +25,18 @@ use std::collections::BTreeMap;
 pub(crate) enum Reading {
     Whole(Tree, Locals),
     Broken(Issue),
+}
+
+impl Reading {
+    /// The tree, where the text is read whole.
+    pub(crate) fn tree(&self) -> Option<&Tree>
+        ensures { option_map (λ tree. tree.now) result ≡ tree_of self.now }
+    {
+        match self {
+            Reading::Whole(tree, _) => Some(tree),
+            Reading::Broken(_) => None,
+        }
+    }
 }
 
 /// What is kept of the texts of documents that were read, by the numbers of the documents, and the index of what these export.
@@ -46,7 +59,7 @@ struct Entered {
     exports: Vec<Export>,
 }
 
-/// What is to be kept of what a text was read as.
+/// What is to be kept of what a text was read as. Want of memory is the only error; so is that there are no numbers for its references.
 fn kept_of(
     alloc: Global,
     language: &Language,
@@ -57,13 +70,16 @@ fn kept_of(
     requires named { IfBroken parsed (IsNamed language.now.texts) }
     requires within { IfBroken parsed (IsIssueWithin text.now) }
     requires stands { IfWhole parsed (StandsInText text.now) }
-    ensures { IfOk result (λ entered. IsReadingOf language.now.grammar language.now.texts text.now entered.reading
+    ensures { IfOk result (λ entered. IsReadingOfText language.now.grammar language.now.texts text.now entered.reading
         × AreEntriesAt (tree_of entered.reading) entered.exports.items) }
 {
     let _ = language;
     let _ = text;
     match parsed {
         Parsed::Whole(tree) => {
+            if tree.refs().len() > u32::MAX as usize {
+                return Err(NoMemory);
+            }
             let locals = Locals::of_tree(alloc, &tree)?;
             let exports = entries(alloc, &tree)?;
             Ok(Entered {
@@ -91,10 +107,20 @@ impl Readings {
     }
 
     /// Whether there is one of the document of this number.
-    fn has(&self, d: DocId) -> bool
+    pub(crate) fn has(&self, d: DocId) -> bool
         ensures { MatchBool result (HasReading self.now d.0) (reading_at self.now d.0 ≡ None) }
     {
         self.texts.contains_key(&d.0)
+    }
+
+    /// The tree of the document of this number, where there is one.
+    pub(crate) fn tree(&self, d: DocId) -> Option<&Tree>
+        ensures { option_map (λ tree. tree.now) result ≡ tree_numbered self.now d.0 }
+    {
+        match self.texts.get(&d.0) {
+            Some(reading) => reading.tree(),
+            None => None,
+        }
     }
 
     /// Takes out that of the document of this number, where there is one. It takes no memory.
@@ -137,8 +163,8 @@ impl Readings {
         d: DocId,
     ) -> Result<(), NoMemory>
         requires held { IsHeld docs.now d }
-        requires kept { AreRead language.now.grammar language.now.texts docs.now self.old }
-        ensures kept { AreRead language.now.grammar language.now.texts docs.now self.new }
+        requires kept { AreDocumentsRead language.now.grammar language.now.texts docs.now self.old }
+        ensures kept { AreDocumentsRead language.now.grammar language.now.texts docs.now self.new }
         ensures here { OnOk result (HasReading self.new d.0) }
         ensures more { (n : ℕ) → HasReading self.old n → HasReading self.new n }
     {
@@ -161,9 +187,10 @@ impl Readings {
         language: &Language,
         docs: &Docs,
     ) -> Result<(), NoMemory>
-        requires kept { AreRead language.now.grammar language.now.texts docs.now self.old }
-        ensures kept { AreRead language.now.grammar language.now.texts docs.now self.new }
+        requires kept { AreDocumentsRead language.now.grammar language.now.texts docs.now self.old }
+        ensures kept { AreDocumentsRead language.now.grammar language.now.texts docs.now self.new }
         ensures all { OnOk result (AreAllRead docs.now self.new) }
+        ensures more { (n : ℕ) → HasReading self.old n → HasReading self.new n }
     {
         docs.numbered();
         'reading: for (_uri, d) in docs.uris() {

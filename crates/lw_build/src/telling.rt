@@ -1,26 +1,29 @@
 // The lists of all documents, and which of them are news.
-ghost use Rattle.std.specs.Prelude.{◌≡◌, ◌↔◌, ℕ, List, Some, IfOk, OnOk, IsTrue, Contains};
+ghost use Rattle.std.specs.Prelude.{◌≡◌, ◌≢◌, ◌<◌, ◌^◌, ◌↔◌, ℕ, List, Some, IfOk, OnOk, IsTrue, Contains, length};
 ghost use Rattle.lw_docs.specs.Documents.{AreNumbered, IsAt, IsHeld};
 ghost use Rattle.lw_docs.specs.declared.doc.Doc.{Doc as OneDoc};
 ghost use Rattle.lw_link.specs.Indexed.{IsDocumentOf, IsIndexOf};
 ghost use Rattle.lw_reading.specs.Reading.{Reads};
 ghost use Rattle.lw_reading.specs.declared.parsed.Parsed.TheVariants.{Whole};
+ghost use Rattle.lw_refs.specs.Led.{answers_in};
 ghost use Rattle.lw_rooted.specs.Within.{StandsInText};
 ghost use Rattle.lw_scoping.specs.Links.{Trees};
 ghost use Rattle.lw_scopes.specs.Diagnostics.{AreDiagnostics};
 ghost use Rattle.lw_scopes.specs.Links.{AreTreesOfTexts, Texts};
 ghost use Rattle.lw_symbols.specs.Locals.{AreLocalsOf};
-ghost use Rattle.lw_build.specs.Readings.{AreAllRead, AreRead, IsReadingOf, texts_of};
-ghost use Rattle.lw_build.specs.Telling.{Adds, AreTold, AreTaken, IsDocumentAs, places_of};
+ghost use Rattle.lw_build.specs.Linked.{AreLinked, AreLinksKept, OnlyReadLead};
+ghost use Rattle.lw_build.specs.Readings.{AreAllRead, AreDocumentsRead, IsReadingOfText, present_texts_of, tree_of};
+ghost use Rattle.lw_build.specs.Telling.{AddsList, AreListsTold, AreListsTaken, IsCheckedAs, IsDocumentAs, numbered_places};
 
 use crate::readings::{Reading, Readings};
 use lw_base::{DocId, Items, Name, NoMemory, Steps};
 use lw_check::{diagnostics, issue_diagnostic};
 use lw_docs::{Doc, Docs};
-use lw_index::Index;
+use lw_index::{Answer, Index};
 use lw_lang::Language;
 use lw_link::answers;
 use lw_machine::Published;
+use lw_refs::RefIndex;
 use lw_symbols::Locals;
 use lw_text::{Shown, TextDoc};
 use lw_tree::Tree;
@@ -66,8 +69,15 @@ fn copied(alloc: Global, list: &[Shown]) -> Result<Items<Shown>, NoMemory>
     Ok(copies)
 }
 
-/// The list of the document of this number, which has this text and this tree, over the index.
-fn tree_list<L: Ledger>(
+/// What a document came to: its list, and where its references lead.
+#[derive(Drop)]
+struct Checked {
+    list: Items<Shown>,
+    answers: Vec<Answer>,
+}
+
+/// What the document of this number comes to, which has this text and this tree, over the index.
+fn check_tree<L: Ledger>(
     alloc: Global,
     language: &Language,
     text: &TextDoc,
@@ -76,20 +86,33 @@ fn tree_list<L: Ledger>(
     d: DocId,
     index: &Index,
     steps: &mut Steps<L>,
-) -> Result<Items<Shown>, NoMemory>
+) -> Result<Checked, NoMemory>
     requires reads { Reads language.now.grammar text.now (Whole tree.now) }
     requires stands { StandsInText text.now tree.now }
     requires locals { AreLocalsOf tree.now locals.now }
-    ensures { (texts : Texts) (trees : Trees) (address : List ℕ) → AreTreesOfTexts language.now.grammar texts trees → IsIndexOf trees index.now →
-        texts address ≡ Some text.now → IsDocumentOf trees index.now d.0 address tree.now → IfOk result (AreDiagnostics language.now.grammar texts address) }
+    requires few { length tree.now.refs < 2 ^ 32 }
+    ensures few { IfOk result (λ checked. length checked.answers.items < 2 ^ 32) }
+    ensures checked { (texts : Texts) (trees : Trees) (address : List ℕ) → AreTreesOfTexts language.now.grammar texts trees → IsIndexOf trees index.now →
+        texts address ≡ Some text.now → IsDocumentOf trees index.now d.0 address tree.now →
+        IfOk result (λ checked. IsCheckedAs language.now.grammar texts trees index.now address (Some tree.now) checked.list checked.answers.items) }
 {
     let types = language.types();
-    let found = answers(alloc, tree, locals, d, index, types, steps)?;
-    diagnostics(alloc, text, tree, locals, found.as_slice(), d, index, types)
+    let answers = answers(alloc, tree, locals, d, index, types, steps)?;
+    let list = diagnostics(
+        alloc,
+        text,
+        tree,
+        locals,
+        answers.as_slice(),
+        d,
+        index,
+        types,
+    )?;
+    Ok(Checked { list, answers })
 }
 
-/// The list of the document of this number, which has this text and was read as this, over the index.
-fn list_of<L: Ledger>(
+/// What the document of this number comes to, which has this text and was read as this, over the index.
+fn check_reading<L: Ledger>(
     alloc: Global,
     language: &Language,
     text: &TextDoc,
@@ -97,19 +120,24 @@ fn list_of<L: Ledger>(
     d: DocId,
     index: &Index,
     steps: &mut Steps<L>,
-) -> Result<Items<Shown>, NoMemory>
-    requires { IsReadingOf language.now.grammar language.now.texts text.now reading.now }
-    ensures { (texts : Texts) (trees : Trees) (address : List ℕ) → AreTreesOfTexts language.now.grammar texts trees → IsIndexOf trees index.now →
-        texts address ≡ Some text.now → IsDocumentAs trees index.now d.0 address reading.now → IfOk result (AreDiagnostics language.now.grammar texts address) }
+) -> Result<Checked, NoMemory>
+    requires { IsReadingOfText language.now.grammar language.now.texts text.now reading.now }
+    ensures few { IfOk result (λ checked. length checked.answers.items < 2 ^ 32) }
+    ensures checked { (texts : Texts) (trees : Trees) (address : List ℕ) → AreTreesOfTexts language.now.grammar texts trees → IsIndexOf trees index.now →
+        texts address ≡ Some text.now → IsDocumentAs trees index.now d.0 address reading.now →
+        IfOk result (λ checked. IsCheckedAs language.now.grammar texts trees index.now address (tree_of reading.now) checked.list checked.answers.items) }
 {
     match reading {
         Reading::Whole(tree, locals) => {
-            tree_list(alloc, language, text, tree, locals, d, index, steps)
+            check_tree(alloc, language, text, tree, locals, d, index, steps)
         }
         Reading::Broken(issue) => {
             let mut list = Items::new(alloc);
             list.push(issue_diagnostic(alloc, text, *issue, language.tokens())?)?;
-            Ok(list)
+            Ok(Checked {
+                list,
+                answers: Vec::new(alloc),
+            })
         }
     }
 }
@@ -123,7 +151,7 @@ impl News {
         doc: &Doc,
         list: Items<Shown>,
     ) -> Result<(), NoMemory>
-        ensures { OnOk result (Adds d doc.now list self.old self.new) }
+        ensures { OnOk result (AddsList d doc.now list self.old self.new) }
     {
         if is_published(doc, &list) {
             return Ok(());
@@ -138,27 +166,32 @@ impl News {
         Ok(())
     }
 
-    /// Adds the list of the document of this number.
+    /// Adds the list of the document of this number, and keeps where its references lead.
     fn add_one<L: Ledger>(
         &mut self,
         alloc: Global,
         language: &Language,
         docs: &Docs,
         readings: &Readings,
+        refs: &mut RefIndex,
         d: DocId,
         steps: &mut Steps<L>,
     ) -> Result<(), NoMemory>
         requires held { IsHeld docs.now d }
-        requires read { AreRead language.now.grammar language.now.texts docs.now readings.now }
+        requires read { AreDocumentsRead language.now.grammar language.now.texts docs.now readings.now }
         requires all { AreAllRead docs.now readings.now }
-        ensures { OnOk result ((list : List Shown) × (doc : OneDoc) × IsAt docs.now d doc ×
-            AreDiagnostics language.now.grammar (texts_of docs.now) doc.uri list × Adds d doc list self.old self.new) }
+        requires unread { OnlyReadLead readings.now refs.old }
+        ensures unread { OnlyReadLead readings.now refs.new }
+        ensures others { (n : ℕ) → n ≢ d.0 → answers_in refs.new n ≡ answers_in refs.old n }
+        ensures linked { OnOk result ((doc : OneDoc) × IsAt docs.now d doc × AreLinksKept language.now.grammar docs.now readings.now refs.new doc.uri d.0) }
+        ensures told { OnOk result ((list : List Shown) × (doc : OneDoc) × IsAt docs.now d doc ×
+            AreDiagnostics language.now.grammar (present_texts_of docs.now) doc.uri list × AddsList d doc list self.old self.new) }
     {
         docs.numbered();
         let doc = docs.doc(d);
         match readings.texts.get(&d.0) {
             Some(reading) => {
-                let list = list_of(
+                let found = check_reading(
                     alloc,
                     language,
                     &doc.text,
@@ -167,6 +200,8 @@ impl News {
                     &readings.index,
                     steps,
                 )?;
+                let Checked { list, answers } = found;
+                refs.set(d, answers)?;
                 self.add(alloc, d, doc, list)
             }
             None => unreachable!(),
@@ -174,17 +209,22 @@ impl News {
     }
 }
 
-/// The lists of all documents that are news, in the order of addresses.
+/// The lists of all documents that are news, in the order of addresses. Where the references of each lead is kept; where memory is
+/// refused, of some.
 pub(crate) fn news_of<L: Ledger>(
     alloc: Global,
     language: &Language,
     docs: &Docs,
     readings: &Readings,
+    refs: &mut RefIndex,
     steps: &mut Steps<L>,
 ) -> Result<News, NoMemory>
-    requires read { AreRead language.now.grammar language.now.texts docs.now readings.now }
+    requires read { AreDocumentsRead language.now.grammar language.now.texts docs.now readings.now }
     requires all { AreAllRead docs.now readings.now }
-    ensures { IfOk result (λ news. AreTold language.now.grammar docs.now (places_of docs.now) news.own.items news.lists) }
+    requires unread { OnlyReadLead readings.now refs.old }
+    ensures unread { OnlyReadLead readings.now refs.new }
+    ensures linked { OnOk result (AreLinked language.now.grammar docs.now readings.now refs.new) }
+    ensures told { IfOk result (λ news. AreListsTold language.now.grammar docs.now (numbered_places docs.now) news.own.items news.lists) }
 {
     docs.numbered();
     let mut news = News {
@@ -192,7 +232,7 @@ pub(crate) fn news_of<L: Ledger>(
         own: Vec::new(alloc),
     };
     'telling: for (_uri, d) in docs.uris() {
-        news.add_one(alloc, language, docs, readings, *d, steps)?;
+        news.add_one(alloc, language, docs, readings, refs, *d, steps)?;
     }
     Ok(news)
 }
@@ -201,7 +241,7 @@ pub(crate) fn news_of<L: Ledger>(
 pub(crate) fn take_all(docs: &mut Docs, own: Vec<(DocId, Items<Shown>)>)
     requires numbered { AreNumbered docs.old }
     requires held { (d : DocId) (list : List Shown) → Contains own.items (d, list) → IsHeld docs.old d }
-    ensures { AreTaken own.items docs.old docs.new }
+    ensures { AreListsTaken own.items docs.old docs.new }
 {
     'taking: for (d, list) in own {
         docs.set_published(d, Some(list));

@@ -1,12 +1,14 @@
 // What no clause says: that the calls succeed where there is memory, and what is published of a few texts.
-ghost use Rattle.std.specs.Prelude.{◌≡◌, ◌<◌, IfOk};
+ghost use Rattle.std.specs.Prelude.{◌≡◌, ◌<◌, IfOk, OnOk, true};
 ghost use Rattle.lw_reading.specs.Laws.{IsReadOneWay};
 
-use crate::{WorkFault, Workspace};
-use lw_base::{Items, Name, NoMemory, Steps};
+use crate::{Seen, WorkFault, Workspace};
+use lw_base::{DocId, Items, Name, NoMemory, RefId, Steps};
+use lw_index::Answer;
 use lw_io::{MemPatterns, MemStore};
 use lw_lang::{Language, compile};
 use lw_machine::Published;
+use lw_query::Views;
 use lw_text::{Change, Shown};
 use std::alloc::Global;
 use std::collections::BTreeMap;
@@ -201,7 +203,9 @@ fn build<L: Ledger>(
     workspace: &mut Workspace,
     steps: &mut Steps<L>,
     lasts: &mut Lasts,
-) -> Result<(), NoMemory> {
+) -> Result<(), NoMemory>
+    ensures { OnOk result (workspace.new.is_built ≡ true) }
+{
     let mut lists = workspace.advance(steps)?;
     'lists: for _ in 0..lists.len() {
         if let Some(published) = lists.pop() {
@@ -259,7 +263,9 @@ fn wander<L: Ledger>(
     steps: &mut Steps<L>,
     lasts: &mut Lasts,
     start: u32,
-) -> Result<(), WorkFault> {
+) -> Result<(), WorkFault>
+    ensures { OnOk result (workspace.new.is_built ≡ true) }
+{
     let mut seed = start;
     'events: for _ in 0..12u32 {
         seed = wander_once(alloc, workspace, steps, lasts, seed)?;
@@ -297,21 +303,77 @@ fn all_same(alloc: Global, lasts: &Lasts, news: &Lasts) -> Result<bool, NoMemory
     Ok(true)
 }
 
-/// What a new workspace of the same texts publishes.
-fn published_anew<L: Ledger>(
+/// A new workspace of the same texts, which is built. What it publishes is kept.
+fn built_anew<L: Ledger>(
     rt: &impl Abort,
     alloc: Global,
     workspace: &Workspace,
     steps: &mut Steps<L>,
-) -> Result<Lasts, WorkFault> {
+    news: &mut Lasts,
+) -> Result<Workspace, WorkFault>
+    ensures { IfOk result (λ other. other.is_built ≡ true) }
+{
     let mut other = Workspace::new(alloc, language(rt, alloc)?);
     put_all(alloc, workspace, &mut other)?;
-    let mut news = BTreeMap::new(alloc);
-    build(&mut other, steps, &mut news)?;
-    Ok(news)
+    build(&mut other, steps, news)?;
+    Ok(other)
 }
 
-/// Whether a session and a new workspace of the texts that it leaves publish the same.
+/// Whether two references lead to the same node, by the addresses of documents, and as many lead there in the one workspace as in the
+/// other.
+fn lead_alike(
+    one: &Seen<'_>,
+    other: &Seen<'_>,
+    from: Option<Answer>,
+    to: Option<Answer>,
+) -> Result<bool, NoMemory> {
+    match (from, to) {
+        (Some(Answer::Found(from)), Some(Answer::Found(to))) => Ok(
+            one.uri(from.doc) == other.uri(to.doc)
+                && from.node == to.node
+                && one.refs().of(from)?.len() == other.refs().of(to)?.len(),
+        ),
+        (Some(Answer::Missing), Some(Answer::Missing)) => Ok(true),
+        (None, None) => Ok(true),
+        _ => Ok(false),
+    }
+}
+
+/// Whether the first references of two documents lead to the same.
+fn answer_alike(
+    one: &Seen<'_>,
+    other: &Seen<'_>,
+    doc: DocId,
+    twin: DocId,
+) -> Result<bool, NoMemory> {
+    'references: for place in 0..4u32 {
+        let from = one.answer(doc, RefId(place));
+        let to = other.answer(twin, RefId(place));
+        if !lead_alike(one, other, from, to)? {
+            return Ok(false);
+        }
+    }
+    Ok(true)
+}
+
+/// Whether the references of two workspaces lead to the same, document by document.
+fn all_alike(alloc: Global, one: &Workspace, other: &Workspace) -> Result<bool, NoMemory>
+    requires one { one.now.is_built ≡ true }
+    requires other { other.now.is_built ≡ true }
+{
+    let (seen, anew) = (one.seen(), other.seen());
+    'addresses: for address in ADDRESSES {
+        let address = Name::from_text(alloc, address)?;
+        if let (Some(doc), Some(twin)) = (one.find(&address), other.find(&address)) {
+            if !answer_alike(&seen, &anew, doc, twin)? {
+                return Ok(false);
+            }
+        }
+    }
+    Ok(one.views(alloc)?.len() == other.views(alloc)?.len())
+}
+
+/// Whether a session and a new workspace of the texts that it leaves publish the same, and their references lead to the same.
 fn session<L: Ledger>(
     rt: &impl Abort,
     alloc: Global,
@@ -327,8 +389,9 @@ fn session<L: Ledger>(
     let mut workspace = Workspace::new(alloc, language(rt, alloc)?);
     let mut lasts = BTreeMap::new(alloc);
     wander(alloc, &mut workspace, &mut steps, &mut lasts, start)?;
-    let news = published_anew(rt, alloc, &workspace, &mut steps)?;
-    Ok(all_same(alloc, &lasts, &news)?)
+    let mut news = BTreeMap::new(alloc);
+    let other = built_anew(rt, alloc, &workspace, &mut steps, &mut news)?;
+    Ok(all_same(alloc, &lasts, &news)? && all_alike(alloc, &workspace, &other)?)
 }
 
 fn one_session(rt: &impl Abort, alloc: Global, start: u32) -> Result<bool, WorkFault> {

@@ -8,24 +8,32 @@ ghost use Rattle.lw_base.specs.declared.limits.TheConstants.{LONGEST_TEXT};
 ghost use Rattle.lw_docs.specs.declared.docs.TheConstants.{MOST_DOCUMENTS};
 ghost use Rattle.lw_docs.specs.Documents.{IsHeld, Numbered, Turns, changed, numbered};
 ghost use Rattle.lw_machine.specs.Building.{BuildsToEnd};
-ghost use Rattle.lw_machine.specs.Documents.{Document, Documents, shown_texts};
+ghost use Rattle.lw_link.specs.Indexed.{IsIndexOf};
+ghost use Rattle.lw_machine.specs.Documents.{Document, Documents, present_texts, shown_texts};
 ghost use Rattle.lw_machine.specs.Events.{put, edited, farewell};
 ghost use Rattle.lw_machine.specs.Settling.{IsSettled};
+ghost use Rattle.lw_query.specs.Built.{AreBuiltViews, texts_seen};
+ghost use Rattle.lw_query.specs.Viewed.{AreViewsOf};
 ghost use Rattle.lw_reading.specs.Laws.{IsReadOneWay};
+ghost use Rattle.lw_scopes.specs.Links.{AreTreesOfTexts, IsNumberBelow};
+ghost use Rattle.lw_scoping.specs.Links.{Trees};
 ghost use Rattle.lw_text.specs.Changes.{Changes};
 ghost use Rattle.lw_text.specs.declared.units.Encoding.TheVariants.{Utf16};
 ghost use Rattle.lw_build.specs.View.{documents, WorkspaceView};
 ghost use Rattle.lw_build.specs.Agreeing.{Agrees};
-ghost use Rattle.lw_build.specs.Faults.{edit_fault, HasNoRoom, IsRefusal, IsPutFault, IsEditFault, IsRemovalFault};
+ghost use Rattle.lw_build.specs.Faults.{edit_fault, HasNoRoom, IsAddRefusal, IsPutFault, IsEditFault, IsRemovalFault};
 
 use crate::WorkFault;
 use crate::readings::Readings;
+use crate::seen::{Seen, views_of};
 use crate::telling::{News, news_of, take_all};
 use lw_base::{DocId, Items, Name, NoMemory, Steps};
 use lw_docs::{DocFault, Docs};
 use lw_index::Index;
 use lw_lang::Language;
 use lw_machine::Published;
+use lw_query::{View, Views};
+use lw_refs::RefIndex;
 use lw_text::{Change, EditFault, Encoding, Shown, TextDoc};
 use std::alloc::Global;
 use std::collections::btree_map::Iter;
@@ -37,6 +45,8 @@ pub struct Workspace {
     language: Language,
     docs: Docs,
     readings: Readings,
+    /// Where the references lead of what was read and linked, by the numbers of the documents.
+    refs: RefIndex,
     is_built: bool,
     alloc: Global,
 }
@@ -48,6 +58,7 @@ impl Drop for Workspace {
             language: _,
             docs: _,
             readings: _,
+            refs: _,
             is_built: _,
             alloc: _,
         } = self;
@@ -68,9 +79,9 @@ impl Model for Workspace {
 
     ghost coded = { Prim.hlevel (codes, map.code, element.the_row.coded, value.the_row.coded, term.the_row.coded, state.the_row.coded) };
 
-    ghost use Rattle.lw_build.specs.Built.{seen_as, IsWorkspace};
+    ghost use Rattle.lw_build.specs.Built.{seen_workspace, IsWorkspace};
 
-    ghost view = { seen_as };
+    ghost view = { seen_workspace };
 
     ghost invariant = { IsWorkspace };
 }
@@ -132,6 +143,7 @@ impl Workspace {
             language,
             docs,
             readings: Readings::new(alloc),
+            refs: RefIndex::new(alloc),
             is_built: true,
             alloc,
         }
@@ -154,6 +166,7 @@ impl Workspace {
     {
         renew(&mut self.docs, d, text, version, is_open);
         self.readings.forget(d);
+        self.refs.remove(d);
         self.docs.numbered();
         self.is_built = false;
     }
@@ -169,7 +182,7 @@ impl Workspace {
         requires { get self.old.kept uri.now ≡ None }
         ensures kept { OnOk result ((d : DocId) × (self.new.kept ≡ all.insert self.old.kept uri.now (numbered d (changed uri.now text version is_open)))) }
         ensures grammar { self.new.grammar ≡ self.old.grammar }
-        ensures fault { IfErr result (IsRefusal self.old) }
+        ensures fault { IfErr result (IsAddRefusal self.old) }
         ensures room { OnOk result (all.len self.old.kept ≢ MOST_DOCUMENTS) }
         ensures refused { OnErr result (self.new ≡ self.old) }
     {
@@ -248,15 +261,16 @@ impl Workspace {
         ensures refused { OnErr result (self.new ≡ self.old) }
         ensures grammar { self.new.grammar ≡ self.old.grammar }
     {
-        let Some(d) = self.docs.find(uri) else {
+        let Some(gone) = self.docs.find(uri) else {
             return Err(WorkFault::NoDocument);
         };
-        let told = match last_words(self.alloc, uri, &self.docs.doc(d).published) {
+        let told = match last_words(self.alloc, uri, &self.docs.doc(gone).published) {
             Ok(told) => told,
             Err(_) => return Err(WorkFault::NoMemory),
         };
-        self.docs.take_out(d);
-        self.readings.forget(d);
+        self.docs.take_out(gone);
+        self.readings.forget(gone);
+        self.refs.remove(gone);
         self.docs.numbered();
         self.is_built = false;
         Ok(told)
@@ -283,6 +297,7 @@ impl Workspace {
             &self.language,
             &self.docs,
             &self.readings,
+            &mut self.refs,
             steps,
         )?;
         let News { lists, own } = news;
@@ -325,8 +340,37 @@ impl Workspace {
     }
 
     /// What its documents export, by their numbers: of those that were read.
-    pub fn index(&self) -> &Index {
+    pub fn index(&self) -> &Index
+        ensures { self.now.is_built ≡ true → (trees : Trees) × AreTreesOfTexts self.now.grammar (present_texts (documents self.now)) trees × IsIndexOf trees result.now }
+    {
+        let _ = self.is_built;
         &self.readings.index
+    }
+
+    /// What is asked of its documents by their numbers, once they are built: the tree of each, and where each of its references leads.
+    pub fn seen(&self) -> Seen<'_>
+        requires built { self.now.is_built ≡ true }
+        ensures kept { result.kept ≡ self.now.kept }
+        ensures views { (trees : Trees) × AreTreesOfTexts self.now.grammar (present_texts (documents self.now)) trees ×
+            AreViewsOf (IsNumberBelow self.now.grammar) (⟦<Seen<'static> as Views>⟧.tree_at result) (⟦<Seen<'static> as Views>⟧.answers_at result) (⟦<Seen<'static> as Views>⟧.Stands result) trees }
+    {
+        let _ = self.is_built;
+        Seen {
+            docs: &self.docs,
+            readings: &self.readings,
+            refs: &self.refs,
+        }
+    }
+
+    /// All documents as the build left them, in the order of their addresses. Want of memory is the only error: it takes some words for
+    /// each.
+    pub fn views(&self, alloc: Global) -> Result<Vec<View<'_>>, NoMemory>
+        requires built { self.now.is_built ≡ true }
+        ensures built { IfOk result (λ views. AreBuiltViews self.now.grammar views.items) }
+        ensures texts { IfOk result (λ views. (address : List ℕ) → texts_seen views.items address ≡ present_texts (documents self.now) address) }
+    {
+        let _ = self.is_built;
+        views_of(alloc, &self.docs, &self.readings, &self.refs)
     }
 
     /// Its addresses in their order, each with the number of its document.

@@ -1,4 +1,4 @@
-use Rattle.std.proofs.Common.{None, subst, sym}
+use Rattle.std.proofs.Common.{None, ap, length, subst, sym, arith}
 use Rattle.lw_link.specs.Indexed.{AreEntriesAt, treeless, whole}
 use Rattle.lw_reading.specs.Issues.{IfBroken, IfWhole, IsIssueWithin, IsNamed}
 use Rattle.lw_reading.specs.Reading.{Reads}
@@ -17,6 +17,7 @@ returns-in_ok-exports-in-Whole c = (
     subst (Reads c.args.language.now.grammar c.args.text.now) c.in-Whole.is c.requires.reads,
     subst (λ p. IfWhole p (StandsInText c.args.text.now)) c.in-Whole.is c.requires.stands,
     c.in_ok-locals-in-Whole.ensures,
+    omega (arith, ap length c.refs.ensures),
   ),
   whole c.in_ok-exports-in-Whole.ensures,
 )

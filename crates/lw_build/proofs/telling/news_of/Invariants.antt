@@ -1,11 +1,17 @@
-use Rattle.std.proofs.Common.{map}
+use Rattle.std.proofs.Common.{ℕ, List, map}
 use Rattle.std.specs.Map.Iter.{deref_pair}
-use Rattle.lw_build.specs.Telling.{AreTold}
+use Rattle.lw_base.specs.declared.numbers.DocId.{DocId}
+use Rattle.lw_machine.proofs.Places.{Among}
+use Rattle.lw_build.specs.Linked.{OnlyReadLead}
+use Rattle.lw_build.specs.Telling.{AreListsTold}
+use Rattle.lw_build.proofs.Leading.{IsPlaceLinked}
 use Rattle.lw_build.proofs.telling.news_of.Given as goal
 
 abbrev pub invariant-telling : goal.invariant-telling
 invariant-telling g l = record {
   next : (goal.iterator-telling g).can_next l._uri-iterator;
   finite : (goal.iterator-telling g).is_finite l._uri-iterator;
-  told : AreTold l.language.grammar l.docs (map deref_pair l.yielded) l.news.own.items l.news.lists;
+  told : AreListsTold l.language.grammar l.docs (map deref_pair l.yielded) l.news.own.items l.news.lists;
+  unread : OnlyReadLead l.readings l.refs;
+  linked : (p : List ℕ × DocId) → Among p (map deref_pair l.yielded) → IsPlaceLinked l.language.grammar l.docs l.readings l.refs p;
 }

@@ -3,7 +3,7 @@ use Rattle.std.specs.FinMap.{get}
 use Rattle.lw_base.specs.declared.numbers.DocId.{DocId}
 use Rattle.lw_outcomes.proofs.Finite.{behind, here}
 use Rattle.lw_text.specs.declared.shown.Shown.{Shown}
-use Rattle.lw_build.specs.Telling.{IsTaken}
+use Rattle.lw_build.specs.Telling.{IsListTaken}
 use Rattle.lw_build.proofs.Places.{with_nothing}
 use Rattle.lw_build.proofs.News.{held_still, nothing_taken, taken_more}
 use Rattle.lw_build.proofs.telling.take_all.Goals as goal
@@ -43,4 +43,4 @@ pub returns : goal.returns
 returns c address =
     let left = empty c.taking.d-iterator.rest.items (sym c.taking.d-iterator.rest.ok.0 ∙ c.in-None.ensures.steps.0) in
     let all = sym (with_nothing c.taking.yielded) ∙ ap (λ (es : List (DocId × List Shown)). c.taking.yielded ++ es) (sym left) ∙ c.taking.invariant.left in
-    subst (λ (es : List (DocId × List Shown)). IsTaken es (get c.args.docs.now address) (get c.taking.docs address)) all (c.taking.invariant.taken address)
+    subst (λ (es : List (DocId × List Shown)). IsListTaken es (get c.args.docs.now address) (get c.taking.docs address)) all (c.taking.invariant.taken address)

@@ -7,17 +7,17 @@ use Rattle.lw_docs.specs.declared.doc.Doc.{Doc}
 use Rattle.lw_grammar.specs.declared.grammar.Grammar.{Grammar}
 use Rattle.lw_index.specs.declared.parts.Export.{Export}
 use Rattle.lw_link.specs.Indexed.{AreEntriesAt}
-use Rattle.lw_build.specs.Readings.{AreRead, HasReading, IsReadingOf, reading_at, tree_of}
+use Rattle.lw_build.specs.Readings.{AreDocumentsRead, HasReading, IsReadingOfText, reading_at, tree_of}
 use Rattle.lw_build.specs.declared.readings.Reading.{Reading}
 use Rattle.lw_build.specs.declared.readings.Readings.{Readings}
 use Rattle.lw_build.proofs.Reading.{alike, free, more}
 use Rattle.lw_build.proofs.readings.Readings.read_one.Goals as goal
 
-either : (g : Grammar) (texts : List (List ℕ)) (kept : ByAddress) (readings after : Readings) → AreRead g texts kept readings → (d : DocId) (doc : Doc) →
-    IsAt kept d doc → (reading : Reading) (exports : List Export) → IsUtf8 doc.text → IsReadingOf g texts doc.text reading → AreEntriesAt (tree_of reading) exports →
+either : (g : Grammar) (texts : List (List ℕ)) (kept : ByAddress) (readings after : Readings) → AreDocumentsRead g texts kept readings → (d : DocId) (doc : Doc) →
+    IsAt kept d doc → (reading : Reading) (exports : List Export) → IsUtf8 doc.text → IsReadingOfText g texts doc.text reading → AreEntriesAt (tree_of reading) exports →
     {E : Type 0} (r : Result (Unit {0}) E) → OnOk r (reading_at after d.0 ≡ Some reading) → OnOk r ((n : ℕ) → n ≢ d.0 → reading_at after n ≡ reading_at readings n) →
     OnOk r (after.index ≡ all.insert readings.index d.0 (record { uri = doc.uri; exports = exports })) →
-    OnErr r ((n : ℕ) → reading_at after n ≡ reading_at readings n) → OnErr r (after.index ≡ readings.index) → AreRead g texts kept after
+    OnErr r ((n : ℕ) → reading_at after n ≡ reading_at readings n) → OnErr r (after.index ≡ readings.index) → AreDocumentsRead g texts kept after
 either g texts kept readings after read d doc at reading exports utf8 reads entered (Ok x) here others index refused same =
     more g texts kept readings after read d doc at reading exports utf8 reads entered here others index
 either g texts kept readings after read d doc at reading exports utf8 reads entered (Err e) here others index refused same =
@@ -35,5 +35,5 @@ returns-clause-kept c =
     let texts = c.args.language.now.texts in
     let entered = c.in_ok-entered.entered in
     either of texts c.args.docs.now c.args.self.now c.keep.new.self c.requires.kept c.args.d c.doc-doc.result.now c.doc-doc.ensures entered.reading entered.exports.items
-    c.as_text.ensures.utf8 (subst (λ (t : List ℕ). IsReadingOf of texts t entered.reading) c.as_name-text.ensures.text c.in_ok-entered.ensures.0) c.in_ok-entered.ensures.1
+    c.as_text.ensures.utf8 (subst (λ (t : List ℕ). IsReadingOfText of texts t entered.reading) c.as_name-text.ensures.text c.in_ok-entered.ensures.0) c.in_ok-entered.ensures.1
     c.keep.result c.keep.ensures.here c.keep.ensures.others c.keep.ensures.index c.keep.ensures.refused c.keep.ensures.stays

@@ -1,20 +1,58 @@
-use Rattle.std.proofs.Common.{option_map, Result, Ok, Err, OnOk, sym, ap}
+use Rattle.std.proofs.Common.{List, Option, option_and_then, option_map, Result, Ok, Err, OnOk, sym, ap, subst₂}
+use Rattle.std.proofs.lemmas.Result.{on_ok_weaker}
 use Rattle.lw_docs.specs.Documents.{Numbered}
-use Rattle.lw_build.specs.Readings.{texts_of, trees_of}
+use Rattle.lw_index.specs.declared.parts.Answer.{Answer}
+use Rattle.lw_scopes.specs.Links.{IsNumberBelow}
+use Rattle.lw_tree.specs.Parts.{Parts}
+use Rattle.lw_build.specs.Linked.{AreLinkAnswers, AreLinksKept, IsIndexedAt, StandsNumbered}
+use Rattle.lw_build.specs.Readings.{present_texts_of, tree_of, trees_of}
+use Rattle.lw_build.proofs.Leading.{answers_put, answers_stay, unread_linked}
+use Rattle.lw_build.proofs.Linked.{indexed_stands, stand_elsewhere}
 use Rattle.lw_build.proofs.Trees.{are_trees, is_document, is_index}
 use Rattle.lw_build.proofs.telling.News.add_one.Goals as goal
 
-weaker : {A E : Type 0} {P Q : Type 0} (r : Result A E) → (P → Q) → OnOk r P → OnOk r Q
-weaker (Ok x) f is = f is
-weaker (Err e) f is = tt
+-- what holds is so where nothing fails
+so : {A E : Type 0} {Q : Type 0} (r : Result A E) → Q → OnOk r Q
+so (Ok x) is = is
+so (Err e) is = tt
 
-pub list_of-requires : goal.list_of-requires
-list_of-requires g c =
+pub check_reading-requires : goal.check_reading-requires
+check_reading-requires g c =
     (is_document c.args.language.now.grammar c.args.language.now.texts c.args.docs.now c.numbered.ensures c.args.readings.now c.requires.read c.requires.all c.args.d
     c.doc-doc.result.now c.doc-doc.ensures c.in-Some.reading.now (sym c.in-Some.ensures.value)).0
 
-pub returns : goal.returns
-returns g c =
+pub returns-clause-unread : goal.returns-clause-unread
+returns-clause-unread g c =
+    unread_linked c.args.readings.now c.args.refs.now c.set.new.self c.args.d.0 (c.in-Some.reading.now, sym c.in-Some.ensures.value) c.requires.unread
+    (answers_stay c.args.refs.now c.set.new.self c.args.d.0 c.in_ok-found-in-Some.found.answers.items c.in_ok-set-in-Some.ensures.ok)
+
+pub returns-clause-others : goal.returns-clause-others
+returns-clause-others g c =
+    answers_stay c.args.refs.now c.set.new.self c.args.d.0 c.in_ok-found-in-Some.found.answers.items c.in_ok-set-in-Some.ensures.ok
+
+pub returns-clause-linked : goal.returns-clause-linked
+returns-clause-linked g c =
+    let of = c.args.language.now.grammar in
+    let texts = c.args.language.now.texts in
+    let docs = c.args.docs.now in
+    let readings = c.args.readings.now in
+    let doc = c.doc-doc.result.now in
+    let is = sym c.in-Some.ensures.value in
+    let here = is_document of texts docs c.numbered.ensures readings c.requires.read c.requires.all c.args.d doc c.doc-doc.ensures c.in-Some.reading.now is in
+    let found = c.in_ok-found-in-Some.ensures.checked (present_texts_of docs) (trees_of docs readings) doc.uri
+    (are_trees of texts docs c.numbered.ensures readings c.requires.read c.requires.all)
+    (is_index of texts docs c.numbered.ensures readings c.requires.read c.requires.all) (ap (option_map (λ (h : Numbered). h.doc.text)) c.doc-doc.ensures) here.1 in
+    let answers = c.in_ok-found-in-Some.found.answers.items in
+    let links : AreLinksKept of docs readings c.set.new.self doc.uri c.args.d.0 =
+    subst₂ (λ (o : Option Parts) (kept : List Answer). AreLinkAnswers (IsNumberBelow of) (StandsNumbered docs) (trees_of docs readings) doc.uri o kept)
+    (sym (ap (option_and_then tree_of) is))
+    (sym (answers_put c.args.refs.now c.set.new.self c.args.d.0 answers c.in_ok-set-in-Some.ensures.ok))
+    (stand_elsewhere (IsNumberBelow of) (IsIndexedAt readings.index) (StandsNumbered docs) (indexed_stands of texts docs readings c.requires.read)
+    (trees_of docs readings) doc.uri (tree_of c.in-Some.reading.now) answers found.1) in
+    so c.add.result (doc, c.doc-doc.ensures, links)
+
+pub returns-clause-told : goal.returns-clause-told
+returns-clause-told g c =
     let of = c.args.language.now.grammar in
     let texts = c.args.language.now.texts in
     let docs = c.args.docs.now in
@@ -22,7 +60,7 @@ returns g c =
     let doc = c.doc-doc.result.now in
     let here = is_document of texts docs c.numbered.ensures readings c.requires.read c.requires.all c.args.d doc c.doc-doc.ensures c.in-Some.reading.now
     (sym c.in-Some.ensures.value) in
-    let list = c.in_ok-list-in-Some.ensures (texts_of docs) (trees_of docs readings) doc.uri
+    let found = c.in_ok-found-in-Some.ensures.checked (present_texts_of docs) (trees_of docs readings) doc.uri
     (are_trees of texts docs c.numbered.ensures readings c.requires.read c.requires.all)
     (is_index of texts docs c.numbered.ensures readings c.requires.read c.requires.all) (ap (option_map (λ (h : Numbered). h.doc.text)) c.doc-doc.ensures) here.1 in
-    weaker c.add.result (λ adds. (c.in_ok-list-in-Some.list, doc, c.doc-doc.ensures, list, adds)) c.add.ensures
+    on_ok_weaker c.add.result (λ adds. (c.in_ok-found-in-Some.found.list, doc, c.doc-doc.ensures, found.0, adds)) c.add.ensures

@@ -6,7 +6,7 @@ use Rattle.lw_build.specs.View.{WorkspaceView}
 use Rattle.lw_build.proofs.Maps.{put_elsewhere}
 use Rattle.lw_build.proofs.Reading.{came}
 use Rattle.lw_build.specs.Faults as faults
-use Rattle.lw_build.specs.Faults.{IsRefusal}
+use Rattle.lw_build.specs.Faults.{IsAddRefusal}
 use Rattle.lw_build.specs.declared.fault.WorkFault.TheVariants.{TooMany}
 use Rattle.lw_build.proofs.workspace.Workspace.add.Goals as goal
 
@@ -15,7 +15,7 @@ returns-in-Err-clause-fault c = faults.starved
 
 pub returns-in-Err-TooMany-clause-fault : goal.returns-in-Err-TooMany-clause-fault
 returns-in-Err-TooMany-clause-fault c =
-    subst (λ v. IsRefusal v TooMany) c.self.view_is (faults.full (c.add.ensures.too_many.0 (c.in-Err-TooMany.is ∙ ap Err c.in-Err-TooMany.field-0-is)))
+    subst (λ v. IsAddRefusal v TooMany) c.self.view_is (faults.full (c.add.ensures.too_many.0 (c.in-Err-TooMany.is ∙ ap Err c.in-Err-TooMany.field-0-is)))
 
 pub returns-in-Err-NoMemory-clause-fault : goal.returns-in-Err-NoMemory-clause-fault
 returns-in-Err-NoMemory-clause-fault c = faults.starved
@@ -32,5 +32,7 @@ invariant_of-self-2 c =
       read = came c.self.inside.language.grammar c.self.inside.language.texts docs c.add.new.self own
           (λ q other. ap (λ (m : ByAddress). get m q) c.in-Ok-add.ensures.added ∙ put_elsewhere docs own come q other)
           c.self.inside.readings c.self.invariant.read none;
+      unread = c.self.invariant.unread;
       built = λ is. absurd (false≢true is);
+      linked = λ is. absurd (false≢true is);
     }

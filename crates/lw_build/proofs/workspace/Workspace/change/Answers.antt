@@ -4,6 +4,7 @@ use Rattle.std.proofs.lemmas.Bool.{false≢true}
 use Rattle.lw_docs.specs.Documents.{ByAddress, IsHeld, numbered}
 use Rattle.lw_build.specs.View.{WorkspaceView}
 use Rattle.lw_build.proofs.Maps.{put_elsewhere}
+use Rattle.lw_build.proofs.Leading.{unread_forgotten}
 use Rattle.lw_build.proofs.Reading.{forgotten}
 use Rattle.lw_build.proofs.workspace.Workspace.change.Goals as goal
 
@@ -18,5 +19,7 @@ invariant_of-self c =
       read = forgotten c.self.inside.language.grammar c.self.inside.language.texts docs c.renew.new.docs x.uri
           (λ q other. ap (λ (m : ByAddress). get m q) (c.renew.ensures x at) ∙ put_elsewhere docs x.uri turned q other)
           c.self.inside.readings c.self.invariant.read c.args.d x at c.forget.new.self c.forget.ensures.here c.forget.ensures.others c.forget.ensures.index;
+      unread = unread_forgotten c.self.inside.readings c.forget.new.self c.self.inside.refs c.remove.new.self c.args.d.0 c.self.invariant.unread c.remove.ensures c.forget.ensures.others;
       built = λ is. absurd (false≢true is);
+      linked = λ is. absurd (false≢true is);
     }

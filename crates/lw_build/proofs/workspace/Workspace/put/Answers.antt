@@ -1,6 +1,7 @@
 use Rattle.std.proofs.Common.{ℕ, List, Err, length, sym, ap, subst, ◌∙◌}
 use Rattle.std.specs.FinMap as all
 use Rattle.std.specs.FinMap.{get}
+use Rattle.std.proofs.lemmas.Result.{IfErr-weaker, on_ok_weaker}
 use Rattle.lw_docs.specs.Documents.{IsHeld, Turns, changed, numbered}
 use Rattle.lw_machine.specs.Documents.{Documents}
 use Rattle.lw_machine.specs.Events.{put}
@@ -9,7 +10,7 @@ use Rattle.lw_build.specs.Faults.{IsPutFault}
 use Rattle.lw_build.specs.View.{WorkspaceView}
 use Rattle.lw_build.proofs.Agreeing.{put_again, put_new}
 use Rattle.lw_base.specs.declared.limits.TheConstants.{LONGEST_TEXT}
-use Rattle.lw_build.proofs.Finding.{found, not_above, is_held, none_found, not_added, put_refused, seen, weaker, weaker_fault}
+use Rattle.lw_build.proofs.Finding.{found, not_above, is_held, none_found, not_added, put_refused, seen}
 use Rattle.lw_build.proofs.workspace.Workspace.put.Goals as goal
 
 pub returns-in-Err-clause-fault : goal.returns-in-Err-clause-fault
@@ -47,7 +48,7 @@ returns-in-None-clause-agrees c =
     let uri = c.args.uri.now in
     let none = none_found docs uri (sym c.in-None.is ∙ c.find.ensures.number) in
     let grammar = c.add.ensures.grammar ∙ sym (ap (λ (v : WorkspaceView). v.grammar) c.self.view_is) in
-    weaker c.add.result
+    on_ok_weaker c.add.result
     (λ (d, kept). subst (λ v. (m : Documents) → Agrees v m → Agrees c.add.new.self (put m uri c.args.text c.args.version c.args.is_open)) c.self.view_is
     (λ m agrees. subst (λ (t : List ℕ). Agrees c.add.new.self (put m uri t c.args.version c.args.is_open)) c.in-Ok.ensures.text
     (seen c.add.new.self of (all.insert docs uri (numbered d (changed uri c.in-Ok.text c.args.version c.args.is_open))) (put m uri c.in-Ok.text c.args.version c.args.is_open)
@@ -60,4 +61,4 @@ returns-in-None-clause-fault c =
     let uri = c.args.uri.now in
     let none = ap (λ (v : WorkspaceView). get v.kept uri) (sym c.self.view_is) ∙ none_found c.self.inside.docs uri (sym c.in-None.is ∙ c.find.ensures.number) in
     let fits = not_above LONGEST_TEXT (length c.args.text) (λ long. let no = c.in-Ok.ensures.too_long.1 long in cc) in
-    weaker_fault c.add.result (not_added c.args.self.now uri c.args.text none fits) c.add.ensures.fault
+    IfErr-weaker c.add.result _ _ (not_added c.args.self.now uri c.args.text none fits) c.add.ensures.fault

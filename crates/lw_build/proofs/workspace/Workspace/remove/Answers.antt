@@ -12,6 +12,7 @@ use Rattle.lw_build.specs.declared.fault.WorkFault.TheVariants.{NoDocument}
 use Rattle.lw_build.proofs.Agreeing.{removed, view}
 use Rattle.lw_build.proofs.Finding.{at_address, none_found, same_uri, seen}
 use Rattle.lw_build.proofs.Maps.{taken_elsewhere}
+use Rattle.lw_build.proofs.Leading.{unread_forgotten}
 use Rattle.lw_build.proofs.Reading.{forgotten}
 use Rattle.lw_build.proofs.workspace.Workspace.remove.Goals as goal
 
@@ -32,9 +33,11 @@ invariant_of-self c =
       numbered = c.numbered.ensures;
       read = forgotten c.self.inside.language.grammar c.self.inside.language.texts docs c.take_out.new.self x.uri
           (λ q other. ap (λ (m : ByAddress). get m q) c.take_out.ensures.gone ∙ taken_elsewhere docs x.uri q other)
-          c.self.inside.readings c.self.invariant.read c.in-Some.d x c.take_out.ensures.doc c.forget.new.self c.forget.ensures.here c.forget.ensures.others
+          c.self.inside.readings c.self.invariant.read c.in-Some.gone x c.take_out.ensures.doc c.forget.new.self c.forget.ensures.here c.forget.ensures.others
           c.forget.ensures.index;
+      unread = unread_forgotten c.self.inside.readings c.forget.new.self c.self.inside.refs c.remove.new.self c.in-Some.gone.0 c.self.invariant.unread c.remove.ensures c.forget.ensures.others;
       built = λ is. absurd (false≢true is);
+      linked = λ is. absurd (false≢true is);
     }
 
 pub returns-clause-agrees : goal.returns-clause-agrees
@@ -43,10 +46,10 @@ returns-clause-agrees c =
     let docs = c.self.inside.docs in
     let x = c.take_out.result in
     let is = sym c.in-Some.is ∙ c.find.ensures.number in
-    let uri = same_uri docs c.args.uri.now c.self.invariant.numbered c.in-Some.d is x c.take_out.ensures.doc in
-    let at = at_address docs c.args.uri.now c.self.invariant.numbered c.in-Some.d is x c.take_out.ensures.doc in
+    let uri = same_uri docs c.args.uri.now c.self.invariant.numbered c.in-Some.gone is x c.take_out.ensures.doc in
+    let at = at_address docs c.args.uri.now c.self.invariant.numbered c.in-Some.gone is x c.take_out.ensures.doc in
     subst (λ v. (m n : Documents) → Agrees v m → IsSettled v.grammar (shown_texts m) c.args.uri.now (all.remove m c.args.uri.now) n →
     Agrees (view of c.take_out.new.self false) n) c.self.view_is
     (λ m n agrees settled. seen (view of c.take_out.new.self false) of (all.remove docs c.args.uri.now) n refl
     (c.take_out.ensures.gone ∙ ap (all.remove docs) uri)
-    (removed of c.self.invariant.one_way docs c.self.inside.is_built false m agrees c.args.uri.now (numbered c.in-Some.d x) at n settled))
+    (removed of c.self.invariant.one_way docs c.self.inside.is_built false m agrees c.args.uri.now (numbered c.in-Some.gone x) at n settled))

@@ -1,7 +1,8 @@
-use Rattle.std.proofs.Common.{◌≡◌, ℕ, List, Result, Ok, Err, Some, IfOk, ap, length, sym, map, subst, ◌∙◌}
+use Rattle.std.proofs.Common.{◌≡◌, ℕ, List, Some, ap, length, map, sym, subst, ◌∙◌}
 use Rattle.std.specs.List.{AllZip}
 use Rattle.lw_check.specs.Sorting.{AreShown}
 use Rattle.lw_grammar.specs.declared.grammar.Grammar.{Grammar}
+use Rattle.lw_index.specs.declared.parts.Answer.{Answer}
 use Rattle.lw_link.specs.Indexed.{link_of}
 use Rattle.lw_scopes.specs.Diagnostics as diagnostic
 use Rattle.lw_scopes.specs.Diagnostics.{AreDiagnostics}
@@ -9,18 +10,15 @@ use Rattle.lw_scopes.specs.Links.{AreTreesOfTexts, IsNumberBelow, Texts}
 use Rattle.lw_scoping.specs.Links.{LinksTo, Trees}
 use Rattle.lw_text.specs.declared.shown.Shown.{Shown}
 use Rattle.lw_tree.specs.Parts.{Parts}
+use Rattle.lw_build.specs.Linked as linked
+use Rattle.lw_build.proofs.Linked.{answers_from}
 use Rattle.lw_build.proofs.Texts.{text_outwards, text_owners, text_root, text_types}
-use Rattle.lw_build.proofs.telling.tree_list.Goals as goal
+use Rattle.lw_build.proofs.telling.check_tree.Goals as goal
 
 told : (g : Grammar) (texts : Texts) (trees : Trees) (address text : List ℕ) (tree : Parts) → AreTreesOfTexts g texts trees → texts address ≡ Some text →
     trees address ≡ Some tree → (list : List Shown) → AreShown g trees address tree text list → AreDiagnostics g texts address list
 told g texts trees address text tree are there is list (diagnostics, right, shown) =
     record { text = text; is_shown = there; is_list = diagnostic.whole trees are is right shown }
-
-listed : (g : Grammar) (texts : Texts) (trees : Trees) (address text : List ℕ) (tree : Parts) → AreTreesOfTexts g texts trees → texts address ≡ Some text →
-    trees address ≡ Some tree → {E : Type 0} (r : Result (List Shown) E) → IfOk r (AreShown g trees address tree text) → IfOk r (AreDiagnostics g texts address)
-listed g texts trees address text tree are there is (Ok list) shown = told g texts trees address text tree are there is list shown
-listed g texts trees address text tree are there is (Err e) shown = tt
 
 pub answers-requires-clause-outwards : goal.answers-requires-clause-outwards
 answers-requires-clause-outwards g c = text_outwards c.args.language.now.grammar c.args.text.now c.args.tree.now c.requires.reads
@@ -37,15 +35,18 @@ diagnostics-requires g c = record {
   stands = c.requires.stands;
   root = (text_root c.args.language.now.grammar c.args.text.now c.args.tree.now c.requires.reads).there;
   symbols = c.requires.locals;
-  count = ap length c.as_slice.ensures.value ∙ c.in_ok-found.ensures.count;
+  count = ap length c.as_slice.ensures.value ∙ c.in_ok-answers.ensures.count;
   known = (c.args.language.now.grammar, c.types-types.ensures, text_types c.args.language.now.grammar c.args.text.now c.args.tree.now c.requires.reads);
 }
 
-pub returns : goal.returns
-returns g c texts trees address are index there here =
+pub returns-clause-checked : goal.returns-clause-checked
+returns-clause-checked g c texts trees address are index there here =
     let of = c.args.language.now.grammar in
     let tree = c.args.tree.now in
-    let links = subst (λ found. AllZip (LinksTo (IsNumberBelow of) trees address tree) tree.refs (map (link_of c.args.index.now) found)) (sym c.as_slice.ensures.value)
-    (c.in_ok-found.ensures.links of trees address c.types-types.ensures index here) in
-    listed of texts trees address c.args.text.now tree are there here.is_tree c.diagnostics.result
-    (c.diagnostics.ensures of trees address c.types-types.ensures index here links)
+    let links = c.in_ok-answers.ensures.links of trees address c.types-types.ensures index here in
+    let read = subst (λ (found : List Answer). AllZip (LinksTo (IsNumberBelow of) trees address tree) tree.refs (map (link_of c.args.index.now) found))
+    (sym c.as_slice.ensures.value) links in (
+      told of texts trees address c.args.text.now tree are there here.is_tree c.in_ok-list.list
+          (c.in_ok-list.ensures of trees address c.types-types.ensures index here read),
+      linked.whole (answers_from (IsNumberBelow of) c.args.index.now trees address tree tree.refs _ links (c.in_ok-answers.ensures.held trees address here)),
+    )

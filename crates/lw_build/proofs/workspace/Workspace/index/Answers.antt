@@ -1,0 +1,24 @@
+use Rattle.std.proofs.Common.{◌≡◌, true, subst}
+use Rattle.lw_link.specs.Indexed.{IsIndexOf}
+use Rattle.lw_machine.specs.Documents.{present_texts}
+use Rattle.lw_scopes.specs.Links.{AreTreesOfTexts}
+use Rattle.lw_scoping.specs.Links.{Trees}
+use Rattle.lw_build.specs.Readings.{trees_of}
+use Rattle.lw_build.specs.View.{WorkspaceView, documents}
+use Rattle.lw_build.proofs.Trees.{is_index}
+use Rattle.lw_build.proofs.Views.{present_trees}
+use Rattle.lw_build.proofs.workspace.Workspace.index.Goals as goal
+
+pub returns : goal.returns
+returns c =
+    let of = c.self.inside.language.grammar in
+    let texts = c.self.inside.language.texts in
+    let docs = c.self.inside.docs in
+    let readings = c.self.inside.readings in
+    subst (λ (v : WorkspaceView). v.is_built ≡ true → (trees : Trees) × AreTreesOfTexts v.grammar (present_texts (documents v)) trees × IsIndexOf trees readings.index)
+    c.self.view_is
+    (λ is. (
+      trees_of docs readings,
+      present_trees of texts docs c.self.invariant.numbered readings c.self.invariant.read c.self.inside.is_built (c.self.invariant.linked is).read,
+      is_index of texts docs c.self.invariant.numbered readings c.self.invariant.read (c.self.invariant.linked is).read,
+    ))

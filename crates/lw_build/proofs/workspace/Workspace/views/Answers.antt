@@ -1,0 +1,30 @@
+use Rattle.std.proofs.Common.{◌≡◌, ℕ, List, Result, Ok, Err, IfOk, sym, ap, subst, ◌∙◌}
+use Rattle.lw_machine.specs.Documents.{present_texts}
+use Rattle.lw_query.specs.Built.{AreBuiltViews, texts_seen}
+use Rattle.lw_build.specs.View.{WorkspaceView, documents}
+use Rattle.lw_build.proofs.Documents.{present_here}
+use Rattle.lw_build.proofs.Views.{built_views, same_texts}
+use Rattle.lw_build.proofs.workspace.Workspace.views.Goals as goal
+
+if_ok : {A E : Type 0} {P Q : A → Type 0} (r : Result A E) → ((x : A) → P x → Q x) → IfOk r P → IfOk r Q
+if_ok (Ok x) f is = f x is
+if_ok (Err e) f is = tt
+
+pub returns-clause-built : goal.returns-clause-built
+returns-clause-built c =
+    let is = ap (λ (v : WorkspaceView). v.is_built) c.self.view_is ∙ c.requires.built in
+    if_ok c.views_of.result
+    (λ views rows. subst (λ (v : WorkspaceView). AreBuiltViews v.grammar views.items) c.self.view_is
+    (built_views c.self.inside.language.grammar c.self.inside.language.texts c.self.inside.docs c.self.invariant.numbered c.self.inside.readings
+    c.self.invariant.read c.self.inside.refs (c.self.invariant.linked is) views.items rows))
+    c.views_of.ensures
+
+pub returns-clause-texts : goal.returns-clause-texts
+returns-clause-texts c =
+    let is = ap (λ (v : WorkspaceView). v.is_built) c.self.view_is ∙ c.requires.built in
+    if_ok c.views_of.result
+    (λ views rows. subst (λ (v : WorkspaceView). (address : List ℕ) → texts_seen views.items address ≡ present_texts (documents v) address) c.self.view_is
+    (λ address. same_texts c.self.inside.language.grammar c.self.inside.language.texts c.self.inside.docs c.self.invariant.numbered c.self.inside.readings
+    c.self.invariant.read c.self.inside.refs (c.self.invariant.linked is) views.items rows address
+    ∙ sym (present_here c.self.inside.is_built c.self.inside.docs address)))
+    c.views_of.ensures
