@@ -1,2 +1,4 @@
+pub mod OneReply
 pub mod OneOutcome
 pub mod Current
+pub mod Ordered

@@ -5,6 +5,7 @@ use Rattle.lw_io.specs.declared.store.Found.{Found}
 use Rattle.lw_reading.specs.Laws.{IsReadOneWay}
 use Rattle.lw_rpc.specs.Messages.{message_of}
 use Rattle.lw_rpc.specs.declared.message.Message.{Message}
+use Rattle.lw_rpc.specs.declared.message.Message.TheVariants.{DidOpen, DidChange}
 use Rattle.lw_rpc.specs.declared.reply.Reply.{Reply}
 use Rattle.lw_rpc.specs.declared.reply.Reply.TheVariants.{Log}
 use Rattle.lw_machine.specs.Building.{BuildsToEnd}
@@ -15,6 +16,7 @@ use Rattle.lw_text.specs.declared.change.EditFault.{EditFault}
 use Rattle.lw_text.specs.declared.units.Encoding.TheVariants.{Utf16}
 use Rattle.lw_text.proofs.Outcomes.{Changes-only}
 use Rattle.lw_machine.specs.Documents.{Document, Documents}
+use Rattle.lw_machine.specs.declared.published.Published.{Published}
 use Rattle.lw_machine.specs.Events.{edited}
 use Rattle.lw_machine.proofs.OneBuild.{one_build}
 use Rattle.lw_conversation.specs.Standing.{Standing, with_documents, with_phase}
@@ -22,10 +24,12 @@ use Rattle.lw_conversation.specs.Gate.{Stops, Passes, gate}
 use Rattle.lw_conversation.specs.Opening.{HasRoom, IsFull, OpensDocument, too_long, too_many, puts, most_documents}
 use Rattle.lw_conversation.specs.Editing.{IsOpenAt, IsUnknown, EditsDocument, unknown, bad_range, edits}
 use Rattle.lw_conversation.specs.Editing as editing
+use Rattle.lw_conversation.specs.Asking.{RepliesTo}
 use Rattle.lw_conversation.specs.Effects.{TakesEffect, opens, asks, as_reply}
 use Rattle.lw_conversation.specs.Effects as effects
 use Rattle.lw_conversation.specs.Answered.{Answered, stops, passes}
 use Rattle.lw_conversation.specs.Sessions.{Handles, Serves, unbuilt, built, waits, ends, goes_on}
+use Rattle.lw_conversation.proofs.OneReply.{one_reply}
 use Rattle.lw_conversation.specs.declared.ended.Ended.{Ended}
 use Rattle.lw_conversation.specs.declared.ended.Ended.TheVariants.{No}
 use Rattle.lw_conversation.specs.declared.phase.Phase.{Phase}
@@ -103,14 +107,31 @@ module _ (g : Grammar) where
   handled_reads s m found t p e (unbuilt does before) = answered_reads s m found t p e does
   handled_reads s m found t p e (built {t = u} {replies = r} does since builds) = answered_reads s m found u r e does
 
+-- what opens or edits a document is no question
+no_opening : {A : Type 0} {g : Grammar} {m : Documents} {address text : List ℕ} {version : ℤ} {reply : Reply} → RepliesTo g m (DidOpen address version text) reply → A
+no_opening replies = elim replies [ ]
+
+no_editing : {A : Type 0} {g : Grammar} {m : Documents} {address : List ℕ} {version : ℤ} {changes : List Change} {reply : Reply} →
+    RepliesTo g m (DidChange address version changes) reply → A
+no_editing replies = elim replies [ ]
+
 module _ (g : Grammar) (one_way : IsReadOneWay g) where
+  one_question : (m : Documents) (message : Message) (n o : Documents) (h k : List Published) (p q : Reply) → BuildsToEnd g m n h → RepliesTo g n message p →
+      BuildsToEnd g m o k → RepliesTo g o message q → (n ≡ o) × (map as_reply h ++ p ∷ [] ≡ map as_reply k ++ q ∷ [])
+  one_question m message n o h k p q builds replies build reply =
+      let end = one_build g one_way m n o h k builds build in
+      let same = one_reply g one_way n message p q replies (subst (λ (x : Documents). RepliesTo g x message q) (sym end.0) reply) in
+      (end.0, ap₂ (λ x y. map as_reply x ++ y ∷ []) end.1 same)
+
   one_effect : (m : Documents) (message : Message) (found : List Found) (n o : Documents) (p q : List Reply) → TakesEffect g m message found n p →
       TakesEffect g m message found o q → (n ≡ o) × (p ≡ q)
   one_effect m message found n o p q (opens {address = a} {text = t} {version = v} first) (opens second) = one_opening m a v t n o p q first second
-  one_effect m message found n o p q (opens first) (asks published reply builds replies) = absurd replies
+  one_effect m message found n o p q (opens first) (asks published reply builds replies) = no_opening replies
   one_effect m message found n o p q (effects.edits {address = a} {version = v} {changes = c} first) (effects.edits second) = one_editing m a v c n o p q first second
-  one_effect m message found n o p q (effects.edits first) (asks published reply builds replies) = absurd replies
-  one_effect m message found n o p q (asks published reply builds replies) second = absurd replies
+  one_effect m message found n o p q (effects.edits first) (asks published reply builds replies) = no_editing replies
+  one_effect m message found n o p q (asks published reply builds replies) (opens second) = no_opening replies
+  one_effect m message found n o p q (asks published reply builds replies) (effects.edits second) = no_editing replies
+  one_effect m message found n o p q (asks h r builds replies) (asks k l build reply) = one_question m message n o h k r l builds replies build reply
 
   abbrev AreOne : Standing → List Reply → Ended → Standing → List Reply → Ended → Type 0
   AreOne t p e u q f = (t ≡ u) × (p ≡ q) × (e ≡ f)

@@ -12,16 +12,13 @@ use Rattle.lw_text.specs.declared.change.Change.{Change}
 use Rattle.lw_machine.specs.Building.{BuildsToEnd}
 use Rattle.lw_machine.specs.Documents.{Documents}
 use Rattle.lw_machine.specs.declared.published.Published.{Published}
+use Rattle.lw_conversation.specs.Asking.{RepliesTo}
 use Rattle.lw_conversation.specs.Opening.{OpensDocument}
 use Rattle.lw_conversation.specs.Editing.{EditsDocument}
 
 -- a list of diagnostics is told by a publication
 abbrev pub as_reply : Published → Reply
 as_reply p = Publish p.uri p.version p.list
-
--- what a request that asks of a built workspace is replied over these documents; no such request is known yet
-abbrev pub RepliesTo : Documents → Message → Reply → Type 0
-RepliesTo documents message reply = ⊥
 
 module _ (g : Grammar) where
   -- the documents before a message, the message, what the store answered, and the documents and the replies behind it
@@ -31,5 +28,5 @@ module _ (g : Grammar) where
     edits : {address : List ℕ} {version : ℤ} {changes : List Change} {n : Documents} {replies : List Reply} → EditsDocument m address version changes n replies →
         TakesEffect m (DidChange address version changes) [] n replies
     -- a question: the build runs to its end before it, and the reply comes behind what that publishes
-    asks : {message : Message} {n : Documents} (published : List Published) (reply : Reply) → BuildsToEnd g m n published → RepliesTo n message reply →
+    asks : {message : Message} {n : Documents} (published : List Published) (reply : Reply) → BuildsToEnd g m n published → RepliesTo g n message reply →
         TakesEffect m message [] n (map as_reply published ++ reply ∷ [])

@@ -2,6 +2,7 @@ pub mod Standing
 pub mod Gate
 pub mod Opening
 pub mod Editing
+pub mod Asking
 pub mod Effects
 pub mod Answered
 pub mod Sessions

@@ -1,10 +1,13 @@
 // What a reader may expect of sessions, whatever the grammar and the bodies.
-ghost use Rattle.std.specs.Prelude.{◌≡◌, ℕ, List, true};
+ghost use Rattle.std.specs.Prelude.{◌≡◌, ℕ, List, All, true};
 ghost use Rattle.lw_grammar.specs.declared.grammar.Grammar.{Grammar};
 ghost use Rattle.lw_io.specs.declared.store.Found.{Found};
 ghost use Rattle.lw_machine.specs.Validity.{AreCurrent, IsValid};
 ghost use Rattle.lw_reading.specs.Laws.{IsReadOneWay};
+ghost use Rattle.lw_rpc.specs.Replies.{HasOrderedEdits};
+ghost use Rattle.lw_rpc.specs.declared.message.Message.{Message};
 ghost use Rattle.lw_rpc.specs.declared.reply.Reply.{Reply};
+ghost use Rattle.lw_conversation.specs.Answered.{Answered};
 ghost use Rattle.lw_conversation.specs.Sessions.{Serves};
 ghost use Rattle.lw_conversation.specs.Standing.{Standing, beginning};
 ghost use Rattle.lw_conversation.specs.declared.ended.Ended.{Ended};
@@ -23,4 +26,10 @@ pub fn sessions_stay_current()
         (replies : List Reply) (ended : Ended) → Serves g (beginning files) bodies found t replies ended → IsValid g t.documents }
     ensures current { (g : Grammar) → IsReadOneWay g → (files : List (List ℕ × List ℕ)) (bodies : List (List ℕ)) (found : List (List Found)) (t : Standing)
         (replies : List Reply) (ended : Ended) → Serves g (beginning files) bodies found t replies ended → t.phase.initialized ≡ true → AreCurrent g t.documents }
+{}
+
+/// Where a message is answered with edits, their addresses are in byte order, each once, as the keys of a JSON object are.
+pub fn edits_are_in_order()
+    ensures { (g : Grammar) (s t : Standing) (m : Message) (found : List Found) (replies : List Reply) (ended : Ended) →
+        Answered g s m found t replies ended → All HasOrderedEdits replies }
 {}

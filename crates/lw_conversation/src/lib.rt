@@ -8,14 +8,14 @@
 //! - `Gate.antt`: what the life of the session makes of a message: it is answered at once, or it has its effect.
 //! - `Effects.antt`: what a message that passes the gate makes of the documents, one relation for each method
 //!   (`Opening.antt`, `Editing.antt`), with what the store answered at each of its reads. The build stands before the reply to a
-//!   question.
+//!   question, which `Asking.antt` says over the documents that it leaves.
 //! - `Answered.antt`: both together, and what may stand where memory is refused at a message.
 //! - `Sessions.antt`: the build stands behind every message once `initialize` was answered, and so on through all
 //!   bodies up to `exit`.
 //!
 //! There is no code here but the types [`Ended`] and [`Phase`] and the codes of errors. Each function has an empty body, and its contract is
 //! a law that a reader would expect: what a session does is settled ([`one_outcome`]), and leaves nothing to do
-//! behind a message ([`sessions_stay_current`]).
+//! behind a message ([`sessions_stay_current`]); edits are told of documents in the order of their addresses ([`edits_are_in_order`]).
 #![tactic(auto)]
 
 mod ended;
@@ -27,5 +27,5 @@ pub use ended::Ended;
 pub use error_code::{
     INVALID_PARAMS, INVALID_REQUEST, METHOD_NOT_FOUND, PARSE_ERROR, SERVER_NOT_INITIALIZED,
 };
-pub use laws::{one_outcome, sessions_stay_current};
+pub use laws::{edits_are_in_order, one_outcome, sessions_stay_current};
 pub use phase::Phase;

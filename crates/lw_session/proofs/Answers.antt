@@ -1,5 +1,5 @@
 -- What opening and changing a document come to.
-use Rattle.std.proofs.Common.{◌≡◌, ℕ, ◌<◌, ◌≤◌, ◌⊎◌, inl, inr, List, [], ◌∷◌, ◌++◌, length, Bool, true, false, Some, Ok, Err, codes, decimal, refl, sym, ap, ◌∙◌, subst, true≢false, arith}
+use Rattle.std.proofs.Common.{◌≡◌, ℕ, ◌<◌, ◌≤◌, ◌⊎◌, inl, inr, List, [], ◌∷◌, ◌++◌, length, map, Bool, true, false, Some, Ok, Err, codes, decimal, refl, sym, ap, ◌∙◌, subst, true≢false, arith}
 use Rattle.std.proofs.lemmas.Bool.{cases_lt}
 use Rattle.std.specs.FinMap.{get, insert, len, contains_key}
 use Rattle.lw_base.specs.declared.limits.TheConstants.{LONGEST_TEXT}
@@ -10,7 +10,9 @@ use Rattle.lw_text.specs.declared.change.Change.{Change}
 use Rattle.lw_text.specs.declared.change.EditFault.{EditFault}
 use Rattle.lw_text.specs.declared.change.EditFault.TheVariants as edit
 use Rattle.lw_text.specs.declared.units.Encoding.TheVariants.{Utf16}
+use Rattle.lw_rpc.specs.declared.message.Id.{Id}
 use Rattle.lw_rpc.specs.declared.message.Message.{Message}
+use Rattle.lw_rpc.specs.declared.reply.Reply.{Reply}
 use Rattle.lw_rpc.specs.declared.reply.Reply.TheVariants.{Log}
 use Rattle.lw_build.specs.Agreeing.{Agrees, Known}
 use Rattle.lw_build.specs.Faults as faults
@@ -18,22 +20,29 @@ use Rattle.lw_build.specs.Faults.{HasNoRoom, IsPutFault, IsEditFault}
 use Rattle.lw_build.specs.declared.fault.WorkFault.{WorkFault}
 use Rattle.lw_build.specs.declared.fault.WorkFault.TheVariants as work
 use Rattle.lw_build.specs.View.{WorkspaceView, documents}
+use Rattle.lw_text.specs.declared.place.Pos.{Pos}
+use Rattle.lw_machine.specs.Building.{BuildsToEnd}
+use Rattle.lw_machine.specs.declared.published.Published.{Published}
 use Rattle.lw_machine.specs.Documents.{Document, Documents}
 use Rattle.lw_machine.specs.Events.{put}
 use Rattle.lw_machine.specs.Events as event
 use Rattle.lw_conversation.specs.Answered as answer
+use Rattle.lw_conversation.specs.Asking.{RepliesTo}
 use Rattle.lw_conversation.specs.Editing as editing
 use Rattle.lw_conversation.specs.Editing.{IsOpenAt, IsUnknown}
-use Rattle.lw_conversation.specs.Effects.{TakesEffect}
+use Rattle.lw_conversation.specs.Effects.{TakesEffect, as_reply}
 use Rattle.lw_conversation.specs.Effects as effect
 use Rattle.lw_conversation.specs.Gate.{Passes, gate}
 use Rattle.lw_conversation.specs.Opening as opening
 use Rattle.lw_conversation.specs.Opening.{HasRoom, IsFull}
 use Rattle.lw_conversation.specs.declared.phase.Phase.{Phase}
 use Rattle.lw_session.specs.Answering.{IsAnswered}
-use Rattle.lw_session.specs.Lifecycle.{IsLive, opened_message, edited_message, passage_of, telling}
+use Rattle.lw_session.specs.Lifecycle.{IsLive, opened_message, edited_message, asked_message, question_message, passage_of, telling}
 use Rattle.lw_session.specs.declared.lifecycle.Told.{Told}
+use Rattle.lw_session.specs.declared.said.Asked.{Asked}
 use Rattle.lw_session.specs.declared.said.Edited.{Edited}
+use Rattle.lw_session.specs.declared.said.Question.{Question}
+use Rattle.lw_session.specs.declared.said.Question.TheVariants as question
 use Rattle.lw_session.specs.declared.said.Opened.{Opened}
 use Rattle.lw_session.proofs.Known.{same_len, same_contains, is_held, is_kept}
 
@@ -54,6 +63,10 @@ module _ (v w : WorkspaceView) (phase : Phase) (live : IsLive phase) (message : 
 
 opens : (phase : Phase) → IsLive phase → (opened : Opened) → gate phase (opened_message opened) ≡ Passes
 opens phase live opened = rw (live.0, live.1) refl
+
+asks : (phase : Phase) → IsLive phase → (id : Id) (address : List ℕ) (at : Pos) (question : Question) → gate phase (question_message id address at question) ≡ Passes
+asks phase live id address at question.Definition = rw (live.0, live.1) refl
+asks phase live id address at (question.References declaration) = rw (live.0, live.1) refl
 
 edits : (phase : Phase) → IsLive phase → (edited : Edited) → gate phase (edited_message edited) ≡ Passes
 edits phase live edited = rw (live.0, live.1) refl
@@ -78,6 +91,12 @@ module _ (v w : WorkspaceView) (phase : Phase) (live : IsLive phase) (agrees : A
     puts after short few free =
         effective v w phase live (opened_message opened) (opens phase live opened) _ _ after
         (effect.opens (opening.puts short (room v agrees opened.id.address few free)))
+
+  -- a question, where the build has come to its end
+  pub answers : (asked : Asked) (lists : List Published) (reply : Reply) → Agrees w (documents w) → BuildsToEnd v.grammar (documents v) (documents w) lists →
+      RepliesTo v.grammar (documents w) (asked_message asked) reply → IsAnswered v w phase (asked_message asked) (telling phase (map as_reply lists ++ reply ∷ []))
+  answers asked lists reply after builds replies =
+      effective v w phase live (asked_message asked) (asks phase live asked.id asked.address asked.at asked.question) _ _ after (effect.asks lists reply builds replies)
 
   module _ (edited : Edited) where
     pub changes : (d : Document) (text : List ℕ) (held : Numbered) → get (documents v) edited.id.address ≡ Some d → Changes Utf16 d.text edited.changes (Ok text) →
@@ -108,9 +127,6 @@ module _ (v : WorkspaceView) (phase : Phase) (live : IsLive phase) (agrees : Agr
     refused : (line : List ℕ) → editing.EditsDocument (documents v) edited.id.address edited.id.version edited.changes (documents v) (Log line ∷ []) →
         IsAnswered v v phase (edited_message edited) (telling phase (Log line ∷ []))
     refused line does = effective v v phase live (edited_message edited) (edits phase live edited) _ _ agrees (effect.edits does)
-
-    abbrev IsOpenHere : Numbered → Type 0
-    IsOpenHere held = (get v.kept edited.id.address ≡ Some held) × (held.doc.is_open ≡ true)
 
     pub unknown : ¬ ((held : Numbered) × (get v.kept edited.id.address ≡ Some held) × (held.doc.is_open ≡ true)) →
         IsAnswered v v phase (edited_message edited) (telling phase (Log (codes "unknown document: " ++ edited.id.address) ∷ []))

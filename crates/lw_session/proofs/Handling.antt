@@ -33,6 +33,17 @@ pub error_not_begun : {T E : Type 0} (r : Result T E) (g : Grammar) (s : Standin
 error_not_begun (Ok x) g s m = tt
 error_not_begun (Err e) g s m = not_begun g s m
 
+pub error_there : {A E : Type 0} (r : Result A E) (P : Type 0) → P → OnErr r P
+error_there (Ok x) P is = tt
+error_there (Err e) P is = is
+
+-- so it is where a refusal left the workspace as it was
+pub error_unchanged : {A E : Type 0} (r : Result A E) (v w : WorkspaceView) (phase : Phase) (m : Message) → OnErr r (w ≡ v) →
+    OnErr r (IsCutShort v.grammar (standing_of v phase) m (standing_of w phase))
+error_unchanged (Ok x) v w phase m same = tt
+error_unchanged (Err e) v w phase m same =
+    subst (λ (x : WorkspaceView). IsCutShort v.grammar (standing_of v phase) m (standing_of x phase)) (sym same) (not_begun v.grammar (standing_of v phase) m)
+
 -- where memory is refused behind the build, the documents are those behind it
 cut_behind : (g : Grammar) (s t : Standing) (m : Message) (replies : List Reply) (ended : Ended) → Handles g s m [] t replies ended → IsValid g t.documents →
     IsCutShort g s m (record { documents = t.documents; phase = s.phase })
@@ -55,6 +66,17 @@ pub error_behind : {A E : Type 0} (r : Result A E) (g : Grammar) (s t : Standing
     Handles g s m [] t replies ended → IsValid g t.documents → OnErr r (IsCutShort g s m (record { documents = t.documents; phase = s.phase }))
 error_behind (Ok x) g s t m replies ended handles valid = tt
 error_behind (Err e) g s t m replies ended handles valid = cut_behind g s t m replies ended handles valid
+
+-- where it is refused behind a build alone, nothing but what was computed has changed
+pub cut_by_build : (v w : WorkspaceView) (phase : Phase) (m : Message) (lists : List Published) → BuildsToEnd v.grammar (documents v) (documents w) lists →
+    Agrees w (documents w) → w.grammar ≡ v.grammar → IsCutShort v.grammar (standing_of v phase) m (standing_of w phase)
+cut_by_build v w phase m lists to_end agrees same = record {
+  changed = documents v;
+  changes = answer.none;
+  content = to_end_same v.grammar (documents v) (documents w) lists to_end;
+  phase = inl refl;
+  valid = λ before. subst (λ g. IsValid g (documents w)) same agrees.valid;
+}
 
 module _ (v w : WorkspaceView) (phase : Phase) (message : Message) (told : Told) (is : IsAnswered v w phase message told) (same : w.grammar ≡ v.grammar) where
   -- where it is refused before the build, they are those that the message leaves

@@ -10,7 +10,7 @@ use Rattle.lw_build.specs.View.{WorkspaceView, documents_of, built_document, cle
 use Rattle.lw_machine.specs.Documents.{Document, Documents}
 use Rattle.lw_machine.specs.Validity.{content, HaveSameContent}
 use Rattle.lw_machine.proofs.Places.{order, same_documents}
-use Rattle.lw_session.specs.Loading.{HaveSameLists}
+use Rattle.lw_session.specs.Loading.{HaveSameLastLists}
 
 module _ (f : Numbered → Document) where
   below_turned : (a : List ℕ) (es : List (List ℕ × Numbered)) → below_all order a (map (λ e. (e.0, f e.1)) es) ≡ below_all order a es
@@ -100,7 +100,7 @@ module _ (v : WorkspaceView) (m n : Documents) (agrees : Agrees v m) (also : Agr
   same_content address =
       by_known (get n address) ∙ ap (option_map content_known) (also.same address ∙ sym (agrees.same address)) ∙ sym (by_known (get m address))
 
-  pub same_lists : HaveSameLists m n
+  pub same_lists : HaveSameLastLists m n
   same_lists address =
       list_known (get n address)
       ∙ ap (option_map (λ (k : Known). k.published)) (also.same address ∙ sym (agrees.same address))

@@ -2,3 +2,4 @@ pub mod Known
 pub mod Handling
 pub mod Answers
 pub mod Loads
+pub mod Asked

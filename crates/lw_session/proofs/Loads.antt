@@ -13,7 +13,7 @@ use Rattle.lw_machine.specs.Events.{put}
 use Rattle.lw_machine.specs.Validity.{IsValid}
 use Rattle.lw_conversation.specs.declared.phase.Phase.{Phase}
 use Rattle.lw_session.specs.Answering.{standing_of}
-use Rattle.lw_session.specs.Loading.{IsLoaded, IsLoadFault, with_file}
+use Rattle.lw_session.specs.Loading.{IsLoaded, IsLoadFault, with_loaded_file}
 use Rattle.lw_session.specs.Loading as loading
 use Rattle.lw_session.proofs.Answers.{full, room}
 use Rattle.lw_session.proofs.Known.{same_content, same_lists}
@@ -26,8 +26,8 @@ loaded (Ok x) v w phase address text before after same few puts fits =
     record {
       fits = fits.0;
       room = room v before address few fits.1;
-      content = same_content w (with_file (documents v) address text) (documents w) now after;
-      lists = same_lists w (with_file (documents v) address text) (documents w) now after;
+      content = same_content w (with_loaded_file (documents v) address text) (documents w) now after;
+      lists = same_lists w (with_loaded_file (documents v) address text) (documents w) now after;
       valid = subst (λ g. IsValid g (documents w)) same after.valid;
       phase = refl;
     }

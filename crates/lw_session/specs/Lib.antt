@@ -3,3 +3,4 @@ pub mod Lifecycle
 pub mod Answering
 pub mod Loading
 pub mod Seen
+pub mod Locating

@@ -2,14 +2,20 @@
 -- Language Server Protocol 3.17, "Server lifecycle".
 use Rattle.std.specs.Prelude.{◌≡◌, List, true, false}
 use Rattle.lw_rpc.specs.declared.message.Message.{Message}
-use Rattle.lw_rpc.specs.declared.message.Message.TheVariants.{DidOpen, DidChange}
+use Rattle.lw_rpc.specs.declared.message.Message.TheVariants.{DidOpen, DidChange, Definition, References}
 use Rattle.lw_rpc.specs.declared.reply.Reply.{Reply}
 use Rattle.lw_conversation.specs.Gate.{Passage, gate}
 use Rattle.lw_conversation.specs.Gate as at_gate
 use Rattle.lw_conversation.specs.declared.ended.Ended.TheVariants.{No}
 use Rattle.lw_conversation.specs.declared.phase.Phase.{Phase}
+use Rattle.lw_session.specs.declared.said.Asked.{Asked}
 use Rattle.lw_session.specs.declared.said.Edited.{Edited}
 use Rattle.lw_session.specs.declared.said.Opened.{Opened}
+use Rattle.lw_session.specs.declared.said.Question.{Question}
+use Rattle.lw_session.specs.declared.said.Question.TheVariants as question
+use Rattle.lw_rpc.specs.declared.message.Id.{Id}
+use Rattle.lw_text.specs.declared.place.Pos.{Pos}
+use Rattle.std.specs.Prelude.{ℕ}
 use Rattle.lw_session.specs.declared.lifecycle.Told.{Told}
 use Rattle.lw_session.specs.declared.lifecycle.Step.{Step}
 use Rattle.lw_session.specs.declared.lifecycle.Step.TheVariants as step
@@ -34,8 +40,17 @@ opened_message opened = DidOpen opened.id.address opened.id.version opened.text
 abbrev pub edited_message : Edited → Message
 edited_message edited = DidChange edited.id.address edited.id.version edited.changes
 
--- the step for a message: it stops at the gate, or it opens or changes a document in a session that is live
+-- the message that asks this
+abbrev pub question_message : Id → List ℕ → Pos → Question → Message
+question_message id address at question.Definition = Definition id address at
+question_message id address at (question.References declaration) = References id address at declaration
+
+abbrev pub asked_message : Asked → Message
+asked_message asked = question_message asked.id asked.address asked.at asked.question
+
+-- the step for a message: it stops at the gate, or it opens or changes a document, or asks, in a session that is live
 abbrev pub IsStep : Phase → Message → Step → Type 0
 IsStep phase message (step.Stops told) = gate phase message ≡ passage_of told
 IsStep phase message (step.Opens opened) = (message ≡ opened_message opened) × IsLive phase
 IsStep phase message (step.Edits edited) = (message ≡ edited_message edited) × IsLive phase
+IsStep phase message (step.Asks asked) = (message ≡ asked_message asked) × IsLive phase

@@ -14,19 +14,19 @@ use Rattle.lw_conversation.specs.Opening.{HasRoom, IsFull}
 use Rattle.lw_conversation.specs.Standing.{Standing}
 
 -- the documents once a file is loaded
-abbrev pub with_file : Documents → List ℕ → List ℕ → Documents
-with_file m address text = put m address text None false
+abbrev pub with_loaded_file : Documents → List ℕ → List ℕ → Documents
+with_loaded_file m address text = put m address text None false
 
 -- the same addresses hold documents of the same last lists
-abbrev pub HaveSameLists : Documents → Documents → Type 0
-HaveSameLists m n = (address : List ℕ) → option_map (λ d. d.published) (get n address) ≡ option_map (λ d. d.published) (get m address)
+abbrev pub HaveSameLastLists : Documents → Documents → Type 0
+HaveSameLastLists m n = (address : List ℕ) → option_map (λ d. d.published) (get n address) ≡ option_map (λ d. d.published) (get m address)
 
 -- a session once a file is loaded
 pub record IsLoaded (g : Grammar) (s : Standing) (address text : List ℕ) (t : Standing) : Type 0 where
   pub fits : length text ≤ LONGEST_TEXT
   pub room : HasRoom s.documents address
-  pub content : HaveSameContent (with_file s.documents address text) t.documents
-  pub lists : HaveSameLists (with_file s.documents address text) t.documents
+  pub content : HaveSameContent (with_loaded_file s.documents address text) t.documents
+  pub lists : HaveSameLastLists (with_loaded_file s.documents address text) t.documents
   pub valid : IsValid g t.documents
   pub phase : t.phase ≡ s.phase
 

@@ -3,15 +3,16 @@ ghost use Rattle.std.specs.Prelude.{◌≡◌, [], ◌∷◌, ◌++◌, IfOk, So
 ghost use Rattle.lw_conversation.specs.Gate.{gate, refuses, request as at_request};
 ghost use Rattle.lw_rpc.specs.declared.message.Message.TheVariants as message_;
 ghost use Rattle.lw_rpc.specs.declared.reply.Reply.TheVariants as reply_;
-ghost use Rattle.lw_session.specs.Lifecycle.{IsStep, edited_message, opened_message, passage_of, telling};
+ghost use Rattle.lw_session.specs.Lifecycle.{IsStep, edited_message, opened_message, passage_of, question_message, telling};
 
-use crate::said::{Edited, Identifier, Opened};
+use crate::said::{Asked, Edited, Identifier, Opened, Question};
 use lw_base::{Items, Name, NoMemory};
 use lw_conversation::{
     Ended, INVALID_PARAMS, INVALID_REQUEST, METHOD_NOT_FOUND, PARSE_ERROR, Phase,
     SERVER_NOT_INITIALIZED,
 };
 use lw_rpc::{Id, Message, Outcome, Reply};
+use lw_text::Pos;
 use std::alloc::Global;
 
 /// What is told at a message, and what it leaves.
@@ -31,6 +32,8 @@ pub(crate) enum Step {
     Opens(Opened),
     /// It changes a document, in a session that is live.
     Edits(Edited),
+    /// It asks of what stands at a place, in a session that is live.
+    Asks(Asked),
 }
 
 /// The step for a message.
@@ -72,6 +75,26 @@ pub(crate) fn decide(alloc: Global, phase: Phase, message: Message) -> Result<St
             };
             Ok(edits(alloc, phase, Edited { id, changes }))
         }
+        Message::Definition { id, uri, position } => {
+            asks(alloc, phase, id, uri, position, Question::Definition)
+        }
+        Message::References {
+            id,
+            uri,
+            position,
+            include_declaration,
+        } => asks(
+            alloc,
+            phase,
+            id,
+            uri,
+            position,
+            Question::References(include_declaration),
+        ),
+        Message::Rename { id, .. } => {
+            let told = refuse(alloc, phase, id, METHOD_NOT_FOUND, "method not found")?;
+            Ok(Step::Stops(told))
+        }
     }
 }
 
@@ -93,6 +116,28 @@ fn edits(alloc: Global, phase: Phase, edited: Edited) -> Step
     } else {
         Step::Stops(keeps_silent(alloc, phase))
     }
+}
+
+fn asks(
+    alloc: Global,
+    phase: Phase,
+    id: Id,
+    address: Name,
+    at: Pos,
+    question: Question,
+) -> Result<Step, NoMemory>
+    ensures { IfOk result (IsStep phase (question_message id address at question)) }
+{
+    if !is_live(phase) {
+        let told = refuse(alloc, phase, id, INVALID_REQUEST, "invalid request")?;
+        return Ok(Step::Stops(told));
+    }
+    Ok(Step::Asks(Asked {
+        id,
+        address,
+        at,
+        question,
+    }))
 }
 
 // `initialize` was answered with a result, and `shutdown` was not.

@@ -1,6 +1,7 @@
 // What an editor says of its documents.
 use lw_base::{Items, Name};
-use lw_text::Change;
+use lw_rpc::Id;
+use lw_text::{Change, Pos};
 
 /// The address and the version of a document (Language Server Protocol 3.17,
 /// "VersionedTextDocumentIdentifier").
@@ -22,4 +23,22 @@ pub(crate) struct Opened {
 pub(crate) struct Edited {
     pub id: Identifier,
     pub changes: Items<Change>,
+}
+
+/// What an editor asks of what stands at a place of a document.
+#[derive(Drop)]
+pub(crate) struct Asked {
+    pub id: Id,
+    pub address: Name,
+    pub at: Pos,
+    pub question: Question,
+}
+
+/// What is asked.
+#[derive(Clone, Copy)]
+pub(crate) enum Question {
+    /// Where the name stands of what is meant.
+    Definition,
+    /// Where it is mentioned, with its own name or without.
+    References(bool),
 }

@@ -1,13 +1,15 @@
 // A message and the build behind it.
-ghost use Rattle.std.specs.Prelude.{◌≡◌, ◌++◌, [], IfOk, OnErr, map};
+ghost use Rattle.std.specs.Prelude.{◌≡◌, ◌++◌, [], IfOk, OnErr, All, map};
 ghost use Rattle.lw_build.specs.Agreeing.{Agrees};
 ghost use Rattle.lw_build.specs.View.{documents};
 ghost use Rattle.lw_conversation.specs.Answered.{IsCutShort};
 ghost use Rattle.lw_conversation.specs.Effects.{as_reply};
 ghost use Rattle.lw_conversation.specs.Sessions.{Handles};
 ghost use Rattle.lw_machine.specs.Documents.{Documents};
+ghost use Rattle.lw_rpc.specs.Replies.{HasOrderedEdits};
 ghost use Rattle.lw_session.specs.Answering.{IsAnswered, IsBuiltBehind, standing_of};
 
+use crate::asking::ask;
 use crate::editing::edit;
 use crate::lifecycle::{Step, Told, decide};
 use crate::opening::open;
@@ -36,24 +38,26 @@ pub(crate) fn serve<L: Ledger>(
 ) -> Result<Served, NoMemory>
     ensures handles { IfOk result (λ served. Handles workspace.old.grammar (standing_of workspace.old phase) message []
         (standing_of workspace.new served.told.phase) (served.told.replies ++ map as_reply served.lists) served.told.ended) }
+    ensures ordered { IfOk result (λ served. All HasOrderedEdits served.told.replies) }
     ensures cut_short { OnErr result (IsCutShort workspace.old.grammar (standing_of workspace.old phase) message (standing_of workspace.new phase)) }
     ensures grammar { workspace.new.grammar ≡ workspace.old.grammar }
 {
-    let told = answer(alloc, workspace, phase, message)?;
+    let told = answer(alloc, workspace, phase, message, steps)?;
     workspace.agrees();
     let lists = build(alloc, workspace, told.phase, steps)?;
     Ok(Served { told, lists })
 }
 
 // Does what a message says.
-fn answer(
+fn answer<L: Ledger>(
     alloc: Global,
     workspace: &mut Workspace,
     phase: Phase,
     message: Message,
+    steps: &mut Steps<L>,
 ) -> Result<Told, NoMemory>
     ensures answered { IfOk result (IsAnswered workspace.old workspace.new phase message) }
-    ensures refused { OnErr result (workspace.new ≡ workspace.old) }
+    ensures cut_short { OnErr result (IsCutShort workspace.old.grammar (standing_of workspace.old phase) message (standing_of workspace.new phase)) }
     ensures grammar { workspace.new.grammar ≡ workspace.old.grammar }
 {
     match decide(alloc, phase, message)? {
@@ -63,6 +67,7 @@ fn answer(
         }
         Step::Opens(opened) => open(alloc, workspace, phase, opened),
         Step::Edits(edited) => edit(alloc, workspace, phase, edited),
+        Step::Asks(asked) => ask(alloc, workspace, phase, asked, steps),
     }
 }
 

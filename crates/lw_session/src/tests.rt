@@ -410,3 +410,71 @@ fn exports_of_one_name_are_told(rt: HostRuntime) -> Result<(), Fail> {
     )?;
     Ok(())
 }
+
+#[test]
+fn questions_are_answered_behind_a_build(rt: HostRuntime) -> Result<(), Fail> {
+    play(
+        &rt,
+        rt.alloc(),
+        STATES,
+        &[
+            (INITIALIZE, HELLO, Ended::No),
+            (
+                "{\"jsonrpc\":\"2.0\",\"method\":\"textDocument/didOpen\",\"params\":{\"textDocument\":{\"uri\":\"file:///c.s\",\"languageId\":\"s\",\"version\":1,\"text\":\"model c state s to x end\"}}}",
+                "{\"jsonrpc\":\"2.0\",\"method\":\"textDocument/publishDiagnostics\",\"params\":{\"diagnostics\":[{\"code\":3,\"message\":\"Could not resolve reference to State named 'x'.\",\"range\":{\"end\":{\"character\":20,\"line\":0},\"start\":{\"character\":19,\"line\":0}},\"severity\":1}],\"uri\":\"file:///c.s\",\"version\":1}}\n",
+                Ended::No,
+            ),
+            (
+                "{\"jsonrpc\":\"2.0\",\"id\":2,\"method\":\"textDocument/definition\",\"params\":{\"textDocument\":{\"uri\":\"file:///c.s\"},\"position\":{\"line\":0,\"character\":19}}}",
+                "{\"id\":2,\"jsonrpc\":\"2.0\",\"result\":null}\n",
+                Ended::No,
+            ),
+            (
+                "{\"jsonrpc\":\"2.0\",\"method\":\"textDocument/didOpen\",\"params\":{\"textDocument\":{\"uri\":\"file:///m.s\",\"languageId\":\"s\",\"version\":1,\"text\":\"model m state x end\"}}}",
+                "{\"jsonrpc\":\"2.0\",\"method\":\"textDocument/publishDiagnostics\",\"params\":{\"diagnostics\":[],\"uri\":\"file:///c.s\",\"version\":1}}\n{\"jsonrpc\":\"2.0\",\"method\":\"textDocument/publishDiagnostics\",\"params\":{\"diagnostics\":[],\"uri\":\"file:///m.s\",\"version\":1}}\n",
+                Ended::No,
+            ),
+            (
+                "{\"jsonrpc\":\"2.0\",\"id\":3,\"method\":\"textDocument/definition\",\"params\":{\"textDocument\":{\"uri\":\"file:///c.s\"},\"position\":{\"line\":0,\"character\":19}}}",
+                "{\"id\":3,\"jsonrpc\":\"2.0\",\"result\":{\"range\":{\"end\":{\"character\":15,\"line\":0},\"start\":{\"character\":14,\"line\":0}},\"uri\":\"file:///m.s\"}}\n",
+                Ended::No,
+            ),
+            (
+                "{\"jsonrpc\":\"2.0\",\"id\":4,\"method\":\"textDocument/definition\",\"params\":{\"textDocument\":{\"uri\":\"file:///c.s\"},\"position\":{\"line\":0,\"character\":20}}}",
+                "{\"id\":4,\"jsonrpc\":\"2.0\",\"result\":{\"range\":{\"end\":{\"character\":15,\"line\":0},\"start\":{\"character\":14,\"line\":0}},\"uri\":\"file:///m.s\"}}\n",
+                Ended::No,
+            ),
+            (
+                "{\"jsonrpc\":\"2.0\",\"id\":5,\"method\":\"textDocument/definition\",\"params\":{\"textDocument\":{\"uri\":\"file:///b.s\"},\"position\":{\"line\":0,\"character\":0}}}",
+                "{\"id\":5,\"jsonrpc\":\"2.0\",\"result\":null}\n",
+                Ended::No,
+            ),
+            (
+                "{\"jsonrpc\":\"2.0\",\"id\":6,\"method\":\"textDocument/references\",\"params\":{\"textDocument\":{\"uri\":\"file:///c.s\"},\"position\":{\"line\":0,\"character\":19},\"context\":{\"includeDeclaration\":true}}}",
+                "{\"id\":6,\"jsonrpc\":\"2.0\",\"result\":[{\"range\":{\"end\":{\"character\":20,\"line\":0},\"start\":{\"character\":19,\"line\":0}},\"uri\":\"file:///c.s\"},{\"range\":{\"end\":{\"character\":15,\"line\":0},\"start\":{\"character\":14,\"line\":0}},\"uri\":\"file:///m.s\"}]}\n",
+                Ended::No,
+            ),
+            (
+                "{\"jsonrpc\":\"2.0\",\"id\":7,\"method\":\"textDocument/references\",\"params\":{\"textDocument\":{\"uri\":\"file:///c.s\"},\"position\":{\"line\":0,\"character\":19},\"context\":{\"includeDeclaration\":false}}}",
+                "{\"id\":7,\"jsonrpc\":\"2.0\",\"result\":[{\"range\":{\"end\":{\"character\":20,\"line\":0},\"start\":{\"character\":19,\"line\":0}},\"uri\":\"file:///c.s\"}]}\n",
+                Ended::No,
+            ),
+            (
+                "{\"jsonrpc\":\"2.0\",\"id\":8,\"method\":\"textDocument/references\",\"params\":{\"textDocument\":{\"uri\":\"file:///c.s\"},\"position\":{\"line\":0,\"character\":14},\"context\":{\"includeDeclaration\":false}}}",
+                "{\"id\":8,\"jsonrpc\":\"2.0\",\"result\":[]}\n",
+                Ended::No,
+            ),
+            (
+                "{\"jsonrpc\":\"2.0\",\"id\":9,\"method\":\"textDocument/rename\",\"params\":{\"textDocument\":{\"uri\":\"file:///m.s\"},\"position\":{\"line\":0,\"character\":14},\"newName\":\"q\"}}",
+                "{\"error\":{\"code\":-32601,\"message\":\"method not found\"},\"id\":9,\"jsonrpc\":\"2.0\"}\n",
+                Ended::No,
+            ),
+            (
+                "{\"jsonrpc\":\"2.0\",\"id\":12,\"method\":\"textDocument/rename\",\"params\":{\"textDocument\":{\"uri\":\"file:///m.s\"},\"position\":{\"line\":0,\"character\":14}}}",
+                "{\"error\":{\"code\":-32602,\"message\":\"invalid params\"},\"id\":12,\"jsonrpc\":\"2.0\"}\n",
+                Ended::No,
+            ),
+        ],
+    )?;
+    Ok(())
+}

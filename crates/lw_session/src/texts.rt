@@ -1,7 +1,7 @@
 // Replies and publications as bytes.
-ghost use Rattle.std.specs.Prelude.{◌≡◌, ◌++◌, IfOk, map};
+ghost use Rattle.std.specs.Prelude.{◌≡◌, ◌++◌, IfOk, All, map};
 ghost use Rattle.lw_conversation.specs.Effects.{as_reply};
-ghost use Rattle.lw_rpc.specs.Replies.{reply_bytes};
+ghost use Rattle.lw_rpc.specs.Replies.{HasOrderedEdits, reply_bytes};
 
 use lw_base::{Items, Name, NoMemory};
 use lw_machine::Published;
@@ -15,6 +15,7 @@ pub(crate) fn texts_of(
     replies: &[Reply],
     lists: &[Published],
 ) -> Result<Items<Name>, NoMemory>
+    requires { All HasOrderedEdits replies.now }
     ensures { IfOk result (λ texts. texts ≡ map reply_bytes replies.now ++ map (λ list. reply_bytes (as_reply list)) lists.now) }
 {
     let mut texts = reply_texts(alloc, replies)?;
@@ -26,6 +27,7 @@ pub(crate) fn texts_of(
 }
 
 fn reply_texts(alloc: Global, replies: &[Reply]) -> Result<Items<Name>, NoMemory>
+    requires { All HasOrderedEdits replies.now }
     ensures { IfOk result (λ texts. texts ≡ map reply_bytes replies.now) }
 {
     let mut texts = Items::new(alloc);
@@ -36,7 +38,7 @@ fn reply_texts(alloc: Global, replies: &[Reply]) -> Result<Items<Name>, NoMemory
 }
 
 // The publication of a list, in memory of its own.
-fn publication(alloc: Global, published: &Published) -> Result<Reply, NoMemory>
+pub(crate) fn publication(alloc: Global, published: &Published) -> Result<Reply, NoMemory>
     ensures { IfOk result (λ reply. reply ≡ as_reply published.now) }
 {
     Ok(Reply::Publish(

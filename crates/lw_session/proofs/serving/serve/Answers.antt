@@ -1,16 +1,20 @@
-use Rattle.std.proofs.Common.{OnErr, sym, subst}
+use Rattle.std.proofs.Common.{OnErr, [], sym, subst}
 use Rattle.lw_build.specs.View.{WorkspaceView}
 use Rattle.lw_conversation.specs.Answered.{IsCutShort}
 use Rattle.lw_session.specs.Answering.{standing_of}
-use Rattle.lw_session.proofs.Handling.{error_between, error_not_begun, served}
+use Rattle.lw_conversation.proofs.Ordered.{answers_in_order}
+use Rattle.lw_session.proofs.Handling.{error_between, error_there, served}
 use Rattle.lw_session.proofs.serving.serve.Goals as goal
 
 pub returns-in_err-told-clause-cut_short : goal.returns-in_err-told-clause-cut_short
-returns-in_err-told-clause-cut_short g c =
+returns-in_err-told-clause-cut_short g c = error_there c.from_residual.result _ c.in_err-told.ensures.cut_short
+
+pub returns-clause-ordered : goal.returns-clause-ordered
+returns-clause-ordered g c =
     let v = c.args.workspace.now in
-    let s = standing_of v c.args.phase in
-    subst (λ (w : WorkspaceView). OnErr c.from_residual.result (IsCutShort v.grammar s c.args.message (standing_of w c.args.phase)))
-    (sym c.in_err-told.ensures.refused) (error_not_begun c.from_residual.result v.grammar s c.args.message)
+    let told = c.in_ok-told.told in
+    let is = c.in_ok-told.ensures.answered in
+    answers_in_order v.grammar (standing_of v c.args.phase) c.args.message [] (record { documents = is.changed; phase = told.phase }) told.replies told.ended is.answered
 
 pub returns-in_err-lists-clause-cut_short : goal.returns-in_err-lists-clause-cut_short
 returns-in_err-lists-clause-cut_short g c =

@@ -1,0 +1,8 @@
+use Rattle.lw_conversation.specs.Asking as tell
+use Rattle.lw_session.proofs.asking.reply_to.Goals as goal
+
+pub returns-in-Definition : goal.returns-in-Definition
+returns-in-Definition c = rw c.in-Definition.is (tell.definition c.in_ok-outcome-in-Definition.ensures)
+
+pub returns : goal.returns
+returns c = rw c.in-References.is (tell.references c.in_ok-outcome-in-References.ensures)
