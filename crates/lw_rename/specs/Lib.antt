@@ -1,0 +1,13 @@
+pub mod Grouped
+pub mod Targets
+pub mod SpansOf
+pub mod Adding
+pub mod Told
+pub mod Alike
+pub mod Rereading
+pub mod Afterwards
+pub mod Entries
+pub mod Leads
+pub mod Staying
+pub mod Outcomes
+pub mod Standing
