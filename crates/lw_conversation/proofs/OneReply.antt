@@ -1,8 +1,9 @@
 -- A question is replied in one way, by a grammar by which a text is read in one way.
-use Rattle.std.proofs.Common.{◌≡◌, ℕ, List, [], ◌∷◌, Bool, Option, Some, None, sym, refl, ap, ap₂, ◌∙◌, subst}
+use Rattle.std.proofs.Common.{◌≡◌, ◌+◌, ℕ, List, [], ◌∷◌, ◌++◌, Bool, Option, Some, None, Result, Ok, Err, codes, decimal, slice_get, sym, refl, ap, ap₂, ◌∙◌, subst}
 use Rattle.std.specs.List.{AllZip}
 use Rattle.std.specs.FinMap.{get}
 use Rattle.std.proofs.lemmas.Option.{same_Some}
+use Rattle.lw_base.specs.declared.token.Span.{Span}
 use Rattle.lw_grammar.specs.declared.grammar.Grammar.{Grammar}
 use Rattle.lw_text.specs.Offset.{IsOffset}
 use Rattle.lw_text.specs.Position.{IsPosition}
@@ -10,20 +11,32 @@ use Rattle.lw_text.specs.declared.place.Pos.{Pos}
 use Rattle.lw_text.specs.declared.units.Encoding.TheVariants.{Utf16}
 use Rattle.lw_text.proofs.Offsets.{IsOffset-only}
 use Rattle.lw_text.proofs.Positions.{IsPositionIn-only}
-use Rattle.lw_reading.specs.Laws.{IsReadOneWay}
+use Rattle.lw_reading.specs.Laws.{IsReadOneWay, IsSameReading}
+use Rattle.lw_reading.specs.Laws as reading
+use Rattle.lw_reading.specs.Reading.{Reads}
+use Rattle.lw_reading.specs.declared.parsed.Parsed.TheVariants.{Whole}
+use Rattle.lw_reading.proofs.OneReading.{one_reading}
+use Rattle.lw_rpc.specs.declared.message.Id.{Id}
 use Rattle.lw_rpc.specs.declared.message.Message.{Message}
+use Rattle.lw_rpc.specs.declared.reply.FileEdits.{FileEdits}
 use Rattle.lw_rpc.specs.declared.reply.Location.{Location}
 use Rattle.lw_rpc.specs.declared.reply.Outcome.{Outcome}
-use Rattle.lw_rpc.specs.declared.reply.Outcome.TheVariants.{Nothing, Spot, Spots}
+use Rattle.lw_rpc.specs.declared.reply.Outcome.TheVariants.{Nothing, Spot, Spots, Edits}
 use Rattle.lw_rpc.specs.declared.reply.Reply.{Reply}
-use Rattle.lw_rpc.specs.declared.reply.Reply.TheVariants.{Done}
+use Rattle.lw_rpc.specs.declared.reply.Reply.TheVariants.{Done, Error}
+use Rattle.lw_rpc.specs.declared.reply.TextEdit.{TextEdit}
 use Rattle.lw_scopes.specs.Links.{Texts}
+use Rattle.lw_tree.specs.declared.node.Reference.{Reference}
+use Rattle.lw_tree.specs.Parts.{Parts}
 use Rattle.lw_machine.specs.Documents.{Document, Documents, present_texts}
 use Rattle.lw_places.specs.Asked.{AreReferences, IsDefinition}
 use Rattle.lw_places.specs.Mentions.{Mention}
 use Rattle.lw_places.proofs.OneReply.{one_place_of_definition, one_list_of_references}
+use Rattle.lw_renaming.specs.Renamed.{IsRenamed, Refusal}
+use Rattle.lw_renaming.proofs.OneRename.{one_outcome as one_renaming}
+use Rattle.lw_conversation.specs.declared.error_code.TheConstants.{REQUEST_FAILED}
 use Rattle.lw_conversation.specs.Asking as ask
-use Rattle.lw_conversation.specs.Asking.{IsAskedAt, IsLocationOf, RepliesTo, TellsDefinition, TellsReferences}
+use Rattle.lw_conversation.specs.Asking.{AreEditsOf, IsAskedAt, IsEditOf, IsLocationOf, IsRefusalText, RepliesTo, TellsDefinition, TellsReferences, TellsRename, by_document}
 
 -- ---- places
 
@@ -41,6 +54,13 @@ one_location texts m l k is was =
     let uri : l.uri ≡ k.uri = is.uri ∙ sym was.uri in
     λ i. record { uri = uri i; start = start i; end = end i }
 
+one_edit : (text other new : List ℕ) (s : Span) (d e : TextEdit) → text ≡ other → IsEditOf text new s d → IsEditOf other new s e → d ≡ e
+one_edit text other new s d e same is was =
+    let start = one_position text other s.start d.start e.start same is.begins was.begins in
+    let end = one_position text other s.end d.end e.end same is.ends was.ends in
+    let puts : d.text ≡ e.text = is.puts ∙ sym was.puts in
+    λ i. record { start = start i; end = end i; text = puts i }
+
 -- ---- rows
 
 one_row_of : {A B : Type 0} (R S : A → B → Type 0) → ((a : A) (b c : B) → R a b → S a c → b ≡ c) → (xs : List A) (ys zs : List B) → AllZip R xs ys → AllZip S xs zs → ys ≡ zs
@@ -51,9 +71,41 @@ one_row_of R S one (x ∷ xs) [] zs is was = absurd is
 one_row_of R S one (x ∷ xs) (y ∷ ys) [] is was = absurd was
 one_row_of R S one (x ∷ xs) (y ∷ ys) (z ∷ zs) is was = ap₂ (λ b bs. b ∷ bs) (one x y z is.0 was.0) (one_row_of R S one xs ys zs is.1 was.1)
 
+one_file : (texts : Texts) (new : List ℕ) (file : List ℕ × List Span) (d e : FileEdits) → AreEditsOf texts new file d → AreEditsOf texts new file e → d ≡ e
+one_file texts new file d e is was =
+    let same = one_text texts file.0 is.text was.text is.there was.there in
+    let edits : d.edits ≡ e.edits =
+    one_row_of (IsEditOf is.text new) (IsEditOf was.text new) (λ s a b. one_edit is.text was.text new s a b same) file.1 d.edits e.edits is.each was.each in
+    let uri : d.uri ≡ e.uri = is.uri ∙ sym was.uri in
+    λ i. record { uri = uri i; edits = edits i }
+
 -- ---- questions
 
 module _ (g : Grammar) (one_way : IsReadOneWay g) where
+  one_start : (texts : Texts) (address text other : List ℕ) (tree tree' : Parts) (i : ℕ) (r r' : Reference) (a b : Pos) → texts address ≡ Some text →
+      texts address ≡ Some other → Reads g text (Whole tree) → Reads g other (Whole tree') → slice_get tree.refs i ≡ Some r → slice_get tree'.refs i ≡ Some r' →
+      IsPosition text r.span.start a → IsPosition other r'.span.start b → a ≡ b
+  one_start texts address text other tree tree' i r r' a b is was reads read there here at behind =
+      let same = one_text texts address text other is was in
+      let refs = same_refs (one_reading g one_way text (Whole tree) (Whole tree') reads (subst (λ t. Reads g t (Whole tree')) (sym same) read)) in
+      let one : r ≡ r' = same_Some r r' (sym there ∙ ap (λ (xs : List Reference). slice_get xs i) refs ∙ here) in
+      one_position text other r.span.start a b same at (subst (λ (x : Reference). IsPosition other x.span.start b) (sym one) behind)
+    where
+      same_refs : {one other : Parts} → IsSameReading (Whole one) (Whole other) → one.refs ≡ other.refs
+      same_refs (reading.whole tables) = tables.refs
+
+  one_refusal_text : (texts : Texts) (refusal other : Refusal) (text said : List ℕ) → refusal ≡ other → IsRefusalText g texts refusal text → IsRefusalText g texts other said → text ≡ said
+  one_refusal_text texts refusal other text said same is was = by refusal text said is (subst (λ x. IsRefusalText g texts x said) (sym same) was)
+    where
+      by : (refusal : Refusal) (text said : List ℕ) → IsRefusalText g texts refusal text → IsRefusalText g texts refusal said → text ≡ said
+      by refusal text said ask.no_name ask.no_name = refl
+      by refusal text said ask.not_parsed ask.not_parsed = refl
+      by refusal text said ask.shape ask.shape = refl
+      by refusal text said (ask.rebound {address = address} {text = t} {i = i} {tree = tree} {r = r} {at = a} is reads there at)
+          (ask.rebound {text = u} {tree = tree'} {r = r'} {at = b} was read here behind) =
+          ap (λ (p : Pos). codes "A reference in " ++ address ++ codes " at " ++ decimal (p.line + 1) ++ codes ":" ++ decimal (p.character + 1) ++ codes " would change its target.")
+          (one_start texts address t u tree tree' i r r' a b is was reads read there here at behind)
+
   module _ (m : Documents) (address : List ℕ) (at : Pos) where
     never_held : {A : Type 0} {offset : ℕ} → get m address ≡ None → IsAskedAt g m address at offset → A
     never_held none is = absurd (let same = sym none ∙ is.held in cc)
@@ -109,9 +161,38 @@ module _ (g : Grammar) (one_way : IsReadOneWay g) where
           (one_row_of (IsLocationOf (present_texts m)) (IsLocationOf (present_texts m)) (one_location (present_texts m)) n l h here
           (subst (λ xs. AllZip (IsLocationOf (present_texts m)) xs h) (sym same) there))
 
+    module _ (id : Id) (new : List ℕ) where
+      one_outcome_of : (a b : ℕ) (p q : Result (List Mention) Refusal) → IsAskedAt g m address at a → IsAskedAt g m address at b →
+          IsRenamed g (present_texts m) address a new p → IsRenamed g (present_texts m) address b new q → p ≡ q
+      one_outcome_of a b p q is was first second =
+          one_renaming g one_way (present_texts m) address a new p q first
+          (subst (λ o. IsRenamed g (present_texts m) address o new q) (sym (one_offset a b is was)) second)
+
+      one_rename_told : (p q : Reply) → TellsRename g m id address at new p → TellsRename g m id address at new q → p ≡ q
+      one_rename_told p q (ask.not_held none) (ask.not_held also) = refl
+      one_rename_told p q (ask.not_held none) (ask.refused is found said) = never_held none is
+      one_rename_told p q (ask.not_held none) (ask.renames is found edits) = never_held none is
+      one_rename_told p q (ask.refused is found said) (ask.not_held none) = never_held none is
+      one_rename_told p q (ask.refused {offset = a} {refusal = x} {text = t} is found said) (ask.refused {offset = b} {refusal = y} {text = u} was other telling) =
+          let same = one_outcome_of a b (Err x) (Err y) is was found other in
+          let refusals : x ≡ y = cc in
+          ap (λ t. Error (Some id) REQUEST_FAILED t) (one_refusal_text (present_texts m) x y t u refusals said telling)
+      one_rename_told p q (ask.refused {offset = a} {refusal = x} is found said) (ask.renames {offset = b} {mentions = k} was other edits) =
+          absurd (let same = one_outcome_of a b (Err x) (Ok k) is was found other in cc)
+      one_rename_told p q (ask.renames is found edits) (ask.not_held none) = never_held none is
+      one_rename_told p q (ask.renames {offset = a} {mentions = n} is found edits) (ask.refused {offset = b} {refusal = y} was other said) =
+          absurd (let same = one_outcome_of a b (Ok n) (Err y) is was found other in cc)
+      one_rename_told p q (ask.renames {offset = a} {mentions = n} {files = l} is found edits) (ask.renames {offset = b} {mentions = k} {files = h} was other editing) =
+          let outcomes = one_outcome_of a b (Ok n) (Ok k) is was found other in
+          let same : n ≡ k = cc in
+          ap (λ files. Done id (Edits files))
+          (one_row_of (AreEditsOf (present_texts m) new) (AreEditsOf (present_texts m) new) (one_file (present_texts m) new) (by_document n) l h edits
+          (subst (λ xs. AllZip (AreEditsOf (present_texts m) new) (by_document xs) h) (sym same) editing))
+
   -- a question has one reply
   pub one_reply : (m : Documents) (message : Message) (p q : Reply) → RepliesTo g m message p → RepliesTo g m message q → p ≡ q
   one_reply m message p q (ask.definition {id = id} {address = a} {at = at} {outcome = x} is) (ask.definition {outcome = y} was) =
       ap (Done id) (one_definition_told m a at x y is was)
   one_reply m message p q (ask.references {id = id} {address = a} {at = at} {declaration = d} {outcome = x} is) (ask.references {outcome = y} was) =
       ap (Done id) (one_references_told m a at d x y is was)
+  one_reply m message p q (ask.rename {id = id} {address = a} {new = n} {at = at} is) (ask.rename was) = one_rename_told m a at id n p q is was

@@ -1,20 +1,34 @@
--- The addresses of edits that are replied are in order, each once: no message is answered with edits yet.
-use Rattle.std.proofs.Common.{◌≡◌, ◌&&◌, ℕ, ℤ, List, [], ◌∷◌, ◌++◌, Bool, true, false, not, Some, None, All, map, subst, arith}
+-- The addresses of edits that are replied are in order, each once, since mentions are.
+use Rattle.std.proofs.Common.{◌≡◌, ◌≢◌, ◌&&◌, ℕ, ℤ, zero, suc, List, [], ◌∷◌, ◌++◌, Bool, true, false, not, Option, Some, None, Ok, All, AllPairs, Contains, map, refl, sym, ap, ap₂, ◌∙◌, subst, true≢false, arith}
 use Rattle.std.specs.Prelude.{if◌then◌else◌, ⊤}
+use Rattle.std.specs.Cmp.Lexicographic.{slice_cmp}
+use Rattle.std.specs.List.{AllZip}
+use Rattle.std.specs.Ordering.{nat_cmp}
+use Rattle.std.specs.Str.{bytes_eq}
+use Rattle.std.specs.declared.cmp.Ordering.TheVariants.{Less}
+use Rattle.std.proofs.lemmas.Cmp.{nat_list_cmp_total}
 use Rattle.std.proofs.lemmas.List.Elements.{All-cons}
+use Rattle.std.proofs.lemmas.List.Kept.{AllPairs-cons}
+use Rattle.std.proofs.lemmas.Slice.Eq.{bytes_eq-Decides}
+use Rattle.lw_base.specs.declared.token.Span.{Span}
 use Rattle.lw_grammar.specs.declared.grammar.Grammar.{Grammar}
 use Rattle.lw_io.specs.declared.store.Found.{Found}
-use Rattle.lw_rpc.specs.Replies.{HasOrderedEdits}
+use Rattle.lw_rpc.specs.Replies.{AreOrdered, HasOrderedEdits}
 use Rattle.lw_rpc.specs.declared.message.Id.{Id}
 use Rattle.lw_rpc.specs.declared.message.Message.{Message}
 use Rattle.lw_rpc.specs.declared.message.Message.TheVariants as message
+use Rattle.lw_rpc.specs.declared.reply.FileEdits.{FileEdits}
 use Rattle.lw_rpc.specs.declared.reply.Reply.{Reply}
 use Rattle.lw_machine.specs.Documents.{Documents}
 use Rattle.lw_machine.specs.declared.published.Published.{Published}
+use Rattle.lw_places.specs.Mentions.{Mention, MentionPrecedes, by_address, by_start, by_end}
+use Rattle.lw_renaming.specs.Renamed as rename
+use Rattle.lw_renaming.specs.Renamed.{IsRenamed}
+use Rattle.lw_scopes.specs.Links.{Texts}
 use Rattle.lw_text.specs.declared.change.Change.{Change}
 use Rattle.lw_conversation.specs.Answered.{Answered, stops, passes}
 use Rattle.lw_conversation.specs.Asking as ask
-use Rattle.lw_conversation.specs.Asking.{RepliesTo}
+use Rattle.lw_conversation.specs.Asking.{AreEditsOf, RepliesTo, TellsRename, TellsDefinition, TellsReferences, by_document, with_mention}
 use Rattle.lw_conversation.specs.Editing.{EditsDocument}
 use Rattle.lw_conversation.specs.Editing as editing
 use Rattle.lw_conversation.specs.Effects.{TakesEffect, as_reply, opens, asks}
@@ -25,6 +39,87 @@ use Rattle.lw_conversation.specs.Standing.{Standing}
 use Rattle.lw_conversation.specs.declared.ended.Ended.{Ended}
 use Rattle.lw_conversation.specs.declared.phase.Phase.{Phase}
 
+-- ---- mentions by their documents
+
+abbrev Ascends : List ℕ → List ℕ → Type 0
+Ascends a b = slice_cmp nat_cmp a b ≡ Less
+
+abbrev keys : List (List ℕ × List Span) → List (List ℕ)
+keys files = map (λ f. f.0) files
+
+-- one mention more, before a document that comes no sooner
+by_key : (m : Mention) (key : List ℕ) (spans : List Span) (files : List (List ℕ × List Span)) → ((m.address ≡ key → ⊥) → Ascends m.address key) →
+    AllPairs Ascends (keys ((key, spans) ∷ files)) → AllPairs Ascends (keys (with_mention m ((key, spans) ∷ files)))
+by_key m key spans files sooner ordered = by (bytes_eq m.address key) refl
+  where
+    further : (m.address ≡ key → ⊥) → All (Ascends m.address) (keys ((key, spans) ∷ files))
+    further apart =
+        All-cons (Ascends m.address) key (keys files) (sooner apart)
+        (λ i d inside. nat_list_cmp_total.trans m.address key _ (sooner apart) (ordered 0 (suc i) d (omega arith) (omega (arith, inside))))
+
+    by : (b : Bool) → bytes_eq m.address key ≡ b →
+        AllPairs Ascends (keys (if b then (key, m.span ∷ spans) ∷ files else (m.address, m.span ∷ []) ∷ (key, spans) ∷ files))
+    by true same = ordered
+    by false unlike =
+        AllPairs-cons Ascends m.address (keys ((key, spans) ∷ files))
+        (further (λ same. true≢false (sym ((bytes_eq-Decides m.address key).1 same) ∙ unlike))) ordered
+
+-- the first document is that of the first mention
+record IsHeaded (address : List ℕ) (files : List (List ℕ × List Span)) : Type 0 where
+  key : List ℕ
+  spans : List Span
+  others : List (List ℕ × List Span)
+  is : files ≡ (key, spans) ∷ others
+  same : key ≡ address
+
+headed : (m : Mention) (files : List (List ℕ × List Span)) → IsHeaded m.address (with_mention m files)
+headed m [] = record { key = m.address; spans = m.span ∷ []; others = []; is = refl; same = refl }
+headed m (file ∷ files) = by (bytes_eq m.address file.0) refl
+  where
+    by : (b : Bool) → bytes_eq m.address file.0 ≡ b →
+        IsHeaded m.address (if b then (file.0, m.span ∷ file.1) ∷ files else (m.address, m.span ∷ []) ∷ file ∷ files)
+    by true same =
+        record { key = file.0; spans = m.span ∷ file.1; others = files; is = refl; same = sym ((bytes_eq-Decides m.address file.0).0 same) }
+    by false unlike = record { key = m.address; spans = m.span ∷ []; others = file ∷ files; is = refl; same = refl }
+
+one_more : (m n : Mention) (files : List (List ℕ × List Span)) → IsHeaded n.address files → MentionPrecedes m n → AllPairs Ascends (keys files) →
+    AllPairs Ascends (keys (with_mention m files))
+one_more m n files head precedes ordered =
+    subst (λ fs. AllPairs Ascends (keys (with_mention m fs))) (sym head.is)
+    (by_key m head.key head.spans head.others (sooner precedes) (subst (λ fs. AllPairs Ascends (keys fs)) head.is ordered))
+  where
+    sooner : MentionPrecedes m n → (m.address ≡ head.key → ⊥) → Ascends m.address head.key
+    sooner (by_address less) apart = subst (λ a. Ascends m.address a) (sym head.same) less
+    sooner (by_start same _) apart = absurd (apart (same ∙ sym head.same))
+    sooner (by_end same _ _) apart = absurd (apart (same ∙ sym head.same))
+
+documents_in_order : (mentions : List Mention) → AllPairs MentionPrecedes mentions → AllPairs Ascends (keys (by_document mentions))
+documents_in_order [] ordered = none
+  where
+    none : AllPairs Ascends []
+    none i j d below inside = absurd (omega (arith, inside))
+documents_in_order (m ∷ []) ordered = alone
+  where
+    alone : AllPairs Ascends (m.address ∷ [])
+    alone i j d below inside = absurd (omega (arith, below, inside))
+documents_in_order (m ∷ n ∷ mentions) ordered =
+    one_more m n (by_document (n ∷ mentions)) (headed n (by_document mentions)) (ordered 0 1 m (omega arith) (omega arith))
+    (documents_in_order (n ∷ mentions) (λ i j d below inside. ordered (suc i) (suc j) d (omega (arith, below)) (omega (arith, inside))))
+
+-- ---- what is replied
+
+same_keys : (texts : Texts) (new : List ℕ) (files : List (List ℕ × List Span)) (edits : List FileEdits) → AllZip (AreEditsOf texts new) files edits →
+    map (λ (e : FileEdits). e.uri) edits ≡ keys files
+same_keys texts new [] [] are = refl
+same_keys texts new [] (e ∷ es) are = absurd are
+same_keys texts new (f ∷ fs) [] are = absurd are
+same_keys texts new (f ∷ fs) (e ∷ es) are = ap₂ (λ b bs. b ∷ bs) are.0.uri (same_keys texts new fs es are.1)
+
+in_order : (g : Grammar) (texts : Texts) (address new : List ℕ) (offset : ℕ) (mentions : List Mention) (files : List FileEdits) →
+    IsRenamed g texts address offset new (Ok mentions) → AllZip (AreEditsOf texts new) (by_document mentions) files → AreOrdered files
+in_order g texts address new offset mentions files (rename.renamed is kept stay) are =
+    subst (λ us. AllPairs Ascends us) (sym (same_keys texts new (by_document mentions) files are)) (documents_in_order mentions is.are_mentions.ordered)
+
 module _ (g : Grammar) (m : Documents) where
   question_in_order : (message : Message) (reply : Reply) → RepliesTo g m message reply → HasOrderedEdits reply
   question_in_order message reply (ask.definition (ask.not_held _)) = tt
@@ -33,6 +128,10 @@ module _ (g : Grammar) (m : Documents) where
   question_in_order message reply (ask.references (ask.not_held _)) = tt
   question_in_order message reply (ask.references (ask.nothing _ _)) = tt
   question_in_order message reply (ask.references (ask.spots _ _ _)) = tt
+  question_in_order message reply (ask.rename (ask.not_held _)) = tt
+  question_in_order message reply (ask.rename (ask.refused _ _ _)) = tt
+  question_in_order message reply (ask.rename {address = a} {new = new} (ask.renames {offset = o} {mentions = ms} {files = fs} _ is are)) =
+      in_order g _ a new o ms fs is are
 
 abbrev IsOrderedPassage : Passage → Type 0
 IsOrderedPassage (Stops replies phase ended) = All HasOrderedEdits replies
@@ -75,7 +174,7 @@ module _ (phase : Phase) where
   gate_in_order (message.DidChange address version changes) = notification_in_order Passes tt
   gate_in_order (message.Definition id address at) = request_in_order id Passes tt
   gate_in_order (message.References id address at declaration) = request_in_order id Passes tt
-  gate_in_order (message.Rename id address at new) = request_in_order id _ (one_in_order _ tt)
+  gate_in_order (message.Rename id address at new) = request_in_order id Passes tt
 
 opening_in_order : {m : Documents} {address text : List ℕ} {version : ℤ} {n : Documents} {replies : List Reply} → OpensDocument m address version text n replies → All HasOrderedEdits replies
 opening_in_order (too_long _) = one_in_order _ tt

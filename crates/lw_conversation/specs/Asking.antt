@@ -1,25 +1,35 @@
--- What a question is replied over documents that are built: where a name is defined, and where it is mentioned.
--- Language Server Protocol 3.17, "Goto Definition Request" and "Find References Request".
-use Rattle.std.specs.Prelude.{ℕ, ◌≡◌, List, Bool, Some, None}
+-- What a question is replied over documents that are built: where a name is defined, where it is mentioned, and which edits rename it, or why it is not renamed.
+-- Language Server Protocol 3.17, "Goto Definition Request", "Find References Request" and "Rename Request"; the texts of the errors are this profile's.
+use Rattle.std.specs.Prelude.{ℕ, ℤ, ◌≡◌, ◌+◌, List, [], ◌∷◌, ◌++◌, Bool, Option, Some, None, Ok, Err, codes, decimal, slice_get, if◌then◌else◌}
 use Rattle.std.specs.List.{AllZip}
 use Rattle.std.specs.FinMap.{get}
+use Rattle.std.specs.Str.{bytes_eq}
+use Rattle.lw_base.specs.declared.token.Span.{Span}
 use Rattle.lw_grammar.specs.declared.grammar.Grammar.{Grammar}
 use Rattle.lw_text.specs.Offset.{IsOffset}
 use Rattle.lw_text.specs.Position.{IsPosition}
 use Rattle.lw_text.specs.declared.place.Pos.{Pos}
 use Rattle.lw_text.specs.declared.units.Encoding.TheVariants.{Utf16}
+use Rattle.lw_reading.specs.Reading.{Reads}
+use Rattle.lw_reading.specs.declared.parsed.Parsed.TheVariants.{Whole}
 use Rattle.lw_rpc.specs.declared.message.Id.{Id}
 use Rattle.lw_rpc.specs.declared.message.Message.{Message}
 use Rattle.lw_rpc.specs.declared.message.Message.TheVariants as message
+use Rattle.lw_rpc.specs.declared.reply.FileEdits.{FileEdits}
 use Rattle.lw_rpc.specs.declared.reply.Location.{Location}
 use Rattle.lw_rpc.specs.declared.reply.Outcome.{Outcome}
-use Rattle.lw_rpc.specs.declared.reply.Outcome.TheVariants.{Nothing, Spot, Spots}
+use Rattle.lw_rpc.specs.declared.reply.Outcome.TheVariants.{Nothing, Spot, Spots, Edits}
 use Rattle.lw_rpc.specs.declared.reply.Reply.{Reply}
-use Rattle.lw_rpc.specs.declared.reply.Reply.TheVariants.{Done}
+use Rattle.lw_rpc.specs.declared.reply.Reply.TheVariants.{Done, Error}
+use Rattle.lw_rpc.specs.declared.reply.TextEdit.{TextEdit}
 use Rattle.lw_scopes.specs.Links.{Texts}
+use Rattle.lw_tree.specs.declared.node.Reference.{Reference}
+use Rattle.lw_tree.specs.Parts.{Parts}
 use Rattle.lw_machine.specs.Documents.{Document, Documents, present_texts}
 use Rattle.lw_places.specs.Asked.{AreReferences, IsDefinition}
 use Rattle.lw_places.specs.Mentions.{Mention}
+use Rattle.lw_renaming.specs.Renamed.{IsRenamed, Refusal, NoName, NotParsed, Shape, Rebound}
+use Rattle.lw_conversation.specs.declared.error_code.TheConstants.{REQUEST_FAILED}
 
 -- a mention as an editor is told it
 pub record IsLocationOf (texts : Texts) (m : Mention) (l : Location) : Type 0 where
@@ -28,6 +38,40 @@ pub record IsLocationOf (texts : Texts) (m : Mention) (l : Location) : Type 0 wh
   pub uri : l.uri ≡ m.address
   pub begins : IsPosition text m.span.start l.start
   pub ends : IsPosition text m.span.end l.end
+
+-- the edit that puts a new name where a mention is in a text
+pub record IsEditOf (text new : List ℕ) (s : Span) (e : TextEdit) : Type 0 where
+  pub begins : IsPosition text s.start e.start
+  pub ends : IsPosition text s.end e.end
+  pub puts : e.text ≡ new
+
+-- one mention more, before others
+abbrev pub with_mention : Mention → List (List ℕ × List Span) → List (List ℕ × List Span)
+with_mention m [] = (m.address, m.span ∷ []) ∷ []
+with_mention m (file ∷ files) =
+    if bytes_eq m.address file.0 then (file.0, m.span ∷ file.1) ∷ files else (m.address, m.span ∷ []) ∷ file ∷ files
+
+-- mentions by their documents, in their order: those of one address that stand beside each other together
+abbrev pub by_document : List Mention → List (List ℕ × List Span)
+by_document [] = []
+by_document (m ∷ mentions) = with_mention m (by_document mentions)
+
+-- the edits of one document
+pub record AreEditsOf (texts : Texts) (new : List ℕ) (file : List ℕ × List Span) (edits : FileEdits) : Type 0 where
+  pub text : List ℕ
+  pub there : texts file.0 ≡ Some text
+  pub uri : edits.uri ≡ file.0
+  pub each : AllZip (IsEditOf text new) file.1 edits.edits
+
+-- why a rename is refused, as an editor is told it; a place is counted from one, in the text before the rename
+pub data IsRefusalText (g : Grammar) (texts : Texts) : Refusal → List ℕ → Type 0 where
+  no_name : IsRefusalText g texts NoName (codes "There is no name here.")
+  not_parsed : {address : List ℕ} → IsRefusalText g texts (NotParsed address) (codes "The new name can't be read in " ++ address ++ codes ".")
+  shape : {address : List ℕ} {n : ℕ} → IsRefusalText g texts (Shape address n) (codes "The new name changes the structure of " ++ address ++ codes ".")
+  rebound : {address text : List ℕ} {i : ℕ} {before behind : Option (List ℕ × ℕ)} {tree : Parts} {r : Reference} {at : Pos} → texts address ≡ Some text →
+      Reads g text (Whole tree) → slice_get tree.refs i ≡ Some r → IsPosition text r.span.start at →
+      IsRefusalText g texts (Rebound address i before behind)
+      (codes "A reference in " ++ address ++ codes " at " ++ decimal (at.line + 1) ++ codes ":" ++ decimal (at.character + 1) ++ codes " would change its target.")
 
 module _ (g : Grammar) (m : Documents) where
   -- a document is held at the address, and the position means this byte of its text
@@ -49,9 +93,19 @@ module _ (g : Grammar) (m : Documents) where
         AreReferences g (present_texts m) address offset declaration (Some mentions) → AllZip (IsLocationOf (present_texts m)) mentions locations →
         TellsReferences address at declaration (Spots locations)
 
+  pub data TellsRename (id : Id) (address : List ℕ) (at : Pos) (new : List ℕ) : Reply → Type 0 where
+    not_held : get m address ≡ None → TellsRename id address at new (Error (Some id) REQUEST_FAILED (codes "There is no name here."))
+    refused : {offset : ℕ} {refusal : Refusal} {text : List ℕ} → IsAskedAt address at offset → IsRenamed g (present_texts m) address offset new (Err refusal) →
+        IsRefusalText g (present_texts m) refusal text → TellsRename id address at new (Error (Some id) REQUEST_FAILED text)
+    renames : {offset : ℕ} {mentions : List Mention} {files : List FileEdits} → IsAskedAt address at offset →
+        IsRenamed g (present_texts m) address offset new (Ok mentions) → AllZip (AreEditsOf (present_texts m) new) (by_document mentions) files →
+        TellsRename id address at new (Done id (Edits files))
+
   -- what a question is replied
   pub data RepliesTo : Message → Reply → Type 0 where
     definition : {id : Id} {address : List ℕ} {at : Pos} {outcome : Outcome} → TellsDefinition address at outcome →
         RepliesTo (message.Definition id address at) (Done id outcome)
     references : {id : Id} {address : List ℕ} {at : Pos} {declaration : Bool} {outcome : Outcome} → TellsReferences address at declaration outcome →
         RepliesTo (message.References id address at declaration) (Done id outcome)
+    rename : {id : Id} {address new : List ℕ} {at : Pos} {reply : Reply} → TellsRename id address at new reply →
+        RepliesTo (message.Rename id address at new) reply

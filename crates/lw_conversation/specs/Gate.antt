@@ -66,8 +66,7 @@ gate phase (DidOpen address version text) = notification phase Passes
 gate phase (DidChange address version changes) = notification phase Passes
 gate phase (Definition id address at) = request phase id Passes
 gate phase (References id address at declaration) = request phase id Passes
--- no name is changed yet
-gate phase (Rename id address at new) = request phase id (method_not_found phase id)
+gate phase (Rename id address at new) = request phase id Passes
 
 -- the phase behind the gate
 abbrev pub phase_behind : Phase → Passage → Phase

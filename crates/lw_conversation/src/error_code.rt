@@ -16,3 +16,7 @@ pub const INVALID_PARAMS: i32 = -32602;
 
 /// A request comes before `initialize` (Language Server Protocol 3.17, "ErrorCodes").
 pub const SERVER_NOT_INITIALIZED: i32 = -32002;
+
+/// A request was of the right shape, and what it asks for cannot be done (Language Server Protocol 3.17,
+/// "ErrorCodes").
+pub const REQUEST_FAILED: i32 = -32803;

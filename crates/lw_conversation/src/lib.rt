@@ -25,7 +25,8 @@ mod phase;
 
 pub use ended::Ended;
 pub use error_code::{
-    INVALID_PARAMS, INVALID_REQUEST, METHOD_NOT_FOUND, PARSE_ERROR, SERVER_NOT_INITIALIZED,
+    INVALID_PARAMS, INVALID_REQUEST, METHOD_NOT_FOUND, PARSE_ERROR, REQUEST_FAILED,
+    SERVER_NOT_INITIALIZED,
 };
 pub use laws::{edits_are_in_order, one_outcome, sessions_stay_current};
 pub use phase::Phase;

@@ -67,6 +67,7 @@ opens phase live opened = rw (live.0, live.1) refl
 asks : (phase : Phase) → IsLive phase → (id : Id) (address : List ℕ) (at : Pos) (question : Question) → gate phase (question_message id address at question) ≡ Passes
 asks phase live id address at question.Definition = rw (live.0, live.1) refl
 asks phase live id address at (question.References declaration) = rw (live.0, live.1) refl
+asks phase live id address at (question.Rename new) = rw (live.0, live.1) refl
 
 edits : (phase : Phase) → IsLive phase → (edited : Edited) → gate phase (edited_message edited) ≡ Passes
 edits phase live edited = rw (live.0, live.1) refl

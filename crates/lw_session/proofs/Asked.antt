@@ -1,5 +1,5 @@
 -- What is told of what is meant at a place, by what a workspace lends.
-use Rattle.std.proofs.Common.{◌≡◌, ℕ, zero, suc, List, [], ◌∷◌, Bool, true, false, Option, Some, None, Contains, All, option_map, slice_get, refl, sym, ap, ◌∙◌, subst, arith}
+use Rattle.std.proofs.Common.{◌≡◌, ℕ, suc, List, [], ◌∷◌, Bool, true, false, Option, Some, None, Contains, All, option_map, refl, sym, ap, ◌∙◌, subst, arith}
 use Rattle.std.specs.FinMap.{get}
 use Rattle.std.specs.List.{AllZip}
 use Rattle.std.proofs.lemmas.List.Elements.{All-cons}
@@ -8,27 +8,24 @@ use Rattle.lw_base.specs.declared.token.Span.{Span}
 use Rattle.lw_build.specs.Linked.{number_at}
 use Rattle.lw_build.specs.Readings.{present_texts_of}
 use Rattle.lw_build.specs.Seen.{SeenView, StandsSeen, seen_answers, seen_tree}
-use Rattle.lw_build.specs.View.{WorkspaceView, documents, documents_of}
+use Rattle.lw_build.specs.View.{WorkspaceView, documents}
 use Rattle.lw_conversation.specs.Asking as ask
 use Rattle.lw_conversation.specs.Asking.{IsAskedAt, IsLocationOf, TellsDefinition, TellsReferences}
 use Rattle.lw_docs.specs.Documents.{ByAddress, Numbered}
-use Rattle.lw_index.specs.declared.parts.Answer.{Answer}
-use Rattle.lw_machine.specs.Documents.{Document, Documents, present_texts}
-use Rattle.lw_places.specs.Asked.{AreReferences, IsDefinition}
-use Rattle.lw_places.specs.Mentions.{AreMentionsOf, AreReferencesAt, IsDefinitionAt, IsMentionOf, IsNameHere, IsUseHere, Mention, declared, defined, mentioned, nothing_meant, used}
+use Rattle.lw_machine.specs.Documents.{Document, present_texts}
+use Rattle.lw_places.specs.Mentions.{AreReferencesAt, IsDefinitionAt, IsMentionOf, IsNameHere, IsUseHere, Mention, declared, defined, mentioned, used}
 use Rattle.lw_places.specs.Mentions as place
 use Rattle.lw_query.specs.Viewed.{AreViewsOf, IsMentionAt}
 use Rattle.lw_query.specs.declared.spot.Spot.{Spot}
 use Rattle.lw_rpc.specs.declared.reply.Location.{Location}
 use Rattle.lw_rpc.specs.declared.reply.Outcome.TheVariants.{Nothing}
 use Rattle.lw_rpc.specs.declared.reply.Outcome.TheVariants as outcome
-use Rattle.lw_scopes.specs.Links.{AreTreesOfTexts, IsNumberBelow, Texts}
+use Rattle.lw_scopes.specs.Links.{AreTreesOfTexts, IsNumberBelow}
 use Rattle.lw_scoping.specs.Links.{Trees}
 use Rattle.lw_text.specs.Offset.{IsOffset}
 use Rattle.lw_text.specs.Position.{IsPosition}
 use Rattle.lw_text.specs.declared.place.Pos.{Pos}
 use Rattle.lw_text.specs.declared.units.Encoding.TheVariants.{Utf16}
-use Rattle.lw_tree.specs.Parts.{Parts}
 use Rattle.lw_session.specs.Locating as part
 use Rattle.lw_session.specs.Locating.{IsAskedPlace, IsLocated, IsPartOf, IsSpotOf}
 use Rattle.lw_session.specs.declared.locating.PlaceAsked.{PlaceAsked}

@@ -3,3 +3,4 @@ pub mod Handling
 pub mod Answers
 pub mod Loads
 pub mod Asked
+pub mod Renames

@@ -4,3 +4,4 @@ pub mod Answering
 pub mod Loading
 pub mod Seen
 pub mod Locating
+pub mod Editing

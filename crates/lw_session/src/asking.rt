@@ -9,6 +9,7 @@ ghost use Rattle.lw_session.specs.Lifecycle.{IsLive, asked_message, telling};
 
 use crate::lifecycle::Told;
 use crate::locating::{asked_at, location_of, locations_of};
+use crate::renaming::rename_at;
 use crate::said::{Asked, Question};
 use crate::texts::publication;
 use lw_base::{Items, Name, NoMemory, Steps};
@@ -61,6 +62,7 @@ fn reply_to(alloc: Global, workspace: &Workspace, asked: Asked) -> Result<Reply,
             let outcome = references_at(alloc, workspace, &address, at, declaration)?;
             Ok(Reply::Done(id, outcome))
         }
+        Question::Rename(new) => rename_at(alloc, workspace, id, &address, at, &new),
     }
 }
 

@@ -91,10 +91,12 @@ pub(crate) fn decide(alloc: Global, phase: Phase, message: Message) -> Result<St
             position,
             Question::References(include_declaration),
         ),
-        Message::Rename { id, .. } => {
-            let told = refuse(alloc, phase, id, METHOD_NOT_FOUND, "method not found")?;
-            Ok(Step::Stops(told))
-        }
+        Message::Rename {
+            id,
+            uri,
+            position,
+            new_name,
+        } => asks(alloc, phase, id, uri, position, Question::Rename(new_name)),
     }
 }
 

@@ -35,10 +35,12 @@ pub(crate) struct Asked {
 }
 
 /// What is asked.
-#[derive(Clone, Copy)]
+#[derive(Drop)]
 pub(crate) enum Question {
     /// Where the name stands of what is meant.
     Definition,
     /// Where it is mentioned, with its own name or without.
     References(bool),
+    /// Which edits give it this name.
+    Rename(Name),
 }

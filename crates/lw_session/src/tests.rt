@@ -466,12 +466,62 @@ fn questions_are_answered_behind_a_build(rt: HostRuntime) -> Result<(), Fail> {
             ),
             (
                 "{\"jsonrpc\":\"2.0\",\"id\":9,\"method\":\"textDocument/rename\",\"params\":{\"textDocument\":{\"uri\":\"file:///m.s\"},\"position\":{\"line\":0,\"character\":14},\"newName\":\"q\"}}",
-                "{\"error\":{\"code\":-32601,\"message\":\"method not found\"},\"id\":9,\"jsonrpc\":\"2.0\"}\n",
+                "{\"id\":9,\"jsonrpc\":\"2.0\",\"result\":{\"changes\":{\"file:///c.s\":[{\"newText\":\"q\",\"range\":{\"end\":{\"character\":20,\"line\":0},\"start\":{\"character\":19,\"line\":0}}}],\"file:///m.s\":[{\"newText\":\"q\",\"range\":{\"end\":{\"character\":15,\"line\":0},\"start\":{\"character\":14,\"line\":0}}}]}}}\n",
+                Ended::No,
+            ),
+            (
+                "{\"jsonrpc\":\"2.0\",\"id\":10,\"method\":\"textDocument/rename\",\"params\":{\"textDocument\":{\"uri\":\"file:///m.s\"},\"position\":{\"line\":0,\"character\":14},\"newName\":\"end\"}}",
+                "{\"error\":{\"code\":-32803,\"message\":\"The new name can't be read in file:///c.s.\"},\"id\":10,\"jsonrpc\":\"2.0\"}\n",
+                Ended::No,
+            ),
+            (
+                "{\"jsonrpc\":\"2.0\",\"id\":11,\"method\":\"textDocument/rename\",\"params\":{\"textDocument\":{\"uri\":\"file:///m.s\"},\"position\":{\"line\":0,\"character\":0},\"newName\":\"q\"}}",
+                "{\"error\":{\"code\":-32803,\"message\":\"There is no name here.\"},\"id\":11,\"jsonrpc\":\"2.0\"}\n",
                 Ended::No,
             ),
             (
                 "{\"jsonrpc\":\"2.0\",\"id\":12,\"method\":\"textDocument/rename\",\"params\":{\"textDocument\":{\"uri\":\"file:///m.s\"},\"position\":{\"line\":0,\"character\":14}}}",
                 "{\"error\":{\"code\":-32602,\"message\":\"invalid params\"},\"id\":12,\"jsonrpc\":\"2.0\"}\n",
+                Ended::No,
+            ),
+            (
+                "{\"jsonrpc\":\"2.0\",\"method\":\"textDocument/didOpen\",\"params\":{\"textDocument\":{\"uri\":\"file:///m.s\",\"languageId\":\"s\",\"version\":1,\"text\":\"model m state a to b end state b end\"}}}",
+                "{\"jsonrpc\":\"2.0\",\"method\":\"textDocument/publishDiagnostics\",\"params\":{\"diagnostics\":[{\"code\":3,\"message\":\"Could not resolve reference to State named 'x'.\",\"range\":{\"end\":{\"character\":20,\"line\":0},\"start\":{\"character\":19,\"line\":0}},\"severity\":1}],\"uri\":\"file:///c.s\",\"version\":1}}\n",
+                Ended::No,
+            ),
+            (
+                "{\"jsonrpc\":\"2.0\",\"id\":13,\"method\":\"textDocument/rename\",\"params\":{\"textDocument\":{\"uri\":\"file:///m.s\"},\"position\":{\"line\":0,\"character\":14},\"newName\":\"b\"}}",
+                "{\"error\":{\"code\":-32803,\"message\":\"A reference in file:///m.s at 1:20 would change its target.\"},\"id\":13,\"jsonrpc\":\"2.0\"}\n",
+                Ended::No,
+            ),
+            (
+                "{\"jsonrpc\":\"2.0\",\"id\":14,\"method\":\"textDocument/rename\",\"params\":{\"textDocument\":{\"uri\":\"file:///m.s\"},\"position\":{\"line\":0,\"character\":14},\"newName\":\"x\"}}",
+                "{\"error\":{\"code\":-32803,\"message\":\"A reference in file:///c.s at 1:20 would change its target.\"},\"id\":14,\"jsonrpc\":\"2.0\"}\n",
+                Ended::No,
+            ),
+            (
+                "{\"jsonrpc\":\"2.0\",\"method\":\"textDocument/didOpen\",\"params\":{\"textDocument\":{\"uri\":\"file:///m.s\",\"languageId\":\"s\",\"version\":1,\"text\":\"model m state a end state c to z end\"}}}",
+                "{\"jsonrpc\":\"2.0\",\"method\":\"textDocument/publishDiagnostics\",\"params\":{\"diagnostics\":[{\"code\":3,\"message\":\"Could not resolve reference to State named 'z'.\",\"range\":{\"end\":{\"character\":32,\"line\":0},\"start\":{\"character\":31,\"line\":0}},\"severity\":1}],\"uri\":\"file:///m.s\",\"version\":1}}\n",
+                Ended::No,
+            ),
+            (
+                "{\"jsonrpc\":\"2.0\",\"id\":15,\"method\":\"textDocument/rename\",\"params\":{\"textDocument\":{\"uri\":\"file:///m.s\"},\"position\":{\"line\":0,\"character\":14},\"newName\":\"z\"}}",
+                "{\"error\":{\"code\":-32803,\"message\":\"A reference in file:///m.s at 1:32 would change its target.\"},\"id\":15,\"jsonrpc\":\"2.0\"}\n",
+                Ended::No,
+            ),
+            (
+                "{\"jsonrpc\":\"2.0\",\"id\":16,\"method\":\"textDocument/rename\",\"params\":{\"textDocument\":{\"uri\":\"file:///m.s\"},\"position\":{\"line\":0,\"character\":14},\"newName\":\"\"}}",
+                "{\"error\":{\"code\":-32803,\"message\":\"The new name can't be read in file:///m.s.\"},\"id\":16,\"jsonrpc\":\"2.0\"}\n",
+                Ended::No,
+            ),
+            (
+                "{\"jsonrpc\":\"2.0\",\"id\":17,\"method\":\"textDocument/rename\",\"params\":{\"textDocument\":{\"uri\":\"file:///m.s\"},\"position\":{\"line\":0,\"character\":14},\"newName\":\"q r\"}}",
+                "{\"error\":{\"code\":-32803,\"message\":\"The new name can't be read in file:///m.s.\"},\"id\":17,\"jsonrpc\":\"2.0\"}\n",
+                Ended::No,
+            ),
+            (
+                "{\"jsonrpc\":\"2.0\",\"id\":18,\"method\":\"textDocument/rename\",\"params\":{\"textDocument\":{\"uri\":\"file:///m.s\"},\"position\":{\"line\":0,\"character\":14},\"newName\":\"a\"}}",
+                "{\"id\":18,\"jsonrpc\":\"2.0\",\"result\":{\"changes\":{\"file:///m.s\":[{\"newText\":\"a\",\"range\":{\"end\":{\"character\":15,\"line\":0},\"start\":{\"character\":14,\"line\":0}}}]}}}\n",
                 Ended::No,
             ),
         ],
