@@ -1,0 +1,4 @@
+pub mod Targets
+pub mod Words
+pub mod Starting
+pub mod Offers
