@@ -44,7 +44,7 @@ use Rattle.lw_rpc.specs.declared.reply.FileEdits.{FileEdits}
 use Rattle.lw_rpc.specs.declared.reply.Outcome.TheVariants as outcome
 use Rattle.lw_rpc.specs.declared.reply.Reply.TheVariants.{Done, Error}
 use Rattle.lw_scopes.specs.Links.{Texts}
-use Rattle.lw_session.specs.Editing.{AreFileEdits, IsPlacedFault, IsReferenceOf, StandsInFile, TellsRebound}
+use Rattle.lw_session.specs.Editing.{AreFileEdits, IsPlacedFault, IsReferenceOf, StandsInFile, IsReboundTold}
 use Rattle.lw_session.proofs.Asked.{is_asked, same_present}
 
 -- ---- documents of mentions
@@ -192,7 +192,7 @@ module _ (v : WorkspaceView) (views : List View) (are : AreBuiltViews v.grammar 
 
 -- what is told of a reference is why the rename is refused
 pub told_rebound : (g : Grammar) (texts : Texts) (address : List ℕ) (number : RefId) (s : Span) (before behind : Option (List ℕ × ℕ)) (told : List ℕ) →
-    IsReferenceOf g texts address number s → TellsRebound texts address s told → IsRefusalText g texts (refusal.Rebound address number.0 before behind) told
+    IsReferenceOf g texts address number s → IsReboundTold texts address s told → IsRefusalText g texts (refusal.Rebound address number.0 before behind) told
 told_rebound g texts address number s before behind told is tells =
     subst (IsRefusalText g texts (refusal.Rebound address number.0 before behind)) (sym tells.says)
     (ask.rebound is.stands.there is.reads is.at (subst (λ (x : Span). IsPosition is.stands.text x.start tells.at) (sym is.here)

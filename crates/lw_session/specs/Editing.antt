@@ -52,7 +52,7 @@ IsPlacedFault g texts (Rebound address number s before after) = IsReferenceOf g 
 IsPlacedFault g texts NoMemory = Unit {0}
 
 -- what is told of a reference that stands there
-pub record TellsRebound (texts : Texts) (address : List ℕ) (s : Span) (told : List ℕ) : Type 0 where
+pub record IsReboundTold (texts : Texts) (address : List ℕ) (s : Span) (told : List ℕ) : Type 0 where
   pub text : List ℕ
   pub there : texts address ≡ Some text
   pub at : Pos

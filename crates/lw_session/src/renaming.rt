@@ -8,7 +8,7 @@ ghost use Rattle.lw_rename.specs.Grouped.{TellsRefusal};
 ghost use Rattle.lw_renaming.specs.Renamed.{Refusal};
 ghost use Rattle.lw_rooted.specs.Within.{IsInText};
 ghost use Rattle.lw_rpc.specs.declared.reply.Reply.TheVariants as reply_;
-ghost use Rattle.lw_session.specs.Editing.{AreFileEdits, IsPlacedFault, IsSpanIn, StandsInFile, TellsRebound};
+ghost use Rattle.lw_session.specs.Editing.{AreFileEdits, IsPlacedFault, IsSpanIn, StandsInFile, IsReboundTold};
 
 use crate::locating::asked_at;
 use lw_base::{Items, Name, NoMemory, Span};
@@ -88,7 +88,7 @@ fn rebound_text(
     span: Span,
 ) -> Result<Name, NoMemory>
     requires { IsSpanIn (present_texts_of workspace.now.kept) uri.now span }
-    ensures { IfOk result (TellsRebound (present_texts_of workspace.now.kept) uri.now span) }
+    ensures { IfOk result (IsReboundTold (present_texts_of workspace.now.kept) uri.now span) }
 {
     let Some(text) = workspace.text_of(uri) else {
         unreachable!()
