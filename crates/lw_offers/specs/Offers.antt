@@ -94,26 +94,26 @@ module _ (g : Grammar) (of : Kinds) (lexicon : Lexicon) (trees : Trees) (address
     keyword : {text : List ℕ} → BeginsBy word text → IsKeywordNext g of lexicon front tokens text → IsOffered word (keyword_offer text)
     name : {n : List ℕ} → BeginsBy word n → IsNameNext n → IsOffered word (name_offer n)
 
-module _ (g : Grammar) (texts : Texts) (address text : List ℕ) (offset : ℕ) where
-  -- an offer at an offset of the document at an address, which has this text: nothing is offered where the text is longer than a document may be, or cannot
-  -- be cut into tokens up to the word
+-- the kinds, the lexicon and the trees of all documents are these, and the document at the address has this text
+module _ (g : Grammar) (of : Kinds) (lexicon : Lexicon) (trees : Trees) (address text : List ℕ) (offset : ℕ) where
+  -- an offer at an offset: nothing is offered where the text is longer than a document may be, or cannot be cut into tokens up to the word
   pub record IsOffer (offer : Offer) : Type 0 where
     pub short : length text ≤ LONGEST_DOCUMENT
     pub front : List ℕ
     pub word : List ℕ
     pub rest : List ℕ
     pub typed : IsTypedAt text offset front word rest
-    pub of : Kinds
-    pub are_kinds : AreKinds g of
-    pub lexicon : Lexicon
-    pub is_lexicon : IsLexicon g of lexicon
-    pub trees : Trees
-    pub are_trees : AreTreesOfTexts g texts trees
     pub tokens : List Token
     pub cut : IsCut lexicon front tokens
     pub offered : IsOffered g of lexicon trees address front rest tokens word offer
 
-  -- all of them, in order
-  pub record AreOffers (offers : List Offer) : Type 0 where
-    pub exact : (offer : Offer) → Contains offers offer ↔ IsOffer offer
-    pub ordered : AllPairs OfferPrecedes offers
+-- all that is offered at an offset of the document at an address, in order, by the texts of all documents
+pub record AreOffers (g : Grammar) (texts : Texts) (address text : List ℕ) (offset : ℕ) (offers : List Offer) : Type 0 where
+  pub of : Kinds
+  pub are_kinds : AreKinds g of
+  pub lexicon : Lexicon
+  pub is_lexicon : IsLexicon g of lexicon
+  pub trees : Trees
+  pub are_trees : AreTreesOfTexts g texts trees
+  pub exact : (offer : Offer) → Contains offers offer ↔ IsOffer g of lexicon trees address text offset offer
+  pub ordered : AllPairs OfferPrecedes offers

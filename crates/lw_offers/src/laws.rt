@@ -1,18 +1,19 @@
 // What a reader may expect of offers, whatever the grammar and the texts.
-ghost use Rattle.std.specs.Prelude.{◌≡◌, ◌⊎◌, ◌++◌, ℕ, List, take};
+ghost use Rattle.std.specs.Prelude.{◌≡◌, ◌⊎◌, ◌++◌, ℕ, List, Contains, take};
 ghost use Rattle.lw_grammar.specs.declared.grammar.Grammar.{Grammar};
+ghost use Rattle.lw_reading.specs.Laws.{IsReadOneWay};
 ghost use Rattle.lw_scopes.specs.Links.{Texts};
 ghost use Rattle.lw_scoping.specs.Links.{Trees};
 ghost use Rattle.lw_tree.specs.declared.node.Reference.{Reference};
 ghost use Rattle.lw_tree.specs.Parts.{Parts};
-ghost use Rattle.lw_offers.specs.Offers.{AreOffers, IsOffer, Offer};
+ghost use Rattle.lw_offers.specs.Offers.{AreOffers, Offer};
 ghost use Rattle.lw_offers.specs.Targets.{AreVisible};
-ghost use Rattle.lw_offers.specs.Words.{BeginsBy, IsTypedAt};
+ghost use Rattle.lw_offers.specs.Words.{BeginsBy};
 
-/// At an offset of a document there is one list of offers at most, and a reference has one list at most of names by which it leads
-/// somewhere.
+/// By a grammar by which a text is read in one way there is one list of offers at most at an offset of a document. A reference has one list
+/// at most of names by which it leads somewhere.
 pub fn one_list()
-    ensures offers { (g : Grammar) (texts : Texts) (address text : List ℕ) (offset : ℕ) (offers others : List Offer) →
+    ensures offers { (g : Grammar) → IsReadOneWay g → (texts : Texts) (address text : List ℕ) (offset : ℕ) (offers others : List Offer) →
         AreOffers g texts address text offset offers → AreOffers g texts address text offset others → offers ≡ others }
     ensures visible { (below : ℕ → ℕ → Type 0) (trees : Trees) (address : List ℕ) (tree : Parts) (r : Reference) (names others : List (List ℕ)) →
         AreVisible below trees address tree r names → AreVisible below trees address tree r others → names ≡ others }
@@ -20,6 +21,7 @@ pub fn one_list()
 
 /// What is offered begins with the word that ends at the offset, and is a keyword or a name that may be read there.
 pub fn words_go_on()
-    ensures { (g : Grammar) (texts : Texts) (address text : List ℕ) (offset : ℕ) (offer : Offer) → IsOffer g texts address text offset offer →
+    ensures { (g : Grammar) (texts : Texts) (address text : List ℕ) (offset : ℕ) (offers : List Offer) (offer : Offer) →
+        AreOffers g texts address text offset offers → Contains offers offer →
         (front : List ℕ) × (word : List ℕ) × (take offset text ≡ front ++ word) × BeginsBy word offer.label × ((offer.kind ≡ 14) ⊎ (offer.kind ≡ 18)) }
 {}

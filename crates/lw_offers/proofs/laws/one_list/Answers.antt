@@ -3,4 +3,4 @@ use Rattle.lw_offers.proofs.OneList.{one_list_of_names, one_list_of_offers}
 use Rattle.lw_offers.proofs.laws.one_list.Goals as goal
 
 pub returns : goal.returns
-returns c = record { offers = one_list_of_offers; visible = one_list_of_names }
+returns c = record { offers = λ g one_way texts address text offset. one_list_of_offers g one_way texts address text offset; visible = one_list_of_names }
