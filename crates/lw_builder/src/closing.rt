@@ -154,8 +154,14 @@ impl Builder<'_> {
     }
 }
 
-/// What these tokens say in this form.
-fn said_by(alloc: Global, form: TextForm, text: &Name, tokens: &[Token]) -> Result<Name, NoMemory>
+/// What these tokens of a text say in this form, with nothing between their texts. It takes time and memory linear in these. Want of memory
+/// is the only error.
+pub fn said_by(
+    alloc: Global,
+    form: TextForm,
+    text: &Name,
+    tokens: &[Token],
+) -> Result<Name, NoMemory>
     requires { ArePartsOf text.now tokens.now }
     ensures { IfOk result (λ said. said ≡ said_in form (joined_in text.now tokens.now)) }
 {

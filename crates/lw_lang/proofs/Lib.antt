@@ -1,3 +1,4 @@
+mod Cutting
 pub mod JudgeLemmas
 pub mod CutPlaces
 pub mod ReadLemmas

@@ -1,12 +1,17 @@
 // A language: what a grammar was made into, and reading by it.
-ghost use Rattle.std.specs.Prelude.{ℕ, ◌≡◌, ◌≤◌, ◌<◌, IfOk, Some, length, slice_get};
-ghost use Rattle.lw_base.specs.declared.limits.TheConstants.{LONGEST_DOCUMENT};
+ghost use Rattle.std.specs.Prelude.{ℕ, ◌≡◌, ◌≤◌, ◌<◌, IfOk, List, Some, Err, length, slice_get};
+ghost use Rattle.lw_base.specs.declared.limits.TheConstants.{LONGEST_DOCUMENT, LONGEST_TEXT};
+ghost use Rattle.lw_base.specs.declared.token.Span.{Span};
+ghost use Rattle.lw_base.specs.declared.token.Token.{Token as AToken};
+ghost use Rattle.lw_builder.specs.Built.{ArePartsOf};
 ghost use Rattle.lw_grammar.specs.declared.grammar.Grammar.{Grammar};
 ghost use Rattle.lw_grammar.specs.Kinds.{AreKinds, Kinds};
 ghost use Rattle.lw_grammar.specs.KindTexts.{AreKindTexts, texts_of};
 ghost use Rattle.lw_reading.specs.Reading.{Reads, ReadsBy};
-ghost use Rattle.lw_parse.specs.Parsers.{TellWays, table_parts};
+ghost use Rattle.lw_parse.specs.Parsers.{AreOfKinds, ParsesFaultless, TellWays, table_parts};
+ghost use Rattle.lw_tokens.specs.Cut.{IsCut};
 ghost use Rattle.lw_tokens.specs.Lexicon.{IsLexicon, Lexicon};
+ghost use Rattle.lw_tree.specs.Parts.{Tile};
 ghost use Rattle.lw_types.specs.Inferred.{AreTypesOf};
 ghost use Rattle.lw_rooted.specs.Within.{StandsInText};
 ghost use Rattle.lw_reading.specs.Issues.{IfBroken, IfWhole, IsNamed, IsIssueWithin};
@@ -106,6 +111,27 @@ impl Language {
         ensures { (kinds : Kinds) × AreKinds self.now.grammar kinds × (k : ℕ) × TellWays self.now.grammar kinds k (table_parts result.now) }
     {
         self.parser.tables()
+    }
+
+    /// What its texts are parsed by.
+    pub fn parser(&self) -> &Parser
+        ensures { (kinds : Kinds) × AreKinds self.now.grammar kinds × (k : ℕ) × ParsesFaultless self.now.grammar kinds k result.now }
+    {
+        &self.parser
+    }
+
+    /// The tokens of a text, hidden ones too, or the first place where no token stands. Time is as that of cutting a text for [`Language::read`].
+    pub fn cut(&self, alloc: Global, text: &Name) -> Result<Vec<Token>, LexFault>
+        requires short { length text.now ≤ LONGEST_TEXT }
+        ensures cut { (kinds : Kinds) (lexicon : Lexicon) → AreKinds self.now.grammar kinds → IsLexicon self.now.grammar kinds lexicon →
+            IfOk result (λ tokens. IsCut lexicon text.now tokens.items × ((others : List AToken) → IsCut lexicon text.now others → others ≡ tokens.items)) }
+        ensures no_cut { (kinds : Kinds) (lexicon : Lexicon) (s : Span) → AreKinds self.now.grammar kinds → IsLexicon self.now.grammar kinds lexicon →
+            result ≡ Err (LexFault.NoToken s) → (tokens : List AToken) → ¬ IsCut lexicon text.now tokens }
+        ensures of_kinds { (kinds : Kinds) → AreKinds self.now.grammar kinds → IfOk result (λ tokens. AreOfKinds kinds tokens.items) }
+        ensures tile { IfOk result (λ tokens. Tile 0 tokens.items) }
+        ensures parts { IfOk result (λ tokens. ArePartsOf text.now tokens.items) }
+    {
+        lex(alloc, &self.tokens, text)
     }
 
     /// How messages name a kind: a keyword in single quotes, a terminal by its name.

@@ -9,7 +9,8 @@
 //! any are told, each by the path of its file and the position there (`lw_told`). Of one without a fault the set of tokens is
 //! made (`lw_token_sets`), and then it is found out whether the next kinds of tokens tell the ways of its choices apart
 //! (`lw_lookahead`); why not is told in the same way. What has passed all of this is made ready: by the tables its rules are
-//! parsed (`lw_parse`), and nothing of that is made anew for a text.
+//! parsed (`lw_parse`), and nothing of that is made anew for a text. Who asks more of a text than its reading cuts it into tokens himself
+//! ([`Language::cut`]) and is lent what texts are parsed by ([`Language::parser`]).
 #![tactic(auto)]
 
 mod compiler;
@@ -27,6 +28,7 @@ mod told_term;
 pub use compiler::compile;
 pub use fault::CompileFault;
 pub use language::Language;
+pub use lw_lexer::LexFault;
 pub use lw_reading::{Issue, Parsed};
 pub use told_look::{ToldConflict, ToldLookFault};
 pub use told_term::{FilePlace, PatternProblem, ToldTermFault, ToldTerminal};

@@ -80,9 +80,11 @@ fits_over all below r place (tree, is, has, (type, named, under)) =
 target_too : (g : Grammar) {trees others : Trees} (address : List ℕ) (tree : Parts) (r : Reference) → HaveSameTables trees others →
     HasTarget (IsNumberBelow g) trees address tree r → HasTarget (IsNumberBelow g) others address tree r
 target_too g address tree r all (target, leads) =
-    let alike = having_alike address tree all in
-    (target, link_over (IsNumberBelow g) _ _ address tree tree r (λ n own. own) (fits_over alike (IsNumberBelow g) r)
-    (fits_over (λ a. alike_back (alike a)) (IsNumberBelow g) r) (Some target) leads)
+    let alike = having_alike address tree all in (
+      target,
+      link_over (IsNumberBelow g) _ _ address tree tree r (λ n own. own) (fits_over alike (IsNumberBelow g) r)
+          (fits_over (λ a. alike_back (alike a)) (IsNumberBelow g) r) (Some target) leads,
+    )
 
 module _ (g : Grammar) (of : Kinds) (lexicon : Lexicon) {trees others : Trees} (address front rest : List ℕ) (tokens : List Token) (all : HaveSameTables trees others) where
   findable_too : (next : ReferenceNext) (name : List ℕ) → IsFindable g of lexicon trees address front rest tokens next name →

@@ -155,20 +155,29 @@ impl Parser {
         }
     }
 
-    pub(crate) fn program(&self) -> &Program
+    /// The rules of the grammar as instructions.
+    pub fn program(&self) -> &Program
         ensures { result.now ≡ self.now.program }
     {
         &self.program
     }
 
-    pub(crate) fn begins(&self) -> &Begins
+    /// What is told of the places of the program.
+    pub fn begins(&self) -> &Begins
         ensures { result.now ≡ self.now.begins }
     {
         &self.begins
     }
 
+    /// What becomes of what is read.
+    pub fn recipes(&self) -> &Recipes
+        ensures { result.now ≡ self.now.recipes }
+    {
+        &self.recipes
+    }
+
     /// The number of the entry rule.
-    pub(crate) fn entry(&self) -> RuleId
+    pub fn entry(&self) -> RuleId
         ensures { result.0 ≡ self.now.entry }
     {
         self.entry
