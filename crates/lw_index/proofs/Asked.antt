@@ -10,6 +10,7 @@ use Rattle.std.specs.BTreeMap as tree
 use Rattle.std.specs.FinMap as map
 use Rattle.std.specs.FinSet as set
 use Rattle.std.proofs.lemmas.Cmp.{tied_itself}
+use Rattle.std.proofs.lemmas.Option.{none-some}
 use Rattle.lw_base.specs.declared.numbers.DocId.{DocId}
 use Rattle.lw_index.specs.declared.parts.Document.{Document}
 use Rattle.lw_index.specs.declared.parts.Target.{Target}
@@ -18,10 +19,12 @@ use Rattle.lw_index.specs.Exported.{export_of, IsExported}
 use Rattle.lw_index.specs.Firsts.{IsNotBehind, IsFirstExport, NoneWanted}
 use Rattle.lw_index.specs.Rivals.{IsLeastRival, HasNoRival}
 use Rattle.lw_index.specs.Entered.{Shows, AreEntered}
-use Rattle.lw_index.specs.Least.{Found, IsLeastOf}
+use Rattle.lw_index.specs.Elsewhere.{IsElsewhere}
+use Rattle.lw_index.specs.Least.{Found, IsAmongWanted, IsLeastOf}
+use Rattle.lw_index.specs.Others.{HasOther, IsOthers}
 use Rattle.lw_index.specs.Slots.{Place, Exporters, Names, name_cmp, slot_in, slot_at, filled}
 use Rattle.lw_index.proofs.Orders.{name_cmp_total, by_node}
-use Rattle.lw_index.proofs.Wanted.{IsAmongWanted, behind_chain}
+use Rattle.lw_index.proofs.Wanted.{behind_chain}
 use Rattle.lw_index.proofs.View.{shown_of, shown_get}
 use Rattle.lw_index.proofs.Entering.{Documents, held, uri_of, WasThere}
 
@@ -36,6 +39,12 @@ uri_not_behind Greater b h = h
 -- a document's own exports, by what was found under its number
 pub exports_held : (documents : Documents) (index : Indexed) (doc : ℕ) (o : Option Document) → shown_of documents ≡ index → o ≡ held documents doc → option_map_or (λ (d : Document). d.exports) o [] ≡ exports_in index doc
 exports_held documents index doc o is e = ap (λ o. option_map_or (λ (d : Document). d.exports) o []) (e ∙ sym (shown_get documents doc) ∙ ap (λ i. map.get i doc) is)
+
+other_than : (doc other : DocId) → (other.0 ≡ doc.0 → ⊥) → Some doc ≢ Some other
+other_than doc other apart same = apart (ap (λ (d : DocId). d.0) (sym (drop doc other same)))
+  where
+    drop : (a b : DocId) → Some a ≡ Some b → a ≡ b
+    drop a b e = cc
 
 abbrev nothing : Document
 nothing = record { uri = []; exports = [] }
@@ -98,10 +107,11 @@ module _ (documents : Documents) (names : Names) (entered : AreEntered documents
       slots : (p : Place) → slot_at names n p ≡ slot_in es p
       slots p = ap (option_and_then (λ exporters. slot_in exporters p)) (sym es_is)
 
-      pub none_wanted : (types : set.FinSet nat_cmp) → ((uri : List ℕ) (x : Target) → ¬ (IsAmongWanted es types uri x)) → NoneWanted index n types
-      none_wanted types none doc d m w = let s = slot_of w.type doc d m w.exported in none d.uri s.0 (w.type, w.wanted, ap filled (sym (slots (w.type, d.uri))) ∙ s.1)
+      pub none_wanted : (types : set.FinSet nat_cmp) → ((uri : List ℕ) (x : Target) → ¬ (IsAmongWanted es types None uri x)) → NoneWanted index n types
+      none_wanted types none doc d m w =
+          let s = slot_of w.type doc d m w.exported in none d.uri s.0 (w.type, w.wanted, ap filled (sym (slots (w.type, d.uri))) ∙ s.1, none-some s.0.doc)
 
-      pub first_wanted_is : (types : set.FinSet nat_cmp) (found : Found) → IsLeastOf (IsAmongWanted es types) found → IsFirstExport index n types found.1
+      pub first_wanted_is : (types : set.FinSet nat_cmp) (found : Found) → IsLeastOf (IsAmongWanted es types None) found → IsFirstExport index n types found.1
       first_wanted_is types found least =
           let h = least.here in
           let d = slot_means n h.0 found.0 found.1 (ap filled (slots (h.0, found.0)) ∙ h.2) in
@@ -112,23 +122,17 @@ module _ (documents : Documents) (names : Names) (entered : AreEntered documents
                 let s = slot_of w.type doc other m w.exported in
                 subst (λ u. IsNotBehind (u, found.1.node.0) (other.uri, m)) (sym d.2)
                 (behind_chain (found.0, found.1.node.0) (other.uri, s.0.node.0) (other.uri, m)
-                (least.least other.uri s.0 (w.type, w.wanted, ap filled (sym (slots (w.type, other.uri))) ∙ s.1))
+                (least.least other.uri s.0 (w.type, w.wanted, ap filled (sym (slots (w.type, other.uri))) ∙ s.1, none-some s.0.doc))
                 (by_node other.uri other.uri s.0.node.0 m (tied_itself name_cmp_total other.uri) s.3)));
           }
 
       abbrev pub IsOther : DocId → ℕ → List ℕ → Target → Type 0
       IsOther doc t uri x = (filled (slot_in es (t, uri)) ≡ Some x) × (Some doc ≢ Some x.doc)
 
-      other_than : (doc : DocId) (t : ℕ) (r : DocId) → (r.0 ≡ doc.0 → ⊥) → Some doc ≢ Some r
-      other_than doc t r other same = other (ap (λ (d : DocId). d.0) (sym (drop doc r same)))
-        where
-          drop : (a b : DocId) → Some a ≡ Some b → a ≡ b
-          drop a b e = cc
-
       pub no_rival_found : (doc : DocId) (t : ℕ) → ((uri : List ℕ) (x : Target) → ¬ (IsOther doc t uri x)) → HasNoRival index doc.0 n t
       no_rival_found doc t none uri r =
           let s = slot_of t r.other r.document r.node r.exported in
-          none r.document.uri s.0 (ap filled (sym (slots (t, r.document.uri))) ∙ s.1, other_than doc t s.0.doc (λ same. r.another (sym s.2 ∙ same)))
+          none r.document.uri s.0 (ap filled (sym (slots (t, r.document.uri))) ∙ s.1, other_than doc s.0.doc (λ same. r.another (sym s.2 ∙ same)))
 
       pub least_rival_is : (doc : DocId) (t : ℕ) (found : Found) → IsLeastOf (IsOther doc t) found → IsLeastRival index doc.0 n t found.0
       least_rival_is doc t found least =
@@ -145,6 +149,42 @@ module _ (documents : Documents) (names : Names) (entered : AreEntered documents
             };
             least = λ v r. (
                 let s = slot_of t r.other r.document r.node r.exported in
-                let le = least.least r.document.uri s.0 (ap filled (sym (slots (t, r.document.uri))) ∙ s.1, other_than doc t s.0.doc (λ same. r.another (sym s.2 ∙ same))) in
+                let le = least.least r.document.uri s.0 (ap filled (sym (slots (t, r.document.uri))) ∙ s.1, other_than doc s.0.doc (λ same. r.another (sym s.2 ∙ same))) in
                 subst (λ v. is_gt (slice_cmp nat_cmp found.0 v) ≡ false) r.uri_is (uri_not_behind _ _ le));
           }
+
+      -- ---- of other documents than one
+
+      pub elsewhere_of : (except : DocId) (types : set.FinSet nat_cmp) → HasOther es except types → IsElsewhere index except.0 types n
+      elsewhere_of except types (uri, x, (t, wanted, here, other)) =
+          let (d, is, _, c) = slot_means n t uri x (ap filled (slots (t, uri)) ∙ here) in
+          record {
+            doc = x.doc.0;
+            document = d;
+            node = x.node.0;
+            another = λ same. other (λ i. Some (record { 0 = sym same i }));
+            wanted = record { type = t; wanted = wanted; exported = exported t x.doc.0 d x.node.0 is c };
+          }
+
+      other_of : (except : DocId) (types : set.FinSet nat_cmp) → IsElsewhere index except.0 types n → HasOther es except types
+      other_of except types is =
+          let (x, here, doc, _) = slot_of is.wanted.type is.doc is.document is.node is.wanted.exported in (
+            is.document.uri,
+            x,
+            (
+              is.wanted.type,
+              is.wanted.wanted,
+              ap filled (sym (slots (is.wanted.type, is.document.uri))) ∙ here,
+              other_than except x.doc (λ same. is.another (sym doc ∙ same)),
+            ),
+          )
+
+    pub others_elsewhere : (except : DocId) (types : set.FinSet nat_cmp) → IsOthers names except types n → IsElsewhere index except.0 types n
+    others_elsewhere except types is = elsewhere_of is.exporters (sym is.there) except types is.other
+
+    pub elsewhere_others : (except : DocId) (types : set.FinSet nat_cmp) → IsElsewhere index except.0 types n → IsOthers names except types n
+    elsewhere_others except types is = by (tree.get name_cmp names n) refl
+      where
+        by : (o : Option Exporters) → tree.get name_cmp names n ≡ o → IsOthers names except types n
+        by None none = absurd (let s = slot_of is.wanted.type is.doc is.document is.node is.wanted.exported in no_slots (is.wanted.type, is.document.uri) s.0 (sym none) s.1)
+        by (Some es) there = record { exporters = es; there = there; other = other_of es (sym there) except types is }

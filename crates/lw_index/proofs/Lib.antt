@@ -9,5 +9,7 @@ pub mod Offered
 pub mod Entering
 pub mod View
 pub mod Asked
+pub mod Gathered
+pub mod OthersLemmas
 pub mod Exchanged
 pub mod LetteredLemmas

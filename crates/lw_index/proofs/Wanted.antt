@@ -7,9 +7,10 @@ use Rattle.std.specs.Cmp.Lexicographic.{slice_cmp}
 use Rattle.std.specs.FinSet as set
 use Rattle.std.proofs.lemmas.Bool.{false≢true, cases_lt}
 use Rattle.std.proofs.lemmas.Cmp.{nat_cmp_total, nat_list_cmp_total, then_total, on_total}
+use Rattle.lw_base.specs.declared.numbers.DocId.{DocId}
 use Rattle.lw_index.specs.declared.parts.Target.{Target}
 use Rattle.lw_index.specs.Firsts.{IsNotBehind}
-use Rattle.lw_index.specs.Least.{Found, IsNotAfter, IsLeastOf, IsLeastFound, IsLesserOf}
+use Rattle.lw_index.specs.Least.{Found, IsAmongWanted, IsNotAfter, IsLeastOf, IsLeastFound, IsLesserOf}
 use Rattle.lw_index.specs.Slots.{Exporters, slot_in, filled}
 
 abbrev Spot : Type 0
@@ -60,17 +61,13 @@ module _ (P Q : List ℕ → Target → Type 0) where
     | inr w ↦ subst (IsLeastFound Either) (sym w.0) (second_least a b h k w.1)
   ]
 
-module _ (es : Exporters) (types : set.FinSet nat_cmp) where
-  -- in a slot of a wanted type
-  abbrev pub IsAmongWanted : List ℕ → Target → Type 0
-  IsAmongWanted uri x = (t : ℕ) × IsTrue (set.contains types t) × (filled (slot_in es (t, uri)) ≡ Some x)
-
-  -- and of a type below a number
+module _ (es : Exporters) (types : set.FinSet nat_cmp) (except : Option DocId) where
+  -- among the wanted ones, and of a type below a number
   abbrev pub IsBelow : ℕ → List ℕ → Target → Type 0
-  IsBelow from uri x = (t : ℕ) × (t < from) × IsTrue (set.contains types t) × (filled (slot_in es (t, uri)) ≡ Some x)
+  IsBelow from uri x = (t : ℕ) × (t < from) × IsTrue (set.contains types t) × (filled (slot_in es (t, uri)) ≡ Some x) × (except ≢ Some x.doc)
 
   abbrev IsOf : ℕ → List ℕ → Target → Type 0
-  IsOf found uri x = (filled (slot_in es (found, uri)) ≡ Some x) × (None ≢ Some x.doc)
+  IsOf found uri x = (filled (slot_in es (found, uri)) ≡ Some x) × (except ≢ Some x.doc)
 
   abbrev pub NoSlots : ℕ → ℕ → Type 0
   NoSlots from to = (t : ℕ) (u : List ℕ) → from ≤ t → t < to → slot_in es (t, u) ≡ None
@@ -90,9 +87,9 @@ module _ (es : Exporters) (types : set.FinSet nat_cmp) where
 
   pub passed_over : (from found : ℕ) (best : Option Found) → from ≤ found → NoSlots from found → set.contains types found ≡ false → IsLeastFound (IsBelow from) best → IsLeastFound (IsBelow (found + 1)) best
   passed_over from found best le none unwanted least =
-      same_least (IsBelow from) (IsBelow (found + 1)) (λ u x w. (w.0, omega (arith, w.1), w.2, w.3))
+      same_least (IsBelow from) (IsBelow (found + 1)) (λ u x w. (w.0, omega (arith, w.1), w.2, w.3, w.4))
       (λ u x w. elim (split_at from found w.0 u x le none w.1 w.3) [
-        | inl below ↦ (w.0, below, w.2, w.3)
+        | inl below ↦ (w.0, below, w.2, w.3, w.4)
         | inr at ↦ absurd (false≢true (sym unwanted ∙ ap (set.contains types) (sym at) ∙ w.2))
       ]) best least
 
@@ -100,14 +97,14 @@ module _ (es : Exporters) (types : set.FinSet nat_cmp) where
       → IsLeastFound (IsBelow from) best → IsLeastFound (IsOf found) other → IsLesserOf best other both → IsLeastFound (IsBelow (found + 1)) both
   taken_in from found best other both le none wanted least first is =
       same_least (λ u x. IsBelow from u x ⊎ IsOf found u x) (IsBelow (found + 1))
-      (λ u x e. elim e [ inl w ↦ (w.0, omega (arith, w.1), w.2, w.3) | inr w ↦ (found, omega arith, wanted, w.0) ])
+      (λ u x e. elim e [ inl w ↦ (w.0, omega (arith, w.1), w.2, w.3, w.4) | inr w ↦ (found, omega arith, wanted, w.0, w.1) ])
       (λ u x w. elim (split_at from found w.0 u x le none w.1 w.3) [
-        | inl below ↦ inl (w.0, below, w.2, w.3)
-        | inr at ↦ inr (ap (λ t. filled (slot_in es (t, u))) (sym at) ∙ w.3, λ e. cc)
+        | inl below ↦ inl (w.0, below, w.2, w.3, w.4)
+        | inr at ↦ inr (ap (λ t. filled (slot_in es (t, u))) (sym at) ∙ w.3, w.4)
       ]) both (joined_least (IsBelow from) (IsOf found) best other both least first is)
 
-  pub all_below : (n : ℕ) (best : Option Found) → ((t : ℕ) (u : List ℕ) → n ≤ t → slot_in es (t, u) ≡ None) → IsLeastFound (IsBelow n) best → IsLeastFound IsAmongWanted best
+  pub all_below : (n : ℕ) (best : Option Found) → ((t : ℕ) (u : List ℕ) → n ≤ t → slot_in es (t, u) ≡ None) → IsLeastFound (IsBelow n) best → IsLeastFound (IsAmongWanted es types except) best
   all_below n best none least =
-      same_least (IsBelow n) IsAmongWanted (λ u x w. (w.0, w.2, w.3))
-      (λ u x w. elim (cases_lt w.0 n) [ inl below ↦ (w.0, below, w.1, w.2) | inr above ↦ absurd (nothing_at (w.0, u) x (none w.0 u above) w.2) ])
+      same_least (IsBelow n) (IsAmongWanted es types except) (λ u x w. (w.0, w.2, w.3, w.4))
+      (λ u x w. elim (cases_lt w.0 n) [ inl below ↦ (w.0, below, w.1, w.2, w.3) | inr above ↦ absurd (nothing_at (w.0, u) x (none w.0 u above) w.2) ])
       best least

@@ -2,8 +2,10 @@ pub mod Indexed
 pub mod Exported
 pub mod Firsts
 pub mod Rivals
+pub mod Elsewhere
 pub mod Slots
 pub mod Turns
 pub mod Least
+pub mod Others
 pub mod Entered
 pub mod Lettered

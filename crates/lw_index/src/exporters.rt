@@ -1,13 +1,11 @@
 // The documents that export one name, by the type that they export and by URI.
 ghost use Rattle.std.specs.Prelude.{◌≡◌, ◌≢◌, ℕ, ◌≤◌, ◌<◌, min, List, MatchOption, IsTrue, OnOk, OnErr};
 ghost use Rattle.std.specs.Option.{option_map_or};
-ghost use Rattle.std.specs.FinSet as set;
-ghost use Rattle.std.specs.Ordering.{nat_cmp};
 ghost use Rattle.lw_base.specs.declared.numbers.NodeId.{NodeId};
 ghost use Rattle.lw_index.specs.declared.parts.Target.{Target};
 ghost use Rattle.lw_index.specs.Slots.{slot_in, target_in, filled};
 ghost use Rattle.lw_index.specs.Turns.{reserved, emptied, offered, swept, TurnsAt};
-ghost use Rattle.lw_index.specs.Least.{seen, IsLeastFound, IsLesserOf};
+ghost use Rattle.lw_index.specs.Least.{seen, IsAmongWanted, IsLeastFound, IsLesserOf};
 
 use crate::parts::Target;
 use lw_base::{DocId, Name, NoMemory, NodeId, TypeId, TypeSet};
@@ -175,13 +173,14 @@ fn lesser<'a>(
     }
 }
 
-/// The first of the filled slots of wanted types, by URI and node.
+/// The first of the filled slots of wanted types, by URI and node, that is not a certain document's.
 pub(crate) fn first_wanted<'a>(
     exporters: &'a Exporters,
     alloc: Global,
     types: &TypeSet,
+    except: Option<DocId>,
 ) -> Option<(&'a Name, Target)>
-    ensures { IsLeastFound (λ uri x. (t : ℕ) × IsTrue (set.contains types.now t) × (filled (slot_in exporters.now (t, uri)) ≡ Some x)) (seen result) }
+    ensures { IsLeastFound (IsAmongWanted exporters.now types.now except) (seen result) }
 {
     let Some(last) = last_type(exporters) else {
         return None;
@@ -190,7 +189,7 @@ pub(crate) fn first_wanted<'a>(
     let mut from = 0;
     while let Some(found) = next_type(exporters, alloc, from) {
         if types.holds(TypeId(found)) {
-            best = lesser(best, first_of_type(exporters, alloc, found, None));
+            best = lesser(best, first_of_type(exporters, alloc, found, except));
         }
         if found >= last {
             return best;

@@ -6,6 +6,8 @@ ghost use Rattle.lw_index.specs.Indexed.{exports_in, IsFreeFor};
 ghost use Rattle.lw_index.specs.Firsts.{IsFirstExport, NoneWanted};
 ghost use Rattle.lw_index.specs.Rivals.{IsLeastRival, HasNoRival};
 
+mod elsewhere;
+
 use crate::exporters::{first_of_type, first_wanted};
 use crate::names::{Names, offer_all, reserve_all, sweep_all, withdraw_all};
 use crate::parts::{Delta, Document, Export, Target};
@@ -153,7 +155,7 @@ impl Index {
     {
         steps.tick();
         let exporters = self.names.get(name)?;
-        let (_, target) = first_wanted(exporters, self.alloc, types)?;
+        let (_, target) = first_wanted(exporters, self.alloc, types, None)?;
         Some(target)
     }
 

@@ -11,13 +11,13 @@ returns-then-found-last c =
     let found = c.in-Some-next_type.found in
     let none = c.in-Some-next_type.ensures in
     let kept = c.loop-found.invariant in
-    let step : IsLeastFound (IsBelow es types (found + 1)) (seen c.if-holds.best) = elim c.if-holds.branch [
-      | then-holds w ↦ subst (λ b. IsLeastFound (IsBelow es types (found + 1)) (seen b)) (sym w.best-is)
-          (taken_in es types c.loop-found.from found (seen c.loop-found.best) (seen w.first_of_type.result) (seen w.lesser-best.result) none.0 none.1 (sym c.holds.ensures ∙ w.if-holds.true) kept.1 w.first_of_type.ensures w.lesser-best.ensures)
-      | else-holds w ↦ subst (λ b. IsLeastFound (IsBelow es types (found + 1)) (seen b)) (sym w.best-is)
-          (passed_over es types c.loop-found.from found (seen c.loop-found.best) none.0 none.1 (sym c.holds.ensures ∙ w.if-holds.false) kept.1)
+    let step : IsLeastFound (IsBelow es types c.args.except (found + 1)) (seen c.if-holds.best) = elim c.if-holds.branch [
+      | then-holds w ↦ subst (λ b. IsLeastFound (IsBelow es types c.args.except (found + 1)) (seen b)) (sym w.best-is)
+          (taken_in es types c.args.except c.loop-found.from found (seen c.loop-found.best) (seen w.first_of_type.result) (seen w.lesser-best.result) none.0 none.1 (sym c.holds.ensures ∙ w.if-holds.true) kept.1 w.first_of_type.ensures w.lesser-best.ensures)
+      | else-holds w ↦ subst (λ b. IsLeastFound (IsBelow es types c.args.except (found + 1)) (seen b)) (sym w.best-is)
+          (passed_over es types c.args.except c.loop-found.from found (seen c.loop-found.best) none.0 none.1 (sym c.holds.ensures ∙ w.if-holds.false) kept.1)
     ] in
-    all_below es types (found + 1) (seen c.if-holds.best) (λ t u le. c.in-Some.ensures t u (omega arith)) step
+    all_below es types c.args.except (found + 1) (seen c.if-holds.best) (λ t u le. c.in-Some.ensures t u (omega arith)) step
 
 pub loop-found-preserved : goal.loop-found-preserved
 loop-found-preserved c =
@@ -26,13 +26,13 @@ loop-found-preserved c =
     let found = c.in-Some-next_type.found in
     let none = c.in-Some-next_type.ensures in
     let kept = c.loop-found.invariant in
-    let step : IsLeastFound (IsBelow es types (found + 1)) (seen c.if-holds.best) = elim c.if-holds.branch [
-      | then-holds w ↦ subst (λ b. IsLeastFound (IsBelow es types (found + 1)) (seen b)) (sym w.best-is)
-          (taken_in es types c.loop-found.from found (seen c.loop-found.best) (seen w.first_of_type.result) (seen w.lesser-best.result) none.0 none.1 (sym c.holds.ensures ∙ w.if-holds.true) kept.1 w.first_of_type.ensures w.lesser-best.ensures)
-      | else-holds w ↦ subst (λ b. IsLeastFound (IsBelow es types (found + 1)) (seen b)) (sym w.best-is)
-          (passed_over es types c.loop-found.from found (seen c.loop-found.best) none.0 none.1 (sym c.holds.ensures ∙ w.if-holds.false) kept.1)
+    let step : IsLeastFound (IsBelow es types c.args.except (found + 1)) (seen c.if-holds.best) = elim c.if-holds.branch [
+      | then-holds w ↦ subst (λ b. IsLeastFound (IsBelow es types c.args.except (found + 1)) (seen b)) (sym w.best-is)
+          (taken_in es types c.args.except c.loop-found.from found (seen c.loop-found.best) (seen w.first_of_type.result) (seen w.lesser-best.result) none.0 none.1 (sym c.holds.ensures ∙ w.if-holds.true) kept.1 w.first_of_type.ensures w.lesser-best.ensures)
+      | else-holds w ↦ subst (λ b. IsLeastFound (IsBelow es types c.args.except (found + 1)) (seen b)) (sym w.best-is)
+          (passed_over es types c.args.except c.loop-found.from found (seen c.loop-found.best) none.0 none.1 (sym c.holds.ensures ∙ w.if-holds.false) kept.1)
     ] in
     (omega arith, step)
 
 pub returns : goal.returns
-returns c = all_below c.args.exporters.now c.args.types.now c.loop-found.from (seen c.loop-found.best) c.in_default-next_type.ensures c.loop-found.invariant.1
+returns c = all_below c.args.exporters.now c.args.types.now c.args.except c.loop-found.from (seen c.loop-found.best) c.in_default-next_type.ensures c.loop-found.invariant.1
