@@ -1,5 +1,5 @@
 -- The orders of offers and of names are strict, so a list in order is settled by what it has; and what it has is settled by texts that are read in one way.
-use Rattle.std.proofs.Common.{◌≡◌, ◌⊎◌, inl, inr, ◌×◌, ◌++◌, ℕ, List, Bool, true, false, Option, Some, None, Contains, if◌then◌else◌, take, refl, sym, ap, ◌∙◌, subst, subst₂, arith}
+use Rattle.std.proofs.Common.{◌≡◌, ◌⊎◌, inl, inr, ◌++◌, ℕ, List, Bool, true, false, Option, Some, None, Contains, if◌then◌else◌, take, refl, sym, ap, ◌∙◌, subst, subst₂, arith}
 use Rattle.std.specs.Cmp.Lexicographic.{slice_cmp}
 use Rattle.std.specs.Ordering.{nat_cmp, ordering_reverse}
 use Rattle.std.specs.Str.{bytes_eq}
@@ -52,12 +52,12 @@ having_alike : {trees others : Trees} (address : List ℕ) (tree : Parts) → Ha
     HaveSameTables (having_tree address tree trees) (having_tree address tree others)
 having_alike {trees} {others} address tree all other = by (bytes_eq other address) refl
   where
+    itself : SameTables tree tree
+    itself = record { nodes = refl; values = λ n p. refl; refs = refl; tokens = refl; name = refl }
+
     by : (is : Bool) → bytes_eq other address ≡ is → AreAlike (having_tree address tree trees other) (having_tree address tree others other)
     by true same = subst (λ b. AreAlike (if b then Some tree else trees other) (if b then Some tree else others other)) (sym same) (both itself)
     by false same = subst (λ b. AreAlike (if b then Some tree else trees other) (if b then Some tree else others other)) (sym same) (all other)
-
-    itself : SameTables tree tree
-    itself = record { nodes = refl; values = λ n p. refl; refs = refl; tokens = refl; name = refl }
 
 -- a document that has a tree has one with the same tables in the other
 alike_in : {a b : Option Parts} {tree : Parts} → AreAlike a b → a ≡ Some tree → (other : Parts) × (b ≡ Some other) × SameTables tree other
@@ -149,7 +149,7 @@ one_list_of_names below trees address tree r names others are were =
 pub goes_on : (g : Grammar) (texts : Texts) (address text : List ℕ) (offset : ℕ) (offers : List Offer) (x : Offer) →
     AreOffers g texts address text offset offers → Contains offers x →
     (front : List ℕ) × (word : List ℕ) × (take offset text ≡ front ++ word) × BeginsBy word x.label × ((x.kind ≡ 14) ⊎ (x.kind ≡ 18))
-goes_on g texts address text offset offers x are has = (is.front, is.word, is.typed.before, told x is.offered)
+goes_on g texts address text offset offers x are has = let (begins, kind) = told x is.offered in (is.front, is.word, is.typed.before, begins, kind)
   where
     is : IsOffer g are.of are.lexicon are.trees address text offset x
     is = (are.exact x).0 has

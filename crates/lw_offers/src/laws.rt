@@ -1,9 +1,9 @@
 // What a reader may expect of offers, whatever the grammar and the texts.
-ghost use Rattle.std.specs.Prelude.{◌≡◌, ◌⊎◌, ◌++◌, ℕ, List, Contains, take};
+ghost use Rattle.std.specs.Prelude.{◌≡◌, ◌⊎◌, ◌++◌, ℕ, Bool, List, Contains, take};
 ghost use Rattle.lw_grammar.specs.declared.grammar.Grammar.{Grammar};
 ghost use Rattle.lw_reading.specs.Laws.{IsReadOneWay};
 ghost use Rattle.lw_scopes.specs.Links.{Texts};
-ghost use Rattle.lw_scoping.specs.Links.{Trees};
+ghost use Rattle.lw_scoping.specs.Links.{ByTest, Trees};
 ghost use Rattle.lw_tree.specs.declared.node.Reference.{Reference};
 ghost use Rattle.lw_tree.specs.Parts.{Parts};
 ghost use Rattle.lw_offers.specs.Offers.{AreOffers, Offer};
@@ -15,8 +15,8 @@ ghost use Rattle.lw_offers.specs.Words.{BeginsBy};
 pub fn one_list()
     ensures offers { (g : Grammar) → IsReadOneWay g → (texts : Texts) (address text : List ℕ) (offset : ℕ) (offers others : List Offer) →
         AreOffers g texts address text offset offers → AreOffers g texts address text offset others → offers ≡ others }
-    ensures visible { (below : ℕ → ℕ → Type 0) (trees : Trees) (address : List ℕ) (tree : Parts) (r : Reference) (names others : List (List ℕ)) →
-        AreVisible below trees address tree r names → AreVisible below trees address tree r others → names ≡ others }
+    ensures visible { (is_below : ℕ → ℕ → Bool) (trees : Trees) (address : List ℕ) (tree : Parts) (r : Reference) (names others : List (List ℕ)) →
+        AreVisible (ByTest is_below) trees address tree r names → AreVisible (ByTest is_below) trees address tree r others → names ≡ others }
 {}
 
 /// What is offered begins with the word that ends at the offset, and is a keyword or a name that may be read there.
