@@ -102,9 +102,9 @@ module _ (g : Grammar) (of : Kinds) (lexicon : Lexicon) {trees others : Trees} (
   offered_too word x (offer.keyword begins is) = offer.keyword begins is
   offered_too word x (offer.name {n} begins is) =
       offer.name begins (record {
+        found = record { next = is.found.next; comes = is.found.comes; findable = findable_too is.found.next n is.found.findable };
         next = is.next;
         comes = is.comes;
-        findable = findable_too is.next n is.findable;
         read = is.read;
         leads = leads_too is.next n is.leads;
       })

@@ -82,10 +82,17 @@ module _ (g : Grammar) (of : Kinds) (lexicon : Lexicon) (trees : Trees) (address
     in_front : {tree : Parts} {r : Reference} → ((other : Parts) (s : Reference) → ¬ HasReference name other s) → IsFrontTree g of front tokens next tree r →
         HasTarget (IsNumberBelow g) trees address tree (renamed_to name r) → LeadsSomewhere next name
 
-  pub record IsNameNext (name : List ℕ) : Type 0 where
+  -- some cross-reference that comes next would lead somewhere by the name, by what stands around it
+  pub record IsFoundNext (name : List ℕ) : Type 0 where
     pub next : ReferenceNext
     pub comes : ComesNext g of tokens next
     pub findable : IsFindable g of lexicon trees address front rest tokens next name
+
+  -- the name is read as a reference that comes next, and leads somewhere
+  pub record IsNameNext (name : List ℕ) : Type 0 where
+    pub found : IsFoundNext name
+    pub next : ReferenceNext
+    pub comes : ComesNext g of tokens next
     pub read : ReadsAsReference g of lexicon front tokens next name
     pub leads : LeadsSomewhere next name
 
