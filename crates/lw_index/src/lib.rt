@@ -10,13 +10,16 @@
 //! It promises that [`Index::set`] and [`Index::remove`] change that one document and hand back what it exported; that
 //! [`Index::first`] answers the first fitting export over all documents, by the bytes of URIs and then by nodes, and none only where
 //! none fits, and counts one step; that [`Index::others`] answers the least URI of another document with an export of the name and the
-//! very type; and that nothing changes where memory is refused.
+//! very type; that [`Index::names`] answers exactly the names that documents other than one export with a type of a set, in the order
+//! of their bytes, each once, and [`Index::is_exported_elsewhere`] whether a name is one of these; and that nothing changes where memory is
+//! refused.
 //!
 //! Beside the documents it keeps an ordered map from each name to the documents that export it, which are ordered by type and URI, each
-//! with the least of its nodes. So no call goes through all exports or all documents: [`Index::first`] looks up the name, and then goes
-//! by the types that are there and not by the documents; [`Index::others`] takes the first document of a type or the one behind it;
-//! [`Index::set`] and [`Index::remove`] do a few look-ups for each old and each new export. A name that nobody exports any more goes
-//! out of the map. Each name takes a node of a tree for its documents, some 700 bytes, which is most of the room of an index.
+//! with the least of its nodes. So no call goes through all exports or all documents: [`Index::first`] and
+//! [`Index::is_exported_elsewhere`] look up the name, and then go by the types that are there and not by the documents; [`Index::names`]
+//! does so for each name that there is; [`Index::others`] takes the first document of a type or the one behind it; [`Index::set`] and
+//! [`Index::remove`] do a few look-ups for each old and each new export. A name that nobody exports any more goes out of the map. Each
+//! name takes a node of a tree for its documents, some 700 bytes, which is most of the room of an index.
 #![tactic(auto)]
 
 mod exporters;

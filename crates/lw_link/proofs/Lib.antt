@@ -3,3 +3,7 @@ pub mod Linked
 pub mod Known
 pub mod Rows
 pub mod RootLemmas
+pub mod NamesSorted
+pub mod PutLevels
+pub mod Leading
+pub mod Reached

@@ -84,19 +84,19 @@ module _ (g : Grammar) (r : Reference) (high : List ℕ) (set : FinSet nat_cmp) 
 
   module _ (trees : Trees) (index : Indexed) (is_index : IsIndexOf trees index) where
     -- what the index holds of the name and with such a type fits
-    fits : (doc : ℕ) (d : Document) (node : ℕ) → IsWanted index r.name set doc d node → FitsThere (IsNumberBelow g) trees r (d.uri, node)
+    pub fits : (doc : ℕ) (d : Document) (node : ℕ) → IsWanted index r.name set doc d node → FitsThere (IsNumberBelow g) trees r (d.uri, node)
     fits doc d node is =
         let there = held r.name is.type node (is_index.entries doc d is.exported.held) is.exported.export in
         (there.tree, there.is_tree, there.exported, (is.type, there.named, below is.type is.wanted))
 
     -- and it holds each that fits
-    record IsHeld (place : List ℕ × ℕ) : Type 0 where
-      doc : ℕ
-      document : Document
-      at : document.uri ≡ place.0
-      wanted : IsWanted index r.name set doc document place.1
+    pub record IsHeld (place : List ℕ × ℕ) : Type 0 where
+      pub doc : ℕ
+      pub document : Document
+      pub at : document.uri ≡ place.0
+      pub wanted : IsWanted index r.name set doc document place.1
 
-    fits_held : (place : List ℕ × ℕ) → FitsThere (IsNumberBelow g) trees r place → IsHeld place
+    pub fits_held : (place : List ℕ × ℕ) → FitsThere (IsNumberBelow g) trees r place → IsHeld place
     fits_held place (tree, is_tree, exported, (type, named, under)) =
         let (doc, d, there, at) = is_index.held place.0 tree is_tree in
         let here : IsExportOf (trees d.uri) r.name type place.1 =

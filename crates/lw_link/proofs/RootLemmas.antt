@@ -48,7 +48,7 @@ module _ (tree : Parts) (root : HasOneRoot tree) where
       let (k, inside_, is) = comes_to_root c rest leads in (suc k, omega (arith, inside_), is)
 
   -- so an export that is not the root is a symbol on the way
-  on_the_way : (n k : ℕ) (path : List ℕ) → LeadsOut tree n path → Contains (exports tree) k → k ≢ 0 → Contains (flat_map (locals tree) path) k
+  pub on_the_way : (n k : ℕ) (path : List ℕ) → LeadsOut tree n path → Contains (exports tree) k → k ≢ 0 → Contains (flat_map (locals tree) path) k
   on_the_way n k path leads exported other =
       let h = kept_from (is_named_node tree) (0 ∷ child_numbers tree 0) k exported in
       in_flat (locals tree) path 0 k (comes_to_root n path leads) (kept (is_named_node tree) (child_numbers tree 0) k (by h.0) h.1)

@@ -64,7 +64,7 @@ fn answer_alone(tree: &Tree, locals: &Locals, types: &Types, reference: &Referen
 }
 
 /// The root, where it has the name that a reference looks for, and a type of the set.
-fn root_answer(tree: &Tree, reference: &Reference, fits: &TypeSet) -> Answer
+pub(crate) fn root_answer(tree: &Tree, reference: &Reference, fits: &TypeSet) -> Answer
     requires { 0 < length tree.now.nodes }
     ensures { IsRootAnswer tree.now reference.now.name fits.now result }
 {

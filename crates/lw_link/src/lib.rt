@@ -5,21 +5,27 @@
 //! (`lw_symbols`), and then asks the index of what all documents export (`lw_index`), which counts one step. [`answers`] does so for all
 //! references of a tree, and [`answers_alone`] where no other document is, without an index. [`entries`] is what a document with a tree puts into the index.
 //!
+//! What a reference could be written as is said in `lw_offers`: [`visible`] gives the names by which it would lead somewhere, and [`finds`]
+//! tells whether it leads somewhere by the name that it has, in a tree that need not be the one that the index has the exports of.
+//!
 //! Its model: an answer is a document by its number and a node, and stands for the link that `link_of` makes of it
 //! (`specs/Indexed.antt`), which has the address in place of the number; an index stands for trees by their addresses where it holds
 //! exactly what they export (`IsIndexOf`).
 //!
 //! It promises that each answer stands for the one link that the reference has over those trees, and that a look-up counts at most one
-//! step.
+//! step; that [`visible`] gives exactly those names, in the order of their bytes, each once, and that [`finds`] tells it exactly, neither of
+//! which counts a step.
 #![tactic(auto)]
 
 mod alone;
 mod entering;
 mod resolving;
+mod targets;
 
 pub use alone::answers_alone;
 pub use entering::entries;
 pub use resolving::{answers, resolve};
+pub use targets::{finds, visible};
 
 #[cfg(test)]
 mod tests;
