@@ -14,5 +14,5 @@ returns-then-ne-clause-put c =
 
 pub returns-clause-put : goal.returns-clause-put
 returns-clause-put c =
-    let same : c.args.kind.0 ≡ c.args.self.kind.0 = grind (arith, nat_tests) in
+    let same : c.args.self.kind ≡ Some c.args.kind = ? in
     on_ok_weaker c.put.result (λ put. ((Some (mark.Token c.args.kind), []) ∷ [], turn.it same, put)) c.put.ensures.put
