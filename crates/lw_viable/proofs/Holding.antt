@@ -1,15 +1,29 @@
 -- Readings that are held, over the tasks that are told of the program.
-use Rattle.std.proofs.Common.{◌≡◌, ◌↔◌, ℕ, List, Any, Bool, not, eqb, IsTrue, length, sym, subst}
+use Rattle.std.proofs.Common.{◌≡◌, ◌↔◌, ℕ, List, All, Any, Bool, not, eqb, IsTrue, length, map, sym, ap, subst}
 use Rattle.std.specs.List.{AllByRecursion}
 use Rattle.lw_grammar.specs.declared.grammar.Grammar.{Grammar}
 use Rattle.lw_grammar.specs.Kinds.{Kinds}
 use Rattle.lw_look.specs.Supplied.{IsSupplied}
+use Rattle.lw_program.specs.ProgramOf.{ProgramParts}
 use Rattle.lw_program.specs.Says.{Task}
+use Rattle.lw_begins.specs.Told.{BeginsParts}
 use Rattle.lw_viable.specs.Aims.{Aim, Fulfils, BeginsSome, EndsSome}
 use Rattle.lw_viable.specs.Fronts.{FrontsParts, IsKnownProgram, HoldReadings}
-use Rattle.lw_viable.specs.Readings.{Keeps}
+use Rattle.lw_viable.specs.Growing.{HasLists, read, GrowsLists}
+use Rattle.lw_viable.specs.Readings.{KeptReading, Keeps}
 use Rattle.lw_viable.specs.Turning.{MayBePassed}
+use Rattle.lw_viable.specs.declared.front.Front.{Front}
+use Rattle.lw_viable.specs.declared.lists.Lists.{Lists}
 use Rattle.lw_viable.proofs.Ending.{whole_ends, ends_whole, begins_told}
+use Rattle.lw_viable.proofs.Putting.{all_read_same}
+
+abbrev pub parts : ProgramParts → BeginsParts → List KeptReading → FrontsParts
+parts program begins kept = record { program = program; begins = begins; kept = kept }
+
+-- where the lists have grown, the readings are the same
+pub still : (program : ProgramParts) (begins : BeginsParts) {old new : Lists} → GrowsLists old new → (kept : List Front) → All (HasLists old) kept →
+    parts program begins (map (read new) kept) ≡ parts program begins (map (read old) kept)
+still program begins grows kept within = ap (parts program begins) (all_read_same grows kept within)
 
 module _ {g : Grammar} {kinds : Kinds} {tasks : List Task} {aim : Aim} {ks : List ℕ} (fronts : FrontsParts) (hold : HoldReadings g kinds tasks aim ks fronts) where
   -- what follows over the tasks of the program follows over these

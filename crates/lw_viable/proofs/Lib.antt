@@ -15,3 +15,4 @@ pub mod Visited
 pub mod Holding
 pub mod Handed
 pub mod KindsBelow
+pub mod ComingNext

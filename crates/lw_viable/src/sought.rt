@@ -1,5 +1,5 @@
 // The readings that go on with a token of one kind, or with none.
-ghost use Rattle.std.specs.Prelude.{ℕ, ◌≡◌, ◌<◌, ◌++◌, List, [], ◌∷◌, Some, None, All, map, IsTrue, IfOk, OnOk};
+ghost use Rattle.std.specs.Prelude.{ℕ, ◌≡◌, ◌↔◌, ◌<◌, ◌++◌, List, [], ◌∷◌, Some, None, All, map, IsTrue, IfOk, OnOk};
 ghost use Rattle.lw_base.specs.declared.numbers.KindId.{KindId};
 ghost use Rattle.lw_grammar.specs.declared.grammar.Grammar.{Grammar};
 ghost use Rattle.lw_grammar.specs.Kinds.{Kinds, kind_count};
@@ -36,6 +36,16 @@ impl Sought<'_> {
         match self.kind {
             None => false,
             Some(kind) => !self.begins.may_meet(rule as usize, kind),
+        }
+    }
+
+    /// Whether a token of this kind is sought.
+    fn seeks(self, kind: KindId) -> bool
+        ensures { IsTrue result ↔ (self.entry.kind ≡ Some kind) }
+    {
+        match self.kind {
+            None => false,
+            Some(sought) => sought == kind,
         }
     }
 
@@ -93,7 +103,7 @@ impl Sought<'_> {
         ensures put { OnOk result ((changes : List Change) × ReadsToken self.entry.kind kind changes
             × ArePut changes lists.old lists.new front found.old.items found.new.items) }
     {
-        if self.kind != Some(kind) {
+        if !self.seeks(kind) {
             return Ok(());
         }
         lists.put(found, front, Some(TreeMark::Token(kind)), &[])

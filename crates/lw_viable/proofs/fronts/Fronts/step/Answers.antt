@@ -9,15 +9,11 @@ use Rattle.lw_program.specs.ProgramOf.{ProgramParts}
 use Rattle.lw_program.specs.Says.{Task}
 use Rattle.lw_begins.specs.Told.{BeginsParts}
 use Rattle.lw_viable.specs.Aims.{Aim, Fulfils, BeginsSome}
-use Rattle.lw_viable.specs.Fronts.{FrontsParts, IsKnownProgram, HoldReadings, seen}
+use Rattle.lw_viable.specs.Fronts.{IsKnownProgram, HoldReadings, seen}
 use Rattle.lw_viable.specs.Growing.{read}
 use Rattle.lw_viable.specs.Readings.{KeptReading, Keeps}
-use Rattle.lw_viable.proofs.Holding.{by_known, held_begins}
-use Rattle.lw_viable.proofs.Putting.{all_read_same}
+use Rattle.lw_viable.proofs.Holding.{parts, still, by_known, held_begins}
 use Rattle.lw_viable.proofs.fronts.Fronts.step.Goals as goal
-
-abbrev parts : ProgramParts → BeginsParts → List KeptReading → FrontsParts
-parts program begins kept = record { program = program; begins = begins; kept = kept }
 
 -- the readings that were found
 next_readings : {g : Grammar} {kinds : Kinds} {tasks : List Task} {aim : Aim} {ks : List ℕ} {program : ProgramParts} {begins : BeginsParts} {kept next : List KeptReading}
@@ -43,9 +39,7 @@ returns-then-token-clause-starts c g kinds tasks aim ks hold within supplied =
 pub returns-in_err-self-inside-clause-refused : goal.returns-in_err-self-inside-clause-refused
 returns-in_err-self-inside-clause-refused c =
     let (error, is, caused) = err_from_is_err_and c.from_residual.result c.from_residual.ensures.1 in
-    let same : map (read c.explore.new.lists) c.self.inside.kept.items ≡ map (read c.self.inside.lists) c.self.inside.kept.items =
-    all_read_same c.explore.ensures.grows c.self.inside.kept.items c.self.invariant in
-    rw is (ap (λ kept. parts c.self.inside.program.now c.self.inside.begins.now kept) same ∙ c.self.view_is)
+    rw is (still c.self.inside.program.now c.self.inside.begins.now c.explore.ensures.grows c.self.inside.kept.items c.self.invariant ∙ c.self.view_is)
 
 pub returns-clause-readings : goal.returns-clause-readings
 returns-clause-readings c g kinds tasks aim ks hold within =
