@@ -1,7 +1,7 @@
 -- What is handed out of the readings that were found: where references start, and the marks of wholes.
 use Rattle.std.proofs.Common.{◌≡◌, ◌↔◌, ℕ, zero, suc, ◌<◌, List, [], ◌∷◌, ◌++◌, Some, All, Any, map, slice_get, refl, sym, ap, ◌∙◌, subst, append_assoc, append-nil, arith}
 use Rattle.std.specs.List.{AllZip}
-use Rattle.std.proofs.lemmas.List.Elements.{All-nil, All-cons, All-head, All-tail, All-contains}
+use Rattle.std.proofs.lemmas.List.Elements.{All-nil, All-cons, All-head, All-tail, All-weaker, All-contains}
 use Rattle.std.proofs.lemmas.Option.{same_Some}
 use Rattle.lw_grammar.specs.declared.grammar.Grammar.{Grammar}
 use Rattle.lw_grammar.specs.declared.rule.Op.{Op}
@@ -39,6 +39,11 @@ any_of_mapped P f [] (k, y, within, is, p) = absurd (omega arith)
 any_of_mapped P f (x ∷ xs) (zero, y, within, is, p) = (0, x, omega arith, refl, subst P (sym is) p)
 any_of_mapped P f (x ∷ xs) (suc k, y, within, is, p) =
     let (j, z, inside, same, q) = any_of_mapped P f xs (k, y, omega arith, is, p) in (suc j, z, omega arith, same, q)
+
+all_of_mapped : {X Y : Type 0} (P : Y → Type 0) (f : X → Y) (xs : List X) → All P (map f xs) → All (λ x. P (f x)) xs
+all_of_mapped P f [] all = All-nil (λ x. P (f x))
+all_of_mapped P f (x ∷ xs) all =
+    All-cons (λ x. P (f x)) x xs (All-head P (f x) (map f xs) all) (all_of_mapped P f xs (All-tail P (f x) (map f xs) all))
 
 zipped_all : {X Y : Type 0} {R : X → Y → Type 0} {P : X → Type 0} {Q : Y → Type 0} (xs : List X) (ys : List Y) → AllZip R xs ys → All P xs →
     ((x : X) (y : Y) → P x → R x y → Q y) → All Q ys
@@ -80,6 +85,14 @@ module _ (g : Grammar) (kinds : Kinds) {program : ProgramParts} {told : BeginsPa
   Placed p = HasTask g kinds known.program.tasks p
 
   -- ---- references
+
+  -- at each that was found a value is put
+  pub puts_found : (recipes : _) (lists : Lists) (found : List Front) → FindsDue g kinds known.program.tasks Whole program (Reference recipes) ks (map (read lists) found) →
+      All (λ front. StandsBeforePut program (read lists front).rest) found
+  puts_found recipes lists found finds =
+      all_of_mapped (λ r. StandsBeforePut program r.rest) (read lists) found
+      (All-weaker (IsFound g kinds known.program.tasks Whole program (Reference recipes) ks) (λ r. StandsBeforePut program r.rest)
+      (λ r (ahead, (put, value, behind, puts, refers)). (put, value, behind, puts)) (map (read lists) found) finds.each)
 
   module _ {r : KeptReading} (ahead : IsAhead g kinds known.program.tasks Whole ks r) (start : ReferenceStart) (before : IsBeforeStart program r start) where
     all_placed : All Placed (before.puts.place ∷ start.behind)

@@ -26,13 +26,15 @@ pub still : (program : ProgramParts) (begins : BeginsParts) {old new : Lists} �
 still program begins grows kept within = ap (parts program begins) (all_read_same grows kept within)
 
 module _ {g : Grammar} {kinds : Kinds} {tasks : List Task} {aim : Aim} {ks : List ℕ} (fronts : FrontsParts) (hold : HoldReadings g kinds tasks aim ks fronts) where
-  -- what follows over the tasks of the program follows over these
+  -- they are kept over the tasks of the program
+  pub held_keeps : Keeps g kinds hold.by.known.program.tasks (Fulfils g kinds hold.by.known.program.tasks aim) ks fronts.kept
+  held_keeps = subst (λ tasks. Keeps g kinds tasks (Fulfils g kinds tasks aim) ks fronts.kept) (sym hold.by.tasks_are) hold.keeps
+
+  -- and what follows over those follows over these
   pub by_known : (P : List Task → Type 0) →
       ((known : IsKnownProgram g kinds fronts.program fronts.begins) →
           Keeps g kinds known.program.tasks (Fulfils g kinds known.program.tasks aim) ks fronts.kept → P known.program.tasks) → P tasks
-  by_known P from =
-      subst P hold.by.tasks_are
-      (from hold.by.known (subst (λ tasks. Keeps g kinds tasks (Fulfils g kinds tasks aim) ks fronts.kept) (sym hold.by.tasks_are) hold.keeps))
+  by_known P from = subst P hold.by.tasks_are (from hold.by.known held_keeps)
 
   pub held_begins : (empty : Bool) (count : ℕ) → IsSupplied g kinds → empty ≡ eqb count 0 → count ≡ length fronts.kept →
       IsTrue (not empty) ↔ BeginsSome (Fulfils g kinds tasks aim) ks
