@@ -6,3 +6,4 @@ pub mod Growing
 pub mod Turning
 pub mod Visiting
 pub mod ReferenceStarts
+pub mod Worked
