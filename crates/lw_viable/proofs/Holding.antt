@@ -33,7 +33,7 @@ module _ {g : Grammar} {kinds : Kinds} {tasks : List Task} {aim : Aim} {ks : Lis
   -- and what follows over those follows over these
   pub by_known : (P : List Task → Type 0) →
       ((known : IsKnownProgram g kinds fronts.program fronts.begins) →
-          Keeps g kinds known.program.tasks (Fulfils g kinds known.program.tasks aim) ks fronts.kept → P known.program.tasks) → P tasks
+      Keeps g kinds known.program.tasks (Fulfils g kinds known.program.tasks aim) ks fronts.kept → P known.program.tasks) → P tasks
   by_known P from = subst P hold.by.tasks_are (from hold.by.known held_keeps)
 
   pub held_begins : (empty : Bool) (count : ℕ) → IsSupplied g kinds → empty ≡ eqb count 0 → count ≡ length fronts.kept →

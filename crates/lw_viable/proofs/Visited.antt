@@ -91,9 +91,13 @@ module _ (g : Grammar) (kinds : Kinds) {program : ProgramParts} {told : BeginsPa
       (put : ℕ) × (value : ℕ) × (behind : List ℕ) × PutsFirst program (p ∷ rest) put value behind × IsReferencePut recipes put
   refers {p} {q} {op} {c} rest is_told makes step (meant.puts {n} {s} numbers assigned there) =
       let (first, at) = put_move step in
-      let (recipe, made, number, content) = is_told.values n s q op c numbers assigned there in
-      (n, first, rest, record { place = p; are = refl; at = at },
-      record { recipe = recipe; made = made; refers = is_told.references n s q op c numbers assigned there makes recipe made })
+      let (recipe, made, number, content) = is_told.values n s q op c numbers assigned there in (
+        n,
+        first,
+        rest,
+        record { place = p; are = refl; at = at },
+        record { recipe = recipe; made = made; refers = is_told.references n s q op c numbers assigned there makes recipe made },
+      )
 
   stands_there : (due : Due) {p : ℕ} {x : TreeMark} {m : Mark} {ps : List ℕ} (rest : List ℕ) {b others : List Mark} → IsToldDue g due → BeginsDue due b → b ≡ m ∷ others →
       MovesBy program told.nodes p (Some x) ps → MeansMark g x m → StandsFirst program due (p ∷ rest)

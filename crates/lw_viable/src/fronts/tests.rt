@@ -23,7 +23,9 @@ use crate::{Fronts, ReferenceStart};
 use lw_base::{Boxed, Items, KindId, Name, NoMemory, RuleId, Span, Token};
 use lw_begins::Begins;
 use lw_derivations::Reading;
-use lw_grammar::{Element, Grammar, Op, Primitive, Rule, RuleResult, TermElement, Terminal, Value0};
+use lw_grammar::{
+    Element, Grammar, Op, Primitive, Rule, RuleResult, TermElement, Terminal, Value0,
+};
 use lw_lexicon::{Callee, Lexicon};
 use lw_program::Program;
 use lw_recipes::{Recipes, TreeMark};

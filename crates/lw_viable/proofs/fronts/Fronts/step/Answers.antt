@@ -19,7 +19,7 @@ use Rattle.lw_viable.proofs.fronts.Fronts.step.Goals as goal
 next_readings : {g : Grammar} {kinds : Kinds} {tasks : List Task} {aim : Aim} {ks : List ℕ} {program : ProgramParts} {begins : BeginsParts} {kept next : List KeptReading}
     (token : Token) → HoldReadings g kinds tasks aim ks (parts program begins kept) → token.hidden ≡ false →
     ((known : IsKnownProgram g kinds program begins) → Keeps g kinds known.program.tasks (Fulfils g kinds known.program.tasks aim) ks kept →
-        Keeps g kinds known.program.tasks (Fulfils g kinds known.program.tasks aim) (ks ++ token.kind.0 ∷ []) next) →
+    Keeps g kinds known.program.tasks (Fulfils g kinds known.program.tasks aim) (ks ++ token.kind.0 ∷ []) next) →
     HoldReadings g kinds tasks aim (seen ks token) (parts program begins next)
 next_readings {g} {kinds} {tasks} {aim} {ks} {program} {begins} {kept} {next} token hold visible keeps =
     subst (λ ks. HoldReadings g kinds tasks aim ks (parts program begins next)) (sym (ap (λ hidden. if hidden then ks else ks ++ token.kind.0 ∷ []) visible))

@@ -1,8 +1,9 @@
 -- Each grammar has one rule that calls identifiers alone, in which each choice has a part.
-use Rattle.std.proofs.Common.{◌≡◌, ℕ, List, [], ◌∷◌, Some, codes, map, slice_get, refl, sym, ◌∙◌, subst}
+use Rattle.std.proofs.Common.{◌≡◌, ℕ, ◌≤◌, List, [], ◌∷◌, Some, codes, map, slice_get, refl, sym, ap, ◌∙◌, subst, sum, ◌+◌, arith}
 use Rattle.std.specs.Prelude.{true, false}
 use Rattle.std.proofs.lemmas.Option.{none-some}
 use Rattle.std.proofs.lemmas.Result.{IfOk-weaker}
+use Rattle.lw_base.specs.declared.token.Span.{Span}
 use Rattle.lw_grammar.specs.declared.grammar.Grammar.{Grammar}
 use Rattle.lw_grammar.specs.declared.rule.Rule.{Rule}
 use Rattle.lw_grammar.specs.declared.rule.Op.TheVariants.{One, Add}
@@ -15,6 +16,8 @@ use Rattle.lw_grammar.specs.declared.rule.Value0.TheVariants as value
 use Rattle.lw_grammar.specs.Kinds.{Kinds, AreKinds}
 use Rattle.lw_grammar.specs.Named.{IsTerminal, declared_rule, declared_terminal}
 use Rattle.lw_grammar.specs.Reached.{IsReached}
+use Rattle.lw_grammar.specs.Size.{size, element_size, value_size}
+use Rattle.lw_grammar.proofs.LeafLemmas.{size_by, size_of_value, size_equations}
 use Rattle.lw_sentences.specs.Marks.{Mark}
 use Rattle.lw_sentences.specs.Worked.{id_call, id_terminal, named_rule, nowhere, rules_alone, way_parts, ways, word}
 use Rattle.lw_sentences.specs.Yields.{Calls}
@@ -100,7 +103,6 @@ fine (row es all) = of_form _ (outs-Group es nowhere) (λ none. none) tt
 fine (choice e es all) = of_form _ (outs-Choice (e ∷ es) nowhere) (λ none. none) (e, refl)
 fine (loop e plain) = of_form _ (outs-Many e nowhere) (λ none. none) tt
 fine (option e plain) = of_form _ (outs-Maybe e nowhere) (λ none. none) tt
-
 fine (identified p) = of_form _ (outs-Assign p One id_call nowhere) (λ none. none) tt
 fine refers = of_form _ (outs-Assign (codes "next") Add a_by_id nowhere) (λ none. none) tt
 fine read_id = subst IsById (sym (value.outs-Call (codes "ID") nowhere)) refl
@@ -183,15 +185,61 @@ many_plain =
 states_plain : IsPlain (Body model_of_states)
 states_plain =
     row outer_parts
-    (each outer_parts (keyword (codes "model"), (identified (codes "name"),
-    (loop (Group inner_parts nowhere)
-    (row inner_parts (each inner_parts (keyword (codes "state"), (identified (codes "first"),
-    (loop (Group to_parts nowhere) (row to_parts (each to_parts (keyword (codes "to"), (refers, tt)))), (keyword (codes "end"), tt)))))), tt))))
+    (each outer_parts (
+      keyword (codes "model"),
+      (
+        identified (codes "name"),
+        (
+          loop (Group inner_parts nowhere)
+              (row inner_parts (each inner_parts (
+                keyword (codes "state"),
+                (
+                  identified (codes "first"),
+                  (loop (Group to_parts nowhere) (row to_parts (each to_parts (keyword (codes "to"), (refers, tt)))), (keyword (codes "end"), tt)),
+                ),
+              ))),
+          tt,
+        ),
+      ),
+    ))
 
 -- ---- whichever was asked for
 
 supplied_by : (g : Grammar) (body : Element) → IsPlain (Body body) → g ≡ G_of body → (kinds : Kinds) → AreKinds g kinds → IsSupplied g kinds
 supplied_by g body plain is = subst (λ g. (kinds : Kinds) → AreKinds g kinds → IsSupplied g kinds) (sym is) (supplied body plain)
+
+size-Choice : (parts : List Element) (span : Span) → element_size (Choice parts span) ≡ 1 + sum (map element_size parts)
+size-Choice parts span = size_by _ _ (outs-Choice parts span)
+
+size-Maybe : (part : Element) (span : Span) → element_size (Maybe part span) ≡ 1 + element_size part
+size-Maybe part span = size_by _ _ (outs-Maybe part span)
+
+size-value_Keyword : (text : List ℕ) (span : Span) → value_size (value.Keyword text span) ≡ 1
+size-value_Keyword text span = size_of_value _ _ (value.outs-Keyword text span)
+
+alike_small : size (G_of (Choice ways nowhere)) ≤ 65535
+alike_small = simp (size_equations, size-Choice, size-value_Keyword) (omega arith)
+
+many_small : size (G_of (Group many_parts nowhere)) ≤ 65535
+many_small = simp (size_equations, size-Choice, size-Maybe, size-value_Keyword) (omega arith)
+
+states_small : size (G_of model_of_states) ≤ 65535
+states_small = simp size_equations (omega arith)
+
+small_by : (g : Grammar) {e body : Element} → e ≡ body → g ≡ G_of e → size (G_of body) ≤ 65535 → size g ≤ 65535
+small_by g same is small = subst (λ g. size g ≤ 65535) (sym (is ∙ ap G_of same)) small
+
+pub returns-in_ok-alike-in-Alike-clause-small : goal.returns-in_ok-alike-in-Alike-clause-small
+returns-in_ok-alike-in-Alike-clause-small c =
+    IfOk-weaker c.alone.result _ _ (λ g is. small_by g c.in_ok-alike-in-Alike.ensures is alike_small) c.alone.ensures.is
+
+pub returns-in_ok-many-in-Many-clause-small : goal.returns-in_ok-many-in-Many-clause-small
+returns-in_ok-many-in-Many-clause-small c =
+    IfOk-weaker c.alone-in-Many.result _ _ (λ g is. small_by g c.in_ok-many-in-Many.ensures is many_small) c.alone-in-Many.ensures.is
+
+pub returns-in_ok-states-in-States-clause-small : goal.returns-in_ok-states-in-States-clause-small
+returns-in_ok-states-in-States-clause-small c =
+    IfOk-weaker c.alone-in-States.result _ _ (λ g is. small_by g c.in_ok-states-in-States.ensures is states_small) c.alone-in-States.ensures.is
 
 pub returns-in_ok-alike-in-Alike-clause-supplied : goal.returns-in_ok-alike-in-Alike-clause-supplied
 returns-in_ok-alike-in-Alike-clause-supplied c =
