@@ -1,5 +1,5 @@
 -- What is handed out of the readings that were found: where references start, and the marks of wholes.
-use Rattle.std.proofs.Common.{◌≡◌, ◌↔◌, ℕ, zero, suc, ◌<◌, List, [], ◌∷◌, ◌++◌, Some, All, Any, map, slice_get, refl, sym, ap, ◌∙◌, subst, append_assoc, append-nil, arith}
+use Rattle.std.proofs.Common.{◌≡◌, ◌↔◌, ℕ, zero, suc, List, [], ◌∷◌, ◌++◌, All, Any, map, slice_get, refl, sym, ap, ◌∙◌, subst, append_assoc, append-nil, arith}
 use Rattle.std.specs.List.{AllZip}
 use Rattle.std.proofs.lemmas.List.Elements.{All-nil, All-cons, All-head, All-tail, All-weaker, All-contains}
 use Rattle.std.proofs.lemmas.Option.{same_Some}
@@ -9,10 +9,8 @@ use Rattle.lw_grammar.specs.declared.rule.Value0.{Value0}
 use Rattle.lw_grammar.specs.Kinds.{Kinds}
 use Rattle.lw_sentences.specs.Marks.{Mark, kinds_of}
 use Rattle.lw_sentences.specs.Marks as mark
-use Rattle.lw_program.specs.declared.instr.Instr.{Instr}
 use Rattle.lw_program.specs.declared.instr.Instr.TheVariants.{Put}
 use Rattle.lw_program.specs.ProgramOf.{ProgramParts}
-use Rattle.lw_recipes.specs.declared.mark.TreeMark.{TreeMark}
 use Rattle.lw_recipes.specs.declared.mark.TreeMark.TheVariants as numbered
 use Rattle.lw_recipes.specs.Making.{RecipeLists}
 use Rattle.lw_recipes.specs.Meant.{MeansMark, AreMeant}
@@ -28,7 +26,7 @@ use Rattle.lw_viable.specs.declared.due.Due.TheVariants.{Nothing, Reference}
 use Rattle.lw_viable.specs.declared.front.Front.{Front}
 use Rattle.lw_viable.specs.declared.lists.Lists.{Lists}
 use Rattle.lw_viable.specs.declared.reference_start.ReferenceStart.{ReferenceStart}
-use Rattle.lw_viable.proofs.Exploring.{any_of, of_any, any_mapped}
+use Rattle.lw_viable.proofs.Exploring.{of_any, any_mapped}
 use Rattle.lw_viable.proofs.Meaning.{one_kinds}
 use Rattle.lw_viable.proofs.Puts.{put_said, put_means, value_has, put_gives, put_given}
 

@@ -1,9 +1,9 @@
 -- Readings on their way to where something is due, without a token: a turn keeps what is known of those that are still to be explored and of
 -- those that were found.
-use Rattle.std.proofs.Common.{◌≡◌, ◌≢◌, ◌⊎◌, inl, inr, ℕ, ◌+◌, ◌<◌, List, [], ◌∷◌, ◌++◌, Option, Some, None, All, Any, Contains, Bool, length, map, slice_get, refl, sym, ap, ◌∙◌, subst, subst₂, append_assoc, append-nil}
+use Rattle.std.proofs.Common.{◌≡◌, ◌⊎◌, inl, inr, ℕ, List, [], ◌∷◌, ◌++◌, Option, Some, None, All, Any, Contains, Bool, map, slice_get, refl, sym, ap, ◌∙◌, subst, subst₂, append_assoc, append-nil}
 use Rattle.std.proofs.lemmas.List.{map-append}
 use Rattle.std.proofs.lemmas.List.Elements.{All-nil, All-cons, All-head, All-append, All-same, All-contains, Contains-push}
-use Rattle.std.proofs.lemmas.Option.{same_Some, slice_get_within}
+use Rattle.std.proofs.lemmas.Option.{slice_get_within}
 use Rattle.lw_grammar.specs.declared.grammar.Grammar.{Grammar}
 use Rattle.lw_grammar.specs.declared.rule.Op.{Op}
 use Rattle.lw_grammar.specs.declared.rule.Value0.{Value0}
@@ -12,10 +12,8 @@ use Rattle.lw_sentences.specs.Marks.{Mark, kinds_of}
 use Rattle.lw_sentences.specs.Marks as mark
 use Rattle.lw_sentences.proofs.Joined.{kinds_join}
 use Rattle.lw_marks.specs.Follows.{MakesReference}
-use Rattle.lw_program.specs.declared.instr.Instr.{Instr}
 use Rattle.lw_program.specs.declared.instr.Instr.TheVariants.{Put}
 use Rattle.lw_program.specs.ProgramOf.{ProgramParts}
-use Rattle.lw_program.specs.Says.{Task}
 use Rattle.lw_recipes.specs.declared.mark.TreeMark.{TreeMark}
 use Rattle.lw_recipes.specs.declared.mark.TreeMark.TheVariants as numbered
 use Rattle.lw_recipes.specs.Making.{RecipeLists, AreRecipesOf}

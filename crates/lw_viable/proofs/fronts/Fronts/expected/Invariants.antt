@@ -1,12 +1,11 @@
 -- Of the kinds so far those are there that may come next, and the readings stay.
-use Rattle.std.proofs.Common.{◌≡◌, ◌↔◌, ℕ, ◌<◌, List, [], ◌∷◌, ◌++◌, All, Contains, map}
+use Rattle.std.proofs.Common.{◌≡◌, ℕ, ◌<◌, List, All, map}
 use Rattle.std.specs.List.Sorted.{IsStrictlyIncreasing}
-use Rattle.lw_base.specs.declared.numbers.KindId.{KindId}
 use Rattle.lw_grammar.specs.declared.grammar.Grammar.{Grammar}
 use Rattle.lw_grammar.specs.Kinds.{Kinds, kind_count}
 use Rattle.lw_look.specs.Supplied.{IsSupplied}
 use Rattle.lw_program.specs.Says.{Task}
-use Rattle.lw_viable.specs.Aims.{Aim, Fulfils, BeginsSome}
+use Rattle.lw_viable.specs.Aims.{Aim, Fulfils}
 use Rattle.lw_viable.specs.Fronts.{HoldReadings}
 use Rattle.lw_viable.proofs.ComingNext.{AreTold}
 use Rattle.lw_viable.proofs.fronts.Fronts.expected.Given as goal

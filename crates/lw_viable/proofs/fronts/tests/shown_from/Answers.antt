@@ -1,7 +1,6 @@
 -- At first the readings of no tokens are kept.
 use Rattle.std.proofs.Common.{[], refl}
 use Rattle.lw_viable.specs.Aims.{Sentence}
-use Rattle.lw_viable.specs.Fronts.{IsProgramWith}
 use Rattle.lw_viable.proofs.fronts.tests.shown_from.Goals as goal
 
 pub start-requires : goal.start-requires
