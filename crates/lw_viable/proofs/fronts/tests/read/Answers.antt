@@ -4,17 +4,17 @@ use Rattle.lw_viable.proofs.fronts.tests.read.Goals as goal
 
 pub step-requires : goal.step-requires
 step-requires c =
-    let (kinds, ks, hold) = c.requires.readings in
-    record { known = (c.args.lexicon.g.now, kinds, ks, hold, c.in_ok-token.ensures kinds hold.known.are) }
+    let (kinds, tasks, aim, ks, hold) = c.requires.readings in
+    record { known = (c.args.lexicon.g.now, kinds, tasks, aim, ks, hold, c.in_ok-token.ensures kinds hold.by.known.are) }
 
 pub count_of-requires : goal.count_of-requires
 count_of-requires c =
     let g = c.args.lexicon.g.now in
-    let (kinds, ks, hold) = c.requires.readings in
-    (g, kinds, seen ks c.in_ok-token.token, c.in_ok-starts.ensures.readings g kinds ks hold (c.in_ok-token.ensures kinds hold.known.are))
+    let (kinds, tasks, aim, ks, hold) = c.requires.readings in
+    (g, kinds, tasks, aim, seen ks c.in_ok-token.token, c.in_ok-starts.ensures.readings g kinds tasks aim ks hold (c.in_ok-token.ensures kinds hold.by.known.are))
 
 pub returns : goal.returns
 returns c =
     let g = c.args.lexicon.g.now in
-    let (kinds, ks, hold) = c.requires.readings in
-    (kinds, seen ks c.in_ok-token.token, c.in_ok-starts.ensures.readings g kinds ks hold (c.in_ok-token.ensures kinds hold.known.are))
+    let (kinds, tasks, aim, ks, hold) = c.requires.readings in
+    (kinds, tasks, aim, seen ks c.in_ok-token.token, c.in_ok-starts.ensures.readings g kinds tasks aim ks hold (c.in_ok-token.ensures kinds hold.by.known.are))

@@ -1,16 +1,33 @@
 -- At first the readings of no tokens are kept.
-use Rattle.std.proofs.Common.{[]}
+use Rattle.std.proofs.Common.{[], refl}
+use Rattle.lw_viable.specs.Aims.{Sentence}
 use Rattle.lw_viable.proofs.fronts.tests.shown_from.Goals as goal
 
 pub start-requires : goal.start-requires
 start-requires c =
     let (kinds, rule, known, entry) = c.requires.program in
-    record { known = (c.args.lexicon.g.now, kinds, rule, known, entry) }
+    record { known = (c.args.lexicon.g.now, kinds, known.program.tasks, rule, record { known = known; tasks_are = refl }, entry) }
 
 pub shown-requires : goal.shown-requires
 shown-requires c =
+    let g = c.args.lexicon.g.now in
     let (kinds, rule, known, entry) = c.requires.program in
     record {
       known = c.requires.known;
-      readings = (kinds, [], c.in_ok-fronts.ensures c.args.lexicon.g.now kinds rule known entry);
+      readings = (
+        kinds,
+        known.program.tasks,
+        Sentence,
+        [],
+        c.in_ok-fronts.ensures g kinds known.program.tasks rule (record { known = known; tasks_are = refl }) entry,
+      );
+    }
+
+pub next_of-requires : goal.next_of-requires
+next_of-requires c =
+    let g = c.args.lexicon.g.now in
+    let (kinds, tasks, aim, ks, hold) = c.in_ok-counts.ensures in
+    record {
+      few = c.kinds_in.ensures.few;
+      known = (g, kinds, tasks, aim, ks, hold, c.kinds_in.ensures.all kinds hold.by.known.are, c.in_ok-recipes.ensures);
     }

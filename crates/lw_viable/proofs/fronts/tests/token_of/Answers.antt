@@ -1,8 +1,8 @@
--- The number of a keyword is one of those of the keywords, which come first.
-use Rattle.std.proofs.Common.{arith}
-use Rattle.std.proofs.lemmas.Option.{slice_get_within}
+-- The kind of a word is one of the grammar.
+use Rattle.std.proofs.Common.{◌<◌, subst}
+use Rattle.std.specs.Option.{IfSome}
+use Rattle.lw_grammar.specs.Kinds.{kind_count}
 use Rattle.lw_viable.proofs.fronts.tests.token_of.Goals as goal
 
-pub returns : goal.returns
-returns c = λ kinds are.
-    let below = slice_get_within kinds.keywords _ _ (c.in-Some.ensures kinds are) in omega (arith, below)
+pub returns-in-Some : goal.returns-in-Some
+returns-in-Some c = λ kinds are. subst (λ kind. IfSome kind (λ k. k.0 < kind_count kinds)) c.in-Some.is (c.in_ok-kind_of.ensures kinds are)
