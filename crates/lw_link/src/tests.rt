@@ -8,7 +8,7 @@ ghost use Rattle.lw_types.specs.Inferred.{AreTypesOf};
 ghost use Rattle.lw_index.specs.Lettered.{IsLettered};
 ghost use Rattle.lw_outwards.specs.Known.{HasKnownTypes, HasOneRoot};
 
-use crate::{answers, answers_alone, entries};
+use crate::{answers, answers_alone, entries, finds, visible};
 use lw_base::{DocId, Items, Name, NoMemory, NodeId, PropId, Span, Steps, TypeId};
 use lw_grammar::{Grammar, Interface};
 use lw_index::{Answer, Delta, Export, Index, Target};
@@ -279,6 +279,29 @@ fn leading_alone(alloc: Global, tree: &Tree) -> Result<Vec<Answer>, NoMemory>
     answers_alone(alloc, tree, &locals, &types)
 }
 
+/// For each reference of a tree how many names are visible where it stands, and whether it leads somewhere by its own.
+fn names_and_leads(
+    alloc: Global,
+    tree: &Tree,
+    doc: u32,
+    index: &Index,
+) -> Result<Vec<(usize, bool)>, NoMemory>
+    requires outwards { ContainersComeFirst tree.now }
+    requires root { HasOneRoot tree.now }
+    requires owners { All (λ r. r.owner.0 < length tree.now.nodes) tree.now.refs }
+    requires wants { All (λ r. r.want.0 < 4) tree.now.refs }
+{
+    let types = types(alloc)?;
+    let locals = Locals::of_tree(alloc, tree)?;
+    let mut found = Vec::new(alloc);
+    for reference in tree.refs() {
+        let names = visible(alloc, tree, &locals, DocId(doc), reference, index, &types)?;
+        let leads = finds(tree, &locals, DocId(doc), reference, index, &types);
+        found.push((names.len(), leads))?;
+    }
+    Ok(found)
+}
+
 const fn at(doc: u32, node: u32) -> Answer {
     Answer::Found(Target {
         doc: DocId(doc),
@@ -319,6 +342,18 @@ fn lead_outwards_and_then_to_the_root_in_a_document_that_is_alone(
         at(0, 0),
         Answer::Missing,
     ];
+    assert!(rt; found.as_slice() == expected.as_slice());
+    Ok(())
+}
+
+#[test]
+fn names_that_fit_are_visible(rt: HostRuntime) -> Result<(), Fail> {
+    let alloc = rt.alloc();
+    let tree = tree(alloc)?;
+    let index = index(alloc, &tree)?;
+    let found = names_and_leads(alloc, &tree, 24, &index)?;
+    let part = (4, true);
+    let expected = [part, part, part, part, (1, true), (4, false)];
     assert!(rt; found.as_slice() == expected.as_slice());
     Ok(())
 }
