@@ -11,11 +11,12 @@ use Rattle.lw_rpc.specs.Values as spec
 use Rattle.lw_rpc.specs.Values.{value_of}
 use Rattle.lw_rpc.specs.declared.message.Id.{Id}
 use Rattle.lw_rpc.specs.declared.message.Id.TheVariants.{Whole, Words}
+use Rattle.lw_rpc.specs.declared.reply.CompletionItem.{CompletionItem}
 use Rattle.lw_rpc.specs.declared.reply.FileEdits.{FileEdits}
 use Rattle.lw_rpc.specs.declared.reply.Location.{Location}
 use Rattle.lw_rpc.specs.declared.reply.TextEdit.{TextEdit}
 use Rattle.lw_rpc.specs.declared.reply.Outcome.{Outcome}
-use Rattle.lw_rpc.specs.declared.reply.Outcome.TheVariants.{Nothing, Hello, Spot, Spots, Edits}
+use Rattle.lw_rpc.specs.declared.reply.Outcome.TheVariants.{Nothing, Hello, Spot, Spots, Edits, Offers}
 use Rattle.lw_rpc.specs.declared.reply.Reply.{Reply}
 use Rattle.lw_rpc.specs.declared.reply.Reply.TheVariants.{Done, Error, Publish, Log}
 
@@ -34,6 +35,10 @@ locations_have_no_float (location ∷ others) = locations_have_no_float others
 edits_have_no_float : (list : List TextEdit) → items_have_float (items_of (map spec.edit_value list)) ≡ false
 edits_have_no_float [] = refl
 edits_have_no_float (edit ∷ others) = edits_have_no_float others
+
+offers_have_no_float : (list : List CompletionItem) → items_have_float (items_of (map spec.offer_value list)) ≡ false
+offers_have_no_float [] = refl
+offers_have_no_float (offer ∷ others) = offers_have_no_float others
 
 -- what is put in has no float, and so what there is then has none
 put_here_has_no_float : (r : Ordering) (a b c : Members) → members_have_float a ≡ false → members_have_float b ≡ false → members_have_float c ≡ false → members_have_float (match_ordering r a b c) ≡ false
@@ -59,6 +64,7 @@ outcome_has_no_float Hello = refl
 outcome_has_no_float (Spot location) = refl
 outcome_has_no_float (Spots list) = locations_have_no_float list
 outcome_has_no_float (Edits files) = rw (files_have_no_float files no_members refl) refl
+outcome_has_no_float (Offers list) = offers_have_no_float list
 
 diagnostics_have_no_float : (list : List Shown) → items_have_float (items_of (map spec.diagnostic_value list)) ≡ false
 diagnostics_have_no_float [] = refl
@@ -97,6 +103,10 @@ edits_are_shallow : (list : List TextEdit) → items_depth (items_of (map spec.e
 edits_are_shallow [] = omega arith
 edits_are_shallow (edit ∷ others) = omega (arith, edits_are_shallow others)
 
+offers_are_shallow : (list : List CompletionItem) → items_depth (items_of (map spec.offer_value list)) ≤ 4
+offers_are_shallow [] = omega arith
+offers_are_shallow (offer ∷ others) = omega (arith, offers_are_shallow others)
+
 put_here_is_shallow : (n : ℕ) (r : Ordering) (a b c : Members) → members_depth a ≤ n → members_depth b ≤ n → members_depth c ≤ n → members_depth (match_ordering r a b c) ≤ n
 put_here_is_shallow n Less a b c p q s = p
 put_here_is_shallow n Equal a b c p q s = q
@@ -119,6 +129,7 @@ outcome_is_shallow Hello = omega arith
 outcome_is_shallow (Spot location) = omega arith
 outcome_is_shallow (Spots list) = omega (arith, locations_are_shallow list)
 outcome_is_shallow (Edits files) = omega (arith, files_are_shallow files no_members (omega arith))
+outcome_is_shallow (Offers list) = omega (arith, offers_are_shallow list)
 
 diagnostics_are_shallow : (list : List Shown) → items_depth (items_of (map spec.diagnostic_value list)) ≤ 3
 diagnostics_are_shallow [] = omega arith

@@ -8,6 +8,7 @@ use crate::ranges::range_value;
 use crate::values::{Object, text_value};
 use crate::{FileEdits, TextEdit};
 use lw_base::NoMemory;
+use lw_text::Pos;
 use serde_json::Value;
 use std::alloc::Global;
 
@@ -44,14 +45,21 @@ fn edit_list(alloc: Global, list: &[TextEdit]) -> Result<Value, NoMemory>
     Ok(Value::Array(items))
 }
 
-/// A text in place of another (Language Server Protocol 3.17, "TextEdit").
 fn edit_value(alloc: Global, edit: &TextEdit) -> Result<Value, NoMemory>
     ensures { IfOk result (λ value. view value ≡ spec.edit_value edit.now) }
 {
+    replacement_value(alloc, edit.text.text(), edit.start, edit.end)
+}
+
+/// The text in place of what stands from the start up to the end (Language Server Protocol 3.17,
+/// "TextEdit").
+pub fn replacement_value(alloc: Global, text: &str, start: Pos, end: Pos) -> Result<Value, NoMemory>
+    ensures { IfOk result (λ value. view value ≡ spec.replacement_value text.now start end) }
+{
     Ok(
         Object::new(alloc)
-            .with(alloc, "newText", text_value(alloc, edit.text.text())?)?
-            .with(alloc, "range", range_value(alloc, edit.start, edit.end)?)?
+            .with(alloc, "newText", text_value(alloc, text)?)?
+            .with(alloc, "range", range_value(alloc, start, end)?)?
             .value(),
     )
 }

@@ -11,7 +11,8 @@
 //! It promises that [`read_message`] gives exactly that message, each refusal by its own rule alone; that
 //! [`reply_text`] gives exactly those bytes, and that they read back as that value. Either call may be
 //! refused memory instead. What is to be changed in documents is an object whose keys are their addresses:
-//! [`reply_text`] asks that [`Outcome::Edits`] has them in byte order, each once.
+//! [`reply_text`] asks that [`Outcome::Edits`] has them in byte order, each once. What may be put in at a place
+//! is a list: of each item its kind, its text, and that text as an edit of the document.
 //!
 //! A further method is one more case in `specs/Messages.antt`, `specs/Causes.antt` and `src/methods.rt`, and
 //! a further reply one in `specs/Replies.antt`, `specs/Values.antt` and `src/writing.rt`.
@@ -25,6 +26,7 @@ mod locations;
 mod members;
 mod message;
 mod methods;
+mod offers;
 mod params;
 mod published;
 mod ranges;
@@ -35,7 +37,7 @@ mod writing;
 
 pub use message::{Id, Message};
 pub use reading::read_message;
-pub use reply::{FileEdits, Location, Outcome, Reply, TextEdit};
+pub use reply::{CompletionItem, FileEdits, Location, Outcome, Reply, TextEdit};
 pub use writing::reply_text;
 
 #[cfg(test)]

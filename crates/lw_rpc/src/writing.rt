@@ -8,6 +8,7 @@ ghost use Rattle.lw_rpc.specs.Values as spec;
 use crate::edits::edits_value;
 use crate::hello::hello_value;
 use crate::locations::{location_value, locations_value};
+use crate::offers::offers_value;
 use crate::published::publish_params;
 use crate::values::{Object, text_value};
 use crate::{Id, Outcome, Reply};
@@ -113,6 +114,7 @@ fn outcome_value(alloc: Global, outcome: &Outcome) -> Result<Value, NoMemory>
         Outcome::Spot(location) => location_value(alloc, location),
         Outcome::Spots(list) => locations_value(alloc, list.as_slice()),
         Outcome::Edits(files) => edits_value(alloc, files.as_slice()),
+        Outcome::Offers(list) => offers_value(alloc, list.as_slice()),
     }
 }
 
