@@ -4,7 +4,6 @@ use Rattle.serde_json.specs.Data as Data
 use Rattle.serde_json.specs.Data.{no_members, string, array}
 use Rattle.serde_json.specs.Read.{read}
 use Rattle.serde_json.specs.View.{items_of}
-use Rattle.lw_text.specs.declared.place.Pos.{Pos}
 use Rattle.lw_text.specs.declared.shown.Shown.{Shown}
 use Rattle.lw_rpc.proofs.OrderLemmas.{with_members-in_order}
 use Rattle.lw_rpc.proofs.ReadLemmas.{ReadsBack-boolean, ReadsBack-string, ReadsBack-natural, ReadsBack-object, ReadsBack-array, AllReadBack-map, read-compact_text}
@@ -14,20 +13,10 @@ use Rattle.lw_rpc.specs.Readable.{ReadsBack, AllReadBack}
 use Rattle.lw_rpc.specs.Replies.{AreOrdered, HasOrderedEdits, reply_bytes}
 use Rattle.lw_rpc.specs.Values as value
 use Rattle.lw_rpc.specs.Values.{value_of}
-use Rattle.lw_rpc.specs.declared.message.Id.{Id}
 use Rattle.lw_rpc.specs.declared.reply.CompletionItem.{CompletionItem}
 use Rattle.lw_rpc.specs.declared.reply.FileEdits.{FileEdits}
 use Rattle.lw_rpc.specs.declared.reply.Location.{Location}
-use Rattle.lw_rpc.specs.declared.reply.Outcome.{Outcome}
 use Rattle.lw_rpc.specs.declared.reply.Reply.{Reply}
-
-pub position_reads : (place : Pos) → ReadsBack (value.natural place.character) → ReadsBack (value.natural place.line) → ReadsBack (value.position_value place)
-position_reads place character line =
-    ReadsBack-object ((codes "character", value.natural place.character) ∷ (codes "line", value.natural place.line) ∷ []) refl (character, (line, tt))
-
-pub range_reads : (start end : Pos) → ReadsBack (value.position_value start) → ReadsBack (value.position_value end) → ReadsBack (value.range_value start end)
-range_reads start end first last =
-    ReadsBack-object ((codes "end", value.position_value end) ∷ (codes "start", value.position_value start) ∷ []) refl (last, (first, tt))
 
 pub location_reads : (location : Location) → ReadsBack (value.range_value location.start location.end) → ReadsBack (value.location_value location)
 location_reads location range =
@@ -37,10 +26,6 @@ location_reads location range =
 pub locations_read : (list : List Location) → All (λ location. ReadsBack (value.location_value location)) list → ReadsBack (array (items_of (map value.location_value list)))
 locations_read list all = ReadsBack-array value.location_value list all
 
-pub replacement_reads : (text : List ℕ) (start end : Pos) → ReadsBack (value.range_value start end) → ReadsBack (value.replacement_value text start end)
-replacement_reads text start end range =
-    ReadsBack-object ((codes "newText", string text) ∷ (codes "range", value.range_value start end) ∷ []) refl (ReadsBack-string text, (range, tt))
-
 pub file_reads : (file : FileEdits) → All (λ edit. ReadsBack (value.edit_value edit)) file.edits → ReadsBack (value.file_member file).1
 file_reads file all = ReadsBack-array value.edit_value file.edits all
 
@@ -49,12 +34,6 @@ edits_read files ordered all =
     let changes : ReadsBack (value.object_of (map value.file_member files)) =
     ReadsBack-object (map value.file_member files) (with_members-in_order files ordered) (AllReadBack-map value.file_member files all) in
     ReadsBack-object ((codes "changes", value.object_of (map value.file_member files)) ∷ []) refl (changes, tt)
-
-pub offer_reads : (offer : CompletionItem) → ReadsBack (value.natural offer.kind) → ReadsBack (value.replacement_value offer.label offer.start offer.end) → ReadsBack (value.offer_value offer)
-offer_reads offer kind edit =
-    ReadsBack-object
-    ((codes "kind", value.natural offer.kind) ∷ (codes "label", string offer.label) ∷ (codes "textEdit", value.replacement_value offer.label offer.start offer.end) ∷ [])
-    refl (kind, (ReadsBack-string offer.label, (edit, tt)))
 
 pub offers_read : (list : List CompletionItem) → All (λ offer. ReadsBack (value.offer_value offer)) list → ReadsBack (array (items_of (map value.offer_value list)))
 offers_read list all = ReadsBack-array value.offer_value list all
@@ -86,18 +65,6 @@ log_reads message =
     ReadsBack-object ((codes "message", string message) ∷ (codes "type", value.natural 1) ∷ []) refl (ReadsBack-string message, (ReadsBack-natural 1 (omega arith), tt)) in
     ReadsBack-object ((codes "jsonrpc", value.version) ∷ (codes "method", string (codes "window/logMessage")) ∷ (codes "params", value.log_params message) ∷ []) refl
     (ReadsBack-string _, (ReadsBack-string _, (params, tt)))
-
-pub done_reads : (id : Id) (outcome : Outcome) → ReadsBack (value.id_value id) → ReadsBack (value.outcome_value outcome) → ReadsBack (value.done_value id outcome)
-done_reads id outcome first result =
-    ReadsBack-object ((codes "id", value.id_value id) ∷ (codes "jsonrpc", value.version) ∷ (codes "result", value.outcome_value outcome) ∷ []) refl
-    (first, (ReadsBack-string _, (result, tt)))
-
-pub error_reads : (id : Option Id) (code : ℤ) (message : List ℕ) → ReadsBack (value.whole code) → ReadsBack (value.id_or_null id) → ReadsBack (value.error_value id code message)
-error_reads id code message number found =
-    let fault : ReadsBack (value.fault_value code message) =
-    ReadsBack-object ((codes "code", value.whole code) ∷ (codes "message", string message) ∷ []) refl (number, (ReadsBack-string message, tt)) in
-    ReadsBack-object ((codes "error", value.fault_value code message) ∷ (codes "id", value.id_or_null id) ∷ (codes "jsonrpc", value.version) ∷ []) refl
-    (fault, (found, (ReadsBack-string _, tt)))
 
 sync_reads : ReadsBack value.sync_options
 sync_reads = ReadsBack-object ((codes "change", value.natural 2) ∷ (codes "openClose", Data.boolean true) ∷ []) refl (ReadsBack-natural 2 (omega arith), (ReadsBack-boolean true, tt))

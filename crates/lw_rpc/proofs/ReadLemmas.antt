@@ -22,9 +22,6 @@ use Rattle.lw_rpc.specs.Values.{with_members, object_of}
 
 -- ---- a value's parts
 
-pub ReadsBack-null : ReadsBack null
-ReadsBack-null = record { same = refl; numbers = tt }
-
 pub ReadsBack-boolean : (b : Bool) → ReadsBack (boolean b)
 ReadsBack-boolean b = record { same = refl; numbers = tt }
 
