@@ -1,0 +1,73 @@
+-- What is told of the cross-references that may come next, in words of the code.
+use Rattle.std.specs.Prelude.{ℕ, ◌≡◌, ◌≢◌, ◌↔◌, ◌++◌, ◌∷◌, [], List, Contains, map, length, slice_get, Some}
+use Rattle.lw_base.specs.declared.token.Token.{Token}
+use Rattle.lw_begins.specs.Gives.{PlacesGive}
+use Rattle.lw_grammar.specs.declared.grammar.Grammar.{Grammar}
+use Rattle.lw_grammar.specs.Kinds.{Kinds}
+use Rattle.lw_marks.specs.Follows.{LooksUp, RefersBy}
+use Rattle.lw_offers.specs.Starting.{ComesNext, IsBlankTree, IsFrontTree, ReferenceNext, moved_by, token_marks}
+use Rattle.lw_offers.specs.Targets.{HasTarget, renamed_to}
+use Rattle.lw_program.specs.Says.{Task}
+use Rattle.lw_recipes.specs.declared.mark.TreeMark.TheVariants as numbered
+use Rattle.lw_recipes.specs.Meant.{AreMeant, MeansMark}
+use Rattle.lw_scopes.specs.Links.{IsNumberBelow}
+use Rattle.lw_scoping.specs.Links.{Trees}
+use Rattle.lw_sentences.specs.Marks.{Put}
+use Rattle.lw_tokens.specs.Cut.{IsCut, kinds, visible}
+use Rattle.lw_tokens.specs.Lexicon.{Lexicon}
+use Rattle.lw_tree.specs.declared.node.Reference.{Reference}
+use Rattle.lw_tree.specs.Parts.{Parts}
+use Rattle.lw_viable.specs.declared.reference_start.ReferenceStart.{ReferenceStart}
+use Rattle.lw_complete.specs.declared.names.Known.{Known}
+use Rattle.lw_complete.specs.declared.starting.Blank.{Blank}
+use Rattle.lw_complete.specs.declared.starting.FrontNames.{FrontNames}
+use Rattle.lw_complete.specs.declared.typing.Typing.{Typing}
+use Rattle.lw_complete.specs.Typing.{grammar_of}
+
+-- the start is one of this reference
+pub record IsStartOf (g : Grammar) (next : ReferenceNext) (start : ReferenceStart) : Type 0 where
+  pub meant : AreMeant g start.marks next.before
+  pub puts : MeansMark g (numbered.Put start.put) (Put next.prop next.op next.value)
+
+module _ (of : Kinds) (typing : Typing) (trees : Trees) (address : List ℕ) where
+  -- by which names the reference leads somewhere in the tree of what was read before it, and how many references that tree has
+  pub record AreFrontNames (next : ReferenceNext) (found : FrontNames) : Type 0 where
+    pub tree : Parts
+    pub r : Reference
+    pub is_tree : IsFrontTree (grammar_of typing) of typing.front.now typing.tokens.now next tree r
+    pub exact : (name : List ℕ) → Contains found.names.items name ↔ HasTarget (IsNumberBelow (grammar_of typing)) trees address tree (renamed_to name r)
+    pub before : found.before ≡ length tree.refs
+
+  -- a name by which it leads somewhere in the tree of the whole text with the reference left blank
+  pub record IsBlankName (lexicon : Lexicon) (next : ReferenceNext) (name : List ℕ) : Type 0 where
+    pub front_tree : Parts
+    pub front_r : Reference
+    pub is_front : IsFrontTree (grammar_of typing) of typing.front.now typing.tokens.now next front_tree front_r
+    pub tree : Parts
+    pub r : Reference
+    pub is_tree : IsBlankTree (grammar_of typing) of lexicon typing.front.now typing.rest.now typing.tokens.now next front_tree tree r
+    pub target : HasTarget (IsNumberBelow (grammar_of typing)) trees address tree (renamed_to name r)
+
+-- the text without the word, and its tokens: those before the word, and behind them those of what stands behind the offset
+pub record IsBlank (typing : Typing) (lexicon : Lexicon) (blank : Blank) : Type 0 where
+  pub text : blank.text ≡ typing.front.now ++ typing.rest.now
+  pub cut : IsCut lexicon typing.rest.now blank.others.items
+  pub tokens : blank.tokens.items ≡ typing.tokens.now ++ map (moved_by (length typing.front.now)) blank.others.items
+
+-- The name, whose tokens behind the text before the word are these, is what the place of the start's value gives, and its value.
+pub record IsReadBy (of : Kinds) (tasks : List Task) (typing : Typing) (next : ReferenceNext) (start : ReferenceStart) (added : List Token) (name : List ℕ) : Type 0 where
+  pub gives : PlacesGive (grammar_of typing) of tasks (start.value ∷ []) (token_marks (kinds (visible added)))
+  pub wanted : List ℕ
+  pub rule : List ℕ
+  pub refers : RefersBy (grammar_of typing) next.value wanted rule
+  pub means : LooksUp (grammar_of typing) (typing.front.now ++ name) rule (visible added) name
+
+-- what is known of a start: of which reference it is, and by which names that leads somewhere in the tree of what was read before
+pub record IsKnownStart (of : Kinds) (tasks : List Task) (typing : Typing) (trees : Trees) (address : List ℕ) (known : Known) : Type 0 where
+  pub next : ReferenceNext
+  pub is_start : IsStartOf (grammar_of typing) next known.start
+  pub comes : ComesNext (grammar_of typing) of typing.tokens.now next
+  pub tree : Parts
+  pub r : Reference
+  pub is_tree : IsFrontTree (grammar_of typing) of typing.front.now typing.tokens.now next tree r
+  pub exact : (name : List ℕ) → Contains known.names.items name ↔ HasTarget (IsNumberBelow (grammar_of typing)) trees address tree (renamed_to name r)
