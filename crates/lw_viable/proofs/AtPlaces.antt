@@ -11,7 +11,7 @@ use Rattle.lw_viable.specs.declared.front.Front.{Front}
 use Rattle.lw_viable.specs.declared.lists.Lists.{Lists}
 use Rattle.lw_viable.proofs.Putting.{put_none}
 
-module _ (program : ProgramParts) (told : BeginsParts) (kind p : ℕ) where
+module _ (program : ProgramParts) (told : BeginsParts) (kind : Option KindId) (p : ℕ) where
   pub moved_quietly : {old new : Lists} {front : Front} {before after : List Front} (i : Option Instr) (changes : List Change) (found : List Front) →
       slice_get program.code p ≡ i → GrowsLists old new → AreQuiet program told kind p i changes → AreRead kind i [] → ArePut changes old new front before after →
       IsMovedAt program told kind p old new front before after found found

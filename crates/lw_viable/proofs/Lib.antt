@@ -4,7 +4,15 @@ pub mod AtPlaces
 pub mod Moves
 pub mod Meaning
 pub mod Listing
+pub mod ReadingTurns
 pub mod Exploring
 pub mod Turned
 pub mod Ending
 pub mod Starting
+pub mod Cutting
+pub mod Puts
+pub mod Visited
+pub mod Holding
+pub mod Handed
+pub mod KindsBelow
+pub mod ComingNext

@@ -1,4 +1,4 @@
--- The changes that are put on at a place are its moves, all but those that come to no token of the kind that is sought.
+-- The changes that are put on at a place are its moves, all but those that come to no token of the kind that is sought, if one is.
 use Rattle.std.proofs.Common.{◌≡◌, ◌≢◌, inl, inr, ℕ, zero, suc, ◌+◌, ◌-◌, ◌<◌, ◌≤◌, List, [], ◌∷◌, Option, Some, None, All, Contains, true, map, slice_get, refl, sym, ap, ◌∙◌, subst, arith}
 use Rattle.std.proofs.lemmas.Bool.{cases_lt}
 use Rattle.std.proofs.lemmas.List.Elements.{All-nil, All-cons, All-same, All-map}
@@ -9,11 +9,11 @@ use Rattle.lw_program.specs.declared.instr.Instr.TheVariants.{Token, End, Shut, 
 use Rattle.lw_program.specs.ProgramOf.{ProgramParts}
 use Rattle.lw_recipes.specs.declared.mark.TreeMark.{TreeMark}
 use Rattle.lw_recipes.specs.declared.mark.TreeMark.TheVariants as numbered
-use Rattle.lw_begins.specs.Told.{BeginsParts, IsMet}
+use Rattle.lw_begins.specs.Told.{BeginsParts}
 use Rattle.lw_viable.specs.Moves.{side_by_side, MovesBy}
 use Rattle.lw_viable.specs.Moves as move
 use Rattle.lw_viable.specs.Growing.{Change}
-use Rattle.lw_viable.specs.Turning.{way_change, Enters, LoopsOnce, ReadsToken, AreRead, IsCalled, AreQuiet}
+use Rattle.lw_viable.specs.Turning.{way_change, Enters, LoopsOnce, ReadsToken, Misses, AreRead, IsCalled, AreQuiet}
 use Rattle.lw_viable.specs.Turning as turn
 use Rattle.lw_viable.proofs.Moves.Beside.{all_beside}
 
@@ -43,7 +43,7 @@ way_put first (suc count) w from below = elim (cases_lt first w) [
       subst (λ w. Contains (map way_change (side_by_side first (suc count))) (way_change w)) same (first_of (way_change first) (map way_change (side_by_side (first + 1) count)))
 ]
 
-module _ (program : ProgramParts) (told : BeginsParts) (kind p : ℕ) where
+module _ (program : ProgramParts) (told : BeginsParts) (kind : Option KindId) (p : ℕ) where
   -- ---- each change is a move
 
   -- by a move that reads no token, and by one that reads one of this kind
@@ -53,7 +53,7 @@ module _ (program : ProgramParts) (told : BeginsParts) (kind p : ℕ) where
   pub record IsTokenMove (change : Change) : Type 0 where
     pub read : KindId
     pub at : slice_get program.code p ≡ Some (Token read)
-    pub same : read.0 ≡ kind
+    pub same : kind ≡ Some read
     pub is : change ≡ (Some (numbered.Token read), [])
 
   one_quiet : {changes : List Change} (change : Change) → IsQuietMove change → changes ≡ change ∷ [] → All IsQuietMove changes
@@ -74,7 +74,7 @@ module _ (program : ProgramParts) (told : BeginsParts) (kind p : ℕ) where
   entered_quietly at starts (turn.goes no_flag) = (move.calls at starts no_flag, tt)
 
   called_quietly : {r : ℕ} {changes : List Change} → slice_get program.code p ≡ Some (Call r) → IsCalled program told kind r changes → All IsQuietMove changes
-  called_quietly at (turn.misses not_met) = All-nil IsQuietMove
+  called_quietly at (turn.misses misses) = All-nil IsQuietMove
   called_quietly at (turn.nowhere none) = All-nil IsQuietMove
   called_quietly at (turn.enters {change} starts enters) = one_quiet change (entered_quietly at starts enters) refl
 
@@ -115,8 +115,8 @@ module _ (program : ProgramParts) (told : BeginsParts) (kind p : ℕ) where
   pub data IsPut (quiet tokens : List Change) : Change → Type 0 where
     quietly : {change : Change} → Contains quiet change → IsPut quiet tokens change
     by_token : {change : Change} → Contains tokens change → IsPut quiet tokens change
-    misread : {k : KindId} {ps : List ℕ} → k.0 ≢ kind → IsPut quiet tokens (Some (numbered.Token k), ps)
-    missed : {r : ℕ} {change : Change} → slice_get program.code p ≡ Some (Call r) → ¬ IsMet told.meets r kind → IsPut quiet tokens change
+    misread : {k : KindId} {ps : List ℕ} → kind ≢ Some k → IsPut quiet tokens (Some (numbered.Token k), ps)
+    missed : {r : ℕ} {change : Change} → slice_get program.code p ≡ Some (Call r) → Misses told kind r → IsPut quiet tokens change
 
   module _ (quiet tokens : List Change) (are_quiet : AreQuiet program told kind p (slice_get program.code p) quiet)
       (are_read : AreRead kind (slice_get program.code p) tokens) where
@@ -147,7 +147,7 @@ module _ (program : ProgramParts) (told : BeginsParts) (kind p : ℕ) where
     open_put : {r start : ℕ} {changes : List Change} → IsCalled program told kind r changes → slice_get program.code p ≡ Some (Call r) →
         slice_get program.starts r ≡ Some (Some start) → slice_get told.nodes r ≡ Some true → changes ≡ quiet →
         IsPut quiet tokens (Some (numbered.Open (record { 0 = r })), start ∷ (start + 1) ∷ [])
-    open_put (turn.misses not_met) at starts flag are = missed at not_met
+    open_put (turn.misses misses) at starts flag are = missed at misses
     open_put (turn.nowhere none) at starts flag are = absurd (none _ starts)
     open_put {r} {start} (turn.enters {start = other} {change} there enters) at starts flag are =
         let both = sym there ∙ starts in
@@ -156,7 +156,7 @@ module _ (program : ProgramParts) (told : BeginsParts) (kind p : ℕ) where
 
     call_put : {r start : ℕ} {changes : List Change} → IsCalled program told kind r changes → slice_get program.code p ≡ Some (Call r) →
         slice_get program.starts r ≡ Some (Some start) → ¬ (slice_get told.nodes r ≡ Some true) → changes ≡ quiet → IsPut quiet tokens (None, start ∷ [])
-    call_put (turn.misses not_met) at starts no_flag are = missed at not_met
+    call_put (turn.misses misses) at starts no_flag are = missed at misses
     call_put (turn.nowhere none) at starts no_flag are = absurd (none _ starts)
     call_put {start} (turn.enters {start = other} {change} there enters) at starts no_flag are =
         let both = sym there ∙ starts in

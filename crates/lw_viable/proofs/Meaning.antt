@@ -1,10 +1,19 @@
 -- Marks with numbers behind each other, and the kinds of what they mean.
-use Rattle.std.proofs.Common.{◌≡◌, List, [], ◌∷◌, ◌++◌, refl, ap}
+use Rattle.std.proofs.Common.{◌≡◌, List, [], ◌∷◌, ◌++◌, refl, sym, ap, ◌∙◌}
+use Rattle.lw_sentences.proofs.Joined.{kinds_join}
 use Rattle.lw_grammar.specs.declared.grammar.Grammar.{Grammar}
 use Rattle.lw_sentences.specs.Marks.{Mark, kinds_of}
 use Rattle.lw_recipes.specs.declared.mark.TreeMark.{TreeMark}
 use Rattle.lw_recipes.specs.Meant.{MeansMark, AreMeant}
 use Rattle.lw_recipes.specs.Meant as meant
+
+pub none_left : {X : Type 0} (xs ys : List X) → xs ++ ys ≡ [] → (xs ≡ []) × (ys ≡ [])
+none_left [] ys is = (refl, is)
+none_left (x ∷ xs) ys is = cc
+
+-- where marks have no token, none of their parts has one
+pub quiet_parts : (m n : List Mark) → kinds_of (m ++ n) ≡ [] → (kinds_of m ≡ []) × (kinds_of n ≡ [])
+quiet_parts m n quiet = none_left (kinds_of m) (kinds_of n) (sym (kinds_join m n) ∙ quiet)
 
 module _ (g : Grammar) where
   pub meant_joined : {xs ys : List TreeMark} {a b : List Mark} → AreMeant g xs a → AreMeant g ys b → AreMeant g (xs ++ ys) (a ++ b)

@@ -1,5 +1,5 @@
--- The reading of no tokens, at the start of the entry rule.
-use Rattle.std.proofs.Common.{◌≡◌, ℕ, ◌+◌, List, [], ◌∷◌, ◌++◌, Some, map, reverse, slice_get, refl, sym, ap, ◌∙◌, subst, subst₂, arith}
+-- The reading of no tokens, at the start of the entry rule or of some places.
+use Rattle.std.proofs.Common.{◌≡◌, ℕ, ◌+◌, List, [], ◌∷◌, ◌++◌, Some, None, All, map, reverse, slice_get, refl, sym, ap, ◌∙◌, subst, subst₂, append-nil, arith}
 use Rattle.std.proofs.lemmas.List.Elements.{All-nil, All-cons}
 use Rattle.lw_chains.specs.Chains.{chain}
 use Rattle.lw_grammar.specs.declared.grammar.Grammar.{Grammar}
@@ -16,9 +16,10 @@ use Rattle.lw_sentences.specs.Yields.{RuleGives}
 use Rattle.lw_program.specs.ProgramOf.{ProgramParts}
 use Rattle.lw_recipes.specs.declared.mark.TreeMark.TheVariants as numbered
 use Rattle.lw_recipes.specs.Meant as meant
-use Rattle.lw_begins.specs.Gives.{OpensNode}
+use Rattle.lw_program.specs.Says.{Task}
+use Rattle.lw_begins.specs.Gives.{OpensNode, PlacesGive}
 use Rattle.lw_begins.specs.Told.{BeginsParts}
-use Rattle.lw_viable.specs.Readings.{KeptReading, GoesOnFrom, IsKeptReading, Keeps}
+use Rattle.lw_viable.specs.Readings.{KeptReading, GoesOnFrom, HasTask, IsKeptReading, Keeps}
 use Rattle.lw_viable.specs.Readings as keep
 use Rattle.lw_viable.specs.Fronts.{IsKnownProgram}
 use Rattle.lw_viable.specs.Growing.{read, Change, changed, ArePut}
@@ -41,6 +42,34 @@ pub first_read : (lists new : Lists) (front : Front) (change : Change) (before a
 first_read lists new front change before after marks rests none put =
     ap (map (read new)) (put.are ∙ ap (λ fronts. fronts ++ put.fronts) none) ∙ put.are_read ∙ ap (λ r. changed r change ∷ []) (empty_read lists front marks rests)
 
+module _ (g : Grammar) (kinds : Kinds) (tasks : List Task) where
+  -- one reading of no tokens is all of them
+  pub one_keeps : {Whole : List Mark → Type 0} (r : KeptReading) → IsKeptReading g kinds tasks Whole [] r → ((m : List Mark) → Whole m → GoesOnFrom g kinds tasks m r) →
+      Keeps g kinds tasks Whole [] (r ∷ [])
+  one_keeps {Whole} r kept all =
+      record {
+        each = All-cons (IsKeptReading g kinds tasks Whole []) r [] kept (All-nil (IsKeptReading g kinds tasks Whole []));
+        all = λ m ls whole have. any_of (GoesOnFrom g kinds tasks m) (r ∷ []) r (0, omega arith, refl) (all m whole);
+      }
+
+  -- that of the places alone
+  pub places_keep : (places : List ℕ) → All (HasTask g kinds tasks) places →
+      Keeps g kinds tasks (PlacesGive g kinds tasks places) [] (changed (reading [] []) (None, places) ∷ [])
+  places_keep places placed =
+      subst (λ rest. Keeps g kinds tasks (PlacesGive g kinds tasks places) [] (reading [] rest ∷ [])) (sym (append-nil places))
+      (one_keeps (reading [] places)
+      (record {
+        ahead = record {
+          sound = λ m on. subst (PlacesGive g kinds tasks places) (sym (on.are ∙ ap (λ front. front ++ on.others) (none_meant g on.meant))) on.gives;
+          front = [];
+          meant = meant.none;
+          kinds_are = refl;
+          placed = placed;
+        };
+        cut = keep.unmarked;
+      })
+      (λ m give. record { front = []; others = m; meant = meant.none; gives = give; are = refl }))
+
 module _ (g : Grammar) (kinds : Kinds) {program : ProgramParts} {told : BeginsParts} (known : IsKnownProgram g kinds program told) {r start : ℕ} {rule : Rule}
     (is : IsEntry g r rule) (at : slice_get program.starts r ≡ Some (Some start)) where
   gives_entry : {m : List Mark} → IsSentence g kinds m → RuleGives g kinds r rule m
@@ -50,51 +79,42 @@ module _ (g : Grammar) (kinds : Kinds) {program : ProgramParts} {told : BeginsPa
   entry_sentence : {m : List Mark} → RuleGives g kinds r rule m → IsSentence g kinds m
   entry_sentence gives = record { number = r; rule = rule; entry = is; gives = gives }
 
-  abbrev Goes : List Mark → KeptReading → Type 0
-  Goes m r = GoesOnFrom g kinds known.program.tasks m r
-
-  abbrev Kept : KeptReading → Type 0
-  Kept r = IsKeptReading g kinds known.program.tasks [] r
-
-  one_keeps : (r : KeptReading) → Kept r → ((m : List Mark) → IsSentence g kinds m → Goes m r) → Keeps g kinds known.program.tasks [] (r ∷ [])
-  one_keeps r kept all =
-      record {
-        each = All-cons Kept r [] kept (All-nil Kept);
-        all = λ m ls sentence have. any_of (Goes m) (r ∷ []) r (0, omega arith, refl) (all m sentence);
-      }
-
   abbrev entered : IsReached g r
   entered = reached.entry rule is
 
-  pub starts_keep : (change : Change) → Enters told r start change → Keeps g kinds known.program.tasks [] (changed (reading [] []) change ∷ [])
+  pub starts_keep : (change : Change) → Enters told r start change → Keeps g kinds known.program.tasks (IsSentence g kinds) [] (changed (reading [] []) change ∷ [])
   starts_keep change (turn.opens flag) =
       let opens = (known.begins.nodes r rule is.there).1 flag in
-      one_keeps (reading (numbered.Open (record { 0 = r }) ∷ []) (start ∷ (start + 1) ∷ []))
+      one_keeps g kinds known.program.tasks (reading (numbered.Open (record { 0 = r }) ∷ []) (start ∷ (start + 1) ∷ []))
       (record {
-        sound = λ m on.
-            entry_sentence (subst (RuleGives g kinds r rule) (sym (on.are ∙ ap (λ front. front ++ on.others) (open_meant g on.meant)))
-            (node_given g kinds program known.program entered is.there at opens on.gives));
-        front = mark.Open r ∷ [];
-        meant = meant.more (meant.opens (record { 0 = r })) meant.none;
-        kinds_are = refl;
-        cut = keep.nothing_read;
-        placed = node_placed g kinds program known.program entered is.there at opens;
+        ahead = record {
+          sound = λ m on.
+              entry_sentence (subst (RuleGives g kinds r rule) (sym (on.are ∙ ap (λ front. front ++ on.others) (open_meant g on.meant)))
+              (node_given g kinds program known.program entered is.there at opens on.gives));
+          front = mark.Open r ∷ [];
+          meant = meant.more (meant.opens (record { 0 = r })) meant.none;
+          kinds_are = refl;
+          placed = node_placed g kinds program known.program entered is.there at opens;
+        };
+        cut = keep.opened (record { 0 = r });
       })
       (λ m sentence.
       let (n, give, are) = node_enters g kinds program known.program entered is.there at opens (gives_entry sentence) in
       record { front = mark.Open r ∷ []; others = n; meant = meant.more (meant.opens (record { 0 = r })) meant.none; gives = give; are = are })
   starts_keep change (turn.goes no_flag) =
       let alone = λ (opens : OpensNode g rule). no_flag ((known.begins.nodes r rule is.there).0 opens) in
-      one_keeps (reading [] (start ∷ []))
+      one_keeps g kinds known.program.tasks (reading [] (start ∷ []))
       (record {
-        sound = λ m on.
-            entry_sentence (subst (RuleGives g kinds r rule) (sym (on.are ∙ ap (λ front. front ++ on.others) (none_meant g on.meant)))
-            (body_given g kinds program known.program entered is.there at alone on.gives));
-        front = [];
-        meant = meant.none;
-        kinds_are = refl;
-        cut = keep.nothing_read;
-        placed = body_placed g kinds program known.program entered is.there at;
+        ahead = record {
+          sound = λ m on.
+              entry_sentence (subst (RuleGives g kinds r rule) (sym (on.are ∙ ap (λ front. front ++ on.others) (none_meant g on.meant)))
+              (body_given g kinds program known.program entered is.there at alone on.gives));
+          front = [];
+          meant = meant.none;
+          kinds_are = refl;
+          placed = body_placed g kinds program known.program entered is.there at;
+        };
+        cut = keep.unmarked;
       })
       (λ m sentence.
       record {

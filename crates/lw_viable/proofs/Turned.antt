@@ -1,26 +1,24 @@
--- A turn, in words of the code: what is still to be explored weighs less, and what is known of it and of what was found is kept.
+-- A turn, in words of the code: what is still to be explored weighs less, and it is a turn at the reading of its front.
 use Rattle.std.proofs.Common.{◌≡◌, ℕ, ◌-◌, ◌<◌, ◌≤◌, List, [], ◌∷◌, ◌++◌, Option, Some, None, All, map, slice_get, sum_by, refl, sym, ap, ◌∙◌, subst, arith}
 use Rattle.std.proofs.lemmas.List.{map-append}
 use Rattle.std.proofs.lemmas.List.Elements.{All-append, All-same}
 use Rattle.std.proofs.lemmas.List.Sums.{sum_by-append, sum_by-cons, sum_by_push}
-use Rattle.lw_grammar.specs.declared.grammar.Grammar.{Grammar}
-use Rattle.lw_grammar.specs.Kinds.{Kinds, kind_count}
+use Rattle.lw_base.specs.declared.numbers.KindId.{KindId}
 use Rattle.lw_program.specs.declared.instr.Instr.{Instr}
 use Rattle.lw_program.specs.declared.instr.Instr.TheVariants.{Token, End, Shut, Act, Row, Choice, Maybe, Loop, Once, Put, Call}
 use Rattle.lw_program.specs.ProgramOf.{ProgramParts}
 use Rattle.lw_recipes.specs.declared.mark.TreeMark.{TreeMark}
 use Rattle.lw_begins.specs.Told.{BeginsParts}
-use Rattle.lw_viable.specs.Readings.{KeptReading}
 use Rattle.lw_viable.specs.Moves.{side_by_side}
-use Rattle.lw_viable.specs.Fronts.{IsKnownProgram}
 use Rattle.lw_viable.specs.Growing.{HasLists, read, GrowsLists, Change, changed, weight_of, fronts_weight, kept, ArePut}
 use Rattle.lw_viable.specs.Turning.{way_change, Enters, LoopsOnce, IsCalled, AreQuiet, IsMovedAt, IsTurned}
 use Rattle.lw_viable.specs.Turning as turn
 use Rattle.lw_viable.specs.declared.front.Front.{Front}
 use Rattle.lw_viable.specs.declared.lists.Lists.{Lists}
-use Rattle.lw_viable.proofs.Exploring.{IsExploring, dropped, turned}
 use Rattle.lw_viable.proofs.Made.{reading}
 use Rattle.lw_viable.proofs.Putting.{all_stay_within, all_read_same, room_shrinks}
+use Rattle.lw_viable.proofs.ReadingTurns.{TurnsAt}
+use Rattle.lw_viable.proofs.ReadingTurns as at
 
 -- ---- weights
 
@@ -56,9 +54,9 @@ ways_none front (p ∷ ps) = let others = ways_none front ps in omega (arith, ot
 ways_light : (front : Front) (places : List ℕ) → IsLight front (map way_change places)
 ways_light front places = let none = ways_none front places in record { light = omega (arith, none) }
 
-module _ (program : ProgramParts) (told : BeginsParts) (kind p : ℕ) where
+module _ (program : ProgramParts) (told : BeginsParts) (kind : Option KindId) (p : ℕ) where
   calls_light : (front : Front) {r : ℕ} {changes : List Change} → IsCalled program told kind r changes → IsLight front changes
-  calls_light front (turn.misses not_met) = none_light front
+  calls_light front (turn.misses misses) = none_light front
   calls_light front (turn.nowhere none) = none_light front
   calls_light front (turn.enters {change} starts enters) = one_light front change
 
@@ -80,7 +78,7 @@ module _ (program : ProgramParts) (told : BeginsParts) (kind p : ℕ) where
   quiet_light front changes (Some (Put n first)) are = light_as are (one_light front _)
   quiet_light front changes (Some (Call r)) are = calls_light front are
 
-module _ (program : ProgramParts) (told : BeginsParts) (kind : ℕ) {old new : Lists} (grows : GrowsLists old new) where
+module _ (program : ProgramParts) (told : BeginsParts) (kind : Option KindId) {old new : Lists} (grows : GrowsLists old new) where
   -- less is still to be explored
   pub turned_lighter : (front : Front) (work after found noted : List Front) → IsTurned program told kind old new front work after found noted →
       fronts_weight new after < fronts_weight old (work ++ front ∷ [])
@@ -119,27 +117,13 @@ module _ (program : ProgramParts) (told : BeginsParts) (kind : ℕ) {old new : L
       ap (map (read new)) put.are ∙ map-append (read new) before put.fronts ∙ ap (λ rs. rs ++ map (read new) put.fronts) (all_read_same grows before within)
       ∙ ap (λ rs. map (read old) before ++ rs) put.are_read
 
-  module _ (g : Grammar) (kinds : Kinds) (known : IsKnownProgram g kinds program told) (within_kinds : kind < kind_count kinds) (ks : List ℕ) where
-    abbrev Explores : List KeptReading → List KeptReading → Type 0
-    Explores work found = IsExploring g kinds known ks kind work found
-
-    pub turned_keeps : (front : Front) (work after found noted : List Front) → All (HasLists old) work → All (HasLists old) found →
-        Explores (map (read old) (work ++ front ∷ [])) (map (read old) found) → IsTurned program told kind old new front work after found noted →
-        Explores (map (read new) after) (map (read new) noted)
-    turned_keeps front work after found noted within found_within explored (turn.nothing empty same same_found) =
-        let front_is : read old front ≡ reading (read old front).marks [] = ap (reading (read old front).marks) empty in
-        let before : Explores (map (read old) work ++ reading (read old front).marks [] ∷ []) (map (read old) found) =
-        subst (λ work. Explores work (map (read old) found)) (map-append (read old) work (front ∷ []) ∙ ap (λ r. map (read old) work ++ r ∷ []) front_is) explored in
-        let work_is : map (read new) after ≡ map (read old) work = ap (map (read new)) same ∙ all_read_same grows work within in
-        let found_is : map (read new) noted ≡ map (read old) found = ap (map (read new)) same_found ∙ all_read_same grows found found_within in
-        subst (λ work. Explores work (map (read new) noted)) (sym work_is)
-        (subst (λ found. Explores (map (read old) work) found) (sym found_is)
-        (dropped g kinds known (read old front).marks (map (read old) work) (map (read old) found) before))
-    turned_keeps front work after found noted within found_within explored (turn.moves {p} {behind} behind_within marks rest less moved) =
-        let r = read old behind in
-        let front_is : read old front ≡ reading r.marks (p ∷ r.rest) = ap (λ marks. reading marks (read old front).rest) (sym marks) ∙ ap (reading r.marks) rest in
-        let before : Explores (map (read old) work ++ reading r.marks (p ∷ r.rest) ∷ []) (map (read old) found) =
-        subst (λ work. Explores work (map (read old) found)) (map-append (read old) work (front ∷ []) ∙ ap (λ r. map (read old) work ++ r ∷ []) front_is) explored in
-        subst (λ work. Explores work (map (read new) noted)) (sym (put_read moved.quiet behind work after within moved.puts))
-        (subst (λ found. Explores (map (read old) work ++ map (changed r) moved.quiet) found) (sym (put_read moved.tokens behind found noted found_within moved.finds))
-        (turned g kinds known kind p r.marks r.rest (map (read old) work) (map (read old) found) moved.quiet moved.tokens within_kinds before moved.are_quiet moved.are_read))
+  pub turned_at : (front : Front) (work after found noted : List Front) → All (HasLists old) work → All (HasLists old) found →
+      IsTurned program told kind old new front work after found noted →
+      TurnsAt program told kind (read old front) (map (read old) work) (map (read new) after) (map (read old) found) (map (read new) noted)
+  turned_at front work after found noted within found_within (turn.nothing empty same same_found) =
+      at.drops (read old front).marks (ap (reading (read old front).marks) empty) (ap (map (read new)) same ∙ all_read_same grows work within)
+      (ap (map (read new)) same_found ∙ all_read_same grows found found_within)
+  turned_at front work after found noted within found_within (turn.moves {p} {behind} behind_within marks rest less moved) =
+      let r = read old behind in
+      at.moves r.marks r.rest moved.quiet moved.tokens (ap (λ marks. reading marks (read old front).rest) (sym marks) ∙ ap (reading r.marks) rest) moved.are_quiet moved.are_read
+      (put_read moved.quiet behind work after within moved.puts) (put_read moved.tokens behind found noted found_within moved.finds)

@@ -1,13 +1,15 @@
 -- What readings are kept over, and what they are asked for.
-use Rattle.std.specs.Prelude.{ℕ, List, [], ◌∷◌, ◌++◌, if◌then◌else◌, reverse}
+use Rattle.std.specs.Prelude.{ℕ, ◌≡◌, List, [], ◌∷◌, ◌++◌, if◌then◌else◌, reverse}
 use Rattle.lw_base.specs.declared.token.Token.{Token}
 use Rattle.lw_grammar.specs.declared.grammar.Grammar.{Grammar}
 use Rattle.lw_grammar.specs.Kinds.{Kinds, AreKinds}
 use Rattle.lw_chains.specs.Chains.{chain}
 use Rattle.lw_program.specs.ProgramOf.{ProgramParts, IsProgramOf}
+use Rattle.lw_program.specs.Says.{Task}
 use Rattle.lw_recipes.specs.declared.mark.TreeMark.{TreeMark}
 use Rattle.lw_begins.specs.Told.{BeginsParts, TellsBegins}
 use Rattle.lw_viable.specs.Readings.{KeptReading, Keeps}
+use Rattle.lw_viable.specs.Aims.{Aim, Fulfils}
 use Rattle.lw_viable.specs.declared.front.Front.{Front}
 
 -- a program, what is told of its places, and the readings that are kept
@@ -31,7 +33,12 @@ module _ (g : Grammar) (kinds : Kinds) where
     pub program : IsProgramOf g kinds parts
     pub begins : TellsBegins g kinds program.tasks told
 
-  -- these are the readings of the kinds by a program of the grammar
-  pub record HoldReadings (ks : List ℕ) (fronts : FrontsParts) : Type 0 where
-    pub known : IsKnownProgram fronts.program fronts.begins
-    pub keeps : Keeps g kinds known.program.tasks ks fronts.kept
+  -- and these tasks stand at its places
+  pub record IsProgramWith (tasks : List Task) (parts : ProgramParts) (told : BeginsParts) : Type 0 where
+    pub known : IsKnownProgram parts told
+    pub tasks_are : known.program.tasks ≡ tasks
+
+  -- these are the readings of the kinds towards the aim by a program of the grammar, at whose places these tasks stand
+  pub record HoldReadings (tasks : List Task) (aim : Aim) (ks : List ℕ) (fronts : FrontsParts) : Type 0 where
+    pub by : IsProgramWith tasks fronts.program fronts.begins
+    pub keeps : Keeps g kinds tasks (Fulfils g kinds tasks aim) ks fronts.kept

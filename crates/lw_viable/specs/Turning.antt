@@ -29,20 +29,26 @@ pub data LoopsOnce (program : ProgramParts) (rest : ℕ) : List Change → Type 
   body : {point : PointId} {inner : ℕ} → slice_get program.code rest ≡ Some (Loop point inner) → LoopsOnce program rest ((None, inner ∷ rest ∷ []) ∷ [])
   nowhere : ((point : PointId) (inner : ℕ) → slice_get program.code rest ≢ Some (Loop point inner)) → LoopsOnce program rest []
 
--- a token of the kind that is sought
-pub data ReadsToken (kind : ℕ) (k : KindId) : List Change → Type 0 where
-  it : k.0 ≡ kind → ReadsToken kind k ((Some (mark.Token k), []) ∷ [])
-  other : k.0 ≢ kind → ReadsToken kind k []
+-- a token of the kind that is sought, if one is
+pub data ReadsToken (kind : Option KindId) (k : KindId) : List Change → Type 0 where
+  it : kind ≡ Some k → ReadsToken kind k ((Some (mark.Token k), []) ∷ [])
+  other : kind ≢ Some k → ReadsToken kind k []
 
-abbrev pub AreRead : ℕ → Option Instr → List Change → Type 0
+-- the rule cannot be called where a token of the kind comes next
+pub record Misses (told : BeginsParts) (kind : Option KindId) (r : ℕ) : Type 0 where
+  pub sought : KindId
+  pub is : kind ≡ Some sought
+  pub not_met : ¬ IsMet told.meets r sought.0
+
+abbrev pub AreRead : Option KindId → Option Instr → List Change → Type 0
 AreRead kind (Some (Token k)) changes = ReadsToken kind k changes
 AreRead kind _ changes = changes ≡ []
 
 -- by a program of which all is told
-module _ (program : ProgramParts) (told : BeginsParts) (kind : ℕ) where
-  -- a call of a rule is left out where the kind cannot come next
+module _ (program : ProgramParts) (told : BeginsParts) (kind : Option KindId) where
+  -- a call of a rule is left out where a kind is sought that cannot come next
   pub data IsCalled (r : ℕ) : List Change → Type 0 where
-    misses : ¬ IsMet told.meets r kind → IsCalled r []
+    misses : Misses told kind r → IsCalled r []
     nowhere : ((start : ℕ) → slice_get program.starts r ≢ Some (Some start)) → IsCalled r []
     enters : {start : ℕ} {change : Change} → slice_get program.starts r ≡ Some (Some start) → Enters told r start change → IsCalled r (change ∷ [])
 

@@ -22,9 +22,14 @@
 //! share their ends, twelve bytes a cell at most, and are given back with the whole.
 #![tactic(auto)]
 
+mod due;
 mod front;
 mod fronts;
+mod listed;
 mod lists;
+mod places;
+mod reference_start;
 mod sought;
 
 pub use fronts::Fronts;
+pub use reference_start::ReferenceStart;

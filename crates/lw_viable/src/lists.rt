@@ -6,7 +6,8 @@ ghost use Rattle.lw_viable.specs.Moves.{left, side_by_side};
 ghost use Rattle.lw_viable.specs.Turning.{MayBePassed, way_change};
 
 use crate::front::Front;
-use lw_base::NoMemory;
+use crate::listed::listed;
+use lw_base::{Items, NoMemory};
 use lw_begins::Begins;
 use lw_chains::Chains;
 use lw_recipes::TreeMark;
@@ -184,6 +185,37 @@ impl Lists {
     {
         self.put(fronts, front, None, &[])?;
         self.put(fronts, front, None, places)
+    }
+
+    /// The marks of a reading, in order.
+    pub(crate) fn marks_of(&self, alloc: Global, front: Front) -> Result<Items<TreeMark>, NoMemory>
+        ensures { IfOk result (λ marks. marks ≡ (read self.now front).marks) }
+    {
+        let mut marks = listed(alloc, &self.marks, front.marks)?;
+        marks.reverse();
+        Ok(Items::from_vec(marks))
+    }
+
+    /// The places that a reading still has to do, in order.
+    pub(crate) fn places_of(&self, alloc: Global, front: Front) -> Result<Items<u32>, NoMemory>
+        ensures { IfOk result (λ places. places ≡ (read self.now front).rest) }
+    {
+        Ok(Items::from_vec(listed(alloc, &self.rests, front.rest)?))
+    }
+
+    /// The marks of each of these, in order.
+    pub(crate) fn all_marks(
+        &self,
+        alloc: Global,
+        fronts: &[Front],
+    ) -> Result<Vec<Items<TreeMark>>, NoMemory>
+        ensures { IfOk result (λ all. all.items ≡ map (λ front. (read self.now front).marks) fronts.now) }
+    {
+        let mut all = Vec::new(alloc);
+        for front in fronts {
+            all.push(self.marks_of(alloc, *front)?)?;
+        }
+        Ok(all)
     }
 
     /// Whether each place that is still to be done may read nothing.

@@ -1,30 +1,54 @@
-// The readings that go on with a token of one kind.
-ghost use Rattle.std.specs.Prelude.{ℕ, ◌≡◌, ◌+◌, ◌<◌, ◌++◌, List, [], ◌∷◌, Some, All, map, IfOk, OnOk, MatchOption, ◌≢◌, slice_get};
-ghost use Rattle.lw_base.specs.declared.numbers.PointId.{PointId};
+// The readings that go on with a token of one kind, or with none.
+ghost use Rattle.std.specs.Prelude.{ℕ, ◌≡◌, ◌↔◌, ◌<◌, ◌++◌, List, [], ◌∷◌, Some, None, All, map, IsTrue, IfOk, OnOk};
+ghost use Rattle.lw_base.specs.declared.numbers.KindId.{KindId};
 ghost use Rattle.lw_grammar.specs.declared.grammar.Grammar.{Grammar};
 ghost use Rattle.lw_grammar.specs.Kinds.{Kinds, kind_count};
+ghost use Rattle.lw_viable.specs.Aims.{Aim, Fulfils};
 ghost use Rattle.lw_viable.specs.Fronts.{IsKnownProgram};
 ghost use Rattle.lw_viable.specs.Growing.{ArePut, Change, GrowsLists, IsMadeFront, HasLists, cells_of, changed, read};
 ghost use Rattle.lw_viable.specs.Readings.{Keeps};
-ghost use Rattle.lw_viable.specs.Turning.{IsCalled, Enters, IsMovedAt, IsTurned, LoopsOnce, ReadsToken};
+ghost use Rattle.lw_viable.specs.Turning.{IsCalled, Enters, IsMovedAt, IsTurned, LoopsOnce, Misses, ReadsToken};
+ghost use Rattle.lw_viable.specs.Visiting.{AreNumbered, FindsDue, IsNoted, IsToldDue};
 
+use crate::due::Due;
 use crate::front::Front;
 use crate::lists::Lists;
+use crate::places::{behind, body_of, instr_at, start_of};
 use lw_base::{KindId, NoMemory, RuleId};
 use lw_begins::Begins;
 use lw_program::{Instr, Program};
 use lw_recipes::TreeMark;
 use std::alloc::Global;
 
-/// The kind of the next token, and what is known of the places at which it may be read.
+/// The kind of the next token, if one is sought, and what is known of the places at which it may be read.
 #[derive(Clone, Copy)]
 pub(crate) struct Sought<'p> {
     pub(crate) program: &'p Program,
     pub(crate) begins: &'p Begins,
-    pub(crate) kind: KindId,
+    pub(crate) kind: Option<KindId>,
 }
 
 impl Sought<'_> {
+    /// Whether a call of the rule is passed over: a kind is sought that can neither begin it nor come behind it.
+    fn misses(self, rule: u16) -> bool
+        ensures { IsTrue result → Misses self.entry.begins.now self.entry.kind rule }
+    {
+        match self.kind {
+            None => false,
+            Some(kind) => !self.begins.may_meet(rule as usize, kind),
+        }
+    }
+
+    /// Whether a token of this kind is sought.
+    fn seeks(self, kind: KindId) -> bool
+        ensures { IsTrue result ↔ (self.entry.kind ≡ Some kind) }
+    {
+        match self.kind {
+            None => false,
+            Some(sought) => sought == kind,
+        }
+    }
+
     /// A call of a rule.
     fn call(
         self,
@@ -35,10 +59,10 @@ impl Sought<'_> {
     ) -> Result<(), NoMemory>
         requires { HasLists lists.old front }
         ensures grows { GrowsLists lists.old lists.new }
-        ensures put { OnOk result ((changes : List Change) × IsCalled self.entry.program.now self.entry.begins.now self.entry.kind.0 rule changes
+        ensures put { OnOk result ((changes : List Change) × IsCalled self.entry.program.now self.entry.begins.now self.entry.kind rule changes
             × ArePut changes lists.old lists.new front work.old.items work.new.items) }
     {
-        if !self.begins.may_meet(rule as usize, self.kind) {
+        if self.misses(rule) {
             return Ok(());
         }
         match start_of(self.program, rule) {
@@ -66,7 +90,7 @@ impl Sought<'_> {
         }
     }
 
-    /// A token of this kind.
+    /// A token of this kind, which is kept where it is the one that is sought.
     fn token(
         self,
         kind: KindId,
@@ -76,10 +100,10 @@ impl Sought<'_> {
     ) -> Result<(), NoMemory>
         requires { HasLists lists.old front }
         ensures grows { GrowsLists lists.old lists.new }
-        ensures put { OnOk result ((changes : List Change) × ReadsToken self.entry.kind.0 kind changes
+        ensures put { OnOk result ((changes : List Change) × ReadsToken self.entry.kind kind changes
             × ArePut changes lists.old lists.new front found.old.items found.new.items) }
     {
-        if kind != self.kind {
+        if !self.seeks(kind) {
             return Ok(());
         }
         lists.put(found, front, Some(TreeMark::Token(kind)), &[])
@@ -96,7 +120,7 @@ impl Sought<'_> {
     ) -> Result<(), NoMemory>
         requires { HasLists lists.old front }
         ensures grows { GrowsLists lists.old lists.new }
-        ensures moved { OnOk result (IsMovedAt self.entry.program.now self.entry.begins.now self.entry.kind.0 place lists.old lists.new front
+        ensures moved { OnOk result (IsMovedAt self.entry.program.now self.entry.begins.now self.entry.kind place lists.old lists.new front
             work.old.items work.new.items found.old.items found.new.items) }
     {
         match instr_at(self.program, place) {
@@ -128,7 +152,7 @@ impl Sought<'_> {
     ) -> Result<(), NoMemory>
         requires { HasLists lists.old front }
         ensures grows { GrowsLists lists.old lists.new }
-        ensures turned { OnOk result (IsTurned self.entry.program.now self.entry.begins.now self.entry.kind.0 lists.old lists.new front
+        ensures turned { OnOk result (IsTurned self.entry.program.now self.entry.begins.now self.entry.kind lists.old lists.new front
             work.old.items work.new.items found.old.items found.new.items) }
     {
         match lists.first(front) {
@@ -147,9 +171,10 @@ impl Sought<'_> {
         requires { All (HasLists lists.old) kept.now }
         ensures grows { GrowsLists lists.old lists.new }
         ensures within { IfOk result (λ found. All (HasLists lists.new) found.items) }
-        ensures keeps { (g : Grammar) (kinds : Kinds) (ks : List ℕ) (known : IsKnownProgram g kinds self.entry.program.now self.entry.begins.now) →
-            self.entry.kind.0 < kind_count kinds → Keeps g kinds known.program.tasks ks (map (read lists.old) kept.now) →
-            IfOk result (λ found. Keeps g kinds known.program.tasks (ks ++ self.entry.kind.0 ∷ []) (map (read lists.new) found.items)) }
+        ensures keeps { (g : Grammar) (kinds : Kinds) (aim : Aim) (ks : List ℕ) (kind : KindId)
+            (known : IsKnownProgram g kinds self.entry.program.now self.entry.begins.now) → self.entry.kind ≡ Some kind → kind.0 < kind_count kinds →
+            Keeps g kinds known.program.tasks (Fulfils g kinds known.program.tasks aim) ks (map (read lists.old) kept.now) →
+            IfOk result (λ found. Keeps g kinds known.program.tasks (Fulfils g kinds known.program.tasks aim) (ks ++ kind.0 ∷ []) (map (read lists.new) found.items)) }
     {
         let mut work = Vec::new(alloc);
         work.extend_from_slice(kept)?;
@@ -159,32 +184,54 @@ impl Sought<'_> {
         }
         Ok(found)
     }
-}
 
-/// What stands at a place.
-fn instr_at(program: &Program, place: u32) -> Option<Instr>
-    ensures { result ≡ slice_get program.now.code place }
-{
-    program.code().get(place as usize).copied()
-}
-
-/// The place of the body where a loop stands.
-fn body_of(instr: Option<Instr>) -> Option<u32>
-    ensures { MatchOption result ((point : PointId) (body : ℕ) → instr ≢ Some (Instr.Loop point body))
-        (λ body. (point : PointId) × (instr ≡ Some (Instr.Loop point body))) }
-{
-    match instr? {
-        Instr::Loop { body, .. } => Some(body),
-        _ => None,
+    /// Puts a reading on where what is due stands first.
+    fn note(
+        self,
+        due: Due<'_>,
+        lists: &Lists,
+        front: Front,
+        found: &mut Vec<Front>,
+    ) -> Result<(), NoMemory>
+        requires within { HasLists lists.now front }
+        requires numbered { AreNumbered self.program.now due (read lists.now front).rest }
+        ensures { OnOk result (IsNoted self.entry.program.now due.entry lists.now front found.old.items found.new.items) }
+    {
+        if due.is_first(self.program, lists, front) {
+            found.push(front)?;
+        }
+        Ok(())
     }
-}
 
-/// Where a rule starts, if it does.
-pub(crate) fn start_of(program: &Program, rule: u16) -> Option<u32>
-    ensures { MatchOption result ((start : ℕ) → slice_get program.now.starts rule ≢ Some (Some start))
-        (λ start. slice_get program.now.starts rule ≡ Some (Some start)) }
-{
-    program.starts().get(rule as usize).copied().flatten()
+    /// All readings that these go on to without a token at which what is due stands first. A reading is found wherever it stands there, and
+    /// its turn is made all the same.
+    pub(crate) fn visit(
+        self,
+        alloc: Global,
+        lists: &mut Lists,
+        kept: &[Front],
+        due: Due<'_>,
+    ) -> Result<Vec<Front>, NoMemory>
+        requires within { All (HasLists lists.old) kept.now }
+        requires quiet { self.kind ≡ None }
+        requires known { (g : Grammar) × (kinds : Kinds) × (aim : Aim) × (ks : List ℕ) × (known : IsKnownProgram g kinds self.program.now self.begins.now)
+            × Keeps g kinds known.program.tasks (Fulfils g kinds known.program.tasks aim) ks (map (read lists.old) kept.now) × IsToldDue g due }
+        ensures grows { GrowsLists lists.old lists.new }
+        ensures within { IfOk result (λ found. All (HasLists lists.new) found.items) }
+        ensures finds { (g : Grammar) (kinds : Kinds) (aim : Aim) (ks : List ℕ) (known : IsKnownProgram g kinds self.entry.program.now self.entry.begins.now) →
+            Keeps g kinds known.program.tasks (Fulfils g kinds known.program.tasks aim) ks (map (read lists.old) kept.now) → IsToldDue g due.entry →
+            IfOk result (λ found. FindsDue g kinds known.program.tasks (Fulfils g kinds known.program.tasks aim) self.entry.program.now due.entry ks
+            (map (read lists.new) found.items)) }
+    {
+        let mut work = Vec::new(alloc);
+        work.extend_from_slice(kept)?;
+        let mut found = Vec::new(alloc);
+        'visits: while let Some(front) = work.pop() {
+            self.note(due, lists, front, &mut found)?;
+            self.turn(lists, front, &mut work, &mut found)?;
+        }
+        Ok(found)
+    }
 }
 
 /// Puts on what a reading goes on to where a rule is called that starts there: a node, where the rule makes one, or its body alone.
@@ -212,11 +259,4 @@ pub(crate) fn enter(
     } else {
         lists.put(fronts, front, None, &[start])
     }
-}
-
-/// The place behind another. Where it has no number, memory is wanting.
-fn behind(place: u32) -> Result<u32, NoMemory>
-    ensures { IfOk result (λ next. next ≡ place + 1) }
-{
-    place.checked_add(1).ok_or(NoMemory)
 }

@@ -8,8 +8,8 @@ use Rattle.lw_viable.specs.Growing.{read}
 use Rattle.lw_viable.specs.Readings.{KeptReading}
 use Rattle.lw_viable.specs.Turning.{MayBePassed}
 use Rattle.lw_viable.specs.declared.front.Front.{Front}
-use Rattle.lw_viable.proofs.Ending.{ends_whole, whole_ends}
 use Rattle.lw_viable.proofs.Exploring.{any_mapped, of_any}
+use Rattle.lw_viable.proofs.Holding.{held_ends}
 use Rattle.lw_viable.proofs.fronts.Fronts.complete.Goals as goal
 
 empty : Front
@@ -17,15 +17,15 @@ empty = record { marks = record { 0 = 0 }; rest = record { 0 = 0 } }
 
 pub returns-then-may_end : goal.returns-then-may_end
 unfolding empty
-returns-then-may_end c g kinds ks hold =
-    let here = subst (HoldReadings g kinds ks) (sym c.self.view_is) hold in
+returns-then-may_end c g kinds tasks aim ks hold =
+    let here = subst (HoldReadings g kinds tasks aim ks) (sym c.self.view_is) hold in
     let lists = c.self.inside.lists in
     let items = c.deref-front-items.result.now in
     let i = c.loop-front.front-index in
     let MayEnd : KeptReading → Type 0 = λ r. AllByRecursion (MayBePassed c.self.inside.begins.now) r.rest in
     let some : Any MayEnd (map (read lists) items) =
     any_mapped MayEnd (read lists) items (get_or items i empty) (Contains-get_or items i empty c.loop-front-test.true) (c.may_end.ensures.0 c.if-may_end.true) in (
-      λ is. ends_whole g kinds here.known (map (read lists) c.self.inside.kept.items) here.keeps (subst (λ items. Any MayEnd (map (read lists) items)) c.deref-front-items.ensures.value some),
+      λ is. (held_ends _ here).0 (subst (λ items. Any MayEnd (map (read lists) items)) c.deref-front-items.ensures.value some),
       λ whole. refl,
     )
 
@@ -36,8 +36,8 @@ loop-front-preserved c =
     c.loop-front-test.true c.loop-front.invariant (λ ends. true≢false (sym (c.may_end.ensures.1 ends) ∙ c.if-may_end.false))
 
 pub returns : goal.returns
-returns c g kinds ks hold =
-    let here = subst (HoldReadings g kinds ks) (sym c.self.view_is) hold in
+returns c g kinds tasks aim ks hold =
+    let here = subst (HoldReadings g kinds tasks aim ks) (sym c.self.view_is) hold in
     let lists = c.self.inside.lists in
     let MayEnd : KeptReading → Type 0 = λ r. AllByRecursion (MayBePassed c.self.inside.begins.now) r.rest in
     let whole_list : take c.loop-front.front-index c.deref-front-items.result.now ≡ c.self.inside.kept.items =
@@ -46,6 +46,6 @@ returns c g kinds ks hold =
     All-map (λ r. ¬ MayEnd r) (read lists) c.self.inside.kept.items (subst (All (λ front. ¬ MayEnd (read lists front))) whole_list c.loop-front.invariant) in (
       λ is. absurd (true≢false (sym is)),
       λ whole.
-          let (r, has, ends) = of_any MayEnd (map (read lists) c.self.inside.kept.items) (whole_ends g kinds here.known (map (read lists) c.self.inside.kept.items) here.keeps whole) in
+          let (r, has, ends) = of_any MayEnd (map (read lists) c.self.inside.kept.items) ((held_ends _ here).1 whole) in
           absurd (All-contains (λ r. ¬ MayEnd r) (map (read lists) c.self.inside.kept.items) r none has ends),
     )

@@ -1,0 +1,52 @@
+-- Readings that are held, over the tasks that are told of the program.
+use Rattle.std.proofs.Common.{◌≡◌, ◌↔◌, ℕ, List, All, Any, Bool, not, eqb, IsTrue, length, map, sym, ap, subst}
+use Rattle.std.specs.List.{AllByRecursion}
+use Rattle.lw_grammar.specs.declared.grammar.Grammar.{Grammar}
+use Rattle.lw_grammar.specs.Kinds.{Kinds}
+use Rattle.lw_look.specs.Supplied.{IsSupplied}
+use Rattle.lw_program.specs.ProgramOf.{ProgramParts}
+use Rattle.lw_program.specs.Says.{Task}
+use Rattle.lw_begins.specs.Told.{BeginsParts}
+use Rattle.lw_viable.specs.Aims.{Aim, Fulfils, BeginsSome, EndsSome}
+use Rattle.lw_viable.specs.Fronts.{FrontsParts, IsKnownProgram, HoldReadings}
+use Rattle.lw_viable.specs.Growing.{HasLists, read, GrowsLists}
+use Rattle.lw_viable.specs.Readings.{KeptReading, Keeps}
+use Rattle.lw_viable.specs.Turning.{MayBePassed}
+use Rattle.lw_viable.specs.declared.front.Front.{Front}
+use Rattle.lw_viable.specs.declared.lists.Lists.{Lists}
+use Rattle.lw_viable.proofs.Ending.{whole_ends, ends_whole, begins_told}
+use Rattle.lw_viable.proofs.Putting.{all_read_same}
+
+abbrev pub parts : ProgramParts → BeginsParts → List KeptReading → FrontsParts
+parts program begins kept = record { program = program; begins = begins; kept = kept }
+
+-- where the lists have grown, the readings are the same
+pub still : (program : ProgramParts) (begins : BeginsParts) {old new : Lists} → GrowsLists old new → (kept : List Front) → All (HasLists old) kept →
+    parts program begins (map (read new) kept) ≡ parts program begins (map (read old) kept)
+still program begins grows kept within = ap (parts program begins) (all_read_same grows kept within)
+
+module _ {g : Grammar} {kinds : Kinds} {tasks : List Task} {aim : Aim} {ks : List ℕ} (fronts : FrontsParts) (hold : HoldReadings g kinds tasks aim ks fronts) where
+  -- they are kept over the tasks of the program
+  pub held_keeps : Keeps g kinds hold.by.known.program.tasks (Fulfils g kinds hold.by.known.program.tasks aim) ks fronts.kept
+  held_keeps = subst (λ tasks. Keeps g kinds tasks (Fulfils g kinds tasks aim) ks fronts.kept) (sym hold.by.tasks_are) hold.keeps
+
+  -- and what follows over those follows over these
+  pub by_known : (P : List Task → Type 0) →
+      ((known : IsKnownProgram g kinds fronts.program fronts.begins) →
+          Keeps g kinds known.program.tasks (Fulfils g kinds known.program.tasks aim) ks fronts.kept → P known.program.tasks) → P tasks
+  by_known P from = subst P hold.by.tasks_are (from hold.by.known held_keeps)
+
+  pub held_begins : (empty : Bool) (count : ℕ) → IsSupplied g kinds → empty ≡ eqb count 0 → count ≡ length fronts.kept →
+      IsTrue (not empty) ↔ BeginsSome (Fulfils g kinds tasks aim) ks
+  held_begins empty count supplied told counted =
+      by_known (λ tasks. IsTrue (not empty) ↔ BeginsSome (Fulfils g kinds tasks aim) ks)
+      (λ known keeps. begins_told g kinds known (Fulfils g kinds known.program.tasks aim) fronts.kept keeps empty count supplied told counted)
+
+  pub held_ends : Any (λ r. AllByRecursion (MayBePassed fronts.begins) r.rest) fronts.kept ↔ EndsSome (Fulfils g kinds tasks aim) ks
+  held_ends = (
+    λ some.
+        by_known (λ tasks. EndsSome (Fulfils g kinds tasks aim) ks)
+        (λ known keeps. ends_whole g kinds known (Fulfils g kinds known.program.tasks aim) fronts.kept keeps some),
+    by_known (λ tasks. EndsSome (Fulfils g kinds tasks aim) ks → Any (λ r. AllByRecursion (MayBePassed fronts.begins) r.rest) fronts.kept)
+        (λ known keeps whole. whole_ends g kinds known (Fulfils g kinds known.program.tasks aim) fronts.kept keeps whole),
+  )
