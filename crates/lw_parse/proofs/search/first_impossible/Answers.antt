@@ -1,13 +1,23 @@
 -- Hidden tokens are passed, and of the others each is read until one cannot be.
-use Rattle.std.proofs.Common.{take, map, refl, sym, ◌∙◌, subst, subst₂, inl, inr, true≢false}
+use Rattle.std.proofs.Common.{◌≡◌, take, map, refl, sym, ◌∙◌, subst, subst₂, inl, inr, true≢false}
 use Rattle.std.proofs.lemmas.List.{take_all}
-use Rattle.lw_grammar.specs.Kinds.{kind_count}
+use Rattle.lw_grammar.specs.declared.grammar.Grammar.{Grammar}
+use Rattle.lw_grammar.specs.Kinds.{Kinds, kind_count}
 use Rattle.lw_grammar.specs.Named.{IsEntry}
 use Rattle.lw_sentences.specs.Sentences.{Starts}
-use Rattle.lw_viable.specs.Fronts.{HoldReadings, IsKnownProgram}
+use Rattle.lw_program.specs.ProgramOf.{ProgramParts}
+use Rattle.lw_begins.specs.Told.{BeginsParts}
+use Rattle.lw_viable.specs.Aims.{Sentence}
+use Rattle.lw_viable.specs.Fronts.{HoldReadings, IsKnownProgram, IsProgramWith}
 use Rattle.lw_parse.specs.Outcomes.{CanStand, kinds_seen}
 use Rattle.lw_parse.proofs.Searching.{hidden_seen, shown_kinds, seen_shown, of_kind, can_stand_past, is_first}
 use Rattle.lw_parse.proofs.search.first_impossible.Goals as goal
+
+-- the program of the parser, as its fields are read
+abbrev known_at : {g : Grammar} {kinds : Kinds} {p q : ProgramParts} {b e : BeginsParts} → q ≡ p → e ≡ b → (known : IsKnownProgram g kinds p b) →
+    IsProgramWith g kinds known.program.tasks q e
+known_at {g} {kinds} same_program same_begins known =
+    subst₂ (IsProgramWith g kinds known.program.tasks) (sym same_program) (sym same_begins) (record { known = known; tasks_are = refl })
 
 pub start-requires : goal.start-requires
 start-requires c =
@@ -16,16 +26,20 @@ start-requires c =
       known = (
         g,
         kinds,
+        is.known.program.tasks,
         is.rule,
-        subst₂ (IsKnownProgram g kinds) (sym c.program.ensures) (sym c.begins.ensures) is.known,
+        known_at c.program.ensures c.begins.ensures is.known,
         subst (λ r. IsEntry g r is.rule) (sym c.entry.ensures) is.entry,
       );
     }
 
 pub loop-number-init : goal.loop-number-init
 loop-number-init c = λ g kinds k is all. (
-  c.in_ok-fronts.ensures g kinds is.rule (subst₂ (IsKnownProgram g kinds) (sym c.program.ensures) (sym c.begins.ensures) is.known)
-      (subst (λ r. IsEntry g r is.rule) (sym c.entry.ensures) is.entry),
+  (
+    is.known.program.tasks,
+    c.in_ok-fronts.ensures g kinds is.known.program.tasks is.rule (known_at c.program.ensures c.begins.ensures is.known)
+        (subst (λ r. IsEntry g r is.rule) (sym c.entry.ensures) is.entry),
+  ),
   λ supplied. inl refl,
 )
 
@@ -33,8 +47,11 @@ pub loop-number-preserved-then-token : goal.loop-number-preserved-then-token
 loop-number-preserved-then-token c = λ g kinds k is all.
     let tokens = c.args.tokens.now in
     let i = c.loop-number.number in
-    let (hold, stand) = c.loop-number.invariant g kinds k is all in (
-      subst (λ ts. HoldReadings g kinds (map (λ t. t.kind.0) ts) c.loop-number.fronts) (sym (hidden_seen tokens i _ c.loop-number-test.true c.if-token.true)) hold,
+    let ((tasks, hold), stand) = c.loop-number.invariant g kinds k is all in (
+      (
+        tasks,
+        subst (λ ts. HoldReadings g kinds tasks Sentence (map (λ t. t.kind.0) ts) c.loop-number.fronts) (sym (hidden_seen tokens i _ c.loop-number-test.true c.if-token.true)) hold,
+      ),
       λ supplied. can_stand_past tokens i _ c.loop-number-test.true g kinds c.if-token.true (stand supplied),
     )
 
@@ -43,12 +60,15 @@ step-requires c =
     let tokens = c.args.tokens.now in
     let i = c.loop-number.number in
     let (g, kinds, k, is, all) = c.requires in
+    let (tasks, hold) = (c.loop-number.invariant g kinds k is all).0 in
     record {
       known = (
         g,
         kinds,
+        tasks,
+        Sentence,
         kinds_seen (take i tokens),
-        (c.loop-number.invariant g kinds k is all).0,
+        hold,
         of_kind tokens i _ c.loop-number-test.true (kind_count kinds) all,
       );
     }
@@ -59,8 +79,8 @@ returns-then-not-branch c = λ g kinds k is supplied all.
     let i = c.loop-number.number in
     let inside = c.loop-number-test.true in
     let ks = kinds_seen (take i tokens) in
-    let (hold, stand) = c.loop-number.invariant g kinds k is all in
-    let starts = c.in_ok-step.ensures.starts g kinds ks hold (of_kind tokens i _ inside (kind_count kinds) all) supplied in
+    let ((tasks, hold), stand) = c.loop-number.invariant g kinds k is all in
+    let starts = c.in_ok-step.ensures.starts g kinds tasks Sentence ks hold (of_kind tokens i _ inside (kind_count kinds) all) supplied in
     is_first tokens i _ inside g kinds c.in_ok-numbered.field-0 c.in_ok-numbered.ensures c.if-token.false (stand supplied)
     (λ can. true≢false (sym (starts.1 (subst (Starts g kinds) (sym (seen_shown tokens i _ inside ks c.if-token.false)) can)) ∙ c.if-not-branch.true))
 
@@ -70,11 +90,11 @@ loop-number-preserved c = λ g kinds k is all.
     let i = c.loop-number.number in
     let inside = c.loop-number-test.true in
     let ks = kinds_seen (take i tokens) in
-    let (hold, stand) = c.loop-number.invariant g kinds k is all in
+    let ((tasks, hold), stand) = c.loop-number.invariant g kinds k is all in
     let below = of_kind tokens i _ inside (kind_count kinds) all in
     let more = seen_shown tokens i _ inside ks c.if-token.false ∙ sym (shown_kinds tokens i _ inside c.if-token.false) in (
-      subst (λ ks. HoldReadings g kinds ks c.step.new.self) more (c.in_ok-step.ensures.readings g kinds ks hold below),
-      λ supplied. inr (subst (Starts g kinds) more ((c.in_ok-step.ensures.starts g kinds ks hold below supplied).0 c.if-not-branch.false)),
+      (tasks, subst (λ ks. HoldReadings g kinds tasks Sentence ks c.step.new.self) more (c.in_ok-step.ensures.readings g kinds tasks Sentence ks hold below)),
+      λ supplied. inr (subst (Starts g kinds) more ((c.in_ok-step.ensures.starts g kinds tasks Sentence ks hold below supplied).0 c.if-not-branch.false)),
     )
 
 pub returns : goal.returns
