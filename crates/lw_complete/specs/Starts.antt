@@ -65,7 +65,7 @@ pub record IsReadBy (of : Kinds) (tasks : List Task) (typing : Typing) (next : R
 -- what is known of a start: of which reference it is, and by which names that leads somewhere in the tree of what was read before
 pub record IsKnownStart (of : Kinds) (tasks : List Task) (typing : Typing) (trees : Trees) (address : List ℕ) (known : Known) : Type 0 where
   pub next : ReferenceNext
-  pub is_start : IsStartOf (grammar_of typing) next known.start
+  pub is_start : IsStartOf (grammar_of typing) next known.start.now
   pub comes : ComesNext (grammar_of typing) of typing.tokens.now next
   pub tree : Parts
   pub r : Reference

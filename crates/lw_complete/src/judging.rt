@@ -1,5 +1,5 @@
 // Whether a name leads somewhere once it is written.
-ghost use Rattle.std.specs.Prelude.{ℕ, ◌≡◌, ◌++◌, ◌×◌, List, IfOk, MatchOption, IsTrue, All, Contains};
+ghost use Rattle.std.specs.Prelude.{ℕ, ◌≡◌, ◌++◌, List, IfOk, MatchOption, IsTrue, All, Contains};
 ghost use Rattle.lw_link.specs.Indexed.{IsIndexOf};
 ghost use Rattle.lw_link.specs.Visible.{IsNumberAt};
 ghost use Rattle.lw_reading.specs.Laws.{IsReadOneWay};

@@ -1,5 +1,5 @@
 // The keywords that may be written.
-ghost use Rattle.std.specs.Prelude.{ℕ, ◌≡◌, ◌≢◌, ◌↔◌, ◌+◌, ◌≤◌, ◌++◌, ◌∷◌, ◌×◌, [], List, AllPairs, Contains, IfOk, IsTrue, length};
+ghost use Rattle.std.specs.Prelude.{ℕ, ◌≡◌, ◌≢◌, ◌↔◌, ◌+◌, ◌≤◌, ◌++◌, ◌∷◌, [], List, AllPairs, Contains, IfOk, IsTrue, length};
 ghost use Rattle.lw_base.specs.declared.limits.TheConstants.{LONGEST_DOCUMENT};
 ghost use Rattle.lw_grammar.specs.Kinds.{Kinds};
 ghost use Rattle.lw_look.specs.Supplied.{IsSupplied};
@@ -12,6 +12,7 @@ ghost use Rattle.lw_complete.specs.Typing.{AreReadings, IsTypedBy, grammar_of};
 
 use crate::typing::Typing;
 use lw_base::{KindId, Name, NoMemory, Span, Token};
+use lw_terminals::TokenSet;
 use lw_viable::Fronts;
 use std::alloc::Global;
 
@@ -32,7 +33,7 @@ pub(crate) fn keywords(
     ensures same { fronts.new ≡ fronts.old }
 {
     let set = typing.language.tokens();
-    let expected = fronts.expected(alloc, set.count())?;
+    let expected = fronts.expected(alloc, kind_count(set))?;
     let mut found = Vec::new(alloc);
     'kinds: for kind in &expected {
         if let Some(keyword) = set.keywords().get(kind.0 as usize) {
@@ -42,6 +43,18 @@ pub(crate) fn keywords(
         }
     }
     Ok(found)
+}
+
+/// How many kinds of tokens there are.
+fn kind_count(set: &TokenSet) -> usize
+    ensures { result ≡ length set.now.texts }
+{
+    set.keywords();
+    let mut count = 0;
+    'kinds: while count < 65535 && set.has_kind(KindId(count as u16)) {
+        count += 1;
+    }
+    count
 }
 
 /// Whether the keyword begins with the word, and is one token of the kind behind the text before it.

@@ -16,7 +16,7 @@
 //! export. For each that begins with the word the text with it in place of the word is read.
 #![tactic(auto)]
 
-mod complete;
+mod completion;
 mod item;
 mod judging;
 mod keywords;
@@ -26,5 +26,5 @@ mod starting;
 mod typing;
 mod words;
 
-pub use complete::complete;
+pub use completion::complete;
 pub use item::{Item, KEYWORD_ITEM, REFERENCE_ITEM};

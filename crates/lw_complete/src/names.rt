@@ -1,8 +1,25 @@
 // The names that may be written.
-ghost use Rattle.std.specs.Prelude.{ℕ, ◌≡◌, ◌↔◌, ◌++◌, ◌×◌, List, AllPairs, All, Contains, IfOk, IsTrue, MatchOption};
+ghost use Rattle.std.specs.Prelude.{ℕ, ◌≡◌, ◌≢◌, ◌≤◌, ◌+◌, ◌↔◌, ◌++◌, List, [], AllPairs, All, Contains, IfOk, IfSome, OnOk, IsTrue, MatchOption, length, map};
 ghost use Rattle.std.specs.Cmp.Lexicographic.{slice_cmp};
 ghost use Rattle.std.specs.Ordering.{nat_cmp};
 ghost use Rattle.std.specs.declared.cmp.Ordering.TheVariants.{Less};
+ghost use Rattle.lw_base.specs.declared.limits.TheConstants.{LONGEST_DOCUMENT};
+ghost use Rattle.lw_base.specs.declared.token.Token.{Token as AToken};
+ghost use Rattle.lw_grammar.specs.Kinds.{Kinds};
+ghost use Rattle.lw_link.specs.Indexed.{IsIndexOf};
+ghost use Rattle.lw_link.specs.Visible.{IsNumberAt};
+ghost use Rattle.lw_look.specs.Supplied.{IsSupplied};
+ghost use Rattle.lw_offers.specs.Offers.{IsNameNext};
+ghost use Rattle.lw_offers.specs.Starting.{moved_by};
+ghost use Rattle.lw_offers.specs.Words.{BeginsBy};
+ghost use Rattle.lw_program.specs.Says.{Task};
+ghost use Rattle.lw_reading.specs.Laws.{IsReadOneWay};
+ghost use Rattle.lw_scoping.specs.Links.{Trees};
+ghost use Rattle.lw_tokens.specs.Cut.{IsCut, visible};
+ghost use Rattle.lw_tokens.specs.Lexicon.{Lexicon};
+ghost use Rattle.lw_viable.specs.ReferenceStarts.{IsReferenceStart};
+ghost use Rattle.lw_complete.specs.Starts.{IsBlank, IsKnownStart};
+ghost use Rattle.lw_complete.specs.Typing.{AreReadings, IsTypedBy, grammar_of, kinds_before};
 
 use crate::judging::leads_in_whole;
 use crate::reading::read;
@@ -28,7 +45,17 @@ pub(crate) fn names(
     alloc: Global,
     typing: &Typing<'_>,
     fronts: &mut Fronts<'_>,
-) -> Result<Vec<Name>, NoMemory> {
+) -> Result<Vec<Name>, NoMemory>
+    requires short { length typing.now.front.now + length typing.now.rest.now ≤ LONGEST_DOCUMENT }
+    requires known { (of : Kinds) × (lexicon : Lexicon) × (tasks : List Task) × IsTypedBy of lexicon typing.now × AreReadings of tasks typing.now fronts.old
+        × IsSupplied (grammar_of typing.now) of }
+    ensures names { (of : Kinds) (lexicon : Lexicon) (tasks : List Task) (trees : Trees) (address : List ℕ) → IsTypedBy of lexicon typing.now →
+        AreReadings of tasks typing.now fronts.old → IsReadOneWay (grammar_of typing.now) → IsIndexOf trees typing.now.index.now →
+        IsNumberAt typing.now.index.now typing.now.doc.0 address → IfOk result (λ found. (name : List ℕ) → Contains found.items name ↔
+            (BeginsBy typing.now.word.now name
+            × IsNameNext (grammar_of typing.now) of lexicon trees address typing.now.front.now typing.now.rest.now typing.now.tokens.now name)) }
+    ensures ordered { IfOk result (λ found. AllPairs (λ one other. slice_cmp nat_cmp one other ≡ Less) found.items) }
+{
     let recipes = typing.language.parser().recipes();
     let starts = fronts.references(alloc, recipes)?;
     let mut found = Vec::new(alloc);
@@ -94,7 +121,11 @@ fn joined(alloc: Global, typing: &Typing<'_>, others: &[Token]) -> Result<Vec<To
     Ok(tokens)
 }
 
-fn moved_by(by: u32, token: Token) -> Token {
+/// The token so many bytes further behind.
+fn moved_by(by: u32, token: Token) -> Token
+    requires { (by + token.span.start ≤ 4294967295) × (by + token.span.end ≤ 4294967295) }
+    ensures { result ≡ moved_by by token }
+{
     let mut moved = token;
     moved.span.start += by;
     moved.span.end += by;

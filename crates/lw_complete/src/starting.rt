@@ -1,11 +1,11 @@
 // The cross-references that may come next, and the trees in which their names are looked for.
-ghost use Rattle.std.specs.Prelude.{ℕ, ◌≡◌, ◌<◌, ◌≤◌, ◌↔◌, ◌++◌, ◌∷◌, ◌×◌, [], List, Some, Contains, IfOk, OnOk, MatchOption, length, slice_get};
+ghost use Rattle.std.specs.Prelude.{ℕ, ◌≡◌, ◌<◌, ◌≤◌, ◌↔◌, ◌++◌, ◌∷◌, [], List, Some, Contains, IfOk, OnOk, MatchOption, length, slice_get};
 ghost use Rattle.lw_findings.specs.Finding.{Finds};
 ghost use Rattle.lw_grammar.specs.Kinds.{Kinds};
 ghost use Rattle.lw_link.specs.Indexed.{IsIndexOf};
 ghost use Rattle.lw_link.specs.Visible.{IsNumberAt};
-ghost use Rattle.lw_offers.specs.Starting.{ComesNext, ReferenceNext, renamed_to};
-ghost use Rattle.lw_offers.specs.Targets.{HasTarget};
+ghost use Rattle.lw_offers.specs.Starting.{ComesNext, ReferenceNext};
+ghost use Rattle.lw_offers.specs.Targets.{HasTarget, renamed_to};
 ghost use Rattle.lw_outwards.specs.Known.{HasOneRoot};
 ghost use Rattle.lw_numbers.specs.Numbering.{type_names};
 ghost use Rattle.lw_program.specs.Says.{Task};

@@ -1,5 +1,5 @@
 // A text in which a word is being typed, and what is known of all documents.
-ghost use Rattle.std.specs.Prelude.{◌≡◌, ◌++◌, ◌∷◌, ◌×◌, [], List, IfOk, MatchOption};
+ghost use Rattle.std.specs.Prelude.{◌≡◌, ◌++◌, ◌∷◌, [], List, IfOk, MatchOption};
 ghost use Rattle.lw_base.specs.declared.token.Token.{Token as AToken};
 ghost use Rattle.lw_grammar.specs.Kinds.{Kinds};
 ghost use Rattle.lw_tokens.specs.Cut.{IsCut};
@@ -12,6 +12,7 @@ use lw_lang::{Language, LexFault};
 use std::alloc::Global;
 
 /// A text in which a word is being typed.
+#[derive(Clone, Copy)]
 pub(crate) struct Typing<'a> {
     pub(crate) language: &'a Language,
     /// What all documents export, and the number of the one that is asked about.

@@ -1,5 +1,5 @@
 // What may be written at a place.
-ghost use Rattle.std.specs.Prelude.{ℕ, ◌≡◌, ◌≤◌, ◌×◌, List, All, IfOk, IsCharBoundary, length, map};
+ghost use Rattle.std.specs.Prelude.{ℕ, ◌≡◌, ◌≤◌, List, All, IfOk, IsCharBoundary, length, map};
 ghost use Rattle.lw_index.specs.Indexed.{Indexed};
 ghost use Rattle.lw_link.specs.Indexed.{IsIndexOf};
 ghost use Rattle.lw_link.specs.Visible.{IsNumberAt};
@@ -39,8 +39,8 @@ pub fn complete(
     requires one_way { IsReadOneWay language.now.grammar }
     ensures offers { (texts : Texts) (trees : Trees) (address : List ℕ) → AreTreesOfTexts language.now.grammar texts trees → IsIndexOf trees index.now →
         IsNumberAt index.now doc.0 address → IfOk result (λ items. AreOffers language.now.grammar texts address text.now off (map offer_of items.items)) }
-    ensures spans { IfOk result (All (λ item. (front : List ℕ) × (word : List ℕ) × (rest : List ℕ) × IsTypedAt text.now off front word rest
-        × (item.from ≡ length front) × (item.to ≡ off))) }
+    ensures spans { IfOk result (λ items. All (λ item. (front : List ℕ) × (word : List ℕ) × (rest : List ℕ) × IsTypedAt text.now off front word rest
+        × (item.from ≡ length front) × (item.to ≡ off)) items.items) }
 {
     if text.bytes().len() > LONGEST_DOCUMENT {
         return Ok(Vec::new(alloc));
