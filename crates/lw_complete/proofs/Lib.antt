@@ -1,1 +1,5 @@
+mod KeywordsNext
+mod KindNumbers
+mod ReadKinds
+mod TypedTokens
 mod TypedWords

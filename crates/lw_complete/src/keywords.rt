@@ -47,7 +47,8 @@ pub(crate) fn keywords(
 
 /// How many kinds of tokens there are.
 fn kind_count(set: &TokenSet) -> usize
-    ensures { result ≡ length set.now.texts }
+    ensures count { result ≡ length set.now.texts }
+    ensures few { result ≤ 65535 }
 {
     set.keywords();
     let mut count = 0;

@@ -1,5 +1,6 @@
 // A text in which a word is being typed, and what is known of all documents.
-ghost use Rattle.std.specs.Prelude.{◌≡◌, ◌++◌, ◌∷◌, [], List, IfOk, MatchOption};
+ghost use Rattle.std.specs.Prelude.{◌≡◌, ◌≤◌, ◌++◌, ◌∷◌, [], List, IfOk, MatchOption, length};
+ghost use Rattle.lw_base.specs.declared.limits.TheConstants.{LONGEST_TEXT};
 ghost use Rattle.lw_base.specs.declared.token.Token.{Token as AToken};
 ghost use Rattle.lw_grammar.specs.Kinds.{Kinds};
 ghost use Rattle.lw_tokens.specs.Cut.{IsCut};
@@ -39,11 +40,12 @@ impl Typing<'_> {
     /// The tokens of a text behind those of the text before the word. None where it is not cut into these and others. A text that no
     /// document can hold is want of memory.
     pub(crate) fn added(&self, alloc: Global, text: &Name) -> Result<Option<Vec<Token>>, NoMemory>
-        ensures { (of : Kinds) (lexicon : Lexicon) → IsTypedBy of lexicon self.now →
+        ensures added { (of : Kinds) (lexicon : Lexicon) → IsTypedBy of lexicon self.now →
             IfOk result (λ found. MatchOption found
                 ((others : List AToken) → ¬ IsCut lexicon text.now (self.now.tokens.now ++ others))
                 (λ added. IsCut lexicon text.now (self.now.tokens.now ++ added.items)
                 × ((others : List AToken) → IsCut lexicon text.now (self.now.tokens.now ++ others) → others ≡ added.items))) }
+        ensures short { IfOk result (λ found. length text.now ≤ LONGEST_TEXT) }
     {
         if text.bytes().len() > LONGEST_TEXT {
             return Err(NoMemory);
