@@ -1,1 +1,11 @@
 mod TypedWords
+mod JudgedTrees
+mod JudgedSteps
+mod NamedPuts
+mod NamedMarks
+mod NamedSays
+mod NamedOnce
+mod NamedFront
+mod NamedNext
+mod NamedOffered
+mod JudgedRead
