@@ -3,3 +3,13 @@ mod KindNumbers
 mod ReadKinds
 mod TypedTokens
 mod TypedWords
+mod JudgedTrees
+mod JudgedSteps
+mod NamedPuts
+mod NamedMarks
+mod NamedSays
+mod NamedOnce
+mod NamedFront
+mod NamedNext
+mod NamedOffered
+mod JudgedRead

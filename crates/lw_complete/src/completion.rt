@@ -73,7 +73,7 @@ fn offers(alloc: Global, typing: &Typing<'_>, from: u32, to: u32) -> Result<Vec<
     let mut items = Vec::new(alloc);
     let words = keywords(alloc, typing, &mut fronts)?;
     put_items(&mut items, words, KEYWORD_ITEM, from, to)?;
-    let names = names(alloc, typing, &mut fronts)?;
+    let names = names(alloc, typing, parser, &mut fronts)?;
     put_items(&mut items, names, REFERENCE_ITEM, from, to)?;
     items.sort_by(|one, other| one.label.cmp(&other.label).then(one.kind.cmp(&other.kind)))?;
     Ok(items)
