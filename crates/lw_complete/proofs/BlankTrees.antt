@@ -162,9 +162,8 @@ module _ (g : Grammar) (of : Kinds) (front rest : List ℕ) (tokens others : Lis
   blank_grows root ks n name named sentence reads_front kinds_are =
       let found =
       whole_blank g of (front ++ rest) root next ks n (visible tokens) makes sentence reads_front (visible Moved) [] name named
-      (moved_kinds (length front) others ∙ sym kinds_are) in
-      (
+      (moved_kinds (length front) others ∙ sym kinds_are) in (
         found.1.grown,
         subst (λ (ts : List Token). FollowsMarks g (front ++ rest) (marks_with next [] ++ n) ts (Root found.1.grown ∷ []))
-        (sym (filter-append (λ (t : Token). not t.hidden) tokens Moved)) found.1.follows,
+            (sym (filter-append (λ (t : Token). not t.hidden) tokens Moved)) found.1.follows,
       )

@@ -114,14 +114,22 @@ fn names_in(
     requires known { reference.now.want.0 < length (type_names (grammar_of typing.now)) }
     ensures { (trees : Trees) (address : List ℕ) → IsIndexOf trees typing.now.index.now → IsNumberAt typing.now.index.now typing.now.doc.0 address →
         IfOk result (λ names. (name : List ℕ) → Contains names.items name ↔
-            HasTarget (IsNumberBelow (grammar_of typing.now)) trees address tree.now (renamed_to name reference.now)) }
+        HasTarget (IsNumberBelow (grammar_of typing.now)) trees address tree.now (renamed_to name reference.now)) }
 {
     if reference.owner.0 as usize >= tree.len() as usize {
         return Ok(Vec::new(alloc));
     }
     let locals = Locals::of_tree(alloc, tree)?;
     let types = typing.language.types();
-    visible(alloc, tree, &locals, typing.doc, reference, typing.index, types)
+    visible(
+        alloc,
+        tree,
+        &locals,
+        typing.doc,
+        reference,
+        typing.index,
+        types,
+    )
 }
 
 /// The text without the word, its tokens, and those of what stands behind the offset, as they stand there alone.

@@ -39,8 +39,7 @@ read-requires c =
     subst (λ begins. IsProgramWith g of tasks c.program.result.now begins) (sym c.begins.ensures)
     (subst (λ program. IsProgramWith g of tasks program c.args.parser.now.begins) (sym c.program.ensures) parsed.program) in
     let placed : All (HasTask g of tasks) c.as_slice-places.result.now =
-    subst (All (HasTask g of tasks)) (sym c.as_slice-places.ensures) sound.behind in
-    (
+    subst (All (HasTask g of tasks)) (sym c.as_slice-places.ensures) sound.behind in (
       g,
       of,
       tasks,
@@ -92,7 +91,7 @@ blank_names-requires c =
     (subst (AreOfKinds ready.of) (sym c.as_slice.ensures.value) (ready.is_blank.of_kinds ready.of ready.typed.are_kinds)) in
     let items = c.deref-after-items.result.now in
     let all : (n : List Mark) → IsAfter c.args.typing.now c.args.parser.now c.args.start.now c.args.before c.args.blank.now ready n ↔
-        Any (λ (marks : List TreeMark). AreMeant g marks n) items =
+    Any (λ (marks : List TreeMark). AreMeant g marks n) items =
     after_all c.args.typing.now c.args.parser.now c.args.start.now c.args.before c.args.blank.now ready items c.as_slice-places.result.now c.as_slice.result.now
     c.as_slice-places.ensures c.as_slice.ensures.value
     (subst (λ (all : List (List TreeMark)). (n : List Mark) → (PlacesGive g ready.of ready.tasks c.as_slice-places.result.now n × (kinds_of n ≡ kinds (visible c.as_slice.result.now)))
@@ -108,8 +107,7 @@ blank_names-requires c =
     let (n, means) = All-contains (λ (marks : List TreeMark). (m : List Mark) × AreMeant g marks m) items x each here in
     let are =
     c.as_slice-in-sentences-2.ensures.value ∙ c.in_ok-marks.ensures
-    ∙ ap (λ (ms : List TreeMark). c.args.start.now.marks ++ (mark.Put c.args.start.now.put ∷ mark.End ∷ ms)) c.as_slice-in-sentences.ensures in
-    (
+    ∙ ap (λ (ms : List TreeMark). c.args.start.now.marks ++ (mark.Put c.args.start.now.put ∷ mark.End ∷ ms)) c.as_slice-in-sentences.ensures in (
       lexicon,
       marks_with next [] ++ n,
       is_blank,
@@ -135,7 +133,7 @@ sentences-preserved c ready trees address index number =
     (subst (AreOfKinds ready.of) (sym c.as_slice.ensures.value) (ready.is_blank.of_kinds ready.of ready.typed.are_kinds)) in
     let items = c.deref-after-items.result.now in
     let all : (n : List Mark) → IsAfter c.args.typing.now c.args.parser.now c.args.start.now c.args.before c.args.blank.now ready n ↔
-        Any (λ (marks : List TreeMark). AreMeant g marks n) items =
+    Any (λ (marks : List TreeMark). AreMeant g marks n) items =
     after_all c.args.typing.now c.args.parser.now c.args.start.now c.args.before c.args.blank.now ready items c.as_slice-places.result.now c.as_slice.result.now
     c.as_slice-places.ensures c.as_slice.ensures.value
     (subst (λ (all : List (List TreeMark)). (n : List Mark) → (PlacesGive g ready.of ready.tasks c.as_slice-places.result.now n × (kinds_of n ≡ kinds (visible c.as_slice.result.now)))
@@ -190,7 +188,7 @@ returns c of lexicon tasks next front_tree r trees address typed is_blank parsed
     (subst (AreOfKinds ready.of) (sym c.as_slice.ensures.value) (ready.is_blank.of_kinds ready.of ready.typed.are_kinds)) in
     let items = c.deref-after-items.result.now in
     let all : (n : List Mark) → IsAfter c.args.typing.now c.args.parser.now c.args.start.now c.args.before c.args.blank.now ready n ↔
-        Any (λ (marks : List TreeMark). AreMeant g marks n) items =
+    Any (λ (marks : List TreeMark). AreMeant g marks n) items =
     after_all c.args.typing.now c.args.parser.now c.args.start.now c.args.before c.args.blank.now ready items c.as_slice-places.result.now c.as_slice.result.now
     c.as_slice-places.ensures c.as_slice.ensures.value
     (subst (λ (all : List (List TreeMark)). (n : List Mark) → (PlacesGive g ready.of ready.tasks c.as_slice-places.result.now n × (kinds_of n ≡ kinds (visible c.as_slice.result.now)))
