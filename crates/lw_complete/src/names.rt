@@ -123,7 +123,7 @@ fn known_start(
 {
     let front = front_names(alloc, typing, start)?;
     if let Some(blank) = blank {
-        put_blank_names(alloc, typing, start, front.before, blank, found)?;
+        put_blank_names(alloc, typing, parser, start, front.before, blank, found)?;
     }
     put_copies(alloc, found, front.names.as_slice())?;
     Ok(front)
