@@ -1,7 +1,7 @@
 -- What is handed out of the readings that were found: where references start, and the marks of wholes.
 use Rattle.std.proofs.Common.{◌≡◌, ◌↔◌, ℕ, zero, suc, List, [], ◌∷◌, ◌++◌, All, Any, map, slice_get, refl, sym, ap, ◌∙◌, subst, append_assoc, append-nil, arith}
 use Rattle.std.specs.List.{AllZip}
-use Rattle.std.proofs.lemmas.List.Elements.{All-nil, All-cons, All-head, All-tail, All-weaker, All-contains}
+use Rattle.std.proofs.lemmas.List.Elements.{All-nil, All-cons, All-head, All-tail, All-weaker, All-map, All-contains}
 use Rattle.std.proofs.lemmas.Option.{same_Some}
 use Rattle.lw_grammar.specs.declared.grammar.Grammar.{Grammar}
 use Rattle.lw_grammar.specs.declared.rule.Op.{Op}
@@ -111,6 +111,9 @@ module _ (g : Grammar) (kinds : Kinds) {program : ProgramParts} {told : BeginsPa
           puts = put_means g kinds known.are program known.program before.puts.place first_placed before.puts.at;
           kinds_are = ahead.kinds_are;
           refers = refers;
+          site = said.site;
+          numbers = said.numbers;
+          reads = said.reads;
           value = value_has g kinds known.are program known.program before.puts.place first_placed before.puts.at;
           behind = All-tail Placed before.puts.place start.behind all_placed;
           whole = λ m n value behind.
@@ -165,6 +168,14 @@ module _ (g : Grammar) (kinds : Kinds) {program : ProgramParts} {told : BeginsPa
           start_sound ahead start before recipes.now (subst (IsReferencePut recipes.now) (one_first puts before.puts) refers)
 
   -- ---- wholes
+
+  -- each that was found means some marks
+  pub each_found : (found : List KeptReading) → FindsDue g kinds known.program.tasks Whole program Nothing ks found →
+      All (λ marks. (m : List Mark) × AreMeant g marks m) (map (λ r. r.marks) found)
+  each_found found finds =
+      All-map (λ marks. (m : List Mark) × AreMeant g marks m) (λ (r : KeptReading). r.marks) found
+      (All-weaker (IsFound g kinds known.program.tasks Whole program Nothing ks) (λ r. (m : List Mark) × AreMeant g r.marks m)
+      (λ r (ahead, none). (ahead.front, ahead.meant)) found finds.each)
 
   pub wholes_found : (found : List KeptReading) → FindsDue g kinds known.program.tasks Whole program Nothing ks found → (m : List Mark) →
       (Whole m × (kinds_of m ≡ ks)) ↔ Any (λ marks. AreMeant g marks m) (map (λ r. r.marks) found)

@@ -1,14 +1,16 @@
 -- The cross-references that may come next behind some kinds.
 -- Held against the Langium documentation, "Grammar language": cross-references.
-use Rattle.std.specs.Prelude.{ℕ, ◌≡◌, List, [], ◌∷◌, ◌++◌, All, Any}
+use Rattle.std.specs.Prelude.{ℕ, ◌≡◌, List, [], ◌∷◌, ◌++◌, Some, All, Any, slice_get}
 use Rattle.lw_grammar.specs.declared.grammar.Grammar.{Grammar}
 use Rattle.lw_grammar.specs.declared.rule.Op.{Op}
 use Rattle.lw_grammar.specs.declared.rule.Value0.{Value0}
 use Rattle.lw_grammar.specs.Kinds.{Kinds}
 use Rattle.lw_sentences.specs.Marks.{Mark, Put, End, kinds_of}
 use Rattle.lw_marks.specs.Follows.{MakesReference}
+use Rattle.lw_look.specs.Sites.{PartSite}
+use Rattle.lw_program.specs.Numbered.{put_sites}
 use Rattle.lw_program.specs.ProgramOf.{ProgramParts}
-use Rattle.lw_program.specs.Says.{Task}
+use Rattle.lw_program.specs.Says.{Task, Reads}
 use Rattle.lw_recipes.specs.Making.{RecipeLists}
 use Rattle.lw_recipes.specs.Meant.{MeansMark, AreMeant}
 use Rattle.lw_recipes.specs.declared.mark.TreeMark.TheVariants as numbered
@@ -34,7 +36,8 @@ module _ (g : Grammar) (kinds : Kinds) (tasks : List Task) where
     pub are : x ≡ inner ++ End ∷ others
 
   module _ (recipes : RecipeLists) (Whole : List Mark → Type 0) (ks : List ℕ) where
-    -- a cross-reference may come next: its marks have the kinds, its put makes a reference, and whatever its places give makes a whole
+    -- a cross-reference may come next: its marks have the kinds, its put makes a reference, whose text is read at the place of its value, and whatever its
+    -- places give makes a whole
     pub record IsReferenceStart (start : ReferenceStart) : Type 0 where
       pub before : List Mark
       pub p : List ℕ
@@ -44,6 +47,9 @@ module _ (g : Grammar) (kinds : Kinds) (tasks : List Task) where
       pub puts : MeansMark g (numbered.Put start.put) (Put p op c)
       pub kinds_are : kinds_of before ≡ ks
       pub refers : IsReferencePut recipes start.put
+      pub site : PartSite
+      pub numbers : slice_get (put_sites g) start.put ≡ Some site
+      pub reads : slice_get tasks start.value ≡ Some (Reads site)
       pub value : HasTask g kinds tasks start.value
       pub behind : All (HasTask g kinds tasks) start.behind
       pub whole : (m n : List Mark) → PlacesGive g kinds tasks (start.value ∷ []) m → PlacesGive g kinds tasks start.behind n →

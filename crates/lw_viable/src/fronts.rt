@@ -208,6 +208,8 @@ impl<'p> Fronts<'p> {
         requires known { (g : Grammar) × (kinds : Kinds) × (tasks : List Task) × (aim : Aim) × (ks : List ℕ) × HoldReadings g kinds tasks aim ks self.old }
         ensures all { (g : Grammar) (kinds : Kinds) (tasks : List Task) (aim : Aim) (ks : List ℕ) → HoldReadings g kinds tasks aim ks self.old →
             IfOk result (λ found. (m : List Mark) → (Fulfils g kinds tasks aim m × (kinds_of m ≡ ks)) ↔ Any (λ marks. AreMeant g marks m) found.items) }
+        ensures each { (g : Grammar) (kinds : Kinds) (tasks : List Task) (aim : Aim) (ks : List ℕ) → HoldReadings g kinds tasks aim ks self.old →
+            IfOk result (λ found. All (λ marks. (m : List Mark) × AreMeant g marks m) found.items) }
         ensures same { self.new ≡ self.old }
     {
         let sought = Sought {
