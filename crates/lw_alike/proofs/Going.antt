@@ -11,9 +11,6 @@ use Rattle.lw_marks.specs.Follows as f
 abbrev pub kinds_in : List Token → List ℕ
 kinds_in ts = map (λ (t : Token). t.kind.0) ts
 
-same_first : {k l : ℕ} {ks ls : List ℕ} → k ∷ ks ≡ l ∷ ls → k ≡ l
-same_first e = cc
-
 same_others : {k l : ℕ} {ks ls : List ℕ} → k ∷ ks ≡ l ∷ ls → ks ≡ ls
 same_others e = cc
 

@@ -17,7 +17,6 @@ use Rattle.lw_marks.specs.Values as means
 use Rattle.lw_alike.specs.Tokens.{IsSameToken, AreSameTokens}
 use Rattle.lw_alike.specs.Growth.{AreAlikePlain, IsSameSince}
 use Rattle.lw_alike.specs.Growth as alike
-use Rattle.lw_alike.proofs.Going.{kinds_in}
 
 nothing_left : (ts : List Token) → drop (length ts) ts ≡ []
 nothing_left ts = drop_all (length ts) ts (omega arith)
@@ -40,12 +39,6 @@ module _ (text other : List ℕ) where
   same_texts (t ∷ ts) (u ∷ us) same =
       ap (λ (bytes : List ℕ). bytes ++ joined_texts text ts) same.0.bytes
       ∙ ap (λ (bytes : List ℕ). slice_range other u.span.start u.span.end ++ bytes) (same_texts ts us same.1)
-
-  pub same_kinds : (ts us : List Token) → AreSameTokens text other ts us → kinds_in ts ≡ kinds_in us
-  same_kinds [] [] same = refl
-  same_kinds [] (u ∷ us) same = absurd same
-  same_kinds (t ∷ ts) [] same = absurd same
-  same_kinds (t ∷ ts) (u ∷ us) same = cc (ap (λ (k : _). k.0) same.0.kind, same_kinds ts us same.1)
 
   -- ---- the tokens since a place
 

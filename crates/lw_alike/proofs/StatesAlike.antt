@@ -9,7 +9,7 @@ use Rattle.lw_alike.specs.Growth.{AreAlikeGrown}
 use Rattle.lw_alike.specs.Growth as alike
 use Rattle.lw_alike.specs.OneName.{AreAlikeTrees}
 use Rattle.lw_alike.specs.Tokens.{AreSameTokens}
-use Rattle.lw_alike.specs.Worked.{front_tokens, last_token, later_token, longer_text, longer_tree}
+use Rattle.lw_alike.specs.Worked.{front_tokens, end_token, moved_end_token, longer_text, longer_tree}
 use Rattle.lw_alike.proofs.Tabled.{trees_alike}
 
 -- both as they grow, up to this byte, with a reference by this name there
@@ -51,11 +51,11 @@ one_left_out is = is.refs
 pub fronts_say_the_same : AreSameTokens state_text longer_text front_tokens front_tokens
 fronts_say_the_same = (record { kind = refl; bytes = refl }, (record { kind = refl; bytes = refl }, (record { kind = refl; bytes = refl }, (record { kind = refl; bytes = refl }, (record { kind = refl; bytes = refl }, tt)))))
 
-pub rests_say_the_same : AreSameTokens state_text longer_text (last_token ∷ []) (later_token ∷ [])
+pub rests_say_the_same : AreSameTokens state_text longer_text (end_token ∷ []) (moved_end_token ∷ [])
 rests_say_the_same = (record { kind = refl; bytes = refl }, tt)
 
 other_bytes : codes "end" ≡ codes "rge" → ⊥
 other_bytes e = let first : 101 ≡ 114 = ap (λ (bytes : List ℕ). get_or bytes 0 0) e in omega (arith, first)
 
-pub rests_have_moved : ¬ AreSameTokens state_text longer_text (last_token ∷ []) (last_token ∷ [])
+pub rests_have_moved : ¬ AreSameTokens state_text longer_text (end_token ∷ []) (end_token ∷ [])
 rests_have_moved same = other_bytes same.0.bytes

@@ -12,11 +12,11 @@ longer_text = codes "model m state x to target end"
 abbrev pub front_tokens : List Token
 front_tokens = word_token 0 0 5 ∷ word_token 5 6 7 ∷ word_token 1 8 13 ∷ word_token 5 14 15 ∷ word_token 2 16 18 ∷ []
 
-abbrev pub last_token : Token
-last_token = word_token 3 21 24
+abbrev pub end_token : Token
+end_token = word_token 3 21 24
 
-abbrev pub later_token : Token
-later_token = word_token 3 26 29
+abbrev pub moved_end_token : Token
+moved_end_token = word_token 3 26 29
 
 abbrev pub longer_tree : Parts
 longer_tree = record {

@@ -28,7 +28,7 @@ ghost use Rattle.lw_alike.specs.Growth.{AreAlikeGrown, AreAlikeOpen, StandInNode
 ghost use Rattle.lw_alike.specs.OneName.{AreAlikeTrees};
 ghost use Rattle.lw_alike.specs.Places.{DifferInReference, IsReferencePlace, IsReferenceFrom, LeadsToRoot};
 ghost use Rattle.lw_alike.specs.Tokens.{AreSameTokens};
-ghost use Rattle.lw_alike.specs.Worked.{front_tokens, last_token, later_token, longer_text, longer_tree};
+ghost use Rattle.lw_alike.specs.Worked.{front_tokens, end_token, moved_end_token, longer_text, longer_tree};
 
 /// Where a name is written behind a text and before another, or another name in its place, the tokens before it say the same, where they stand in the
 /// one text, and so do those behind it, where they have moved on: the texts differ in the reference alone.
@@ -165,6 +165,6 @@ pub fn a_longer_name_is_the_only_difference()
     ensures elsewhere { ¬ AreAlikeTrees 1 state_tree longer_tree }
     ensures left_out { ¬ AreAlikeTrees 0 state_tree begun_tree }
     ensures front { AreSameTokens state_text longer_text front_tokens front_tokens }
-    ensures rest { AreSameTokens state_text longer_text (last_token ∷ []) (later_token ∷ []) }
-    ensures moved { ¬ AreSameTokens state_text longer_text (last_token ∷ []) (last_token ∷ []) }
+    ensures rest { AreSameTokens state_text longer_text (end_token ∷ []) (moved_end_token ∷ []) }
+    ensures moved { ¬ AreSameTokens state_text longer_text (end_token ∷ []) (end_token ∷ []) }
 {}

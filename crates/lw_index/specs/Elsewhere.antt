@@ -1,4 +1,6 @@
--- The names that documents other than one export with a type that is wanted. Held against Langium, "Scoping": the global scope has the descriptions of what documents export, of the types that a reference may lead to. That each name stands once, by its bytes, is this profile's.
+-- The names that documents other than one export with a type that is wanted. Held against Langium, "Scoping": the global scope has the
+-- descriptions of what documents export, of the types that a reference may lead to. That each name stands once, in the order of its
+-- bytes, is this profile's.
 use Rattle.std.specs.Prelude.{◌≡◌, ◌≢◌, ◌↔◌, ℕ, List, Contains, AllPairs}
 use Rattle.std.specs.Ordering.{nat_cmp}
 use Rattle.std.specs.declared.cmp.Ordering.TheVariants.{Less}

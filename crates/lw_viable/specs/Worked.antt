@@ -23,11 +23,11 @@ to_parts = word (codes "to") ∷ next_by_id ∷ []
 abbrev pub to_others : Element
 to_others = Many (Group to_parts nowhere) nowhere
 
-abbrev pub inner_parts : List Element
-inner_parts = word (codes "state") ∷ id_into (codes "first") ∷ to_others ∷ word (codes "end") ∷ []
+abbrev pub state_parts : List Element
+state_parts = word (codes "state") ∷ id_into (codes "first") ∷ to_others ∷ word (codes "end") ∷ []
 
 abbrev pub inner_states : Element
-inner_states = Many (Group inner_parts nowhere) nowhere
+inner_states = Many (Group state_parts nowhere) nowhere
 
 abbrev pub outer_parts : List Element
 outer_parts = word (codes "model") ∷ id_into (codes "name") ∷ inner_states ∷ []

@@ -24,13 +24,13 @@ use Rattle.lw_sentences.specs.Yields.{Calls}
 use Rattle.lw_sentences.specs.Yields as y
 use Rattle.lw_sentences.proofs.Every.{Every, every_at, differ, first_here, meant}
 use Rattle.lw_look.specs.ReadBy as by
-use Rattle.lw_look.specs.Sites.{PartSite, rule_of, Part, Body, Value, IsPartAt, element_parts, value_parts, inner_parts as parts_in}
+use Rattle.lw_look.specs.Sites.{PartSite, rule_of, Part, Body, Value, IsPartAt, element_parts, value_parts, inner_parts}
 use Rattle.lw_look.specs.Sites as site
 use Rattle.lw_look.specs.Supplied.{ChoicesHaveParts, IsSupplied}
 use Rattle.lw_look.specs.Worked.{id_into, word_into}
 use Rattle.lw_look.proofs.Reaching.{one_item, unmapped}
 use Rattle.lw_look.proofs.Supplying.{keyword_kind, part_calls, terminal_kind}
-use Rattle.lw_viable.specs.Worked.{a_by_id, next_by_id, to_parts, inner_parts, outer_parts, model_of_states}
+use Rattle.lw_viable.specs.Worked.{a_by_id, next_by_id, to_parts, state_parts, outer_parts, model_of_states}
 use Rattle.lw_viable.proofs.fronts.tests.grammar_of.Goals as goal
 
 -- keywords and identifiers, and what is made of them with parts in each choice
@@ -56,7 +56,7 @@ among : (es : List Element) → ((i : ℕ) (e : Element) → slice_get es i ≡ 
     slice_get (map Body es) i ≡ Some y → IsPlain y
 among es all i y at = let (e, there, same) = unmapped Body es i y at in subst IsPlain same (all i e there)
 
-inner_plain : {x : Part} → IsPlain x → (i : ℕ) (y : Part) → slice_get (parts_in x) i ≡ Some y → IsPlain y
+inner_plain : {x : Part} → IsPlain x → (i : ℕ) (y : Part) → slice_get (inner_parts x) i ≡ Some y → IsPlain y
 inner_plain (keyword text) i y at = absurd (none-some y (inside _ i y (outs-Keyword text nowhere) at))
 inner_plain (assigned p text) i y at = subst IsPlain (one_item i (inside _ i y (outs-Assign p One (value.Keyword text nowhere) nowhere) at)) (read text)
 inner_plain (read text) i y at = absurd (none-some y (subst (λ f. slice_get (value_parts f) i ≡ Some y) (value.outs-Keyword text nowhere) at))
@@ -190,8 +190,8 @@ states_plain =
       (
         identified (codes "name"),
         (
-          loop (Group inner_parts nowhere)
-              (row inner_parts (each inner_parts (
+          loop (Group state_parts nowhere)
+              (row state_parts (each state_parts (
                 keyword (codes "state"),
                 (
                   identified (codes "first"),
