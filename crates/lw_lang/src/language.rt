@@ -9,7 +9,7 @@ ghost use Rattle.lw_grammar.specs.Kinds.{AreKinds, Kinds};
 ghost use Rattle.lw_grammar.specs.KindTexts.{AreKindTexts, texts_of};
 ghost use Rattle.lw_reading.specs.Reading.{Reads, ReadsBy};
 ghost use Rattle.lw_parse.specs.Parsers.{AreOfKinds, ParsesFaultless, TellWays, table_parts};
-ghost use Rattle.lw_tokens.specs.Cut.{IsCut};
+ghost use Rattle.lw_tokens.specs.Cut.{HasNoTokenAt, IsCharacterAt, IsCut};
 ghost use Rattle.lw_tokens.specs.Lexicon.{IsLexicon, Lexicon};
 ghost use Rattle.lw_tree.specs.Parts.{Tile};
 ghost use Rattle.lw_types.specs.Inferred.{AreTypesOf};
@@ -120,13 +120,17 @@ impl Language {
         &self.parser
     }
 
-    /// The tokens of a text, hidden ones too, or the first place where no token stands. Time is as that of cutting a text for [`Language::read`].
+    /// The tokens of a text, hidden ones too, or the first place where no token stands, with the character there. Time is as that of cutting a
+    /// text for [`Language::read`].
     pub fn cut(&self, alloc: Global, text: &Name) -> Result<Vec<Token>, LexFault>
         requires short { length text.now ≤ LONGEST_TEXT }
         ensures cut { (kinds : Kinds) (lexicon : Lexicon) → AreKinds self.now.grammar kinds → IsLexicon self.now.grammar kinds lexicon →
             IfOk result (λ tokens. IsCut lexicon text.now tokens.items × ((others : List AToken) → IsCut lexicon text.now others → others ≡ tokens.items)) }
         ensures no_cut { (kinds : Kinds) (lexicon : Lexicon) (s : Span) → AreKinds self.now.grammar kinds → IsLexicon self.now.grammar kinds lexicon →
             result ≡ Err (LexFault.NoToken s) → (tokens : List AToken) → ¬ IsCut lexicon text.now tokens }
+        ensures no_token { (kinds : Kinds) (lexicon : Lexicon) (s : Span) → AreKinds self.now.grammar kinds → IsLexicon self.now.grammar kinds lexicon →
+            result ≡ Err (LexFault.NoToken s) → HasNoTokenAt lexicon text.now s.start }
+        ensures character { (s : Span) → result ≡ Err (LexFault.NoToken s) → IsCharacterAt text.now s }
         ensures of_kinds { (kinds : Kinds) → AreKinds self.now.grammar kinds → IfOk result (λ tokens. AreOfKinds kinds tokens.items) }
         ensures tile { IfOk result (λ tokens. Tile 0 tokens.items) }
         ensures parts { IfOk result (λ tokens. ArePartsOf text.now tokens.items) }

@@ -1,6 +1,6 @@
 -- By the lexicon that is kept, which is that of the grammar.
 use Rattle.std.proofs.Common.{subst, sym}
-use Rattle.lw_tokens.specs.Cut.{IsCut}
+use Rattle.lw_tokens.specs.Cut.{HasNoTokenAt, IsCut}
 use Rattle.lw_lang.proofs.Cutting.{cut_by, kinds_by, lexicon_kept, parts_by, tiles_by}
 use Rattle.lw_lang.proofs.language.Language.cut.Goals as goal
 
@@ -13,6 +13,14 @@ pub returns-clause-no_cut : goal.returns-clause-no_cut
 returns-clause-no_cut c kinds lexicon s are of is tokens cut =
     c.lex.ensures.no_cut s is tokens
     (subst (λ lexicon. IsCut lexicon c.args.text.now tokens) (sym (lexicon_kept c.self.inside _ c.self.view_is c.self.invariant c.args.text.now kinds lexicon are of)) cut)
+
+pub returns-clause-no_token : goal.returns-clause-no_token
+returns-clause-no_token c kinds lexicon s are of is =
+    subst (λ lexicon. HasNoTokenAt lexicon c.args.text.now s.start)
+    (lexicon_kept c.self.inside _ c.self.view_is c.self.invariant c.args.text.now kinds lexicon are of) (c.lex.ensures.no_token s is)
+
+pub returns-clause-character : goal.returns-clause-character
+returns-clause-character c s is = c.lex.ensures.character s is
 
 pub returns-clause-of_kinds : goal.returns-clause-of_kinds
 returns-clause-of_kinds c kinds are =

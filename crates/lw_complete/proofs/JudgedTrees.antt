@@ -1,0 +1,112 @@
+-- A reference leads alike in trees with the same tables, and a text that is read one way has one such tree.
+use Rattle.std.proofs.Common.{◌≡◌, ◌+◌, ◌++◌, ℕ, List, Bool, true, false, Option, Some, None, IsTrue, Contains, if◌then◌else◌, length, refl, sym, subst}
+use Rattle.std.specs.Str.{bytes_eq}
+use Rattle.std.proofs.lemmas.Option.{same_Some}
+use Rattle.lw_grammar.specs.declared.grammar.Grammar.{Grammar}
+use Rattle.lw_offers.specs.Targets.{HasTarget, having_tree}
+use Rattle.lw_reading.specs.Laws.{IsReadOneWay, IsSameReading}
+use Rattle.lw_reading.specs.Laws as law
+use Rattle.lw_reading.specs.Reading.{Reads}
+use Rattle.lw_reading.specs.declared.parsed.Parsed.TheVariants.{Broken, Whole}
+use Rattle.lw_reading.proofs.OneReading.{one_reading}
+use Rattle.lw_scopes.specs.Links.{IsNumberBelow}
+use Rattle.lw_scopes.proofs.SameTables.{link_over}
+use Rattle.lw_scoping.specs.Alike.{AreAlike, HaveSameTables, both, neither}
+use Rattle.lw_scoping.specs.Links.{FitsThere, Trees}
+use Rattle.lw_scoping.proofs.Tables.{same_exports, same_named, same_own, turned}
+use Rattle.lw_tree.specs.declared.issue.Issue.{Issue}
+use Rattle.lw_tree.specs.declared.node.Reference.{Reference}
+use Rattle.lw_tree.specs.Parts.{Parts, SameTables}
+use Rattle.lw_complete.specs.declared.typing.Typing.{Typing}
+use Rattle.lw_complete.specs.Judged.{IsJudged, IsToldOf, StandsAt, StandsWhole}
+use Rattle.lw_complete.specs.Typing.{grammar_of}
+
+same_as_itself : (tree : Parts) → SameTables tree tree
+same_as_itself tree = record { nodes = refl; values = λ n p. refl; refs = refl; tokens = refl; name = refl }
+
+alike_itself : (tree : Option Parts) → AreAlike tree tree
+alike_itself None = neither
+alike_itself (Some tree) = both (same_as_itself tree)
+
+having_alike : (trees : Trees) (address : List ℕ) {tree other : Parts} → SameTables tree other →
+    HaveSameTables (having_tree address tree trees) (having_tree address other trees)
+having_alike trees address {tree} {other} same place = by (bytes_eq place address)
+  where
+    by : (is : Bool) → AreAlike (if is then Some tree else trees place) (if is then Some other else trees place)
+    by true = both same
+    by false = alike_itself (trees place)
+
+-- a document that has a tree has one with the same tables in the other
+alike_in : {a b : Option Parts} {tree : Parts} → AreAlike a b → a ≡ Some tree → (other : Parts) × (b ≡ Some other) × SameTables tree other
+alike_in {tree} (both {one = one} {other = other} same) is = (other, refl, subst (λ (x : Parts). SameTables x other) (same_Some one tree is) same)
+alike_in neither is = absurd (differ is)
+  where
+    differ : {tree : Parts} → None ≡ Some tree → ⊥
+    differ e = cc
+
+fits_over : {trees others : Trees} → HaveSameTables trees others → (below : ℕ → ℕ → Type 0) (r : Reference) (place : List ℕ × ℕ) → FitsThere below trees r place →
+    FitsThere below others r place
+fits_over all below r place (tree, is, has, (type, named, under)) =
+    let (other, there, same) = alike_in (all place.0) is in
+    (other, there, subst (λ (xs : List ℕ). Contains xs place.1) (same_exports same) has, (type, same_named same named, under))
+
+pub target_over : (g : Grammar) (trees : Trees) (address : List ℕ) (tree other : Parts) (r : Reference) → SameTables tree other →
+    HasTarget (IsNumberBelow g) trees address tree r → HasTarget (IsNumberBelow g) trees address other r
+target_over g trees address tree other r same (target, leads) = (
+  target,
+  link_over (IsNumberBelow g) _ _ address tree other r (λ n own. same_own same (IsNumberBelow g) r own)
+      (fits_over (having_alike trees address same) (IsNumberBelow g) r)
+      (fits_over (having_alike trees address (turned same)) (IsNumberBelow g) r) (Some target) leads,
+)
+
+-- the trees of one text have the same tables
+pub same_trees : {g : Grammar} (one_way : IsReadOneWay g) {text : List ℕ} {tree other : Parts} → Reads g text (Whole tree) → Reads g text (Whole other) →
+    SameTables tree other
+same_trees {g} one_way {text} {tree} {other} is was = by (one_reading g one_way text (Whole tree) (Whole other) is was)
+  where
+    by : IsSameReading (Whole tree) (Whole other) → SameTables tree other
+    by (law.whole same) = same
+
+-- a text that is broken has none
+pub no_tree : {g : Grammar} (one_way : IsReadOneWay g) {text : List ℕ} {issue : Issue} {tree : Parts} → Reads g text (Broken issue) → Reads g text (Whole tree) → ⊥
+no_tree {g} one_way {text} {issue} {tree} is was = by (one_reading g one_way text (Broken issue) (Whole tree) is was)
+  where
+    by : IsSameReading (Broken issue) (Whole tree) → ⊥
+    by same = elim same [ ]
+
+-- ---- from one tree to all trees of the text
+
+module _ (typing : Typing) (one_way : IsReadOneWay (grammar_of typing)) (trees : Trees) (address name : List ℕ) where
+  abbrev text : List ℕ
+  text = typing.front.now ++ name ++ typing.rest.now
+
+  pub judged_broken : (issue : Issue) → Reads (grammar_of typing) text (Broken issue) → IsJudged typing trees address name None
+  judged_broken issue is tree r stands = no_tree one_way is stands.reads
+
+  module _ (tree : Parts) (is : Reads (grammar_of typing) text (Whole tree)) where
+    abbrev IsTold : Option Bool → Type 0
+    IsTold = IsToldOf typing trees address tree (length typing.front.now) (length typing.front.now + length name) tree.refs
+
+    -- the reference of another tree of the text is one of this
+    there_too : (other : Parts) (r : Reference) → StandsWhole typing trees address name other r → Contains tree.refs r
+    there_too other r stands = subst (λ (refs : List Reference). Contains refs r) (sym (same_trees one_way is stands.reads).refs) stands.among
+
+    stands_here : (r : Reference) → Contains tree.refs r → StandsAt (length typing.front.now) (length typing.front.now + length name) r →
+        StandsWhole typing trees address name tree r
+    stands_here r among at = record { reads = is; among = among; starts = at.0; ends = at.1 }
+
+    pub judged : (found : Option Bool) → IsTold found → IsJudged typing trees address name found
+    judged None none other r stands = none r (there_too other r stands) (stands.starts, stands.ends)
+    judged (Some leads) (some, exactly) = (
+      (tree, some.0, stands_here some.0 some.1 some.2),
+      (
+        λ true_. let (r, among, at, target) = exactly.0 true_ in (tree, r, stands_here r among at, target),
+        λ (other, r, stands, target).
+            exactly.1 (
+              r,
+              there_too other r stands,
+              (stands.starts, stands.ends),
+              target_over (grammar_of typing) trees address other tree r (turned (same_trees one_way is stands.reads)) target,
+            ),
+      ),
+    )

@@ -1,0 +1,49 @@
+-- The tree of what was read before a reference is one, and so is the reference behind it.
+use Rattle.std.proofs.Common.{◌≡◌, ℕ, List, Option, Some, None, length, slice_get, refl, sym, ap, ap₂, ◌∙◌, subst}
+use Rattle.std.proofs.lemmas.Option.{same_Some}
+use Rattle.lw_base.specs.declared.numbers.PropId.{PropId}
+use Rattle.lw_base.specs.declared.token.Token.{Token}
+use Rattle.lw_grammar.specs.declared.grammar.Grammar.{Grammar}
+use Rattle.lw_grammar.specs.Kinds.{Kinds}
+use Rattle.lw_marks.specs.Brackets.{Bracket}
+use Rattle.lw_marks.specs.Follows.{Closes}
+use Rattle.lw_marks.specs.Grown.{Grown}
+use Rattle.lw_marks.specs.Numbers.{IsNamingProperty}
+use Rattle.lw_marks.specs.Trees.{IsOpenedTree, parts_of_tree}
+use Rattle.lw_offers.specs.Starting.{IsFrontTree, ReferenceNext}
+use Rattle.lw_rooted.proofs.OneTree.{one_close, one_follows}
+use Rattle.lw_rooted.proofs.OneValue.{one_number_of_property}
+use Rattle.lw_sentences.specs.Marks.{Mark}
+use Rattle.lw_tree.specs.declared.node.Reference.{Reference}
+use Rattle.lw_tree.specs.Parts.{Parts, SameTables, values_at}
+
+one_naming : (g : Grammar) (a b : Option PropId) → IsNamingProperty g a → IsNamingProperty g b → a ≡ b
+one_naming g None None is was = refl
+one_naming g None (Some p) is was = absurd (is p.0 was)
+one_naming g (Some p) None is was = absurd (was p.0 is)
+one_naming g (Some p) (Some q) is was = let e = one_number_of_property g _ p.0 q.0 is was in ap (λ n. Some (record { 0 = n })) e
+
+one_opened : (g : Grammar) (text : List ℕ) (m : List Mark) (seen tokens : List Token) (a b : Parts) → IsOpenedTree g text m seen tokens a →
+    IsOpenedTree g text m seen tokens b → SameTables a b
+one_opened g text m seen tokens a b is was =
+    let open_ = one_follows g text is.follows was.follows refl refl in
+    let grown = one_close g text (subst (λ (bs : List Bracket). Closes g text seen bs is.grown) open_ is.closes) was.closes in
+    let named = one_naming g a.name b.name is.named was.named in
+    let parts = ap₂ (λ x n. parts_of_tree x tokens n) grown named in
+    record {
+      nodes = is.parts.nodes ∙ ap (λ p. p.nodes) parts ∙ sym was.parts.nodes;
+      values = λ n p. is.parts.values n p ∙ ap (λ x. values_at n p x.values) parts ∙ sym (was.parts.values n p);
+      refs = is.parts.refs ∙ ap (λ p. p.refs) parts ∙ sym was.parts.refs;
+      tokens = is.parts.tokens ∙ ap (λ p. p.tokens) parts ∙ sym was.parts.tokens;
+      name = named;
+    }
+
+pub one_front : (g : Grammar) (of : Kinds) (front : List ℕ) (tokens : List Token) (next : ReferenceNext) (a b : Parts) (r s : Reference) →
+    IsFrontTree g of front tokens next a r → IsFrontTree g of front tokens next b s → SameTables a b × (r ≡ s)
+one_front g of front tokens next a b r s is was =
+    let tree = one_opened g front _ _ tokens a b is.opened was.opened in
+    let behind = one_opened g front _ _ tokens is.behind was.behind is.opened_behind was.opened_behind in (
+      tree,
+      same_Some r s
+          (sym is.reference ∙ ap₂ (λ (xs ys : List Reference). slice_get xs (length ys)) behind.refs tree.refs ∙ was.reference),
+    )

@@ -1,0 +1,5 @@
+use Rattle.lw_complete.proofs.KeywordsNext.{AreSoFar}
+use Rattle.lw_complete.proofs.keywords.keywords.Given as goal
+
+abbrev pub invariant-kinds : goal.invariant-kinds
+invariant-kinds l = AreSoFar l.typing l.set.lexicon.keywords l.kind-items l.kind-index l.found.items

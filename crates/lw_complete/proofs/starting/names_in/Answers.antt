@@ -1,0 +1,13 @@
+use Rattle.std.proofs.Common.{ℕ, ◌↔◌, List, Contains}
+use Rattle.std.proofs.lemmas.Result.{IfOk-weaker}
+use Rattle.lw_offers.specs.Targets.{AreVisible, HasTarget, renamed_to}
+use Rattle.lw_scopes.specs.Links.{IsNumberBelow}
+use Rattle.lw_complete.specs.Typing.{grammar_of}
+use Rattle.lw_complete.proofs.starting.names_in.Goals as goal
+
+pub returns : goal.returns
+returns c trees address is number =
+    let g = grammar_of c.args.typing.now in
+    IfOk-weaker c.visible.result (λ names. AreVisible (IsNumberBelow g) trees address c.args.tree.now c.args.reference.now names.items)
+    (λ names. (name : List ℕ) → Contains names.items name ↔ HasTarget (IsNumberBelow g) trees address c.args.tree.now (renamed_to name c.args.reference.now))
+    (λ names are. are.exact) (c.visible.ensures g trees address c.types-types.ensures is number)

@@ -1,0 +1,43 @@
+-- What is told of a name once it is written, in words of the code.
+use Rattle.std.specs.Prelude.{ℕ, ◌≡◌, ◌↔◌, ◌+◌, ◌++◌, List, Bool, Option, Some, None, IsTrue, Contains, length}
+use Rattle.lw_scopes.specs.Links.{IsNumberBelow}
+use Rattle.lw_scoping.specs.Links.{Trees}
+use Rattle.lw_tree.specs.declared.node.Reference.{Reference}
+use Rattle.lw_tree.specs.Parts.{Parts}
+use Rattle.lw_offers.specs.Offers.{HasReferenceAt}
+use Rattle.lw_offers.specs.Targets.{HasTarget}
+use Rattle.lw_complete.specs.declared.typing.Typing.{Typing}
+use Rattle.lw_complete.specs.Typing.{grammar_of}
+
+-- the reference takes up just these bytes
+abbrev pub StandsAt : ℕ → ℕ → Reference → Type 0
+StandsAt start end r = (r.span.start ≡ start) × (r.span.end ≡ end)
+
+module _ (typing : Typing) (trees : Trees) (address : List ℕ) (tree : Parts) (start end : ℕ) (refs : List Reference) where
+  -- one of these references of the tree takes up just these bytes
+  abbrev pub SomeStands : Type 0
+  SomeStands = (r : Reference) × Contains refs r × StandsAt start end r
+
+  -- and it leads somewhere
+  abbrev pub SomeLeads : Type 0
+  SomeLeads = (r : Reference) × Contains refs r × StandsAt start end r × HasTarget (IsNumberBelow (grammar_of typing)) trees address tree r
+
+  -- None where none of these references takes up just these bytes, else whether one of those that do leads somewhere
+  abbrev pub IsToldOf : Option Bool → Type 0
+  IsToldOf None = (r : Reference) → Contains refs r → ¬ StandsAt start end r
+  IsToldOf (Some leads) = SomeStands × (IsTrue leads ↔ SomeLeads)
+
+module _ (typing : Typing) (trees : Trees) (address : List ℕ) (name : List ℕ) where
+  -- the text with the name in it has this tree, and the name is this reference there
+  abbrev pub StandsWhole : Parts → Reference → Type 0
+  StandsWhole tree r =
+      HasReferenceAt (grammar_of typing) (typing.front.now ++ name ++ typing.rest.now) (length typing.front.now) (length typing.front.now + length name) tree r
+
+  -- it leads somewhere there
+  abbrev pub LeadsWhole : Type 0
+  LeadsWhole = (tree : Parts) × (r : Reference) × StandsWhole tree r × HasTarget (IsNumberBelow (grammar_of typing)) trees address tree r
+
+  -- None where the text has no such tree, else whether the reference leads somewhere
+  abbrev pub IsJudged : Option Bool → Type 0
+  IsJudged None = (tree : Parts) (r : Reference) → ¬ StandsWhole tree r
+  IsJudged (Some leads) = ((tree : Parts) × (r : Reference) × StandsWhole tree r) × (IsTrue leads ↔ LeadsWhole)

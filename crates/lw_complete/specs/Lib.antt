@@ -1,0 +1,4 @@
+pub mod Typing
+pub mod Starts
+pub mod Judged
+pub mod Items

@@ -1,0 +1,162 @@
+-- What is told of the cross-references that may come next, in words of the code.
+use Rattle.std.specs.Prelude.{ℕ, ◌≡◌, ◌≢◌, ◌⊎◌, ◌↔◌, ◌++◌, ◌∷◌, [], List, Bool, All, Contains, IsTrue, map, length, slice_get, Some}
+use Rattle.lw_base.specs.declared.token.Token.{Token}
+use Rattle.lw_begins.specs.Gives.{PlacesGive}
+use Rattle.lw_builder.specs.Built.{ArePartsOf}
+use Rattle.lw_grammar.specs.declared.grammar.Grammar.{Grammar}
+use Rattle.lw_grammar.specs.Kinds.{AreKinds, Kinds}
+use Rattle.lw_marks.specs.Follows.{LooksUp, RefersBy}
+use Rattle.lw_offers.specs.Starting.{ComesNext, IsBlankTree, IsFindable, IsFrontTree, ReferenceNext, moved_by, marks_with, token_marks}
+use Rattle.lw_offers.specs.Targets.{HasTarget, renamed_to}
+use Rattle.lw_offers.specs.Words.{BeginsBy}
+use Rattle.lw_marks.specs.Trees.{IsTree}
+use Rattle.lw_parse.specs.Parsers.{AreOfKinds, ParserParts, ParsesFaultless}
+use Rattle.lw_program.specs.Says.{Task}
+use Rattle.lw_recipes.specs.declared.mark.TreeMark.TheVariants as numbered
+use Rattle.lw_recipes.specs.Meant.{AreMeant, MeansMark}
+use Rattle.lw_rooted.specs.Growing.{GrowsRoot}
+use Rattle.lw_scopes.specs.Links.{IsNumberBelow}
+use Rattle.lw_scoping.specs.Links.{Trees}
+use Rattle.lw_sentences.specs.Marks.{Mark, Put}
+use Rattle.lw_sentences.specs.Sentences.{IsSentence}
+use Rattle.lw_tokens.specs.Cut.{IsCut, kinds, visible}
+use Rattle.lw_tokens.specs.Lexicon.{Lexicon}
+use Rattle.lw_tree.specs.declared.node.Reference.{Reference}
+use Rattle.lw_tree.specs.Parts.{Parts, Tile}
+use Rattle.lw_viable.specs.Aims.{EndsSome}
+use Rattle.lw_viable.specs.Fronts.{IsProgramWith}
+use Rattle.lw_viable.specs.Readings.{HasTask}
+use Rattle.lw_viable.specs.declared.reference_start.ReferenceStart.{ReferenceStart}
+use Rattle.lw_complete.specs.declared.names.Known.{Known}
+use Rattle.lw_complete.specs.declared.names.Written.{Written}
+use Rattle.lw_complete.specs.declared.starting.Blank.{Blank}
+use Rattle.lw_complete.specs.declared.starting.FrontNames.{FrontNames}
+use Rattle.lw_complete.specs.declared.typing.Typing.{Typing}
+use Rattle.lw_complete.specs.Judged.{LeadsWhole, StandsWhole}
+use Rattle.lw_complete.specs.Typing.{grammar_of}
+
+-- the start is one of this reference
+pub record IsStartOf (g : Grammar) (next : ReferenceNext) (start : ReferenceStart) : Type 0 where
+  pub meant : AreMeant g start.marks next.before
+  pub puts : MeansMark g (numbered.Put start.put) (Put next.prop next.op next.value)
+
+module _ (of : Kinds) (typing : Typing) (trees : Trees) (address : List ℕ) where
+  -- by which names the reference leads somewhere in the tree of what was read before it, and how many references that tree has
+  pub record AreFrontNames (next : ReferenceNext) (found : FrontNames) : Type 0 where
+    pub tree : Parts
+    pub r : Reference
+    pub is_tree : IsFrontTree (grammar_of typing) of typing.front.now typing.tokens.now next tree r
+    pub exact : (name : List ℕ) → Contains found.names.items name ↔ HasTarget (IsNumberBelow (grammar_of typing)) trees address tree (renamed_to name r)
+    pub before : found.before ≡ length tree.refs
+
+  -- a name by which it leads somewhere in a tree of the whole text with the reference left blank, whose marks behind it the places behind this start give
+  pub record IsBlankName (lexicon : Lexicon) (tasks : List Task) (next : ReferenceNext) (start : ReferenceStart) (name : List ℕ) : Type 0 where
+    pub front_tree : Parts
+    pub front_r : Reference
+    pub is_front : IsFrontTree (grammar_of typing) of typing.front.now typing.tokens.now next front_tree front_r
+    pub tree : Parts
+    pub r : Reference
+    pub is_tree : IsBlankTree (grammar_of typing) of lexicon typing.front.now typing.rest.now typing.tokens.now next front_tree tree r
+    pub behind : PlacesGive (grammar_of typing) of tasks start.behind is_tree.after
+    pub target : HasTarget (IsNumberBelow (grammar_of typing)) trees address tree (renamed_to name r)
+
+-- texts of the language are parsed by this parser, at the places of whose program these tasks stand
+pub record IsParsedBy (of : Kinds) (tasks : List Task) (typing : Typing) (parser : ParserParts) : Type 0 where
+  pub k : ℕ
+  pub faultless : ParsesFaultless (grammar_of typing) of k parser
+  pub program : IsProgramWith (grammar_of typing) of tasks parser.program parser.begins
+
+-- the start is one of a reference that comes next, and a sentence goes on so with whatever its places behind give
+pub record IsSoundStart (of : Kinds) (tasks : List Task) (typing : Typing) (next : ReferenceNext) (start : ReferenceStart) : Type 0 where
+  pub is_start : IsStartOf (grammar_of typing) next start
+  pub comes : ComesNext (grammar_of typing) of typing.tokens.now next
+  pub behind : All (HasTask (grammar_of typing) of tasks) start.behind
+  pub whole : (n : List Mark) → PlacesGive (grammar_of typing) of tasks start.behind n →
+      (ks : List ℕ) × IsSentence (grammar_of typing) of (marks_with next ks ++ n)
+
+-- the text without the word, and its tokens: those before the word, and behind them those of what stands behind the offset
+pub record IsBlank (typing : Typing) (lexicon : Lexicon) (blank : Blank) : Type 0 where
+  pub text : blank.text ≡ typing.front.now ++ typing.rest.now
+  pub cut : IsCut lexicon typing.rest.now blank.others.items
+  pub only : (others : List Token) → IsCut lexicon typing.rest.now others → others ≡ blank.others.items
+  pub of_kinds : (of : Kinds) → AreKinds (grammar_of typing) of → AreOfKinds of blank.others.items
+  pub tokens : blank.tokens.items ≡ typing.tokens.now ++ map (moved_by (length typing.front.now)) blank.others.items
+  pub tile : Tile 0 blank.tokens.items
+  pub parts : ArePartsOf blank.text blank.tokens.items
+
+-- the whole tree of these marks of the text without the word
+abbrev pub IsTreeOfBlank : Typing → Blank → List Mark → Parts → Type 0
+IsTreeOfBlank typing blank m tree = IsTree (grammar_of typing) blank.text m (visible blank.tokens.items) blank.tokens.items tree
+
+-- the marks have a tree, and a reference stands there behind so many others
+pub record GrowsReference (typing : Typing) (blank : Blank) (before : ℕ) (m : List Mark) : Type 0 where
+  pub grows : GrowsRoot (grammar_of typing) blank.text m (visible blank.tokens.items)
+  pub reference : (tree : Parts) → IsTreeOfBlank typing blank m tree → (r : Reference) × (slice_get tree.refs before ≡ Some r)
+
+-- by this name it leads somewhere in the tree
+pub record LeadsInBlank (typing : Typing) (trees : Trees) (address : List ℕ) (blank : Blank) (before : ℕ) (m : List Mark) (name : List ℕ) : Type 0 where
+  pub tree : Parts
+  pub r : Reference
+  pub is_tree : IsTreeOfBlank typing blank m tree
+  pub reference : slice_get tree.refs before ≡ Some r
+  pub target : HasTarget (IsNumberBelow (grammar_of typing)) trees address tree (renamed_to name r)
+
+-- what a name comes to behind the text before the word: the text, and its tokens there
+pub record IsWritten (of : Kinds) (lexicon : Lexicon) (typing : Typing) (written : Written) : Type 0 where
+  pub text : written.text.now ≡ typing.front.now ++ written.name.now
+  pub cut : IsCut lexicon written.text.now (typing.tokens.now ++ written.added.now)
+  pub parts : ArePartsOf written.text.now written.added.now
+  pub of_kinds : AreOfKinds of written.added.now
+
+-- a cross-reference of this start comes next
+pub record ComesAt (of : Kinds) (typing : Typing) (next : ReferenceNext) (start : ReferenceStart) : Type 0 where
+  pub is_start : IsStartOf (grammar_of typing) next start
+  pub comes : ComesNext (grammar_of typing) of typing.tokens.now next
+
+-- some does, and its value has a task
+pub record IsStartNext (of : Kinds) (tasks : List Task) (typing : Typing) (start : ReferenceStart) : Type 0 where
+  pub next : ReferenceNext
+  pub at : ComesAt of typing next start
+  pub value : HasTask (grammar_of typing) of tasks start.value
+  pub behind : All (HasTask (grammar_of typing) of tasks) start.behind
+
+-- the name is what the reference looks up by these tokens, which are those of the name behind the text before the word
+pub record IsSaidBy (typing : Typing) (next : ReferenceNext) (added : List Token) (name : List ℕ) : Type 0 where
+  pub wanted : List ℕ
+  pub rule : List ℕ
+  pub refers : RefersBy (grammar_of typing) next.value wanted rule
+  pub means : LooksUp (grammar_of typing) (typing.front.now ++ name) rule (visible added) name
+
+-- These tokens have the kinds of what the place of the start's value gives, and the name is what the reference looks up by them.
+pub record IsReadBy (of : Kinds) (tasks : List Task) (typing : Typing) (next : ReferenceNext) (start : ReferenceStart) (added : List Token) (name : List ℕ) : Type 0 where
+  pub some : added ≢ []
+  pub gives : EndsSome (PlacesGive (grammar_of typing) of tasks (start.value ∷ [])) (kinds (visible added))
+  pub says : IsSaidBy typing next added name
+
+-- by which names the cross-reference of the start leads somewhere in the tree of what was read before
+pub record IsKnownStart (of : Kinds) (typing : Typing) (trees : Trees) (address : List ℕ) (known : Known) : Type 0 where
+  pub told : (next : ReferenceNext) → ComesAt of typing next known.start.now → AreFrontNames of typing trees address next known.front
+
+-- a name by which the cross-reference of the start leads somewhere, in that tree or in the tree of the whole text with the reference left blank
+abbrev pub IsFoundAt : Kinds → Lexicon → Typing → Trees → List ℕ → ReferenceStart → List ℕ → Type 0
+IsFoundAt of lexicon typing trees address start name =
+    (next : ReferenceNext) × ComesAt of typing next start
+    × IsFindable (grammar_of typing) of lexicon trees address typing.front.now typing.rest.now typing.tokens.now next name
+
+-- the name is read as one of these starts, of those alone by which it leads somewhere in the tree of what was read before, where `leads`
+abbrev pub IsReadAt : Kinds → List Task → Typing → Bool → List Token → List ℕ → Known → Type 0
+IsReadAt of tasks typing leads added name one =
+    (next : ReferenceNext) × ComesAt of typing next one.start.now × IsReadBy of tasks typing next one.start.now added name
+    × (IsTrue leads → Contains one.front.names.items name)
+
+-- the name is offered
+pub record IsOfferedBy (of : Kinds) (lexicon : Lexicon) (tasks : List Task) (typing : Typing) (trees : Trees) (address : List ℕ) (known : List Known)
+    (name : List ℕ) : Type 0 where
+  pub begins : BeginsBy typing.word.now name
+  pub added : List Token
+  pub cut : IsCut lexicon (typing.front.now ++ name) (typing.tokens.now ++ added)
+  pub one : Known
+  pub among : Contains known one
+  pub judged : Bool
+  pub reads : IsReadAt of tasks typing judged added name one
+  pub whole : LeadsWhole typing trees address name ⊎ (IsTrue judged × ((tree : Parts) (r : Reference) → ¬ StandsWhole typing trees address name tree r))

@@ -1,0 +1,35 @@
+-- What is known where a word is being typed.
+use Rattle.std.specs.Prelude.{ℕ, ◌≡◌, List, []}
+use Rattle.lw_base.specs.declared.token.Token.{Token}
+use Rattle.lw_builder.specs.Built.{ArePartsOf}
+use Rattle.lw_grammar.specs.declared.grammar.Grammar.{Grammar}
+use Rattle.lw_grammar.specs.Kinds.{AreKinds, Kinds}
+use Rattle.lw_parse.specs.Parsers.{AreOfKinds}
+use Rattle.lw_program.specs.Says.{Task}
+use Rattle.lw_tokens.specs.Cut.{IsCut, kinds, visible}
+use Rattle.lw_tokens.specs.Lexicon.{IsLexicon, Lexicon}
+use Rattle.lw_tree.specs.Parts.{Tile}
+use Rattle.lw_viable.specs.Aims.{Sentence}
+use Rattle.lw_viable.specs.Fronts.{FrontsParts, HoldReadings}
+use Rattle.lw_complete.specs.declared.typing.Typing.{Typing}
+
+-- the grammar of the language
+abbrev pub grammar_of : Typing → Grammar
+grammar_of typing = typing.language.now.grammar
+
+-- these are the kinds and the lexicon of the grammar, and the tokens are those of the text before the word
+pub record IsTypedBy (of : Kinds) (lexicon : Lexicon) (typing : Typing) : Type 0 where
+  pub are_kinds : AreKinds (grammar_of typing) of
+  pub is_lexicon : IsLexicon (grammar_of typing) of lexicon
+  pub cut : IsCut lexicon typing.front.now typing.tokens.now
+  pub tile : Tile 0 typing.tokens.now
+  pub parts : ArePartsOf typing.front.now typing.tokens.now
+  pub of_kinds : AreOfKinds of typing.tokens.now
+
+-- the kinds of the visible tokens before the word
+abbrev pub kinds_before : Typing → List ℕ
+kinds_before typing = kinds (visible typing.tokens.now)
+
+-- all readings of them are kept
+abbrev pub AreReadings : Kinds → List Task → Typing → FrontsParts → Type 0
+AreReadings of tasks typing fronts = HoldReadings (grammar_of typing) of tasks Sentence (kinds_before typing) fronts

@@ -1,0 +1,105 @@
+// The keywords that may be written.
+ghost use Rattle.std.specs.Prelude.{ℕ, ◌≡◌, ◌≢◌, ◌↔◌, ◌+◌, ◌≤◌, ◌++◌, ◌∷◌, [], List, AllPairs, Contains, IfOk, IsTrue, length};
+ghost use Rattle.lw_base.specs.declared.limits.TheConstants.{LONGEST_DOCUMENT};
+ghost use Rattle.lw_grammar.specs.Kinds.{Kinds};
+ghost use Rattle.lw_look.specs.Supplied.{IsSupplied};
+ghost use Rattle.lw_offers.specs.Offers.{IsKeywordNext, visible_token};
+ghost use Rattle.lw_offers.specs.Words.{BeginsBy};
+ghost use Rattle.lw_program.specs.Says.{Task};
+ghost use Rattle.lw_tokens.specs.Cut.{IsCut};
+ghost use Rattle.lw_tokens.specs.Lexicon.{Lexicon};
+ghost use Rattle.lw_complete.specs.Typing.{AreReadings, IsTypedBy, grammar_of};
+
+use crate::typing::Typing;
+use lw_base::{KindId, Name, NoMemory, Span, Token};
+use lw_terminals::TokenSet;
+use lw_viable::Fronts;
+use std::alloc::Global;
+
+/// The keywords that begin with the word, are one token in its place, and with which some sentence goes on, each once.
+pub(crate) fn keywords(
+    alloc: Global,
+    typing: &Typing<'_>,
+    fronts: &mut Fronts<'_>,
+) -> Result<Vec<Name>, NoMemory>
+    requires short { length typing.now.front.now ≤ LONGEST_DOCUMENT }
+    requires known { (of : Kinds) × (lexicon : Lexicon) × (tasks : List Task) × IsTypedBy of lexicon typing.now × AreReadings of tasks typing.now fronts.old
+        × IsSupplied (grammar_of typing.now) of }
+    ensures keywords { (of : Kinds) (lexicon : Lexicon) (tasks : List Task) → IsTypedBy of lexicon typing.now → AreReadings of tasks typing.now fronts.old →
+        IsSupplied (grammar_of typing.now) of →
+        IfOk result (λ found. (text : List ℕ) → Contains found.items text ↔
+            (BeginsBy typing.now.word.now text × IsKeywordNext (grammar_of typing.now) of lexicon typing.now.front.now typing.now.tokens.now text)) }
+    ensures apart { IfOk result (λ found. AllPairs (λ one other. one ≢ other) found.items) }
+    ensures same { fronts.new ≡ fronts.old }
+{
+    let set = typing.language.tokens();
+    let expected = fronts.expected(alloc, kind_count(set))?;
+    let mut found = Vec::new(alloc);
+    'kinds: for kind in &expected {
+        if let Some(keyword) = set.keywords().get(kind.0 as usize) {
+            if is_next(alloc, typing, *kind, keyword)? {
+                found.push(keyword.copy(alloc)?)?;
+            }
+        }
+    }
+    Ok(found)
+}
+
+/// How many kinds of tokens there are.
+fn kind_count(set: &TokenSet) -> usize
+    ensures count { result ≡ length set.now.texts }
+    ensures few { result ≤ 65535 }
+{
+    set.keywords();
+    let mut count = 0;
+    'kinds: while count < 65535 && set.has_kind(KindId(count as u16)) {
+        count += 1;
+    }
+    count
+}
+
+/// Whether the keyword begins with the word, and is one token of the kind behind the text before it.
+fn is_next(
+    alloc: Global,
+    typing: &Typing<'_>,
+    kind: KindId,
+    keyword: &Name,
+) -> Result<bool, NoMemory>
+    requires short { length typing.now.front.now ≤ LONGEST_DOCUMENT }
+    ensures { (of : Kinds) (lexicon : Lexicon) → IsTypedBy of lexicon typing.now →
+        IfOk result (λ is. IsTrue is ↔ (BeginsBy typing.now.word.now keyword.now × IsCut lexicon (typing.now.front.now ++ keyword.now)
+            (typing.now.tokens.now ++ visible_token kind.0 (length typing.now.front.now) (length keyword.now) ∷ []))) }
+{
+    if !keyword.text().starts_with(typing.word) {
+        return Ok(false);
+    }
+    let text = typing.with(alloc, keyword.text())?;
+    match typing.added(alloc, &text)? {
+        Some(added) => Ok(is_alone(added.as_slice(), token_behind(kind, typing.front, keyword))),
+        None => Ok(false),
+    }
+}
+
+/// The tokens are this one alone.
+fn is_alone(tokens: &[Token], token: Token) -> bool
+    ensures { IsTrue result ↔ (tokens.now ≡ token ∷ []) }
+{
+    matches!(tokens, [one] if *one == token)
+}
+
+/// The visible token of this kind that the keyword is behind a text.
+fn token_behind(kind: KindId, front: &Name, keyword: &Name) -> Token
+    requires { length front.now + length keyword.now ≤ 4294967295 }
+    ensures { result ≡ visible_token kind.0 (length front.now) (length keyword.now) }
+{
+    let start = front.bytes().len();
+    let end = start + keyword.bytes().len();
+    Token {
+        kind,
+        span: Span {
+            start: start as u32,
+            end: end as u32,
+        },
+        hidden: false,
+    }
+}

@@ -1,0 +1,30 @@
+//! What may be written at a place of a document: the keywords that continue its text, and the names that are read there as a cross-reference
+//! and lead somewhere.
+//!
+//! [`complete`] is asked at a byte offset of a text. The text before the word that ends there is cut into tokens, and all readings of these
+//! are kept (`lw_viable`). A keyword is offered where one of them goes on with it and it is one token there. A name is offered where one of
+//! them goes on with a cross-reference that it is read as, and it leads somewhere once it is written.
+//!
+//! Its model: offers are those of `lw_offers`, over the trees of all documents; an [`Item`] stands for an offer, with the span of the word
+//! that it takes the place of. The index stands for what the other documents export (`lw_link`).
+//!
+//! It promises exactly what `lw_offers` defines: all that is offered, in order, each once, and nothing else. Want of memory may take the
+//! place of the answer.
+//!
+//! Names that are tried are those that would be found from one of the places where a cross-reference may come next: in the tree of what was
+//! read before, or in that of the whole text with the reference left blank, which is made once for each place, or among what other documents
+//! export. For each that begins with the word the text with it in place of the word is read.
+#![tactic(auto)]
+
+mod completion;
+mod item;
+mod judging;
+mod keywords;
+mod names;
+mod reading;
+mod starting;
+mod typing;
+mod words;
+
+pub use completion::complete;
+pub use item::{Item, KEYWORD_ITEM, REFERENCE_ITEM};

@@ -1,0 +1,351 @@
+// The names that may be written.
+ghost use Rattle.std.specs.Prelude.{ℕ, ◌≡◌, ◌≢◌, ◌≤◌, ◌<◌, ◌+◌, ◌↔◌, ◌++◌, ◌∷◌, List, [], Some, slice_get, AllPairs, All, Contains, IfOk, IfSome, OnOk, IsTrue, MatchOption, length, map};
+ghost use Rattle.std.specs.Cmp.Lexicographic.{slice_cmp};
+ghost use Rattle.std.specs.Ordering.{nat_cmp};
+ghost use Rattle.std.specs.declared.cmp.Ordering.TheVariants.{Less};
+ghost use Rattle.lw_base.specs.declared.limits.TheConstants.{LONGEST_DOCUMENT};
+ghost use Rattle.lw_base.specs.declared.token.Token.{Token as AToken};
+ghost use Rattle.lw_base.specs.declared.numbers.TypeId.{TypeId};
+ghost use Rattle.lw_begins.specs.Gives.{PlacesGive};
+ghost use Rattle.lw_builder.specs.Built.{ArePartsOf};
+ghost use Rattle.lw_builder.specs.Contents.{said_in};
+ghost use Rattle.lw_findings.specs.Finding.{Finds, OfSome};
+ghost use Rattle.lw_grammar.specs.declared.grammar.Grammar.{Grammar};
+ghost use Rattle.lw_grammar.specs.Kinds.{Kinds};
+ghost use Rattle.lw_link.specs.Indexed.{IsIndexOf};
+ghost use Rattle.lw_link.specs.Visible.{IsNumberAt};
+ghost use Rattle.lw_marks.specs.Brackets.{joined_texts};
+ghost use Rattle.lw_offers.specs.Offers.{IsNameNext};
+ghost use Rattle.lw_offers.specs.Starting.{ReferenceNext, moved_by};
+ghost use Rattle.lw_offers.specs.Words.{BeginsBy};
+ghost use Rattle.lw_parse.specs.Parsers.{AreOfKinds};
+ghost use Rattle.lw_program.specs.Says.{Task};
+ghost use Rattle.lw_recipes.specs.declared.recipe.TextForm.{TextForm};
+ghost use Rattle.lw_recipes.specs.declared.recipe.ValueRecipe.{ValueRecipe};
+ghost use Rattle.lw_reading.specs.Laws.{IsReadOneWay};
+ghost use Rattle.lw_scoping.specs.Links.{Trees};
+ghost use Rattle.lw_tokens.specs.Cut.{IsCut, kinds, visible};
+ghost use Rattle.lw_tokens.specs.Lexicon.{Lexicon};
+ghost use Rattle.lw_viable.specs.Aims.{EndsSome};
+ghost use Rattle.lw_viable.specs.Fronts.{IsProgramWith};
+ghost use Rattle.lw_viable.specs.Readings.{HasTask};
+ghost use Rattle.lw_viable.specs.Visiting.{IsReferencePut};
+ghost use Rattle.lw_complete.specs.Starts.{ComesAt, IsBlank, IsFoundAt, IsKnownStart, IsOfferedBy, IsParsedBy, IsReadAt, IsReadBy, IsStartNext, IsWritten};
+ghost use Rattle.lw_complete.specs.Typing.{AreReadings, IsTypedBy, grammar_of};
+
+use crate::judging::leads_in_whole;
+use crate::reading::read;
+use crate::starting::{Blank, FrontNames, front_names, put_blank_names};
+use crate::typing::Typing;
+use lw_base::{Name, NoMemory, Token};
+use lw_builder::said_by;
+use lw_lang::LexFault;
+use lw_parse::Parser;
+use lw_recipes::Content;
+use lw_viable::{Fronts, ReferenceStart};
+use std::alloc::Global;
+
+/// A cross-reference that may come next, and the names by which it would lead somewhere in the tree of what was read before it.
+#[derive(Drop)]
+pub(crate) struct Known<'s> {
+    pub(crate) start: &'s ReferenceStart,
+    pub(crate) front: FrontNames,
+}
+
+/// The names that begin with the word, are read in its place as a cross-reference that may come next, and lead somewhere once they are written,
+/// in the order of their bytes, each once. The readings are by this parser.
+pub(crate) fn names(
+    alloc: Global,
+    typing: &Typing<'_>,
+    parser: &Parser,
+    fronts: &mut Fronts<'_>,
+) -> Result<Vec<Name>, NoMemory>
+    requires short { length typing.now.front.now + length typing.now.rest.now ≤ LONGEST_DOCUMENT }
+    requires known { (of : Kinds) × (lexicon : Lexicon) × (tasks : List Task) × IsTypedBy of lexicon typing.now × AreReadings of tasks typing.now fronts.old
+        × IsParsedBy of tasks typing.now parser.now }
+    ensures names { (of : Kinds) (lexicon : Lexicon) (tasks : List Task) (trees : Trees) (address : List ℕ) → IsTypedBy of lexicon typing.now →
+        AreReadings of tasks typing.now fronts.old → IsParsedBy of tasks typing.now parser.now → IsReadOneWay (grammar_of typing.now) →
+        IsIndexOf trees typing.now.index.now → IsNumberAt typing.now.index.now typing.now.doc.0 address → IfOk result (λ found. (name : List ℕ) → Contains found.items name ↔
+        (BeginsBy typing.now.word.now name
+        × IsNameNext (grammar_of typing.now) of lexicon trees address typing.now.front.now typing.now.rest.now typing.now.tokens.now name)) }
+    ensures ordered { IfOk result (λ found. AllPairs (λ one other. slice_cmp nat_cmp one other ≡ Less) found.items) }
+{
+    let starts = fronts.references(alloc, parser.recipes())?;
+    let mut found = Vec::new(alloc);
+    let known = known_starts(alloc, typing, parser, starts.as_slice(), &mut found)?;
+    found.sort_unstable();
+    found.dedup();
+    offered(alloc, typing, parser, known.as_slice(), found)
+}
+
+/// What is known of these starts. Puts in all names by which one of them would lead somewhere.
+fn known_starts<'s>(
+    alloc: Global,
+    typing: &Typing<'_>,
+    parser: &Parser,
+    starts: &'s [ReferenceStart],
+    found: &mut Vec<Name>,
+) -> Result<Vec<Known<'s>>, NoMemory>
+    requires short { length typing.now.front.now + length typing.now.rest.now ≤ LONGEST_DOCUMENT }
+    requires known { (of : Kinds) × (lexicon : Lexicon) × (tasks : List Task) × IsTypedBy of lexicon typing.now × IsParsedBy of tasks typing.now parser.now
+        × All (IsStartNext of tasks typing.now) starts.now }
+    ensures starts { IfOk result (λ known. map (λ one. one.start.now) known.items ≡ starts.now) }
+    ensures known { (of : Kinds) (lexicon : Lexicon) (trees : Trees) (address : List ℕ) → IsTypedBy of lexicon typing.now → IsIndexOf trees typing.now.index.now →
+        IsNumberAt typing.now.index.now typing.now.doc.0 address → IfOk result (λ known. All (IsKnownStart of typing.now trees address) known.items) }
+    ensures found { (of : Kinds) (lexicon : Lexicon) (trees : Trees) (address : List ℕ) → IsTypedBy of lexicon typing.now → IsIndexOf trees typing.now.index.now →
+        IsNumberAt typing.now.index.now typing.now.doc.0 address →
+        OnOk result (Finds (OfSome (IsFoundAt of lexicon typing.now trees address) starts.now) found.old.items found.new.items) }
+{
+    let blank = blank(alloc, typing)?;
+    let mut known = Vec::new(alloc);
+    'starts: for start in starts {
+        let front = known_start(alloc, typing, parser, start, &blank, found)?;
+        known.push(Known { start, front })?;
+    }
+    Ok(known)
+}
+
+/// By which names this start would lead somewhere in the tree of what was read before. Puts in these, and those by which it would in the tree of
+/// the text with the reference left blank.
+fn known_start(
+    alloc: Global,
+    typing: &Typing<'_>,
+    parser: &Parser,
+    start: &ReferenceStart,
+    blank: &Option<Blank>,
+    found: &mut Vec<Name>,
+) -> Result<FrontNames, NoMemory>
+    requires known { (of : Kinds) × (lexicon : Lexicon) × (tasks : List Task) × IsTypedBy of lexicon typing.now × IsParsedBy of tasks typing.now parser.now
+        × IsStartNext of tasks typing.now start.now
+        × MatchOption blank.now ((others : List AToken) → ¬ IsCut lexicon typing.now.rest.now others) (IsBlank typing.now lexicon) }
+    ensures known { (of : Kinds) (lexicon : Lexicon) (trees : Trees) (address : List ℕ) → IsTypedBy of lexicon typing.now → IsIndexOf trees typing.now.index.now →
+        IsNumberAt typing.now.index.now typing.now.doc.0 address →
+        IfOk result (λ front. IsKnownStart of typing.now trees address (record { start = start; front = front })) }
+    ensures found { (of : Kinds) (lexicon : Lexicon) (trees : Trees) (address : List ℕ) → IsTypedBy of lexicon typing.now → IsIndexOf trees typing.now.index.now →
+        IsNumberAt typing.now.index.now typing.now.doc.0 address →
+        OnOk result (Finds (IsFoundAt of lexicon typing.now trees address start.now) found.old.items found.new.items) }
+{
+    let front = front_names(alloc, typing, start)?;
+    if let Some(blank) = blank {
+        put_blank_names(alloc, typing, parser, start, front.before, blank, found)?;
+    }
+    put_copies(alloc, found, front.names.as_slice())?;
+    Ok(front)
+}
+
+fn put_copies(alloc: Global, names: &mut Vec<Name>, others: &[Name]) -> Result<(), NoMemory>
+    ensures { OnOk result (names.new.items ≡ names.old.items ++ others.now) }
+{
+    for name in others {
+        names.push(name.copy(alloc)?)?;
+    }
+    Ok(())
+}
+
+/// The text without the word, with its tokens. None where what stands behind the offset is not cut into tokens.
+fn blank(alloc: Global, typing: &Typing<'_>) -> Result<Option<Blank>, NoMemory>
+    requires short { length typing.now.front.now + length typing.now.rest.now ≤ LONGEST_DOCUMENT }
+    ensures { (of : Kinds) (lexicon : Lexicon) → IsTypedBy of lexicon typing.now →
+        IfOk result (λ blank. MatchOption blank ((others : List AToken) → ¬ IsCut lexicon typing.now.rest.now others) (IsBlank typing.now lexicon)) }
+{
+    let others = match typing.language.cut(alloc, typing.rest) {
+        Ok(others) => others,
+        Err(LexFault::NoToken(_)) => return Ok(None),
+        Err(LexFault::NoMemory) => return Err(NoMemory),
+    };
+    Ok(Some(Blank {
+        text: typing.with(alloc, typing.rest.text())?,
+        tokens: joined(alloc, typing, others.as_slice())?,
+        others,
+    }))
+}
+
+/// The tokens before the word, and these of what stands behind the offset behind them.
+fn joined(alloc: Global, typing: &Typing<'_>, others: &[Token]) -> Result<Vec<Token>, NoMemory>
+    requires short { length typing.now.front.now + length typing.now.rest.now ≤ LONGEST_DOCUMENT }
+    requires within { All (λ t. (t.span.start ≤ length typing.now.rest.now) × (t.span.end ≤ length typing.now.rest.now)) others.now }
+    ensures { IfOk result (λ tokens. tokens.items ≡ typing.now.tokens.now ++ map (moved_by (length typing.now.front.now)) others.now) }
+{
+    let by = typing.front.bytes().len() as u32;
+    let mut tokens = Vec::from_slice(alloc, typing.tokens)?;
+    'tokens: for token in others {
+        tokens.push(moved_by(by, *token))?;
+    }
+    Ok(tokens)
+}
+
+/// The token so many bytes further behind.
+fn moved_by(by: u32, token: Token) -> Token
+    requires { (by + token.span.start ≤ 4294967295) × (by + token.span.end ≤ 4294967295) }
+    ensures { result ≡ moved_by by token }
+{
+    let mut moved = token;
+    moved.span.start += by;
+    moved.span.end += by;
+    moved
+}
+
+/// Those of the names that are offered.
+fn offered(
+    alloc: Global,
+    typing: &Typing<'_>,
+    parser: &Parser,
+    known: &[Known<'_>],
+    names: Vec<Name>,
+) -> Result<Vec<Name>, NoMemory>
+    requires known { (of : Kinds) × (lexicon : Lexicon) × (tasks : List Task) × IsTypedBy of lexicon typing.now × IsParsedBy of tasks typing.now parser.now
+        × All (λ one. IsStartNext of tasks typing.now one.start.now) known.now }
+    ensures offered { (of : Kinds) (lexicon : Lexicon) (tasks : List Task) (trees : Trees) (address : List ℕ) → IsTypedBy of lexicon typing.now →
+        IsParsedBy of tasks typing.now parser.now → All (λ one. IsStartNext of tasks typing.now one.start.now) known.now → IsReadOneWay (grammar_of typing.now) →
+        IsIndexOf trees typing.now.index.now → IsNumberAt typing.now.index.now typing.now.doc.0 address →
+        IfOk result (λ found. (name : List ℕ) → Contains found.items name ↔
+        (Contains names.items name × IsOfferedBy of lexicon tasks typing.now trees address known.now name)) }
+    ensures ordered { AllPairs (λ one other. slice_cmp nat_cmp one other ≡ Less) names.items →
+        IfOk result (λ found. AllPairs (λ one other. slice_cmp nat_cmp one other ≡ Less) found.items) }
+{
+    let mut found = Vec::new(alloc);
+    'names: for name in names {
+        if is_offered(alloc, typing, parser, known, &name)? {
+            found.push(name)?;
+        }
+    }
+    Ok(found)
+}
+
+/// Whether the name is offered.
+fn is_offered(
+    alloc: Global,
+    typing: &Typing<'_>,
+    parser: &Parser,
+    known: &[Known<'_>],
+    name: &Name,
+) -> Result<bool, NoMemory>
+    requires known { (of : Kinds) × (lexicon : Lexicon) × (tasks : List Task) × IsTypedBy of lexicon typing.now × IsParsedBy of tasks typing.now parser.now
+        × All (λ one. IsStartNext of tasks typing.now one.start.now) known.now }
+    ensures { (of : Kinds) (lexicon : Lexicon) (tasks : List Task) (trees : Trees) (address : List ℕ) → IsTypedBy of lexicon typing.now →
+        IsParsedBy of tasks typing.now parser.now → All (λ one. IsStartNext of tasks typing.now one.start.now) known.now → IsReadOneWay (grammar_of typing.now) →
+        IsIndexOf trees typing.now.index.now → IsNumberAt typing.now.index.now typing.now.doc.0 address →
+        IfOk result (λ offered. IsTrue offered ↔ IsOfferedBy of lexicon tasks typing.now trees address known.now name.now) }
+{
+    if !name.text().starts_with(typing.word) {
+        return Ok(false);
+    }
+    let text = typing.with(alloc, name.text())?;
+    let Some(added) = typing.added(alloc, &text)? else {
+        return Ok(false);
+    };
+    let written = Written {
+        name,
+        text: &text,
+        added: added.as_slice(),
+    };
+    match leads_in_whole(alloc, typing, name)? {
+        Some(false) => Ok(false),
+        Some(true) => is_read(alloc, typing, parser, known, &written, false),
+        None => is_read(alloc, typing, parser, known, &written, true),
+    }
+}
+
+/// A name, the text before the word with the name behind it, and the tokens that it comes to there.
+#[derive(Clone, Copy)]
+pub(crate) struct Written<'w> {
+    pub(crate) name: &'w Name,
+    pub(crate) text: &'w Name,
+    pub(crate) added: &'w [Token],
+}
+
+/// Whether the name is read as one of these starts; where `leads`, as one by which it leads somewhere in the tree of what was read before.
+fn is_read(
+    alloc: Global,
+    typing: &Typing<'_>,
+    parser: &Parser,
+    known: &[Known<'_>],
+    written: &Written<'_>,
+    leads: bool,
+) -> Result<bool, NoMemory>
+    requires known { (of : Kinds) × (lexicon : Lexicon) × (tasks : List Task) × IsWritten of lexicon typing.now written.now × IsParsedBy of tasks typing.now parser.now
+        × All (λ one. IsStartNext of tasks typing.now one.start.now) known.now }
+    ensures { (of : Kinds) (lexicon : Lexicon) (tasks : List Task) → IsWritten of lexicon typing.now written.now → IsParsedBy of tasks typing.now parser.now →
+        All (λ one. IsStartNext of tasks typing.now one.start.now) known.now →
+        IfOk result (λ read. IsTrue read ↔ ((one : Known) × Contains known.now one
+        × IsReadAt of tasks typing.now leads written.now.added.now written.now.name.now one)) }
+{
+    'known: for one in known {
+        if leads && !one.front.names.contains(written.name) {
+            continue;
+        }
+        if is_read_as(alloc, typing, parser, one.start, written)? {
+            return Ok(true);
+        }
+    }
+    Ok(false)
+}
+
+/// Whether the tokens are what the value of this start may read, and say the name.
+fn is_read_as(
+    alloc: Global,
+    typing: &Typing<'_>,
+    parser: &Parser,
+    start: &ReferenceStart,
+    written: &Written<'_>,
+) -> Result<bool, NoMemory>
+    requires known { (of : Kinds) × (lexicon : Lexicon) × (tasks : List Task) × IsWritten of lexicon typing.now written.now × IsParsedBy of tasks typing.now parser.now
+        × IsStartNext of tasks typing.now start.now }
+    ensures { (of : Kinds) (lexicon : Lexicon) (tasks : List Task) (next : ReferenceNext) → IsWritten of lexicon typing.now written.now →
+        IsParsedBy of tasks typing.now parser.now → IsStartNext of tasks typing.now start.now → ComesAt of typing.now next start.now →
+        IfOk result (λ read. IsTrue read ↔ IsReadBy of tasks typing.now next start.now written.now.added.now written.now.name.now) }
+{
+    if written.added.is_empty() || !says(alloc, parser, start, written)? {
+        return Ok(false);
+    }
+    gives(alloc, parser, start, written.added)
+}
+
+/// Whether the tokens are what the value of this start may read.
+fn gives(
+    alloc: Global,
+    parser: &Parser,
+    start: &ReferenceStart,
+    added: &[Token],
+) -> Result<bool, NoMemory>
+    requires known { (g : Grammar) × (of : Kinds) × (tasks : List Task) × IsProgramWith g of tasks parser.now.program parser.now.begins
+        × HasTask g of tasks start.now.value × AreOfKinds of added.now }
+    ensures { (g : Grammar) (of : Kinds) (tasks : List Task) → IsProgramWith g of tasks parser.now.program parser.now.begins →
+        HasTask g of tasks start.now.value → AreOfKinds of added.now →
+        IfOk result (λ given. IsTrue given ↔ EndsSome (PlacesGive g of tasks (start.now.value ∷ [])) (kinds (visible added.now))) }
+{
+    let fronts = Fronts::over(alloc, parser.program(), parser.begins(), &[start.value])?;
+    Ok(read(fronts, added)?.complete())
+}
+
+/// Whether the visible ones of the tokens say the name, in the form in which the start's value is looked up.
+fn says(
+    alloc: Global,
+    parser: &Parser,
+    start: &ReferenceStart,
+    written: &Written<'_>,
+) -> Result<bool, NoMemory>
+    requires parts { ArePartsOf written.now.text.now written.now.added.now }
+    requires recipe { IsReferencePut parser.now.recipes start.now.put }
+    ensures { (recipe : ValueRecipe) (want : TypeId) (form : TextForm) → slice_get parser.now.recipes.made start.now.put ≡ Some recipe →
+        recipe.content ≡ Content.Reference want form →
+        IfOk result (λ says. IsTrue says ↔ (said_in form (joined_texts written.now.text.now (visible written.now.added.now)) ≡ written.now.name.now)) }
+{
+    let Content::Reference(_, form) = &parser.recipes().value(start.put).content else {
+        unreachable!()
+    };
+    let tokens = shown(alloc, written.added)?;
+    Ok(said_by(alloc, *form, written.text, tokens.as_slice())? == *written.name)
+}
+
+/// The tokens that are not hidden.
+fn shown(alloc: Global, tokens: &[Token]) -> Result<Vec<Token>, NoMemory>
+    ensures { IfOk result (λ found. found.items ≡ visible tokens.now) }
+{
+    let found = tokens
+        .iter()
+        .filter(|token| !token.hidden)
+        .copied()
+        .collect(alloc)?;
+    Ok(found)
+}
