@@ -8,6 +8,8 @@ mod FrontNamed
 mod FrontPlain
 mod FrontStarts
 mod FrontTrees
+mod ItemsOrdered
+mod JoinedTokens
 mod JudgedRead
 mod JudgedSteps
 mod JudgedTrees
