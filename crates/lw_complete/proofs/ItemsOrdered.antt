@@ -19,7 +19,7 @@ use Rattle.std.proofs.Math.ListN.{get_or-map}
 use Rattle.lw_rooted.proofs.Listed.{mapped}
 use Rattle.lw_offers.specs.Offers.{Offer, OfferPrecedes, by_kind, by_label, keyword_offer, name_offer}
 use Rattle.lw_complete.specs.declared.item.Item.{Item}
-use Rattle.lw_complete.specs.Items.{TakesThePlace, item_of, offer_of}
+use Rattle.lw_complete.specs.Items.{TakesThePlace, item_of, items_of, offer_of}
 
 -- ---- the order
 
@@ -139,11 +139,7 @@ module _ (found sorted : List Item) (moved : IsPermutation found sorted) where
 
 -- ---- keywords and names
 
--- the items of both, in any order, each once or more often
-abbrev pub items_of_both : ℕ → ℕ → List (List ℕ) → List (List ℕ) → List Item
-items_of_both from to keywords names = map (item_of 14 from to) keywords ++ map (item_of 18 from to) names
-
-module _ (from to : ℕ) (keywords names : List (List ℕ)) (sorted : List Item) (moved : IsPermutation (items_of_both from to keywords names) sorted) where
+module _ (from to : ℕ) (keywords names : List (List ℕ)) (sorted : List Item) (moved : IsPermutation (items_of from to keywords names) sorted) where
   abbrev left : List Item
   left = dedup item_eq sorted
 
@@ -151,7 +147,7 @@ module _ (from to : ℕ) (keywords names : List (List ℕ)) (sorted : List Item)
   offered x has =
       let (item, among, same) = of_mapped offer_of left x has in
       of item same (Contains-append_cases (map (item_of 14 from to) keywords) (map (item_of 18 from to) names) item
-      ((kept (items_of_both from to keywords names) sorted moved item).0 among))
+      ((kept (items_of from to keywords names) sorted moved item).0 among))
     where
       of : (item : Item) → offer_of item ≡ x → Contains (map (item_of 14 from to) keywords) item ⊎ Contains (map (item_of 18 from to) names) item →
           Contains (map keyword_offer keywords) x ⊎ Contains (map name_offer names) x
@@ -167,16 +163,16 @@ module _ (from to : ℕ) (keywords names : List (List ℕ)) (sorted : List Item)
       let (label, among, is) = of_mapped keyword_offer keywords x has in
       let item = item_of 14 from to label in
       subst (Contains (map offer_of left)) is
-      (mapped offer_of left item ((kept (items_of_both from to keywords names) sorted moved item).1
+      (mapped offer_of left item ((kept (items_of from to keywords names) sorted moved item).1
       (Contains-append_left (map (item_of 14 from to) keywords) (map (item_of 18 from to) names) item (mapped (item_of 14 from to) keywords label among))))
   handed x (inr has) =
       let (label, among, is) = of_mapped name_offer names x has in
       let item = item_of 18 from to label in
       subst (Contains (map offer_of left)) is
-      (mapped offer_of left item ((kept (items_of_both from to keywords names) sorted moved item).1
+      (mapped offer_of left item ((kept (items_of from to keywords names) sorted moved item).1
       (Contains-append_right (map (item_of 14 from to) keywords) (map (item_of 18 from to) names) item (mapped (item_of 18 from to) names label among))))
 
-  here : All (TakesThePlace from to) (items_of_both from to keywords names)
+  here : All (TakesThePlace from to) (items_of from to keywords names)
   here =
       All-append (TakesThePlace from to) (map (item_of 14 from to) keywords) (map (item_of 18 from to) names)
       (All-map (TakesThePlace from to) (item_of 14 from to) keywords (λ k d inside. (refl, refl)))
@@ -186,7 +182,7 @@ module _ (from to : ℕ) (keywords names : List (List ℕ)) (sorted : List Item)
   both_exact x = (offered x, handed x)
 
   pub both_in_order : IsSorted item_cmp sorted → AllPairs OfferPrecedes (map offer_of (dedup item_eq sorted))
-  both_in_order up = in_order (items_of_both from to keywords names) sorted moved from to here up
+  both_in_order up = in_order (items_of from to keywords names) sorted moved from to here up
 
   pub both_here : All (TakesThePlace from to) (dedup item_eq sorted)
-  both_here = all_here (items_of_both from to keywords names) sorted moved from to here
+  both_here = all_here (items_of from to keywords names) sorted moved from to here

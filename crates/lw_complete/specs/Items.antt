@@ -1,5 +1,5 @@
 -- What is handed out as an offer.
-use Rattle.std.specs.Prelude.{ℕ, ◌≡◌, List}
+use Rattle.std.specs.Prelude.{ℕ, ◌≡◌, ◌++◌, List, map}
 use Rattle.lw_offers.specs.Offers.{Offer}
 use Rattle.lw_complete.specs.declared.item.Item.{Item}
 
@@ -10,6 +10,10 @@ offer_of item = record { label = item.label; kind = item.kind }
 -- the item of a kind for a label, in place of what stands between these offsets
 abbrev pub item_of : ℕ → ℕ → ℕ → List ℕ → Item
 item_of kind from to label = record { label = label; kind = kind; from = from; to = to }
+
+-- those of keywords, and behind them those of names
+abbrev pub items_of : ℕ → ℕ → List (List ℕ) → List (List ℕ) → List Item
+items_of from to keywords names = map (item_of 14 from to) keywords ++ map (item_of 18 from to) names
 
 -- the item takes the place of what stands between these offsets
 abbrev pub TakesThePlace : ℕ → ℕ → Item → Type 0

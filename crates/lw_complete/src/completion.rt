@@ -10,7 +10,7 @@ ghost use Rattle.lw_reading.specs.Laws.{IsReadOneWay};
 ghost use Rattle.lw_scopes.specs.Links.{AreTreesOfTexts, Texts};
 ghost use Rattle.lw_scoping.specs.Links.{Trees};
 ghost use Rattle.lw_tokens.specs.Lexicon.{Lexicon};
-ghost use Rattle.lw_complete.specs.Items.{TakesThePlace, item_of, offer_of};
+ghost use Rattle.lw_complete.specs.Items.{TakesThePlace, item_of, items_of, offer_of};
 ghost use Rattle.lw_complete.specs.Typing.{IsTypedBy, grammar_of};
 
 use crate::item::{Item, KEYWORD_ITEM, REFERENCE_ITEM};
@@ -101,11 +101,25 @@ fn in_order(
     ensures ordered { IfOk result (λ items. AllPairs OfferPrecedes (map offer_of items.items)) }
     ensures spans { IfOk result (λ items. All (TakesThePlace from to) items.items) }
 {
+    let mut items = items_of(alloc, keywords, names, from, to)?;
+    items.sort_unstable();
+    items.dedup();
+    Ok(items)
+}
+
+/// An item for each of these, keywords first.
+fn items_of(
+    alloc: Global,
+    keywords: Vec<Name>,
+    names: Vec<Name>,
+    from: u32,
+    to: u32,
+) -> Result<Vec<Item>, NoMemory>
+    ensures { IfOk result (λ items. items.items ≡ items_of from to keywords.items names.items) }
+{
     let mut items = Vec::new(alloc);
     put_items(&mut items, keywords, KEYWORD_ITEM, from, to)?;
     put_items(&mut items, names, REFERENCE_ITEM, from, to)?;
-    items.sort_unstable();
-    items.dedup();
     Ok(items)
 }
 
