@@ -1,6 +1,7 @@
 mod BlankFound
 mod BlankNamed
 mod BlankTrees
+mod Completed
 mod FrontCounts
 mod FrontMakes
 mod FrontMeaning
