@@ -1,3 +1,4 @@
+pub mod OneWord
 pub mod OneReply
 pub mod OneOutcome
 pub mod Current
