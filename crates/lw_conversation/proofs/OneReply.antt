@@ -179,10 +179,10 @@ module _ (g : Grammar) (one_way : IsReadOneWay g) where
         AreOffers g (present_texts m) address text a offers → AreOffers g (present_texts m) address other b others → AllZip (IsItemOf text a) offers items →
         AllZip (IsItemOf other b) others more → items ≡ more
     one_list_of_items text other a b offers others items more same place are were told tells =
-        let were' = subst₂ (λ t o. AreOffers g (present_texts m) address t o others) (sym same) (sym place) were in
+        let were' = subst₂ (λ (t : List ℕ) (o : ℕ). AreOffers g (present_texts m) address t o others) (sym same) (sym place) were in
         let lists : offers ≡ others = one_list_of_offers g one_way (present_texts m) address text a offers others are were' in
         one_row_of (IsItemOf text a) (IsItemOf text a) (one_item text a) offers items more told
-        (subst (λ os. AllZip (IsItemOf text a) os more) (sym lists) (subst₂ (λ t o. AllZip (IsItemOf t o) others more) (sym same) (sym place) tells))
+        (subst (λ (os : List Offer). AllZip (IsItemOf text a) os more) (sym lists) (subst₂ (λ (t : List ℕ) (o : ℕ). AllZip (IsItemOf t o) others more) (sym same) (sym place) tells))
 
     one_completion_told : (p q : Outcome) → TellsCompletion g m address at p → TellsCompletion g m address at q → p ≡ q
     one_completion_told p q (ask.not_held none) (ask.not_held also) = refl

@@ -1,5 +1,5 @@
 -- One word ends at an offset of a text.
-use Rattle.std.proofs.Common.{◌≡◌, ◌<◌, ◌+◌, ℕ, List, [], ◌∷◌, ◌++◌, true, All, get_or, length, length-append, append_assoc, refl, sym, ap, ◌∙◌, subst, arith}
+use Rattle.std.proofs.Common.{◌≡◌, ℕ, List, [], ◌∷◌, ◌++◌, true, All, length, length-append, append_assoc, refl, sym, ap, ap₂, ◌∙◌, subst, arith}
 use Rattle.std.proofs.Math.Seq.{get_or-append_seam}
 use Rattle.lw_gramread.specs.FileTokens.{is_word_part}
 use Rattle.lw_offers.specs.Words.{IsTypedAt}
@@ -45,11 +45,10 @@ same_front (b ∷ front) [] word rest same are were outside beyond = absurd (no_
 same_front (b ∷ front) (c ∷ other) word rest same are were outside beyond =
     let first : b ≡ c = cc in
     let more : front ++ word ≡ other ++ rest = cc in
-    let fronts = same_front front other word rest more are were (behind_first b front outside) (behind_first c other beyond) in
-    cc
+    ap₂ (λ x xs. x ∷ xs) first (same_front front other word rest more are were (behind_first b front outside) (behind_first c other beyond))
 
 -- the text before the word is settled
 pub one_front : (text : List ℕ) (offset : ℕ) {front word rest other word' rest' : List ℕ} → IsTypedAt text offset front word rest →
     IsTypedAt text offset other word' rest' → front ≡ other
-one_front text offset {front} {word} {rest} {other} {word'} {rest'} is was =
+one_front text offset {front} {word} {other} {word'} is was =
     same_front front other word word' (sym is.before ∙ was.before) is.are was.are is.longest was.longest
