@@ -1,4 +1,3 @@
-pub mod OneWord
 pub mod OneReply
 pub mod OneOutcome
 pub mod Current

@@ -12,7 +12,7 @@ use Rattle.lw_text.specs.declared.units.Encoding.TheVariants.{Utf16}
 use Rattle.lw_text.proofs.Offsets.{IsOffset-only}
 use Rattle.lw_text.proofs.Positions.{IsPositionIn-only}
 use Rattle.lw_offers.specs.Offers.{AreOffers, Offer}
-use Rattle.lw_offers.proofs.OneList.{one_list_of_offers}
+use Rattle.lw_offers.proofs.OneWord.{one_word_typed}
 use Rattle.lw_reading.specs.Laws.{IsReadOneWay, IsSameReading}
 use Rattle.lw_reading.specs.Laws as reading
 use Rattle.lw_reading.specs.Reading.{Reads}
@@ -40,7 +40,6 @@ use Rattle.lw_renaming.proofs.OneRename.{one_outcome as one_renaming}
 use Rattle.lw_conversation.specs.declared.error_code.TheConstants.{REQUEST_FAILED}
 use Rattle.lw_conversation.specs.Asking as ask
 use Rattle.lw_conversation.specs.Asking.{AreEditsOf, IsAskedAt, IsEditOf, IsItemOf, IsLocationOf, IsRefusalText, RepliesTo, TellsCompletion, TellsDefinition, TellsReferences, TellsRename, by_document}
-use Rattle.lw_conversation.proofs.OneWord.{one_front}
 
 -- ---- places
 
@@ -69,7 +68,7 @@ one_item : (text : List ℕ) (offset : ℕ) (o : Offer) (c d : CompletionItem) �
 one_item text offset o c d is was =
     let start : c.start ≡ d.start =
     IsPositionIn-only Utf16 text (length is.front) c.start d.start is.begins
-    (subst (λ (xs : List ℕ). IsPosition text (length xs) d.start) (sym (one_front text offset is.typed was.typed)) was.begins) in
+    (subst (λ (xs : List ℕ). IsPosition text (length xs) d.start) (sym (one_word_typed text offset is.front is.word is.rest was.front was.word was.rest is.typed was.typed).0) was.begins) in
     let end : c.end ≡ d.end = IsPositionIn-only Utf16 text offset c.end d.end is.ends was.ends in
     let label : c.label ≡ d.label = is.label ∙ sym was.label in
     let kind : c.kind ≡ d.kind = is.kind ∙ sym was.kind in
@@ -95,7 +94,12 @@ one_file texts new file d e is was =
 
 -- ---- questions
 
-module _ (g : Grammar) (one_way : IsReadOneWay g) where
+-- by this grammar there is one list of offers at an offset
+abbrev pub HasOneList : Grammar → Type 0
+HasOneList g = (texts : Texts) (address text : List ℕ) (offset : ℕ) (offers others : List Offer) → AreOffers g texts address text offset offers →
+    AreOffers g texts address text offset others → offers ≡ others
+
+module _ (g : Grammar) (one_way : IsReadOneWay g) (one_list : HasOneList g) where
   one_start : (texts : Texts) (address text other : List ℕ) (tree tree' : Parts) (i : ℕ) (r r' : Reference) (a b : Pos) → texts address ≡ Some text →
       texts address ≡ Some other → Reads g text (Whole tree) → Reads g other (Whole tree') → slice_get tree.refs i ≡ Some r → slice_get tree'.refs i ≡ Some r' →
       IsPosition text r.span.start a → IsPosition other r'.span.start b → a ≡ b
@@ -180,7 +184,7 @@ module _ (g : Grammar) (one_way : IsReadOneWay g) where
         AllZip (IsItemOf other b) others more → items ≡ more
     one_list_of_items text other a b offers others items more same place are were told tells =
         let were' = subst₂ (λ (t : List ℕ) (o : ℕ). AreOffers g (present_texts m) address t o others) (sym same) (sym place) were in
-        let lists : offers ≡ others = one_list_of_offers g one_way (present_texts m) address text a offers others are were' in
+        let lists : offers ≡ others = one_list (present_texts m) address text a offers others are were' in
         one_row_of (IsItemOf text a) (IsItemOf text a) (one_item text a) offers items more told
         (subst (λ (os : List Offer). AllZip (IsItemOf text a) os more) (sym lists) (subst₂ (λ (t : List ℕ) (o : ℕ). AllZip (IsItemOf t o) others more) (sym same) (sym place) tells))
 
