@@ -12,6 +12,7 @@ use Rattle.lw_frame.specs.declared.limits.TheConstants.{LONGEST_SESSION}
 use Rattle.lw_io.specs.Whole.{WritesFront}
 use Rattle.lw_conversation.specs.Standing.{Standing}
 use Rattle.lw_rpc.specs.Messages.{message_of}
+use Rattle.lw_conversation.specs.Laws.{AreSettledByBodies}
 use Rattle.lw_conversation.specs.Sessions.{HandlesBody, count_after, framed}
 use Rattle.lw_conversation.proofs.OneOutcome.{handled_reads}
 use Rattle.lw_conversation.specs.declared.ended.Ended.{Ended}
@@ -196,9 +197,10 @@ store_of_write {T} (Err e) before now is (inr memory) = subst (λ (r : Result T 
 -- ---- a session by the grammar of a file
 
 -- what a session of this grammar came to is what the work answered
-module _ (files : Files) (path : List ℕ) (k : ℕ) (refused before after old new : Option (List ℕ)) (g : Grammar) (holds : HoldsGrammar files path g) (clear : IsClear g k) where
+module _ (files : Files) (path : List ℕ) (k : ℕ) (refused before after old new : Option (List ℕ)) (g : Grammar) (holds : HoldsGrammar files path g) (clear : IsClear g k)
+    (settled : AreSettledByBodies g) where
   of_this : {Fact : Grammar → Type 0} → Fact g → OfGrammar files path k Fact
-  of_this fact = record { grammar = g; holds = holds; clear = clear; only = one_session g k clear; fact = fact }
+  of_this fact = record { grammar = g; holds = holds; clear = clear; only = one_session g settled; fact = fact }
 
   pub works_by : (r : Result Verdict Stop) → Conversed g before after old new r → ServeComesTo files path k refused before after old new r
   works_by (Ok Whole) fact = of_this fact
@@ -212,11 +214,11 @@ module _ (files : Files) (path : List ℕ) (k : ℕ) (refused before after old n
   works_by (Err stop.Limit) fact = of_this fact
 
 -- the same, where the store tells
-pub works_told : (told : Option Files) (path : List ℕ) (k : ℕ) (refused before after old new : Option (List ℕ)) (g h : Grammar) → IfSome told (λ files. HoldsGrammar files path g) → IsClear g k → (r : Result Verdict Stop) →
+pub works_told : (told : Option Files) (path : List ℕ) (k : ℕ) (refused before after old new : Option (List ℕ)) (g h : Grammar) → IfSome told (λ files. HoldsGrammar files path g) → IsClear g k → AreSettledByBodies g → (r : Result Verdict Stop) →
     h ≡ g → Conversed h before after old new r → IfSome told (λ files. ServeComesTo files path k refused before after old new r)
-works_told None path k refused before after old new g h holds clear r same fact = tt
-works_told (Some files) path k refused before after old new g h holds clear r same fact =
-    works_by files path k refused before after old new g holds clear r (subst (λ h. Conversed h before after old new r) same fact)
+works_told None path k refused before after old new g h holds clear settled r same fact = tt
+works_told (Some files) path k refused before after old new g h holds clear settled r same fact =
+    works_by files path k refused before after old new g holds clear settled r (subst (λ h. Conversed h before after old new r) same fact)
 
 -- a session has no fault of the grammar
 pub no_cause_of : (g : Grammar) (before after old new : Option (List ℕ)) (told : Option Files) (path : List ℕ) (k : ℕ) (refused : Option (List ℕ)) (r : Result Verdict Stop) → Conversed g before after old new r →

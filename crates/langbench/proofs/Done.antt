@@ -12,7 +12,7 @@ use Rattle.lw_conversation.specs.Sessions as session
 use Rattle.lw_conversation.specs.Sessions.{Serves, framed}
 use Rattle.lw_conversation.specs.declared.ended.Ended.{Ended}
 use Rattle.lw_conversation.specs.declared.ended.Ended.TheVariants.{No, Clean, Early}
-use Rattle.lw_conversation.proofs.OneOutcome.{one_session}
+use Rattle.lw_conversation.specs.Laws.{AreSettledByBodies}
 use Rattle.lw_io.specs.declared.store.Found.{Found}
 use Rattle.lw_rpc.specs.declared.reply.Reply.{Reply}
 use Rattle.langbench.specs.declared.report.Verdict.{Verdict}
@@ -20,6 +20,7 @@ use Rattle.langbench.specs.declared.report.Verdict.TheVariants.{Whole, Broken}
 use Rattle.langbench.specs.declared.stop.Stop.{Stop}
 use Rattle.langbench.specs.declared.stop.Stop.TheVariants as stop
 use Rattle.lw_load.specs.Loading.{Files}
+use Rattle.lw_reading.specs.Laws.{IsReadOneWay}
 use Rattle.langbench.specs.Run.{Faults, NoneRose, Work, Ends, ServesAll}
 use Rattle.langbench.specs.Serving as serving
 use Rattle.langbench.specs.Serving.{Talked, OfGrammar, ServeComesTo, ServeDone, IsSession, WentWrong}
@@ -48,14 +49,14 @@ Serves-more g s t bodies others found replies ended over session.waits = absurd 
 Serves-more g s t bodies others found replies ended over (session.ends handles is) = session.ends handles is
 Serves-more g s t bodies others found replies ended over (session.goes_on handles later) = session.goes_on handles (Serves-more g _ t _ others _ _ ended over later)
 
-module _ (g : Grammar) (k : ℕ) (clear : IsClear g k) (held : List ℕ) (replies : List Reply) (is : IsSession g held replies) where
+module _ (g : Grammar) (settled : AreSettledByBodies g) (held : List ℕ) (replies : List Reply) (is : IsSession g held replies) where
   -- what bodies of more bytes than the session come to
   longer : (taken : List ℕ) (more : List ℕ) → taken ≡ is.taken ++ more → (t : Standing) (reads : List (List Found)) (others : List Reply) (ended : Ended) → Serves g (beginning []) (bodies_of taken) reads t others ended →
       (replies ≡ others) × (Clean ≡ ended)
   longer taken more same t reads others ended serves =
       let stay = bodies_stay is.taken more in
       let all : bodies_of taken ≡ bodies_of is.taken ++ stay.0 = ap bodies_of same ∙ stay.1 in
-      let one = one_session g (one_way g k clear) (beginning []) is.standing t (bodies_of taken) is.found reads replies others Clean ended
+      let one = settled (beginning []) is.standing t (bodies_of taken) is.found reads replies others Clean ended
       (subst (λ bodies. Serves g (beginning []) bodies is.found is.standing replies Clean) (sym all) (Serves-more g (beginning []) is.standing (bodies_of is.taken) stay.0 is.found replies Clean (λ e. cc) is.serves)) serves in
       (one.1, one.2)
 
@@ -65,7 +66,7 @@ module _ (g : Grammar) (k : ℕ) (clear : IsClear g k) (held : List ℕ) (replie
   shorter taken more same t reads others ended over serves =
       let stay = bodies_stay taken more in
       let all : bodies_of is.taken ≡ bodies_of taken ++ stay.0 = ap bodies_of same ∙ stay.1 in
-      let one = one_session g (one_way g k clear) (beginning []) is.standing t (bodies_of is.taken) is.found reads replies others Clean ended is.serves
+      let one = settled (beginning []) is.standing t (bodies_of is.taken) is.found reads replies others Clean ended is.serves
       (subst (λ bodies. Serves g (beginning []) bodies reads t others ended) (sym all) (Serves-more g (beginning []) t (bodies_of taken) stay.0 reads others ended over serves)) in
       (one.1, one.2)
 
@@ -109,7 +110,7 @@ module _ (g : Grammar) (k : ℕ) (clear : IsClear g k) (held : List ℕ) (replie
         by more =
             let stays = fault_stays taken more.0 found fault in
             let all : bodies_of taken ≡ bodies_of is.taken = sym (ap bodies_of more.1 ∙ stays.0) in
-            let end = (one_session g (one_way g k clear) (beginning []) is.standing t (bodies_of is.taken) is.found reads replies others Clean No is.serves
+            let end = (settled (beginning []) is.standing t (bodies_of is.taken) is.found reads replies others Clean No is.serves
             (subst (λ bodies. Serves g (beginning []) bodies reads t others No) all serves)).2 in
             cc
 
@@ -128,7 +129,7 @@ at_end_of : (after : Option (List ℕ)) (left : List ℕ) → after ≡ Some lef
 at_end_of after left is ended = subst IsAtEnd is ended
 
 module _ (files : Files) (path : List ℕ) (k : ℕ) (refused after old new : Option (List ℕ)) (held : List ℕ) (faults : Faults) (g : Grammar) (holds : HoldsGrammar files path g) (clear : IsClear g k)
-    (none : NoneRose faults) (replies : List Reply) (is : IsSession g held replies) where
+    (settled : AreSettledByBodies g) (none : NoneRose faults) (replies : List Reply) (is : IsSession g held replies) where
   fact_of : (P : Grammar → Type 0) → OfGrammar files path k P → P g
   fact_of P o = subst P (same_grammar files path g holds o.grammar o.holds) o.fact
 
@@ -137,20 +138,20 @@ module _ (files : Files) (path : List ℕ) (k : ℕ) (refused after old new : Op
     left = left_of held after taken talked.consumed
 
     end_is : ended ≢ No → (replies ≡ talked.replies) × (Clean ≡ ended)
-    end_is over = same_end g k clear held replies is taken left.0 left.1 talked.standing talked.found talked.replies ended over talked.serves
+    end_is over = same_end g settled held replies is taken left.0 left.1 talked.standing talked.found talked.replies ended over talked.serves
 
     module _ (still : ended ≡ No) where
       serves_on : Serves g (beginning []) (bodies_of taken) talked.found talked.standing talked.replies No
       serves_on = subst (λ e. Serves g (beginning []) (bodies_of taken) talked.found talked.standing talked.replies e) still talked.serves
 
       not_at_end : IsAtEnd after → ⊥
-      not_at_end over = not_over g k clear held replies is taken left.0 left.1 talked.standing talked.found talked.replies serves_on (at_end_of after left.0 left.2 over)
+      not_at_end over = not_over g settled held replies is taken left.0 left.1 talked.standing talked.found talked.replies serves_on (at_end_of after left.0 left.2 over)
 
       no_fault : (found : FrameFault) → fault_of taken false ≡ Some found → ⊥
-      no_fault = not_faulty g k clear held replies is taken left.0 left.1 talked.standing talked.found talked.replies serves_on
+      no_fault = not_faulty g settled held replies is taken left.0 left.1 talked.standing talked.found talked.replies serves_on
 
       not_long : length taken ≡ LONGEST_SESSION → ⊥
-      not_long = not_too_long g k clear held replies is taken left.0 left.1 talked.standing talked.found talked.replies serves_on
+      not_long = not_too_long g settled held replies is taken left.0 left.1 talked.standing talked.found talked.replies serves_on
 
   clean : serving.Exited g (Some held) after old new Clean → ServeDone replies old new 0
   clean fact = serving.clean (subst (λ rs. Appends old new (framed rs)) (sym (end_is fact.0 Clean fact.1 (λ e. cc)).0) fact.1.written)
@@ -184,13 +185,13 @@ module _ (files : Files) (path : List ℕ) (k : ℕ) (refused after old new : Op
         let fact = fact_of (λ g. serving.WasTooLong g (Some held) after old new) came in
         absurd (not_long fact.0 No fact.1 refl fact.2)
 
-pub serves_all : (words : List (List ℕ)) (w : Work) (notes : Option (List ℕ) × Option (List ℕ)) (failures : ℕ × ℕ) (code : ℕ) → Ends words w notes failures code →
+pub serves_all : ((g : Grammar) → IsReadOneWay g → AreSettledByBodies g) → (words : List (List ℕ)) (w : Work) (notes : Option (List ℕ) × Option (List ℕ)) (failures : ℕ × ℕ) (code : ℕ) → Ends words w notes failures code →
     ServesAll words w code
-serves_all words w notes failures code ends path k is = if_told w.files (λ files. by files w.left.0) (ends.comes_to.serve path k is)
+serves_all settled words w notes failures code ends path k is = if_told w.files (λ files. by files w.left.0) (ends.comes_to.serve path k is)
   where
     by : (files : Files) (before : Option (List ℕ)) → ServeComesTo files path k w.refused before w.left.1 w.written.0 w.written.1 ends.outcome →
         IfSome before (λ held. (g : Grammar) (replies : List Reply) → HoldsGrammar files path g → IsClear g k → IsSession g held replies → NoneRose w.faults →
         ServeDone replies w.written.0 w.written.1 code)
     by files None came = tt
     by files (Some held) came = λ g replies holds clear is none.
-        session_done files path k w.refused w.left.1 w.written.0 w.written.1 held w.faults g holds clear none replies is code ends.outcome ends.status came ends.comes_to.counts
+        session_done files path k w.refused w.left.1 w.written.0 w.written.1 held w.faults g holds clear (settled g (one_way g k clear)) none replies is code ends.outcome ends.status came ends.comes_to.counts

@@ -15,6 +15,7 @@ use crate::report::Verdict;
 use crate::root::Root;
 use crate::stop::Stop;
 use lw_base::{Name, NoMemory, Steps};
+use lw_conversation::one_outcome;
 use lw_frame::{FrameReader, LONGEST_SESSION, header_part};
 use lw_io::{Patterns, Read, Sink, Source, Store, write_all};
 use lw_lang::compile;
@@ -43,6 +44,7 @@ pub(crate) fn serve<S: Source, K: Sink, F: Store, P: Patterns, L: Ledger>(
     ensures patterns { Counts ThePatterns (P.count patterns.old) (P.count patterns.new) result }
 {
     let language = compile(alloc, root.path, root.k, store, patterns)?;
+    one_outcome();
     let mut session = Session::new(alloc, language, Mode::Full)?;
     let outcome = converse(alloc, &mut session, source, out, store, steps);
     desk.leave(session);

@@ -18,6 +18,7 @@ use crate::serve::serve;
 use crate::stop::Stop;
 use crate::words::{Command, command_of, grammar_named};
 use lw_base::{LONGEST_DOCUMENT, Name, Steps};
+use lw_conversation::one_outcome;
 use lw_io::{Patterns, Sink, Source, Store, read_all, write_all};
 use lw_lang::{Language, compile};
 use std::alloc::Global;
@@ -66,6 +67,7 @@ pub fn run<S: Source, K: Sink, N: Sink, F: Store, P: Patterns, L: Ledger>(
       };
     }) (N.written notes.old, N.written notes.new) (N.count notes.old, N.count notes.new) result.code }
 {
+    one_outcome();
     let outcome = act(alloc, words, source, out, store, patterns, desk, steps);
     finish(alloc, notes, grammar_named(words), outcome)
 }

@@ -8,6 +8,7 @@ use Rattle.lw_docs.specs.declared.doc.Doc.{Doc}
 use Rattle.lw_grammar.specs.declared.grammar.Grammar.{Grammar}
 use Rattle.lw_index.specs.declared.parts.Document.{Document}
 use Rattle.lw_link.specs.Indexed.{AreEntriesAt, IsIndexOf}
+use Rattle.lw_link.specs.Visible.{IsNumberAt}
 use Rattle.lw_outcomes.specs.Readable.{IsReadable}
 use Rattle.lw_reading.specs.Reading.{Reads}
 use Rattle.lw_reading.specs.declared.parsed.Parsed.{Parsed}
@@ -55,6 +56,26 @@ module _ (g : Grammar) (texts : List (List ℕ)) where
         by (Some reading) there =
             let is = read.each n reading there in
             record { reading = reading; is = is; there = there; document = same_Some _ d (sym is.indexed ∙ at) }
+
+    -- of the documents that the index holds, the one of its number alone stands at an address
+    pub is_number_at : (address : List ℕ) (held : Numbered) → get kept address ≡ Some held → IsNumberAt readings.index held.number.0 address
+    is_number_at address held at other d there = (number_of, address_of)
+      where
+        h : IsHeldIn other d
+        h = held_in other d there
+
+        uri : h.is.held.doc.uri ≡ d.uri
+        uri = ap (λ (x : Document). x.uri) h.document
+
+        number_of : d.uri ≡ address → other ≡ held.number.0
+        number_of same =
+            let one : h.is.held ≡ held = same_Some h.is.held held (sym h.is.here ∙ ap (get kept) (uri ∙ same) ∙ at) in
+            sym h.is.number ∙ ap (λ (x : Numbered). x.number.0) one
+
+        address_of : other ≡ held.number.0 → d.uri ≡ address
+        address_of same =
+            let number : h.is.held.number.0 ≡ held.number.0 = h.is.number ∙ same in
+            sym uri ∙ are.apart h.is.held.doc.uri address h.is.held held h.is.here at (λ i. record { 0 = number i })
 
     module _ (all : AreAllRead kept readings) where
       pub are_trees : AreTreesOfTexts g (present_texts_of kept) (trees_of kept readings)

@@ -9,6 +9,7 @@ ghost use Rattle.lw_docs.specs.declared.docs.TheConstants.{MOST_DOCUMENTS};
 ghost use Rattle.lw_docs.specs.Documents.{IsHeld, Numbered, Turns, changed, numbered};
 ghost use Rattle.lw_machine.specs.Building.{BuildsToEnd};
 ghost use Rattle.lw_link.specs.Indexed.{IsIndexOf};
+ghost use Rattle.lw_link.specs.Visible.{IsNumberAt};
 ghost use Rattle.lw_machine.specs.Documents.{Document, Documents, present_texts, shown_texts};
 ghost use Rattle.lw_machine.specs.Events.{put, edited, farewell};
 ghost use Rattle.lw_machine.specs.Settling.{IsSettled};
@@ -341,7 +342,8 @@ impl Workspace {
 
     /// What its documents export, by their numbers: of those that were read.
     pub fn index(&self) -> &Index
-        ensures { self.now.is_built ≡ true → (trees : Trees) × AreTreesOfTexts self.now.grammar (present_texts (documents self.now)) trees × IsIndexOf trees result.now }
+        ensures numbers { (address : List ℕ) (held : Numbered) → get self.now.kept address ≡ Some held → IsNumberAt result.now held.number.0 address }
+        ensures trees { self.now.is_built ≡ true → (trees : Trees) × AreTreesOfTexts self.now.grammar (present_texts (documents self.now)) trees × IsIndexOf trees result.now }
     {
         let _ = self.is_built;
         &self.readings.index

@@ -29,7 +29,7 @@ use Rattle.lw_conversation.specs.Effects.{TakesEffect, opens, asks, as_reply}
 use Rattle.lw_conversation.specs.Effects as effects
 use Rattle.lw_conversation.specs.Answered.{Answered, stops, passes}
 use Rattle.lw_conversation.specs.Sessions.{Handles, Serves, unbuilt, built, waits, ends, goes_on}
-use Rattle.lw_conversation.proofs.OneReply.{one_reply}
+use Rattle.lw_conversation.proofs.OneReply.{HasOneList, one_reply}
 use Rattle.lw_conversation.specs.declared.ended.Ended.{Ended}
 use Rattle.lw_conversation.specs.declared.ended.Ended.TheVariants.{No}
 use Rattle.lw_conversation.specs.declared.phase.Phase.{Phase}
@@ -115,12 +115,12 @@ no_editing : {A : Type 0} {g : Grammar} {m : Documents} {address : List ℕ} {ve
     RepliesTo g m (DidChange address version changes) reply → A
 no_editing replies = elim replies [ ]
 
-module _ (g : Grammar) (one_way : IsReadOneWay g) where
+module _ (g : Grammar) (one_way : IsReadOneWay g) (one_list : HasOneList g) where
   one_question : (m : Documents) (message : Message) (n o : Documents) (h k : List Published) (p q : Reply) → BuildsToEnd g m n h → RepliesTo g n message p →
       BuildsToEnd g m o k → RepliesTo g o message q → (n ≡ o) × (map as_reply h ++ p ∷ [] ≡ map as_reply k ++ q ∷ [])
   one_question m message n o h k p q builds replies build reply =
       let end = one_build g one_way m n o h k builds build in
-      let same = one_reply g one_way n message p q replies (subst (λ (x : Documents). RepliesTo g x message q) (sym end.0) reply) in
+      let same = one_reply g one_way one_list n message p q replies (subst (λ (x : Documents). RepliesTo g x message q) (sym end.0) reply) in
       (end.0, ap₂ (λ x y. map as_reply x ++ y ∷ []) end.1 same)
 
   one_effect : (m : Documents) (message : Message) (found : List Found) (n o : Documents) (p q : List Reply) → TakesEffect g m message found n p →

@@ -1,5 +1,5 @@
 -- A question is replied in one way, by a grammar by which a text is read in one way.
-use Rattle.std.proofs.Common.{◌≡◌, ◌+◌, ℕ, List, [], ◌∷◌, ◌++◌, Bool, Option, Some, None, Result, Ok, Err, codes, decimal, slice_get, sym, refl, ap, ap₂, ◌∙◌, subst}
+use Rattle.std.proofs.Common.{◌≡◌, ◌+◌, ℕ, List, [], ◌∷◌, ◌++◌, Bool, Option, Some, None, Result, Ok, Err, codes, decimal, length, slice_get, sym, refl, ap, ap₂, ◌∙◌, subst, subst₂}
 use Rattle.std.specs.List.{AllZip}
 use Rattle.std.specs.FinMap.{get}
 use Rattle.std.proofs.lemmas.Option.{same_Some}
@@ -11,6 +11,8 @@ use Rattle.lw_text.specs.declared.place.Pos.{Pos}
 use Rattle.lw_text.specs.declared.units.Encoding.TheVariants.{Utf16}
 use Rattle.lw_text.proofs.Offsets.{IsOffset-only}
 use Rattle.lw_text.proofs.Positions.{IsPositionIn-only}
+use Rattle.lw_offers.specs.Offers.{AreOffers, Offer}
+use Rattle.lw_offers.proofs.OneWord.{one_word_typed}
 use Rattle.lw_reading.specs.Laws.{IsReadOneWay, IsSameReading}
 use Rattle.lw_reading.specs.Laws as reading
 use Rattle.lw_reading.specs.Reading.{Reads}
@@ -18,10 +20,11 @@ use Rattle.lw_reading.specs.declared.parsed.Parsed.TheVariants.{Whole}
 use Rattle.lw_reading.proofs.OneReading.{one_reading}
 use Rattle.lw_rpc.specs.declared.message.Id.{Id}
 use Rattle.lw_rpc.specs.declared.message.Message.{Message}
+use Rattle.lw_rpc.specs.declared.reply.CompletionItem.{CompletionItem}
 use Rattle.lw_rpc.specs.declared.reply.FileEdits.{FileEdits}
 use Rattle.lw_rpc.specs.declared.reply.Location.{Location}
 use Rattle.lw_rpc.specs.declared.reply.Outcome.{Outcome}
-use Rattle.lw_rpc.specs.declared.reply.Outcome.TheVariants.{Nothing, Spot, Spots, Edits}
+use Rattle.lw_rpc.specs.declared.reply.Outcome.TheVariants.{Nothing, Spot, Spots, Edits, Offers}
 use Rattle.lw_rpc.specs.declared.reply.Reply.{Reply}
 use Rattle.lw_rpc.specs.declared.reply.Reply.TheVariants.{Done, Error}
 use Rattle.lw_rpc.specs.declared.reply.TextEdit.{TextEdit}
@@ -36,7 +39,7 @@ use Rattle.lw_renaming.specs.Renamed.{IsRenamed, Refusal}
 use Rattle.lw_renaming.proofs.OneRename.{one_outcome as one_renaming}
 use Rattle.lw_conversation.specs.declared.error_code.TheConstants.{REQUEST_FAILED}
 use Rattle.lw_conversation.specs.Asking as ask
-use Rattle.lw_conversation.specs.Asking.{AreEditsOf, IsAskedAt, IsEditOf, IsLocationOf, IsRefusalText, RepliesTo, TellsDefinition, TellsReferences, TellsRename, by_document}
+use Rattle.lw_conversation.specs.Asking.{AreEditsOf, IsAskedAt, IsEditOf, IsItemOf, IsLocationOf, IsRefusalText, RepliesTo, TellsCompletion, TellsDefinition, TellsReferences, TellsRename, by_document}
 
 -- ---- places
 
@@ -61,6 +64,16 @@ one_edit text other new s d e same is was =
     let puts : d.text ≡ e.text = is.puts ∙ sym was.puts in
     λ i. record { start = start i; end = end i; text = puts i }
 
+one_item : (text : List ℕ) (offset : ℕ) (o : Offer) (c d : CompletionItem) → IsItemOf text offset o c → IsItemOf text offset o d → c ≡ d
+one_item text offset o c d is was =
+    let start : c.start ≡ d.start =
+    IsPositionIn-only Utf16 text (length is.front) c.start d.start is.begins
+    (subst (λ (xs : List ℕ). IsPosition text (length xs) d.start) (sym (one_word_typed text offset is.front is.word is.rest was.front was.word was.rest is.typed was.typed).0) was.begins) in
+    let end : c.end ≡ d.end = IsPositionIn-only Utf16 text offset c.end d.end is.ends was.ends in
+    let label : c.label ≡ d.label = is.label ∙ sym was.label in
+    let kind : c.kind ≡ d.kind = is.kind ∙ sym was.kind in
+    λ i. record { label = label i; kind = kind i; start = start i; end = end i }
+
 -- ---- rows
 
 one_row_of : {A B : Type 0} (R S : A → B → Type 0) → ((a : A) (b c : B) → R a b → S a c → b ≡ c) → (xs : List A) (ys zs : List B) → AllZip R xs ys → AllZip S xs zs → ys ≡ zs
@@ -81,7 +94,12 @@ one_file texts new file d e is was =
 
 -- ---- questions
 
-module _ (g : Grammar) (one_way : IsReadOneWay g) where
+-- by this grammar there is one list of offers at an offset
+abbrev pub HasOneList : Grammar → Type 0
+HasOneList g = (texts : Texts) (address text : List ℕ) (offset : ℕ) (offers others : List Offer) → AreOffers g texts address text offset offers →
+    AreOffers g texts address text offset others → offers ≡ others
+
+module _ (g : Grammar) (one_way : IsReadOneWay g) (one_list : HasOneList g) where
   one_start : (texts : Texts) (address text other : List ℕ) (tree tree' : Parts) (i : ℕ) (r r' : Reference) (a b : Pos) → texts address ≡ Some text →
       texts address ≡ Some other → Reads g text (Whole tree) → Reads g other (Whole tree') → slice_get tree.refs i ≡ Some r → slice_get tree'.refs i ≡ Some r' →
       IsPosition text r.span.start a → IsPosition other r'.span.start b → a ≡ b
@@ -161,6 +179,24 @@ module _ (g : Grammar) (one_way : IsReadOneWay g) where
           (one_row_of (IsLocationOf (present_texts m)) (IsLocationOf (present_texts m)) (one_location (present_texts m)) n l h here
           (subst (λ xs. AllZip (IsLocationOf (present_texts m)) xs h) (sym same) there))
 
+    one_list_of_items : (text other : List ℕ) (a b : ℕ) (offers others : List Offer) (items more : List CompletionItem) → text ≡ other → a ≡ b →
+        AreOffers g (present_texts m) address text a offers → AreOffers g (present_texts m) address other b others → AllZip (IsItemOf text a) offers items →
+        AllZip (IsItemOf other b) others more → items ≡ more
+    one_list_of_items text other a b offers others items more same place are were told tells =
+        let were' = subst₂ (λ (t : List ℕ) (o : ℕ). AreOffers g (present_texts m) address t o others) (sym same) (sym place) were in
+        let lists : offers ≡ others = one_list (present_texts m) address text a offers others are were' in
+        one_row_of (IsItemOf text a) (IsItemOf text a) (one_item text a) offers items more told
+        (subst (λ (os : List Offer). AllZip (IsItemOf text a) os more) (sym lists) (subst₂ (λ (t : List ℕ) (o : ℕ). AllZip (IsItemOf t o) others more) (sym same) (sym place) tells))
+
+    one_completion_told : (p q : Outcome) → TellsCompletion g m address at p → TellsCompletion g m address at q → p ≡ q
+    one_completion_told p q (ask.not_held none) (ask.not_held also) = refl
+    one_completion_told p q (ask.not_held none) (ask.offered is are items) = never_held none is
+    one_completion_told p q (ask.offered is are items) (ask.not_held none) = never_held none is
+    one_completion_told p q (ask.offered {offset = a} {offers = o} {items = i} is are told) (ask.offered {offset = b} {offers = u} {items = j} was were tells) =
+        let same : is.document.text ≡ was.document.text =
+        ap (λ (d : Document). d.text) (same_Some is.document was.document (sym is.held ∙ was.held)) in
+        ap Offers (one_list_of_items is.document.text was.document.text a b o u i j same (one_offset a b is was) are were told tells)
+
     module _ (id : Id) (new : List ℕ) where
       one_outcome_of : (a b : ℕ) (p q : Result (List Mention) Refusal) → IsAskedAt g m address at a → IsAskedAt g m address at b →
           IsRenamed g (present_texts m) address a new p → IsRenamed g (present_texts m) address b new q → p ≡ q
@@ -196,3 +232,5 @@ module _ (g : Grammar) (one_way : IsReadOneWay g) where
   one_reply m message p q (ask.references {id = id} {address = a} {at = at} {declaration = d} {outcome = x} is) (ask.references {outcome = y} was) =
       ap (Done id) (one_references_told m a at d x y is was)
   one_reply m message p q (ask.rename {id = id} {address = a} {new = n} {at = at} is) (ask.rename was) = one_rename_told m a at id n p q is was
+  one_reply m message p q (ask.completion {id = id} {address = a} {at = at} {outcome = x} is) (ask.completion {outcome = y} was) =
+      ap (Done id) (one_completion_told m a at x y is was)

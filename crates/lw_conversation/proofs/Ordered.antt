@@ -28,7 +28,7 @@ use Rattle.lw_scopes.specs.Links.{Texts}
 use Rattle.lw_text.specs.declared.change.Change.{Change}
 use Rattle.lw_conversation.specs.Answered.{Answered, stops, passes}
 use Rattle.lw_conversation.specs.Asking as ask
-use Rattle.lw_conversation.specs.Asking.{AreEditsOf, RepliesTo, TellsRename, TellsDefinition, TellsReferences, by_document, with_mention}
+use Rattle.lw_conversation.specs.Asking.{AreEditsOf, RepliesTo, TellsCompletion, TellsRename, TellsDefinition, TellsReferences, by_document, with_mention}
 use Rattle.lw_conversation.specs.Editing.{EditsDocument}
 use Rattle.lw_conversation.specs.Editing as editing
 use Rattle.lw_conversation.specs.Effects.{TakesEffect, as_reply, opens, asks}
@@ -132,6 +132,8 @@ module _ (g : Grammar) (m : Documents) where
   question_in_order message reply (ask.rename (ask.refused _ _ _)) = tt
   question_in_order message reply (ask.rename {address = a} {new = new} (ask.renames {offset = o} {mentions = ms} {files = fs} _ is are)) =
       in_order g _ a new o ms fs is are
+  question_in_order message reply (ask.completion (ask.not_held _)) = tt
+  question_in_order message reply (ask.completion (ask.offered _ _ _)) = tt
 
 abbrev IsOrderedPassage : Passage → Type 0
 IsOrderedPassage (Stops replies phase ended) = All HasOrderedEdits replies
@@ -175,6 +177,7 @@ module _ (phase : Phase) where
   gate_in_order (message.Definition id address at) = request_in_order id Passes tt
   gate_in_order (message.References id address at declaration) = request_in_order id Passes tt
   gate_in_order (message.Rename id address at new) = request_in_order id Passes tt
+  gate_in_order (message.Completion id address at) = request_in_order id Passes tt
 
 opening_in_order : {m : Documents} {address text : List ℕ} {version : ℤ} {n : Documents} {replies : List Reply} → OpensDocument m address version text n replies → All HasOrderedEdits replies
 opening_in_order (too_long _) = one_in_order _ tt

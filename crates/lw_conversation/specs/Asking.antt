@@ -1,6 +1,8 @@
--- What a question is replied over documents that are built: where a name is defined, where it is mentioned, and which edits rename it, or why it is not renamed.
--- Language Server Protocol 3.17, "Goto Definition Request", "Find References Request" and "Rename Request"; the texts of the errors are this profile's.
-use Rattle.std.specs.Prelude.{ℕ, ℤ, ◌≡◌, ◌+◌, List, [], ◌∷◌, ◌++◌, Bool, Option, Some, None, Ok, Err, codes, decimal, slice_get, if◌then◌else◌}
+-- What a question is replied over documents that are built: where a name is defined, where it is mentioned, which edits rename it, or why it is not renamed, and
+-- what may be written at a place.
+-- Language Server Protocol 3.17, "Goto Definition Request", "Find References Request", "Rename Request" and "Completion Request"; the texts of the errors are
+-- this profile's.
+use Rattle.std.specs.Prelude.{ℕ, ℤ, ◌≡◌, ◌+◌, List, [], ◌∷◌, ◌++◌, Bool, Option, Some, None, Ok, Err, codes, decimal, length, slice_get, if◌then◌else◌}
 use Rattle.std.specs.List.{AllZip}
 use Rattle.std.specs.FinMap.{get}
 use Rattle.std.specs.Str.{bytes_eq}
@@ -10,15 +12,18 @@ use Rattle.lw_text.specs.Offset.{IsOffset}
 use Rattle.lw_text.specs.Position.{IsPosition}
 use Rattle.lw_text.specs.declared.place.Pos.{Pos}
 use Rattle.lw_text.specs.declared.units.Encoding.TheVariants.{Utf16}
+use Rattle.lw_offers.specs.Offers.{AreOffers, Offer}
+use Rattle.lw_offers.specs.Words.{IsTypedAt}
 use Rattle.lw_reading.specs.Reading.{Reads}
 use Rattle.lw_reading.specs.declared.parsed.Parsed.TheVariants.{Whole}
 use Rattle.lw_rpc.specs.declared.message.Id.{Id}
 use Rattle.lw_rpc.specs.declared.message.Message.{Message}
 use Rattle.lw_rpc.specs.declared.message.Message.TheVariants as message
+use Rattle.lw_rpc.specs.declared.reply.CompletionItem.{CompletionItem}
 use Rattle.lw_rpc.specs.declared.reply.FileEdits.{FileEdits}
 use Rattle.lw_rpc.specs.declared.reply.Location.{Location}
 use Rattle.lw_rpc.specs.declared.reply.Outcome.{Outcome}
-use Rattle.lw_rpc.specs.declared.reply.Outcome.TheVariants.{Nothing, Spot, Spots, Edits}
+use Rattle.lw_rpc.specs.declared.reply.Outcome.TheVariants.{Nothing, Spot, Spots, Edits, Offers}
 use Rattle.lw_rpc.specs.declared.reply.Reply.{Reply}
 use Rattle.lw_rpc.specs.declared.reply.Reply.TheVariants.{Done, Error}
 use Rattle.lw_rpc.specs.declared.reply.TextEdit.{TextEdit}
@@ -73,6 +78,17 @@ pub data IsRefusalText (g : Grammar) (texts : Texts) : Refusal → List ℕ → 
       IsRefusalText g texts (Rebound address i before behind)
       (codes "A reference in " ++ address ++ codes " at " ++ decimal (at.line + 1) ++ codes ":" ++ decimal (at.character + 1) ++ codes " would change its target.")
 
+-- an offer as an editor is told it: it takes the place of the word that ends at the offset
+pub record IsItemOf (text : List ℕ) (offset : ℕ) (o : Offer) (item : CompletionItem) : Type 0 where
+  pub label : item.label ≡ o.label
+  pub kind : item.kind ≡ o.kind
+  pub front : List ℕ
+  pub word : List ℕ
+  pub rest : List ℕ
+  pub typed : IsTypedAt text offset front word rest
+  pub begins : IsPosition text (length front) item.start
+  pub ends : IsPosition text offset item.end
+
 module _ (g : Grammar) (m : Documents) where
   -- a document is held at the address, and the position means this byte of its text
   pub record IsAskedAt (address : List ℕ) (at : Pos) (offset : ℕ) : Type 0 where
@@ -101,6 +117,13 @@ module _ (g : Grammar) (m : Documents) where
         IsRenamed g (present_texts m) address offset new (Ok mentions) → AllZip (AreEditsOf (present_texts m) new) (by_document mentions) files →
         TellsRename id address at new (Done id (Edits files))
 
+  -- all that is offered there, in order
+  pub data TellsCompletion (address : List ℕ) (at : Pos) : Outcome → Type 0 where
+    not_held : get m address ≡ None → TellsCompletion address at (Offers [])
+    offered : {offset : ℕ} {offers : List Offer} {items : List CompletionItem} → (asked : IsAskedAt address at offset) →
+        AreOffers g (present_texts m) address asked.document.text offset offers → AllZip (IsItemOf asked.document.text offset) offers items →
+        TellsCompletion address at (Offers items)
+
   -- what a question is replied
   pub data RepliesTo : Message → Reply → Type 0 where
     definition : {id : Id} {address : List ℕ} {at : Pos} {outcome : Outcome} → TellsDefinition address at outcome →
@@ -109,3 +132,5 @@ module _ (g : Grammar) (m : Documents) where
         RepliesTo (message.References id address at declaration) (Done id outcome)
     rename : {id : Id} {address new : List ℕ} {at : Pos} {reply : Reply} → TellsRename id address at new reply →
         RepliesTo (message.Rename id address at new) reply
+    completion : {id : Id} {address : List ℕ} {at : Pos} {outcome : Outcome} → TellsCompletion address at outcome →
+        RepliesTo (message.Completion id address at) (Done id outcome)

@@ -5,7 +5,7 @@
 use Rattle.std.specs.Prelude.{ℕ, ℤ, List, [], ◌∷◌, ◌++◌, Bool, true, ◌&&◌, not, if◌then◌else◌, Option, Some, None, codes}
 use Rattle.lw_rpc.specs.declared.message.Id.{Id}
 use Rattle.lw_rpc.specs.declared.message.Message.{Message}
-use Rattle.lw_rpc.specs.declared.message.Message.TheVariants.{BadJson, BadRequest, Response, Unknown, BadParams, Initialize, Shutdown, Exit, DidOpen, DidChange, Definition, References, Rename}
+use Rattle.lw_rpc.specs.declared.message.Message.TheVariants.{BadJson, BadRequest, Response, Unknown, BadParams, Initialize, Shutdown, Exit, DidOpen, DidChange, Definition, References, Rename, Completion}
 use Rattle.lw_rpc.specs.declared.reply.Outcome.TheVariants.{Nothing, Hello}
 use Rattle.lw_rpc.specs.declared.reply.Reply.{Reply}
 use Rattle.lw_rpc.specs.declared.reply.Reply.TheVariants.{Done, Error, Log}
@@ -67,6 +67,7 @@ gate phase (DidChange address version changes) = notification phase Passes
 gate phase (Definition id address at) = request phase id Passes
 gate phase (References id address at declaration) = request phase id Passes
 gate phase (Rename id address at new) = request phase id Passes
+gate phase (Completion id address at) = request phase id Passes
 
 -- the phase behind the gate
 abbrev pub phase_behind : Phase → Passage → Phase

@@ -6,3 +6,4 @@ pub mod Asking
 pub mod Effects
 pub mod Answered
 pub mod Sessions
+pub mod Laws

@@ -8,16 +8,22 @@ ghost use Rattle.lw_rpc.specs.Replies.{HasOrderedEdits};
 ghost use Rattle.lw_rpc.specs.declared.message.Message.{Message};
 ghost use Rattle.lw_rpc.specs.declared.reply.Reply.{Reply};
 ghost use Rattle.lw_conversation.specs.Answered.{Answered};
+ghost use Rattle.lw_conversation.specs.Laws.{AreSettledByBodies};
 ghost use Rattle.lw_conversation.specs.Sessions.{Serves};
 ghost use Rattle.lw_conversation.specs.Standing.{Standing, beginning};
 ghost use Rattle.lw_conversation.specs.declared.ended.Ended.{Ended};
 
+use lw_offers::one_list;
+
 /// By a grammar by which a text is read in one way, what a session does with the bodies of a stream is settled by what the store answers at its reads: where it
-/// stands after them, what it replies and publishes, and whether it is over.
+/// stands after them, what it replies and publishes, and whether it is over. As no message that is known reads the store, the bodies alone settle it.
 pub fn one_outcome()
-    ensures { (g : Grammar) → IsReadOneWay g → (s t u : Standing) (bodies : List (List ℕ)) (found : List (List Found)) (p q : List Reply) (e f : Ended) →
+    ensures reads { (g : Grammar) → IsReadOneWay g → (s t u : Standing) (bodies : List (List ℕ)) (found : List (List Found)) (p q : List Reply) (e f : Ended) →
         Serves g s bodies found t p e → Serves g s bodies found u q f → (t ≡ u) × (p ≡ q) × (e ≡ f) }
-{}
+    ensures bodies { (g : Grammar) → IsReadOneWay g → AreSettledByBodies g }
+{
+    one_list();
+}
 
 /// By a grammar by which a text is read in one way, whatever texts were put before and whatever bodies come, what holds of documents at every moment
 /// holds behind each body, and once `initialize` was answered with a result nothing is left to do for any document.

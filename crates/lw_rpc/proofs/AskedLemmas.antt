@@ -3,22 +3,22 @@ use Rattle.std.proofs.Common.{◌≡◌, ℕ, List, Bool, codes, Option, Some, N
 use Rattle.serde_json.specs.Data.{Data, null, boolean, number, string, array, object}
 use Rattle.serde_json.specs.Find.{get, as_bool}
 use Rattle.lw_text.specs.declared.place.Pos.{Pos}
-use Rattle.lw_rpc.specs.Causes.{HasValue, IsCall, NamesPoint, AsksDefinition, AsksReferences, AsksRename, IsMessage, asks_definition, not_definition, asks_references, not_references, asks_rename, not_rename}
-use Rattle.lw_rpc.specs.Params.{member_at, text_at, truth_at, point_by, point_of, definition_asked, flag_beside, point_and_flag, references_asked, name_beside, point_and_name, rename_asked}
+use Rattle.lw_rpc.specs.Causes.{HasValue, IsCall, NamesPoint, AsksAtPlace, AsksReferences, AsksRename, IsMessage, asks_definition, not_definition, asks_references, not_references, asks_rename, not_rename, asks_completion, not_completion}
+use Rattle.lw_rpc.specs.Params.{member_at, text_at, truth_at, point_by, point_of, asked_at_place, definition_asked, flag_beside, point_and_flag, references_asked, name_beside, point_and_name, rename_asked, completion_asked}
 use Rattle.lw_rpc.proofs.ChangeLemmas.{position_of-HasPos, HasPos-found}
 use Rattle.lw_rpc.proofs.Found.{str_of, inside, found_in}
 use Rattle.lw_rpc.specs.declared.message.Id.{Id}
 use Rattle.lw_rpc.specs.declared.message.Message.{Message}
-use Rattle.lw_rpc.specs.declared.message.Message.TheVariants.{BadParams, Definition, References, Rename}
+use Rattle.lw_rpc.specs.declared.message.Message.TheVariants.{BadParams, Definition, References, Rename, Completion}
 
 -- ---- from the rules to the shape
 
 point_of-NamesPoint : (params : Data) (uri : List ℕ) (at : Pos) → NamesPoint params uri at → point_of (Some params) ≡ Some (uri, at)
 point_of-NamesPoint params uri at is = rw (is.has_document, is.has_uri, position_of-HasPos (codes "position") params at is.has_position) refl
 
-pub definition_asked-AsksDefinition : (d : Data) (id : Id) (uri : List ℕ) (at : Pos) → AsksDefinition d uri at → definition_asked id (get (codes "params") d) ≡ Some (Definition id uri at)
-definition_asked-AsksDefinition d id uri at is =
-    ap (definition_asked id) is.has_params ∙ ap (option_map (λ (asked : List ℕ × Pos). Definition id asked.0 asked.1)) (point_of-NamesPoint is.params uri at is.names_point)
+pub asked_at_place-AsksAtPlace : (made : List ℕ → Pos → Message) (d : Data) (uri : List ℕ) (at : Pos) → AsksAtPlace d uri at → asked_at_place made (get (codes "params") d) ≡ Some (made uri at)
+asked_at_place-AsksAtPlace made d uri at is =
+    ap (asked_at_place made) is.has_params ∙ ap (option_map (λ (asked : List ℕ × Pos). made asked.0 asked.1)) (point_of-NamesPoint is.params uri at is.names_point)
 
 pub references_asked-AsksReferences : (d : Data) (id : Id) (uri : List ℕ) (at : Pos) (include : Bool) → AsksReferences d uri at include → references_asked id (get (codes "params") d) ≡ Some (References id uri at include)
 references_asked-AsksReferences d id uri at include is =
@@ -66,9 +66,9 @@ NamesPoint-point_of (Some params) point same =
     (params, refl, record { document = uri.0; has_document = uri.1; has_uri = uri.2; has_position = HasPos-found (codes "position") params _ point.1 refl parts.1 })
 NamesPoint-point_of None point same = absurd (cc)
 
-AsksDefinition-definition_asked : (d : Data) (id : Id) (m : Message) → definition_asked id (get (codes "params") d) ≡ Some m → (u : List ℕ) × (p : Pos) × (m ≡ Definition id u p) × AsksDefinition d u p
-AsksDefinition-definition_asked d id m same =
-    let asked = mapped (λ (asked : List ℕ × Pos). Definition id asked.0 asked.1) (point_of (get (codes "params") d)) m same in
+AsksAtPlace-asked_at_place : (made : List ℕ → Pos → Message) (d : Data) (m : Message) → asked_at_place made (get (codes "params") d) ≡ Some m → (u : List ℕ) × (p : Pos) × (m ≡ made u p) × AsksAtPlace d u p
+AsksAtPlace-asked_at_place made d m same =
+    let asked = mapped (λ (asked : List ℕ × Pos). made asked.0 asked.1) (point_of (get (codes "params") d)) m same in
     let point = NamesPoint-point_of (get (codes "params") d) asked.0 asked.1 in
     (asked.0.0, asked.0.1, asked.2, record { params = point.0; has_params = point.1; names_point = point.2 })
 
@@ -134,10 +134,20 @@ none-and-some : {A : Type 0} {found : Option A} {x : A} → found ≡ None → f
 none-and-some e f = absurd (cc)
 
 module _ (body : List ℕ) (d : Data) (id : Id) (has : HasValue body d) where
+  -- whatever message is made of the place
+  place-met : (made : List ℕ → Pos → Message) (method : List ℕ) (found : Option Message) → ((u : List ℕ) (p : Pos) → AsksAtPlace d u p → IsMessage body (made u p))
+      → (((u : List ℕ) (p : Pos) → ¬ AsksAtPlace d u p) → IsMessage body (BadParams (Some id) method)) → asked_at_place made (get (codes "params") d) ≡ found
+      → IsMessage body (unwrap_or found (BadParams (Some id) method))
+  place-met made method (Some m) asked closed e = let parts = AsksAtPlace-asked_at_place made d m e in subst (IsMessage body) (sym parts.2) (asked parts.0 parts.1 parts.3)
+  place-met made method None asked closed e = closed (λ u p asks. none-and-some e (asked_at_place-AsksAtPlace made d u p asks))
+
   pub definition-met : (found : Option Message) → IsCall d (Some id) (codes "textDocument/definition") → definition_asked id (get (codes "params") d) ≡ found
       → IsMessage body (unwrap_or found (BadParams (Some id) (codes "textDocument/definition")))
-  definition-met (Some m) is e = let parts = AsksDefinition-definition_asked d id m e in subst (IsMessage body) (sym parts.2) (asks_definition d has is parts.3)
-  definition-met None is e = not_definition d has is (λ u p asks. none-and-some e (definition_asked-AsksDefinition d id u p asks))
+  definition-met found is = place-met (Definition id) (codes "textDocument/definition") found (λ u p asks. asks_definition d has is asks) (not_definition d has is)
+
+  pub completion-met : (found : Option Message) → IsCall d (Some id) (codes "textDocument/completion") → completion_asked id (get (codes "params") d) ≡ found
+      → IsMessage body (unwrap_or found (BadParams (Some id) (codes "textDocument/completion")))
+  completion-met found is = place-met (Completion id) (codes "textDocument/completion") found (λ u p asks. asks_completion d has is asks) (not_completion d has is)
 
   pub references-met : (found : Option Message) → IsCall d (Some id) (codes "textDocument/references") → references_asked id (get (codes "params") d) ≡ found
       → IsMessage body (unwrap_or found (BadParams (Some id) (codes "textDocument/references")))
@@ -151,9 +161,9 @@ module _ (body : List ℕ) (d : Data) (id : Id) (has : HasValue body d) where
 
 -- ---- what is not of the shape
 
-pub no_definition : (d : Data) (id : Id) (found : Option Message) → definition_asked id (get (codes "params") d) ≡ found → ((u : List ℕ) (p : Pos) → ¬ AsksDefinition d u p) → found ≡ None
-no_definition d id (Some m) same closed = let parts = AsksDefinition-definition_asked d id m same in absurd (closed parts.0 parts.1 parts.3)
-no_definition d id None same closed = refl
+pub no_place : (made : List ℕ → Pos → Message) (d : Data) (found : Option Message) → asked_at_place made (get (codes "params") d) ≡ found → ((u : List ℕ) (p : Pos) → ¬ AsksAtPlace d u p) → found ≡ None
+no_place made d (Some m) same closed = let parts = AsksAtPlace-asked_at_place made d m same in absurd (closed parts.0 parts.1 parts.3)
+no_place made d None same closed = refl
 
 pub no_references : (d : Data) (id : Id) (found : Option Message) → references_asked id (get (codes "params") d) ≡ found → ((u : List ℕ) (p : Pos) (f : Bool) → ¬ AsksReferences d u p f) → found ≡ None
 no_references d id (Some m) same closed = let parts = AsksReferences-references_asked d id m same in absurd (closed parts.0 parts.1 parts.2 parts.4)

@@ -10,19 +10,19 @@ use Rattle.serde_json.specs.Find.{get, as_str, as_i64}
 use Rattle.serde_json.specs.Read.{read}
 use Rattle.lw_rpc.specs.Calls.{Call, request, notification, neither, is_version, id_of, id_from, request_with, named, with_method, without_method, call_from, call_of}
 use Rattle.lw_rpc.specs.Calls as call
-use Rattle.lw_rpc.specs.Causes.{HasValue, IsId, text_id, whole_id, HasId, IsCall, IsResponse, IsKnown, Opens, Edits, IsMessage, bad_json, bad_request, response, unknown, initialize, shutdown, asks_definition, not_definition, asks_references, not_references, asks_rename, not_rename, exit, opened, not_opened, edited, not_edited}
+use Rattle.lw_rpc.specs.Causes.{HasValue, IsId, text_id, whole_id, HasId, IsCall, IsResponse, IsKnown, Opens, Edits, IsMessage, bad_json, bad_request, response, unknown, initialize, shutdown, asks_definition, not_definition, asks_references, not_references, asks_rename, not_rename, asks_completion, not_completion, exit, opened, not_opened, edited, not_edited}
 use Rattle.lw_rpc.specs.Messages.{call_message, value_message, read_value_message, value_of_body, message_of}
 use Rattle.lw_rpc.specs.Params as params
 use Rattle.lw_rpc.specs.ChangeParams.{changes_of}
-use Rattle.lw_rpc.specs.Params.{did_open, did_change, definition_asked, references_asked, rename_asked, member_at, text_at, whole_at, changes_at}
+use Rattle.lw_rpc.specs.Params.{did_open, did_change, definition_asked, references_asked, rename_asked, completion_asked, member_at, text_at, whole_at, changes_at}
 use Rattle.lw_text.specs.declared.change.Change.{Change}
-use Rattle.lw_rpc.proofs.AskedLemmas.{definition_asked-AsksDefinition, references_asked-AsksReferences, rename_asked-AsksRename, definition-met, references-met, rename-met, no_definition, no_references, no_rename}
+use Rattle.lw_rpc.proofs.AskedLemmas.{asked_at_place-AsksAtPlace, references_asked-AsksReferences, rename_asked-AsksRename, definition-met, references-met, rename-met, completion-met, no_place, no_references, no_rename}
 use Rattle.lw_rpc.proofs.ChangeLemmas.{changes_of-AreChanges, AreChanges-changes_of}
 use Rattle.lw_rpc.proofs.Found.{str_of, whole_of, list_of, inside, found_in}
 use Rattle.lw_rpc.specs.declared.message.Id.{Id}
 use Rattle.lw_rpc.specs.declared.message.Id.TheVariants.{Whole, Words}
 use Rattle.lw_rpc.specs.declared.message.Message.{Message}
-use Rattle.lw_rpc.specs.declared.message.Message.TheVariants.{BadJson, BadRequest, Response, Unknown, BadParams, Initialize, Shutdown, Definition, References, Rename, Exit, DidOpen, DidChange}
+use Rattle.lw_rpc.specs.declared.message.Message.TheVariants.{BadJson, BadRequest, Response, Unknown, BadParams, Initialize, Shutdown, Definition, References, Rename, Completion, Exit, DidOpen, DidChange}
 
 false-and-true : {b : Bool} → b ≡ false → b ≡ true → ⊥
 false-and-true e f = absurd (cc)
@@ -92,8 +92,9 @@ unknown_message (Some id) method params not_known =
     let second : bytes_eq method (codes "shutdown") ≡ false = bytes_eq-other _ _ (λ e. not_known (inr (inl e))) in
     let third : bytes_eq method (codes "textDocument/definition") ≡ false = bytes_eq-other _ _ (λ e. not_known (inr (inr (inl e)))) in
     let fourth : bytes_eq method (codes "textDocument/references") ≡ false = bytes_eq-other _ _ (λ e. not_known (inr (inr (inr (inl e))))) in
-    let fifth : bytes_eq method (codes "textDocument/rename") ≡ false = bytes_eq-other _ _ (λ e. not_known (inr (inr (inr (inr e))))) in
-    rw (first, second, third, fourth, fifth) refl
+    let fifth : bytes_eq method (codes "textDocument/rename") ≡ false = bytes_eq-other _ _ (λ e. not_known (inr (inr (inr (inr (inl e)))))) in
+    let sixth : bytes_eq method (codes "textDocument/completion") ≡ false = bytes_eq-other _ _ (λ e. not_known (inr (inr (inr (inr (inr e)))))) in
+    rw (first, second, third, fourth, fifth, sixth) refl
 unknown_message None method params not_known =
     let first : bytes_eq method (codes "exit") ≡ false = bytes_eq-other _ _ (λ e. not_known (inl e)) in
     let second : bytes_eq method (codes "textDocument/didOpen") ≡ false = bytes_eq-other _ _ (λ e. not_known (inr (inl e))) in
@@ -274,24 +275,30 @@ Edits-did_change d m same =
 -- ---- the rule that a body meets
 
 module _ (body : List ℕ) (d : Data) (has : HasValue body d) where
-  question-met : (id : Id) (method : List ℕ) (third fourth fifth : Bool) → IsCall d (Some id) method → bytes_eq method (codes "initialize") ≡ false → bytes_eq method (codes "shutdown") ≡ false
+  question-met : (id : Id) (method : List ℕ) (third fourth fifth sixth : Bool) → IsCall d (Some id) method → bytes_eq method (codes "initialize") ≡ false → bytes_eq method (codes "shutdown") ≡ false
       → bytes_eq method (codes "textDocument/definition") ≡ third → bytes_eq method (codes "textDocument/references") ≡ fourth → bytes_eq method (codes "textDocument/rename") ≡ fifth
+      → bytes_eq method (codes "textDocument/completion") ≡ sixth
       → IsMessage body (if third then unwrap_or (definition_asked id (get (codes "params") d)) (BadParams (Some id) method)
       else (if fourth then unwrap_or (references_asked id (get (codes "params") d)) (BadParams (Some id) method)
-      else (if fifth then unwrap_or (rename_asked id (get (codes "params") d)) (BadParams (Some id) method) else Unknown (Some id) method)))
-  question-met id method true fourth fifth is e f g h k =
+      else (if fifth then unwrap_or (rename_asked id (get (codes "params") d)) (BadParams (Some id) method)
+      else (if sixth then unwrap_or (completion_asked id (get (codes "params") d)) (BadParams (Some id) method) else Unknown (Some id) method))))
+  question-met id method true fourth fifth sixth is e f g h k l =
       let same : method ≡ codes "textDocument/definition" = (bytes_eq-Decides _ _).0 g in
       subst (λ name. IsMessage body (unwrap_or (definition_asked id (get (codes "params") d)) (BadParams (Some id) name))) (sym same)
       (definition-met body d id has (definition_asked id (get (codes "params") d)) (subst (IsCall d (Some id)) same is) refl)
-  question-met id method false true fifth is e f g h k =
+  question-met id method false true fifth sixth is e f g h k l =
       let same : method ≡ codes "textDocument/references" = (bytes_eq-Decides _ _).0 h in
       subst (λ name. IsMessage body (unwrap_or (references_asked id (get (codes "params") d)) (BadParams (Some id) name))) (sym same)
       (references-met body d id has (references_asked id (get (codes "params") d)) (subst (IsCall d (Some id)) same is) refl)
-  question-met id method false false true is e f g h k =
+  question-met id method false false true sixth is e f g h k l =
       let same : method ≡ codes "textDocument/rename" = (bytes_eq-Decides _ _).0 k in
       subst (λ name. IsMessage body (unwrap_or (rename_asked id (get (codes "params") d)) (BadParams (Some id) name))) (sym same)
       (rename-met body d id has (rename_asked id (get (codes "params") d)) (subst (IsCall d (Some id)) same is) refl)
-  question-met id method false false false is e f g h k =
+  question-met id method false false false true is e f g h k l =
+      let same : method ≡ codes "textDocument/completion" = (bytes_eq-Decides _ _).0 l in
+      subst (λ name. IsMessage body (unwrap_or (completion_asked id (get (codes "params") d)) (BadParams (Some id) name))) (sym same)
+      (completion-met body d id has (completion_asked id (get (codes "params") d)) (subst (IsCall d (Some id)) same is) refl)
+  question-met id method false false false false is e f g h k l =
       unknown d has is
       (λ known. elim known [
         | inl same ↦ false-and-true e ((bytes_eq-Decides _ _).1 same)
@@ -301,7 +308,10 @@ module _ (body : List ℕ) (d : Data) (has : HasValue body d) where
             | inl same ↦ false-and-true g ((bytes_eq-Decides _ _).1 same)
             | inr known ↦ elim known [
               | inl same ↦ false-and-true h ((bytes_eq-Decides _ _).1 same)
-              | inr same ↦ false-and-true k ((bytes_eq-Decides _ _).1 same)
+              | inr known ↦ elim known [
+                | inl same ↦ false-and-true k ((bytes_eq-Decides _ _).1 same)
+                | inr same ↦ false-and-true l ((bytes_eq-Decides _ _).1 same)
+              ]
             ]
           ]
         ]
@@ -311,10 +321,11 @@ module _ (body : List ℕ) (d : Data) (has : HasValue body d) where
       → IsMessage body (if first then Initialize id else (if second then Shutdown id else
       (if bytes_eq method (codes "textDocument/definition") then unwrap_or (definition_asked id (get (codes "params") d)) (BadParams (Some id) method)
       else (if bytes_eq method (codes "textDocument/references") then unwrap_or (references_asked id (get (codes "params") d)) (BadParams (Some id) method)
-      else (if bytes_eq method (codes "textDocument/rename") then unwrap_or (rename_asked id (get (codes "params") d)) (BadParams (Some id) method) else Unknown (Some id) method)))))
+      else (if bytes_eq method (codes "textDocument/rename") then unwrap_or (rename_asked id (get (codes "params") d)) (BadParams (Some id) method)
+      else (if bytes_eq method (codes "textDocument/completion") then unwrap_or (completion_asked id (get (codes "params") d)) (BadParams (Some id) method) else Unknown (Some id) method))))))
   request-met id method true second is e f = initialize d has (subst (IsCall d (Some id)) ((bytes_eq-Decides _ _).0 e) is)
   request-met id method false true is e f = shutdown d has (subst (IsCall d (Some id)) ((bytes_eq-Decides _ _).0 f) is)
-  request-met id method false false is e f = question-met id method _ _ _ is e f refl refl refl
+  request-met id method false false is e f = question-met id method _ _ _ _ is e f refl refl refl refl
 
   did_open-met : (found : Option Message) → IsCall d None (codes "textDocument/didOpen") → did_open (get (codes "params") d) ≡ found
       → IsMessage body (unwrap_or found (BadParams None (codes "textDocument/didOpen")))
@@ -402,13 +413,16 @@ message_of-IsMessage body (Initialize id) (initialize d has is) = message_of-val
 message_of-IsMessage body (Shutdown id) (shutdown d has is) = message_of-value body d has ∙ value_message-call d (Some id) (codes "shutdown") is
 message_of-IsMessage body (Definition id u p) (asks_definition d has is asks) =
     message_of-value body d has ∙ value_message-call d (Some id) (codes "textDocument/definition") is
-    ∙ ap (λ found. unwrap_or found (BadParams (Some id) (codes "textDocument/definition"))) (definition_asked-AsksDefinition d id u p asks)
+    ∙ ap (λ found. unwrap_or found (BadParams (Some id) (codes "textDocument/definition"))) (asked_at_place-AsksAtPlace (Definition id) d u p asks)
 message_of-IsMessage body (References id u p f) (asks_references d has is asks) =
     message_of-value body d has ∙ value_message-call d (Some id) (codes "textDocument/references") is
     ∙ ap (λ found. unwrap_or found (BadParams (Some id) (codes "textDocument/references"))) (references_asked-AsksReferences d id u p f asks)
 message_of-IsMessage body (Rename id u p n) (asks_rename d has is asks) =
     message_of-value body d has ∙ value_message-call d (Some id) (codes "textDocument/rename") is
     ∙ ap (λ found. unwrap_or found (BadParams (Some id) (codes "textDocument/rename"))) (rename_asked-AsksRename d id u p n asks)
+message_of-IsMessage body (Completion id u p) (asks_completion d has is asks) =
+    message_of-value body d has ∙ value_message-call d (Some id) (codes "textDocument/completion") is
+    ∙ ap (λ found. unwrap_or found (BadParams (Some id) (codes "textDocument/completion"))) (asked_at_place-AsksAtPlace (Completion id) d u p asks)
 message_of-IsMessage body Exit (exit d has is) = message_of-value body d has ∙ value_message-call d None (codes "exit") is
 message_of-IsMessage body (DidOpen u v t) (opened d has is opens) =
     message_of-value body d has ∙ value_message-call d None (codes "textDocument/didOpen") is
@@ -424,10 +438,13 @@ message_of-IsMessage body (BadParams None _) (not_edited d has is closed) =
     ∙ ap (λ found. unwrap_or found (BadParams None (codes "textDocument/didChange"))) (no_edits d _ refl closed)
 message_of-IsMessage body (BadParams (Some id) _) (not_definition d has is closed) =
     message_of-value body d has ∙ value_message-call d (Some id) (codes "textDocument/definition") is
-    ∙ ap (λ found. unwrap_or found (BadParams (Some id) (codes "textDocument/definition"))) (no_definition d id _ refl closed)
+    ∙ ap (λ found. unwrap_or found (BadParams (Some id) (codes "textDocument/definition"))) (no_place (Definition id) d _ refl closed)
 message_of-IsMessage body (BadParams (Some id) _) (not_references d has is closed) =
     message_of-value body d has ∙ value_message-call d (Some id) (codes "textDocument/references") is
     ∙ ap (λ found. unwrap_or found (BadParams (Some id) (codes "textDocument/references"))) (no_references d id _ refl closed)
 message_of-IsMessage body (BadParams (Some id) _) (not_rename d has is closed) =
     message_of-value body d has ∙ value_message-call d (Some id) (codes "textDocument/rename") is
     ∙ ap (λ found. unwrap_or found (BadParams (Some id) (codes "textDocument/rename"))) (no_rename d id _ refl closed)
+message_of-IsMessage body (BadParams (Some id) _) (not_completion d has is closed) =
+    message_of-value body d has ∙ value_message-call d (Some id) (codes "textDocument/completion") is
+    ∙ ap (λ found. unwrap_or found (BadParams (Some id) (codes "textDocument/completion"))) (no_place (Completion id) d _ refl closed)

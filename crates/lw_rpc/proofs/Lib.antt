@@ -1,7 +1,10 @@
 pub mod OrderLemmas
 pub mod ListTexts
+pub mod PushLemmas
 pub mod ReplyLemmas
 pub mod TextLemmas
+pub mod ReadLemmas
+pub mod PartLemmas
 pub mod Found
 pub mod ChangeLemmas
 pub mod AskedLemmas

@@ -1,10 +1,10 @@
 -- The compact texts of lists and objects, whose parts are written one after another with a comma between two of them.
-use Rattle.std.proofs.Common.{◌≡◌, ℕ, List, [], ◌∷◌, ◌++◌, map, true, false, refl, ap, sym, ◌∙◌, append_assoc}
+use Rattle.std.proofs.Common.{◌≡◌, ℕ, List, [], ◌∷◌, ◌++◌, map, Bool, true, false, refl, ap, sym, ◌∙◌, append_assoc}
 use Rattle.std.specs.List.{join_with_byte}
 use Rattle.json.specs.Print.{quoted}
 use Rattle.serde_json.specs.Data.{Data}
 use Rattle.serde_json.specs.View.{items_of}
-use Rattle.serde_json.specs.Written.{compact_text, items_text, members_text}
+use Rattle.serde_json.specs.Written.{comma_if, compact_text, items_text, members_text}
 use Rattle.lw_rpc.proofs.OrderLemmas.{members_as}
 
 without_comma : (s t : List ℕ) → 44 ∷ s ≡ 44 ∷ t → s ≡ t
@@ -38,3 +38,21 @@ module _ {A : Type 0} (made : A → List ℕ × Data) (text : A → List ℕ) (e
   pub members_text-map : (list : List A) → members_text false (members_as (map made list)) ≡ join_with_byte 44 (map text list) ++ 125 ∷ []
   members_text-map [] = refl
   members_text-map (a ∷ others) = without_comma _ _ (later_members a others)
+
+-- whether something stands before what comes behind these
+abbrev pub is_later : {A : Type 0} → List A → Bool
+is_later [] = false
+is_later (a ∷ others) = true
+
+pub is_later-push : {A : Type 0} (list : List A) (a : A) → is_later (list ++ a ∷ []) ≡ true
+is_later-push [] a = refl
+is_later-push (b ∷ others) a = refl
+
+module _ {A : Type 0} (text : A → List ℕ) where
+  -- one text more, with its comma
+  pub join_with_byte-push : (list : List A) (a : A) → join_with_byte 44 (map text (list ++ a ∷ [])) ≡ join_with_byte 44 (map text list) ++ (comma_if (is_later list) ++ text a)
+  join_with_byte-push [] a = refl
+  join_with_byte-push (b ∷ []) a = refl
+  join_with_byte-push (b ∷ c ∷ others) a =
+      ap (λ t. text b ++ 44 ∷ t) (join_with_byte-push (c ∷ others) a)
+      ∙ sym (append_assoc (text b) (44 ∷ join_with_byte 44 (map text (c ∷ others))) (44 ∷ text a))

@@ -11,16 +11,17 @@ use Rattle.lw_text.specs.declared.place.Pos.{Pos}
 use Rattle.lw_text.specs.declared.shown.Shown.{Shown}
 use Rattle.lw_rpc.proofs.ListTexts.{items_text-map, members_text-map}
 use Rattle.lw_rpc.proofs.OrderLemmas.{with_members-in_order}
-use Rattle.lw_rpc.specs.Replies.{id_text, id_or_null_text, position_text, range_text, location_text, locations_text, edit_text, file_text, edits_text, outcome_text, AreOrdered, HasOrderedFiles, HasOrderedEdits, diagnostic_text, diagnostics_text, done_text, error_text, publish_text, version_text, log_text, reply_bytes}
+use Rattle.lw_rpc.specs.Replies.{id_text, id_or_null_text, position_text, range_text, location_text, locations_text, replacement_text, edit_text, file_text, edits_text, offer_text, offers_text, outcome_text, AreOrdered, HasOrderedFiles, HasOrderedEdits, diagnostic_text, diagnostics_text, done_text, error_text, publish_text, version_text, log_text, reply_bytes}
 use Rattle.lw_rpc.specs.Values as value
 use Rattle.lw_rpc.specs.Values.{value_of}
 use Rattle.lw_rpc.specs.declared.message.Id.{Id}
 use Rattle.lw_rpc.specs.declared.message.Id.TheVariants.{Whole, Words}
+use Rattle.lw_rpc.specs.declared.reply.CompletionItem.{CompletionItem}
 use Rattle.lw_rpc.specs.declared.reply.FileEdits.{FileEdits}
 use Rattle.lw_rpc.specs.declared.reply.Location.{Location}
 use Rattle.lw_rpc.specs.declared.reply.TextEdit.{TextEdit}
 use Rattle.lw_rpc.specs.declared.reply.Outcome.{Outcome}
-use Rattle.lw_rpc.specs.declared.reply.Outcome.TheVariants.{Nothing, Hello, Spot, Spots, Edits}
+use Rattle.lw_rpc.specs.declared.reply.Outcome.TheVariants.{Nothing, Hello, Spot, Spots, Edits, Offers}
 use Rattle.lw_rpc.specs.declared.reply.Reply.{Reply}
 use Rattle.lw_rpc.specs.declared.reply.Reply.TheVariants.{Done, Error, Publish, Log}
 
@@ -57,12 +58,15 @@ compact_text-location_value location =
 compact_text-locations : (list : List Location) → compact_text (array (items_of (map value.location_value list))) ≡ locations_text list
 compact_text-locations list = ap (λ t. 91 ∷ t) (items_text-map value.location_value location_text compact_text-location_value list)
 
-edit_from : (text range : Data) (s t : List ℕ) → compact_text text ≡ s → compact_text range ≡ t → compact_text (value.object_of ((codes "newText", text) ∷ (codes "range", range) ∷ [])) ≡ codes "{\"newText\":" ++ s ++ codes ",\"range\":" ++ t ++ codes "}"
+replacement_from : (text range : Data) (s t : List ℕ) → compact_text text ≡ s → compact_text range ≡ t → compact_text (value.object_of ((codes "newText", text) ∷ (codes "range", range) ∷ [])) ≡ codes "{\"newText\":" ++ s ++ codes ",\"range\":" ++ t ++ codes "}"
 unfolding serde_json_on_literals
-edit_from text range s t p q = simp (p, q, append_assoc)
+replacement_from text range s t p q = simp (p, q, append_assoc)
+
+compact_text-replacement_value : (text : List ℕ) (start end : Pos) → compact_text (value.replacement_value text start end) ≡ replacement_text text start end
+compact_text-replacement_value text start end = replacement_from (string text) (value.range_value start end) _ _ refl (compact_text-range_value start end)
 
 compact_text-edit_value : (edit : TextEdit) → compact_text (value.edit_value edit) ≡ edit_text edit
-compact_text-edit_value edit = edit_from (string edit.text) (value.range_value edit.start edit.end) _ _ refl (compact_text-range_value edit.start edit.end)
+compact_text-edit_value edit = compact_text-replacement_value edit.text edit.start edit.end
 
 file_from : (uri : List ℕ) (edits : Items) (s : List ℕ) → items_text false edits ≡ s ++ 93 ∷ [] → quoted uri ++ 58 ∷ compact_text (array edits) ≡ quoted uri ++ codes ":[" ++ s ++ codes "]"
 file_from uri edits s p = simp (p, append_assoc)
@@ -81,6 +85,18 @@ compact_text-edits_value files ordered =
     changes_from (value.object_of (map value.file_member files)) _ changes
     ∙ ap (λ t. codes "{\"changes\":{" ++ t) (append_assoc (join_with_byte 44 (map file_text files)) (125 ∷ []) (125 ∷ []))
 
+offer_from : (kind label edit : Data) (s t u : List ℕ) → compact_text kind ≡ s → compact_text label ≡ t → compact_text edit ≡ u → compact_text (value.object_of ((codes "kind", kind) ∷ (codes "label", label) ∷ (codes "textEdit", edit) ∷ [])) ≡ codes "{\"kind\":" ++ s ++ codes ",\"label\":" ++ t ++ codes ",\"textEdit\":" ++ u ++ codes "}"
+unfolding serde_json_on_literals
+offer_from kind label edit s t u p q r = simp (p, q, r, append_assoc)
+
+compact_text-offer_value : (offer : CompletionItem) → compact_text (value.offer_value offer) ≡ offer_text offer
+compact_text-offer_value offer =
+    offer_from (value.natural offer.kind) (string offer.label) (value.replacement_value offer.label offer.start offer.end) _ _ _
+    refl refl (compact_text-replacement_value offer.label offer.start offer.end)
+
+compact_text-offers : (list : List CompletionItem) → compact_text (array (items_of (map value.offer_value list))) ≡ offers_text list
+compact_text-offers list = ap (λ t. 91 ∷ t) (items_text-map value.offer_value offer_text compact_text-offer_value list)
+
 compact_text-outcome_value : (outcome : Outcome) → HasOrderedFiles outcome → compact_text (value.outcome_value outcome) ≡ outcome_text outcome
 unfolding serde_json_on_literals digits
 compact_text-outcome_value Nothing _ = refl
@@ -88,6 +104,7 @@ compact_text-outcome_value Hello _ = refl
 compact_text-outcome_value (Spot location) _ = compact_text-location_value location
 compact_text-outcome_value (Spots list) _ = compact_text-locations list
 compact_text-outcome_value (Edits files) ordered = compact_text-edits_value files ordered
+compact_text-outcome_value (Offers list) _ = compact_text-offers list
 
 done_from : (id outcome : Data) (s t : List ℕ) → compact_text id ≡ s → compact_text outcome ≡ t → compact_text (value.object_of ((codes "id", id) ∷ (codes "jsonrpc", value.version) ∷ (codes "result", outcome) ∷ [])) ≡ codes "{\"id\":" ++ s ++ codes ",\"jsonrpc\":\"2.0\",\"result\":" ++ t ++ codes "}"
 unfolding serde_json_on_literals

@@ -1,6 +1,6 @@
 -- When a body is which message, one rule for each. JSON-RPC 2.0, "Request object", "Notification" and "Response object"; Language Server
 -- Protocol 3.17, "Base types", "Request Message", "DidOpenTextDocumentParams", "TextDocumentItem", "DidChangeTextDocumentParams",
--- "TextDocumentContentChangeEvent", "TextDocumentPositionParams", "ReferenceParams" and "RenameParams".
+-- "TextDocumentContentChangeEvent", "TextDocumentPositionParams", "ReferenceParams", "RenameParams" and "CompletionParams".
 use Rattle.std.specs.Prelude.{◌≡◌, ◌⊎◌, ◌<◌, ◌^◌, ℕ, ℤ, List, [], ◌∷◌, Bool, codes, Option, Some, None, IsSome, IsUtf8}
 use Rattle.serde_json.specs.Data.{Data, Num, Items, no_items, item, unsigned, boolean, string, number, array}
 use Rattle.serde_json.specs.Find.{get, as_i64}
@@ -10,7 +10,7 @@ use Rattle.lw_text.specs.declared.place.Pos.{Pos}
 use Rattle.lw_rpc.specs.declared.message.Id.{Id}
 use Rattle.lw_rpc.specs.declared.message.Id.TheVariants.{Whole, Words}
 use Rattle.lw_rpc.specs.declared.message.Message.{Message}
-use Rattle.lw_rpc.specs.declared.message.Message.TheVariants.{BadJson, BadRequest, Response, Unknown, BadParams, Initialize, Shutdown, Definition, References, Rename, Exit, DidOpen, DidChange}
+use Rattle.lw_rpc.specs.declared.message.Message.TheVariants.{BadJson, BadRequest, Response, Unknown, BadParams, Initialize, Shutdown, Definition, References, Rename, Completion, Exit, DidOpen, DidChange}
 
 -- the body is UTF-8 and reads as the value
 pub record HasValue (body : List ℕ) (d : Data) : Type 0 where
@@ -43,7 +43,8 @@ pub record IsResponse (d : Data) : Type 0 where
 abbrev pub IsKnown : Option Id → List ℕ → Type 0
 IsKnown (Some id) method =
     (method ≡ codes "initialize") ⊎ ((method ≡ codes "shutdown")
-    ⊎ ((method ≡ codes "textDocument/definition") ⊎ ((method ≡ codes "textDocument/references") ⊎ (method ≡ codes "textDocument/rename"))))
+    ⊎ ((method ≡ codes "textDocument/definition") ⊎ ((method ≡ codes "textDocument/references")
+    ⊎ ((method ≡ codes "textDocument/rename") ⊎ (method ≡ codes "textDocument/completion")))))
 IsKnown None method = (method ≡ codes "exit") ⊎ ((method ≡ codes "textDocument/didOpen") ⊎ (method ≡ codes "textDocument/didChange"))
 
 -- the parameters of `textDocument/didOpen`
@@ -112,8 +113,8 @@ pub record NamesPoint (params : Data) (uri : List ℕ) (at : Pos) : Type 0 where
   pub has_uri : get (codes "uri") document ≡ Some (string uri)
   pub has_position : HasPos (codes "position") params at
 
--- the parameters of `textDocument/definition`
-pub record AsksDefinition (d : Data) (uri : List ℕ) (at : Pos) : Type 0 where
+-- the parameters of `textDocument/definition` and of `textDocument/completion`
+pub record AsksAtPlace (d : Data) (uri : List ℕ) (at : Pos) : Type 0 where
   pub params : Data
   pub has_params : get (codes "params") d ≡ Some params
   pub names_point : NamesPoint params uri at
@@ -143,9 +144,9 @@ pub data IsMessage (body : List ℕ) : Message → Type 0 where
   initialize : (d : Data) {id : Id} → HasValue body d → IsCall d (Some id) (codes "initialize") → IsMessage body (Initialize id)
   shutdown : (d : Data) {id : Id} → HasValue body d → IsCall d (Some id) (codes "shutdown") → IsMessage body (Shutdown id)
   asks_definition : (d : Data) {id : Id} {uri : List ℕ} {at : Pos} → HasValue body d → IsCall d (Some id) (codes "textDocument/definition")
-      → AsksDefinition d uri at → IsMessage body (Definition id uri at)
+      → AsksAtPlace d uri at → IsMessage body (Definition id uri at)
   not_definition : (d : Data) {id : Id} → HasValue body d → IsCall d (Some id) (codes "textDocument/definition")
-      → ((uri : List ℕ) (at : Pos) → ¬ AsksDefinition d uri at) → IsMessage body (BadParams (Some id) (codes "textDocument/definition"))
+      → ((uri : List ℕ) (at : Pos) → ¬ AsksAtPlace d uri at) → IsMessage body (BadParams (Some id) (codes "textDocument/definition"))
   asks_references : (d : Data) {id : Id} {uri : List ℕ} {at : Pos} {include_declaration : Bool} → HasValue body d
       → IsCall d (Some id) (codes "textDocument/references") → AsksReferences d uri at include_declaration → IsMessage body (References id uri at include_declaration)
   not_references : (d : Data) {id : Id} → HasValue body d → IsCall d (Some id) (codes "textDocument/references")
@@ -155,6 +156,10 @@ pub data IsMessage (body : List ℕ) : Message → Type 0 where
       → AsksRename d uri at new_name → IsMessage body (Rename id uri at new_name)
   not_rename : (d : Data) {id : Id} → HasValue body d → IsCall d (Some id) (codes "textDocument/rename")
       → ((uri : List ℕ) (at : Pos) (new_name : List ℕ) → ¬ AsksRename d uri at new_name) → IsMessage body (BadParams (Some id) (codes "textDocument/rename"))
+  asks_completion : (d : Data) {id : Id} {uri : List ℕ} {at : Pos} → HasValue body d → IsCall d (Some id) (codes "textDocument/completion")
+      → AsksAtPlace d uri at → IsMessage body (Completion id uri at)
+  not_completion : (d : Data) {id : Id} → HasValue body d → IsCall d (Some id) (codes "textDocument/completion")
+      → ((uri : List ℕ) (at : Pos) → ¬ AsksAtPlace d uri at) → IsMessage body (BadParams (Some id) (codes "textDocument/completion"))
   exit : (d : Data) → HasValue body d → IsCall d None (codes "exit") → IsMessage body Exit
   opened : (d : Data) {uri : List ℕ} {version : ℤ} {text : List ℕ} → HasValue body d → IsCall d None (codes "textDocument/didOpen") → Opens d uri version text → IsMessage body (DidOpen uri version text)
   not_opened : (d : Data) → HasValue body d → IsCall d None (codes "textDocument/didOpen") → ((uri : List ℕ) (version : ℤ) (text : List ℕ) → ¬ Opens d uri version text) → IsMessage body (BadParams None (codes "textDocument/didOpen"))

@@ -6,7 +6,7 @@ use Rattle.serde_json.specs.Data.{Data}
 use Rattle.serde_json.specs.Find.{get}
 use Rattle.serde_json.specs.Read.{read}
 use Rattle.lw_rpc.specs.Calls.{Call, request, notification, response, neither, call_of}
-use Rattle.lw_rpc.specs.Params.{did_open, did_change, definition_asked, references_asked, rename_asked}
+use Rattle.lw_rpc.specs.Params.{did_open, did_change, definition_asked, references_asked, rename_asked, completion_asked}
 use Rattle.lw_rpc.specs.declared.message.Id.{Id}
 use Rattle.lw_rpc.specs.declared.message.Message.{Message}
 use Rattle.lw_rpc.specs.declared.message.Message.TheVariants.{BadJson, BadRequest, Response, Unknown, BadParams, Initialize, Shutdown, Exit}
@@ -19,7 +19,8 @@ request_message id method params =
     else (if bytes_eq method (codes "textDocument/definition") then unwrap_or (definition_asked id params) (BadParams (Some id) method)
     else (if bytes_eq method (codes "textDocument/references") then unwrap_or (references_asked id params) (BadParams (Some id) method)
     else (if bytes_eq method (codes "textDocument/rename") then unwrap_or (rename_asked id params) (BadParams (Some id) method)
-    else Unknown (Some id) method))))
+    else (if bytes_eq method (codes "textDocument/completion") then unwrap_or (completion_asked id params) (BadParams (Some id) method)
+    else Unknown (Some id) method)))))
 
 -- The notifications. `exit` is known by its method alone.
 abbrev pub notification_message : List ℕ → Option Data → Message

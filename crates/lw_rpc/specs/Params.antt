@@ -1,6 +1,6 @@
 -- What the parameters of a method must have, and what they say. Language Server Protocol 3.17, "DidOpenTextDocumentParams",
--- "TextDocumentItem", "DidChangeTextDocumentParams", "VersionedTextDocumentIdentifier", "TextDocumentPositionParams", "ReferenceParams" and
--- "RenameParams". Further keys are ignored, and of a key that stands twice the last value counts.
+-- "TextDocumentItem", "DidChangeTextDocumentParams", "VersionedTextDocumentIdentifier", "TextDocumentPositionParams", "ReferenceParams",
+-- "RenameParams" and "CompletionParams". Further keys are ignored, and of a key that stands twice the last value counts.
 use Rattle.std.specs.Prelude.{ℕ, ℤ, List, Bool, codes, Option, Some, None, option_map, option_and_then}
 use Rattle.serde_json.specs.Data.{Data}
 use Rattle.serde_json.specs.Find.{get, as_bool, as_str, as_number, as_array, as_i64}
@@ -9,7 +9,7 @@ use Rattle.lw_text.specs.declared.place.Pos.{Pos}
 use Rattle.lw_rpc.specs.ChangeParams.{position_of, changes_of}
 use Rattle.lw_rpc.specs.declared.message.Id.{Id}
 use Rattle.lw_rpc.specs.declared.message.Message.{Message}
-use Rattle.lw_rpc.specs.declared.message.Message.TheVariants.{Definition, References, Rename, DidOpen, DidChange}
+use Rattle.lw_rpc.specs.declared.message.Message.TheVariants.{Definition, References, Rename, Completion, DidOpen, DidChange}
 
 -- the member under the key, where there is a value and it is an object with the key
 abbrev pub member_at : List ℕ → Option Data → Option Data
@@ -72,9 +72,17 @@ point_by None at = None
 abbrev pub point_of : Option Data → Option (List ℕ × Pos)
 point_of params = point_by (text_at (codes "uri") (member_at (codes "textDocument") params)) (position_at (codes "position") params)
 
+-- what asks about such a place and says no more, as the message that is made of it
+abbrev pub asked_at_place : (List ℕ → Pos → Message) → Option Data → Option Message
+asked_at_place made params = option_map (λ asked. made asked.0 asked.1) (point_of params)
+
 -- `textDocument/definition`: such a place
 abbrev pub definition_asked : Id → Option Data → Option Message
-definition_asked id params = option_map (λ asked. Definition id asked.0 asked.1) (point_of params)
+definition_asked id params = asked_at_place (Definition id) params
+
+-- `textDocument/completion`: such a place
+abbrev pub completion_asked : Id → Option Data → Option Message
+completion_asked id params = asked_at_place (Completion id) params
 
 abbrev pub flag_beside : Option (List ℕ × Pos) → Option Bool → Option (List ℕ × Pos × Bool)
 flag_beside (Some point) (Some include) = Some (point.0, point.1, include)

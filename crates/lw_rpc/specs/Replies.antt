@@ -1,6 +1,6 @@
 -- The bytes of a reply: compact JSON (RFC 8259), keys in byte order, texts quoted as `serde_json` quotes them. JSON-RPC 2.0, "Response
 -- object" and "Error object"; Language Server Protocol 3.17, "InitializeResult", "Location", "TextEdit", "WorkspaceEdit",
--- "PublishDiagnosticsParams", "Diagnostic" and "LogMessageParams".
+-- "CompletionItem", "PublishDiagnosticsParams", "Diagnostic" and "LogMessageParams".
 use Rattle.std.specs.Prelude.{◌≡◌, ℕ, ℤ, List, [], ◌++◌, map, AllPairs, codes, decimal, Option, Some, None, ⊤}
 use Rattle.std.specs.Cmp.Lexicographic.{slice_cmp}
 use Rattle.std.specs.Fmt.{signed_decimal}
@@ -13,11 +13,12 @@ use Rattle.lw_text.specs.declared.shown.Shown.{Shown}
 use Rattle.lw_rpc.specs.Values.{severity}
 use Rattle.lw_rpc.specs.declared.message.Id.{Id}
 use Rattle.lw_rpc.specs.declared.message.Id.TheVariants.{Whole, Words}
+use Rattle.lw_rpc.specs.declared.reply.CompletionItem.{CompletionItem}
 use Rattle.lw_rpc.specs.declared.reply.FileEdits.{FileEdits}
 use Rattle.lw_rpc.specs.declared.reply.Location.{Location}
 use Rattle.lw_rpc.specs.declared.reply.TextEdit.{TextEdit}
 use Rattle.lw_rpc.specs.declared.reply.Outcome.{Outcome}
-use Rattle.lw_rpc.specs.declared.reply.Outcome.TheVariants.{Nothing, Hello, Spot, Spots, Edits}
+use Rattle.lw_rpc.specs.declared.reply.Outcome.TheVariants.{Nothing, Hello, Spot, Spots, Edits, Offers}
 use Rattle.lw_rpc.specs.declared.reply.Reply.{Reply}
 use Rattle.lw_rpc.specs.declared.reply.Reply.TheVariants.{Done, Error, Publish, Log}
 
@@ -51,11 +52,15 @@ location_text location =
 abbrev pub locations_text : List Location → List ℕ
 locations_text locations = codes "[" ++ join_with_byte 44 (map location_text locations) ++ codes "]"
 
-abbrev pub edit_text : TextEdit → List ℕ
-edit_text edit =
-    codes "{\"newText\":" ++ quoted edit.text
-    ++ codes ",\"range\":" ++ range_text edit.start edit.end
+-- a text in place of what stands from the start up to the end
+abbrev pub replacement_text : List ℕ → Pos → Pos → List ℕ
+replacement_text text start end =
+    codes "{\"newText\":" ++ quoted text
+    ++ codes ",\"range\":" ++ range_text start end
     ++ codes "}"
+
+abbrev pub edit_text : TextEdit → List ℕ
+edit_text edit = replacement_text edit.text edit.start edit.end
 
 -- the edits of a document, under its address
 abbrev pub file_text : FileEdits → List ℕ
@@ -64,12 +69,24 @@ file_text file = quoted file.uri ++ codes ":[" ++ join_with_byte 44 (map edit_te
 abbrev pub edits_text : List FileEdits → List ℕ
 edits_text files = codes "{\"changes\":{" ++ join_with_byte 44 (map file_text files) ++ codes "}}"
 
+-- what may be put in: the text that an editor shows is the one that it puts in
+abbrev pub offer_text : CompletionItem → List ℕ
+offer_text offer =
+    codes "{\"kind\":" ++ decimal offer.kind
+    ++ codes ",\"label\":" ++ quoted offer.label
+    ++ codes ",\"textEdit\":" ++ replacement_text offer.label offer.start offer.end
+    ++ codes "}"
+
+abbrev pub offers_text : List CompletionItem → List ℕ
+offers_text offers = codes "[" ++ join_with_byte 44 (map offer_text offers) ++ codes "]"
+
 abbrev pub outcome_text : Outcome → List ℕ
 outcome_text Nothing = codes "null"
 outcome_text Hello = hello_text
 outcome_text (Spot location) = location_text location
 outcome_text (Spots locations) = locations_text locations
 outcome_text (Edits files) = edits_text files
+outcome_text (Offers offers) = offers_text offers
 
 -- the addresses of the documents are in byte order, each once, as the keys of an object are
 abbrev pub AreOrdered : List FileEdits → Type 0
@@ -82,6 +99,7 @@ HasOrderedFiles Hello = ⊤
 HasOrderedFiles (Spot location) = ⊤
 HasOrderedFiles (Spots locations) = ⊤
 HasOrderedFiles (Edits files) = AreOrdered files
+HasOrderedFiles (Offers offers) = ⊤
 
 -- where the reply is edits, their addresses are in byte order, each once
 abbrev pub HasOrderedEdits : Reply → Type 0

@@ -1,5 +1,5 @@
 -- The JSON value of a reply. JSON-RPC 2.0, "Response object" and "Error object"; Language Server Protocol 3.17, "InitializeResult",
--- "Location", "TextEdit", "WorkspaceEdit", "PublishDiagnosticsParams", "Diagnostic" and "LogMessageParams".
+-- "Location", "TextEdit", "WorkspaceEdit", "CompletionItem", "PublishDiagnosticsParams", "Diagnostic" and "LogMessageParams".
 use Rattle.std.specs.Prelude.{ℕ, ℤ, List, [], ◌∷◌, ◌==◌, map, true, codes, if◌then◌else◌, Option, Some, None}
 use Rattle.serde_json.specs.Data.{Data, null, boolean, number, string, array, object, unsigned, Members, no_members, put}
 use Rattle.serde_json.specs.Find.{of_integer}
@@ -8,11 +8,12 @@ use Rattle.lw_text.specs.declared.place.Pos.{Pos}
 use Rattle.lw_text.specs.declared.shown.Shown.{Shown}
 use Rattle.lw_rpc.specs.declared.message.Id.{Id}
 use Rattle.lw_rpc.specs.declared.message.Id.TheVariants.{Whole, Words}
+use Rattle.lw_rpc.specs.declared.reply.CompletionItem.{CompletionItem}
 use Rattle.lw_rpc.specs.declared.reply.FileEdits.{FileEdits}
 use Rattle.lw_rpc.specs.declared.reply.Location.{Location}
 use Rattle.lw_rpc.specs.declared.reply.TextEdit.{TextEdit}
 use Rattle.lw_rpc.specs.declared.reply.Outcome.{Outcome}
-use Rattle.lw_rpc.specs.declared.reply.Outcome.TheVariants.{Nothing, Hello, Spot, Spots, Edits}
+use Rattle.lw_rpc.specs.declared.reply.Outcome.TheVariants.{Nothing, Hello, Spot, Spots, Edits, Offers}
 use Rattle.lw_rpc.specs.declared.reply.Reply.{Reply}
 use Rattle.lw_rpc.specs.declared.reply.Reply.TheVariants.{Done, Error, Publish, Log}
 
@@ -77,9 +78,12 @@ range_value start end = object_of ((codes "end", position_value end) ∷ (codes 
 abbrev pub location_value : Location → Data
 location_value location = object_of ((codes "range", range_value location.start location.end) ∷ (codes "uri", string location.uri) ∷ [])
 
--- a text in place of another
+-- a text in place of what stands from the start up to the end
+abbrev pub replacement_value : List ℕ → Pos → Pos → Data
+replacement_value text start end = object_of ((codes "newText", string text) ∷ (codes "range", range_value start end) ∷ [])
+
 abbrev pub edit_value : TextEdit → Data
-edit_value edit = object_of ((codes "newText", string edit.text) ∷ (codes "range", range_value edit.start edit.end) ∷ [])
+edit_value edit = replacement_value edit.text edit.start edit.end
 
 -- the edits of a document are a member under its address
 abbrev pub file_member : FileEdits → List ℕ × Data
@@ -89,12 +93,21 @@ file_member file = (file.uri, array (items_of (map edit_value file.edits)))
 abbrev pub edits_value : List FileEdits → Data
 edits_value files = object_of ((codes "changes", object_of (map file_member files)) ∷ [])
 
+-- what may be put in: the text that an editor shows is the one that it puts in
+abbrev pub offer_value : CompletionItem → Data
+offer_value offer = object_of (
+    (codes "kind", natural offer.kind)
+    ∷ (codes "label", string offer.label)
+    ∷ (codes "textEdit", replacement_value offer.label offer.start offer.end)
+    ∷ [])
+
 abbrev pub outcome_value : Outcome → Data
 outcome_value Nothing = null
 outcome_value Hello = hello
 outcome_value (Spot location) = location_value location
 outcome_value (Spots locations) = array (items_of (map location_value locations))
 outcome_value (Edits files) = edits_value files
+outcome_value (Offers offers) = array (items_of (map offer_value offers))
 
 -- Code 5, a name that another document exports too, is a warning; the others are errors.
 abbrev pub severity : ℕ → ℕ

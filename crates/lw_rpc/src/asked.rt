@@ -52,6 +52,16 @@ pub fn rename(id: Id, method: Name, params: Option<Value>) -> Message
     }
 }
 
+/// The message of a request `textDocument/completion`.
+pub fn completion(id: Id, method: Name, params: Option<Value>) -> Message
+    ensures { result ≡ unwrap_or (shape.completion_asked id (option_map view params)) (BadParams (Some id) method) }
+{
+    match point(params) {
+        Some((uri, position)) => Message::Completion { id, uri, position },
+        None => bad_params(id, method),
+    }
+}
+
 /// The parameters of a request are not of the shape that its method asks for.
 fn bad_params(id: Id, method: Name) -> Message
     ensures { result ≡ BadParams (Some id) method }

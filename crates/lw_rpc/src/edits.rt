@@ -1,57 +1,77 @@
 // What is to be changed in documents, as JSON.
-ghost use Rattle.std.specs.Prelude.{◌≡◌, map, IfOk};
-ghost use Rattle.serde_json.specs.Data.{array};
-ghost use Rattle.serde_json.specs.View.{view, items_of};
+ghost use Rattle.std.specs.Prelude.{◌≡◌, ◌++◌, string_bytes, IfOk};
+ghost use Rattle.lw_rpc.specs.Readable.{ReadsBack};
+ghost use Rattle.lw_rpc.specs.Replies.{edit_text, edits_text, file_text, replacement_text, AreOrdered};
 ghost use Rattle.lw_rpc.specs.Values as spec;
 
-use crate::ranges::range_value;
-use crate::values::{Object, text_value};
+use crate::lists::{Part, write_list};
+use crate::ranges::write_range;
+use crate::texts::write_quoted;
 use crate::{FileEdits, TextEdit};
-use lw_base::NoMemory;
-use serde_json::Value;
+use lw_base::{Name, NoMemory};
+use lw_text::Pos;
 use std::alloc::Global;
 
 /// What is to be changed, document by document (Language Server Protocol 3.17, "WorkspaceEdit").
-pub fn edits_value(alloc: Global, files: &[FileEdits]) -> Result<Value, NoMemory>
-    ensures { IfOk result (λ value. view value ≡ spec.edits_value files.now) }
+pub fn write_edits(alloc: Global, out: &mut String, files: &[FileEdits]) -> Result<(), NoMemory>
+    requires { AreOrdered files.now }
+    ensures text { IfOk result (λ _. string_bytes out.new ≡ string_bytes out.old ++ edits_text files.now) }
+    ensures reads { IfOk result (λ _. ReadsBack (spec.edits_value files.now)) }
 {
-    Ok(
-        Object::new(alloc)
-            .with(alloc, "changes", changes_value(alloc, files)?)?
-            .value(),
-    )
+    out.push_str(r#"{"changes":{"#)?;
+    write_list(alloc, out, files)?;
+    out.push_str("}}")?;
+    Ok(())
 }
 
-/// The edits of each document, under its address.
-fn changes_value(alloc: Global, files: &[FileEdits]) -> Result<Value, NoMemory>
-    ensures { IfOk result (λ value. view value ≡ spec.object_of (map spec.file_member files.now)) }
+/// The edits of a document, under its address.
+fn write_file(alloc: Global, out: &mut String, file: &FileEdits) -> Result<(), NoMemory>
+    ensures text { IfOk result (λ _. string_bytes out.new ≡ string_bytes out.old ++ file_text file.now) }
+    ensures reads { IfOk result (λ _. ReadsBack (spec.file_member file.now).1) }
 {
-    let mut changes = Object::new(alloc);
-    'files: for file in files {
-        let edits = edit_list(alloc, file.edits.as_slice())?;
-        changes = changes.with(alloc, file.uri.text(), edits)?;
+    write_quoted(alloc, out, &file.uri)?;
+    out.push_str(":[")?;
+    write_list(alloc, out, file.edits.as_slice())?;
+    out.push_str("]")?;
+    Ok(())
+}
+
+impl Part for FileEdits {
+    ghost text = { file_text };
+
+    ghost value = { λ file. (spec.file_member file).1 };
+
+    fn write(&self, alloc: Global, out: &mut String) -> Result<(), NoMemory> {
+        write_file(alloc, out, self)
     }
-    Ok(changes.value())
 }
 
-fn edit_list(alloc: Global, list: &[TextEdit]) -> Result<Value, NoMemory>
-    ensures { IfOk result (λ value. view value ≡ array (items_of (map spec.edit_value list.now))) }
-{
-    let mut items = Vec::new(alloc);
-    'edits: for edit in list {
-        items.push(edit_value(alloc, edit)?)?;
+impl Part for TextEdit {
+    ghost text = { edit_text };
+
+    ghost value = { spec.edit_value };
+
+    fn write(&self, alloc: Global, out: &mut String) -> Result<(), NoMemory> {
+        write_replacement(alloc, out, &self.text, self.start, self.end)
     }
-    Ok(Value::Array(items))
 }
 
-/// A text in place of another (Language Server Protocol 3.17, "TextEdit").
-fn edit_value(alloc: Global, edit: &TextEdit) -> Result<Value, NoMemory>
-    ensures { IfOk result (λ value. view value ≡ spec.edit_value edit.now) }
+/// The text in place of what stands from the start up to the end (Language Server Protocol 3.17,
+/// "TextEdit").
+pub fn write_replacement(
+    alloc: Global,
+    out: &mut String,
+    text: &Name,
+    start: Pos,
+    end: Pos,
+) -> Result<(), NoMemory>
+    ensures text { IfOk result (λ _. string_bytes out.new ≡ string_bytes out.old ++ replacement_text text.now start end) }
+    ensures reads { IfOk result (λ _. ReadsBack (spec.replacement_value text.now start end)) }
 {
-    Ok(
-        Object::new(alloc)
-            .with(alloc, "newText", text_value(alloc, edit.text.text())?)?
-            .with(alloc, "range", range_value(alloc, edit.start, edit.end)?)?
-            .value(),
-    )
+    out.push_str(r#"{"newText":"#)?;
+    write_quoted(alloc, out, text)?;
+    out.push_str(r#","range":"#)?;
+    write_range(out, start, end)?;
+    out.push_str("}")?;
+    Ok(())
 }

@@ -11,31 +11,40 @@
 //! It promises that [`read_message`] gives exactly that message, each refusal by its own rule alone; that
 //! [`reply_text`] gives exactly those bytes, and that they read back as that value. Either call may be
 //! refused memory instead. What is to be changed in documents is an object whose keys are their addresses:
-//! [`reply_text`] asks that [`Outcome::Edits`] has them in byte order, each once.
+//! [`reply_text`] asks that [`Outcome::Edits`] has them in byte order, each once. What may be put in at a place
+//! is a list: of each item its kind, its text, and that text as an edit of the document.
+//!
+//! A reply is written piece by piece into one text, with no JSON value between: the work is linear in the bytes
+//! that are written, and an entry of a list takes no memory but what the text grows by. Only a text that has
+//! characters to escape is made a value of its own first.
 //!
 //! A further method is one more case in `specs/Messages.antt`, `specs/Causes.antt` and `src/methods.rt`, and
-//! a further reply one in `specs/Replies.antt`, `specs/Values.antt` and `src/writing.rt`.
+//! a further reply one in `specs/Replies.antt`, `specs/Values.antt` and `src/writing.rt`, whose clauses say the
+//! text that each function writes and that its value reads back (`specs/Readable.antt`). What stands in a list
+//! is a `Part` (`src/lists.rt`).
 #![tactic(auto)]
 
 mod asked;
 mod changes;
 mod edits;
 mod hello;
+mod lists;
 mod locations;
 mod members;
 mod message;
 mod methods;
+mod offers;
 mod params;
 mod published;
 mod ranges;
 mod reading;
 mod reply;
-mod values;
+mod texts;
 mod writing;
 
 pub use message::{Id, Message};
 pub use reading::read_message;
-pub use reply::{FileEdits, Location, Outcome, Reply, TextEdit};
+pub use reply::{CompletionItem, FileEdits, Location, Outcome, Reply, TextEdit};
 pub use writing::reply_text;
 
 #[cfg(test)]

@@ -62,6 +62,14 @@ pub enum Message {
         position: Pos,
         new_name: Name,
     },
+    /// The request `textDocument/completion` (Language Server Protocol 3.17, "Completion Request"): the
+    /// document's address, and the place in it at which it is asked what may be put in, whose line and
+    /// character are counted from zero, the character in UTF-16 units.
+    Completion {
+        id: Id,
+        uri: Name,
+        position: Pos,
+    },
     /// The notification `exit`.
     Exit,
     /// The notification `textDocument/didOpen`: the document's address, its version and its text.

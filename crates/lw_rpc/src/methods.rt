@@ -3,7 +3,7 @@ ghost use Rattle.std.specs.Prelude.{◌≡◌, None, IfOk, option_map, unwrap_or
 ghost use Rattle.serde_json.specs.View.{view};
 ghost use Rattle.lw_rpc.specs.Messages.{request_message, notification_message};
 
-use crate::asked::{definition, references, rename};
+use crate::asked::{completion, definition, references, rename};
 use crate::params::{did_change, did_open};
 use crate::{Id, Message};
 use lw_base::{Name, NoMemory};
@@ -20,6 +20,7 @@ pub fn request(id: Id, method: Name, params: Option<Value>) -> Message
         "textDocument/definition" => definition(id, method, params),
         "textDocument/references" => references(id, method, params),
         "textDocument/rename" => rename(id, method, params),
+        "textDocument/completion" => completion(id, method, params),
         _ => Message::Unknown {
             id: Some(id),
             method,

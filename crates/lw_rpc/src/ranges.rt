@@ -1,33 +1,34 @@
 // Ranges as JSON.
-ghost use Rattle.std.specs.Prelude.{◌≡◌, IfOk};
-ghost use Rattle.serde_json.specs.View.{view};
+ghost use Rattle.std.specs.Prelude.{◌≡◌, ◌++◌, string_bytes, IfOk};
+ghost use Rattle.lw_rpc.specs.Readable.{ReadsBack};
+ghost use Rattle.lw_rpc.specs.Replies.{position_text, range_text};
 ghost use Rattle.lw_rpc.specs.Values as spec;
 
-use crate::values::Object;
+use crate::texts::write_natural;
 use lw_base::NoMemory;
 use lw_text::Pos;
-use serde_json::Value;
-use std::alloc::Global;
 
 /// A part of a text (Language Server Protocol 3.17, "Range").
-pub fn range_value(alloc: Global, start: Pos, end: Pos) -> Result<Value, NoMemory>
-    ensures { IfOk result (λ value. view value ≡ spec.range_value start end) }
+pub fn write_range(out: &mut String, start: Pos, end: Pos) -> Result<(), NoMemory>
+    ensures text { IfOk result (λ _. string_bytes out.new ≡ string_bytes out.old ++ range_text start end) }
+    ensures reads { IfOk result (λ _. ReadsBack (spec.range_value start end)) }
 {
-    Ok(
-        Object::new(alloc)
-            .with(alloc, "end", position_value(alloc, end)?)?
-            .with(alloc, "start", position_value(alloc, start)?)?
-            .value(),
-    )
+    out.push_str(r#"{"end":"#)?;
+    write_position(out, end)?;
+    out.push_str(r#","start":"#)?;
+    write_position(out, start)?;
+    out.push_str("}")?;
+    Ok(())
 }
 
-fn position_value(alloc: Global, place: Pos) -> Result<Value, NoMemory>
-    ensures { IfOk result (λ value. view value ≡ spec.position_value place) }
+fn write_position(out: &mut String, place: Pos) -> Result<(), NoMemory>
+    ensures text { IfOk result (λ _. string_bytes out.new ≡ string_bytes out.old ++ position_text place) }
+    ensures reads { IfOk result (λ _. ReadsBack (spec.position_value place)) }
 {
-    Ok(
-        Object::new(alloc)
-            .with(alloc, "character", Value::from(place.character))?
-            .with(alloc, "line", Value::from(place.line))?
-            .value(),
-    )
+    out.push_str(r#"{"character":"#)?;
+    write_natural(out, u64::from(place.character))?;
+    out.push_str(r#","line":"#)?;
+    write_natural(out, u64::from(place.line))?;
+    out.push_str("}")?;
+    Ok(())
 }

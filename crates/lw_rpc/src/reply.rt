@@ -30,6 +30,18 @@ pub struct FileEdits {
     pub edits: Items<TextEdit>,
 }
 
+/// A text that may be put in at a place (Language Server Protocol 3.17, "CompletionItem"): the label, which is
+/// what an editor shows and what it puts in; the kind, as the protocol numbers kinds ("CompletionItemKind");
+/// and the part of the document whose place it takes, from the start up to the end. Lines and characters are
+/// counted from zero, characters in UTF-16 units.
+#[derive(Debug, PartialEq, Eq, Drop)]
+pub struct CompletionItem {
+    pub label: Name,
+    pub kind: u8,
+    pub start: Pos,
+    pub end: Pos,
+}
+
 /// The result of a request.
 #[derive(Debug, Drop)]
 pub enum Outcome {
@@ -44,6 +56,9 @@ pub enum Outcome {
     /// What is to be changed, document by document, as `textDocument/rename` is answered. The addresses are
     /// in byte order, each once.
     Edits(Items<FileEdits>),
+    /// What may be put in, of which there may be nothing, as `textDocument/completion` is answered (Language
+    /// Server Protocol 3.17, "Completion Request").
+    Offers(Items<CompletionItem>),
 }
 
 /// A message to the editor.

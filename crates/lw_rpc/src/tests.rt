@@ -3,7 +3,10 @@
 ghost use Rattle.std.specs.Prelude.{◌≡◌, IfOk};
 ghost use Rattle.lw_rpc.specs.Replies.{AreOrdered, HasOrderedEdits};
 
-use crate::{FileEdits, Id, Location, Message, Outcome, Reply, TextEdit, read_message, reply_text};
+use crate::{
+    CompletionItem, FileEdits, Id, Location, Message, Outcome, Reply, TextEdit, read_message,
+    reply_text,
+};
 use lw_base::{Items, Name, NoMemory};
 use lw_text::{Pos, Shown};
 use std::alloc::Global;
@@ -77,7 +80,7 @@ const IDS: [Row; 16] = [
 ];
 
 /// The members of a body beside its version: each method in its own kind of message.
-const METHODS: [Row; 15] = [
+const METHODS: [Row; 16] = [
     (
         r#""id":1,"method":"initialize""#,
         "Initialize { id: Whole(1) }",
@@ -132,6 +135,10 @@ const METHODS: [Row; 15] = [
         r#""method":"textDocument/rename""#,
         r#"Unknown { id: None, method: Name { text: "textDocument/rename" } }"#,
     ),
+    (
+        r#""method":"textDocument/completion","params":{"textDocument":{"uri":"u"},"position":{"line":0,"character":0}}"#,
+        r#"Unknown { id: None, method: Name { text: "textDocument/completion" } }"#,
+    ),
 ];
 
 const BAD_DEFINITION: &str =
@@ -143,8 +150,11 @@ const BAD_REFERENCES: &str =
 const BAD_RENAME: &str =
     r#"BadParams { id: Some(Whole(1)), method: Name { text: "textDocument/rename" } }"#;
 
+const BAD_COMPLETION: &str =
+    r#"BadParams { id: Some(Whole(1)), method: Name { text: "textDocument/completion" } }"#;
+
 /// The last part of a request's method, and its parameters.
-const ASKED: [Row; 24] = [
+const ASKED: [Row; 26] = [
     (
         r#"definition","params":{"textDocument":{"uri":"file:///c.s"},"position":{"line":0,"character":19}}"#,
         r#"Definition { id: Whole(1), uri: Name { text: "file:///c.s" }, position: Pos { line: 0, character: 19 } }"#,
@@ -234,6 +244,14 @@ const ASKED: [Row; 24] = [
     (
         r#"rename","params":{"position":{"line":0,"character":0},"newName":"b"}"#,
         BAD_RENAME,
+    ),
+    (
+        r#"completion","params":{"textDocument":{"uri":"file:///b.s"},"position":{"line":0,"character":10},"context":{"triggerKind":1}}"#,
+        r#"Completion { id: Whole(1), uri: Name { text: "file:///b.s" }, position: Pos { line: 0, character: 10 } }"#,
+    ),
+    (
+        r#"completion","params":{"textDocument":{"uri":"file:///b.s"}}"#,
+        BAD_COMPLETION,
     ),
 ];
 
@@ -532,6 +550,38 @@ fn edits_are_written(rt: HostRuntime) -> Result<(), Fail> {
     is_text(&rt, alloc, Reply::Done(Id::Whole(2), none), expected)?;
     let edits = Outcome::Edits(two_files(alloc)?);
     is_text(&rt, alloc, Reply::Done(Id::Whole(1), edits), RENAMED)?;
+    Ok(())
+}
+
+/// The text in place of a part of the first line of a document.
+fn offer(alloc: Global, label: &str, start: u32, end: u32) -> Result<CompletionItem, NoMemory> {
+    Ok(CompletionItem {
+        label: Name::from_text(alloc, label)?,
+        kind: 14,
+        start: Pos {
+            line: 0,
+            character: start,
+        },
+        end: Pos {
+            line: 0,
+            character: end,
+        },
+    })
+}
+
+const OFFERED: &str =
+    r#"{"id":1,"jsonrpc":"2.0","result":[{"kind":14,"label":"state","textEdit":{"newText":"state","range":{"end":{"character":10,"line":0},"start":{"character":8,"line":0}}}}]}"#;
+
+#[test]
+fn offers_are_written(rt: HostRuntime) -> Result<(), Fail> {
+    let alloc = rt.alloc();
+    let none = Outcome::Offers(Items::new(alloc));
+    let expected = r#"{"id":2,"jsonrpc":"2.0","result":[]}"#;
+    is_text(&rt, alloc, Reply::Done(Id::Whole(2), none), expected)?;
+    let mut list = Items::new(alloc);
+    list.push(offer(alloc, "state", 8, 10)?)?;
+    let offers = Outcome::Offers(list);
+    is_text(&rt, alloc, Reply::Done(Id::Whole(1), offers), OFFERED)?;
     Ok(())
 }
 

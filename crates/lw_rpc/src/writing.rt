@@ -1,135 +1,140 @@
-// A reply as its bytes: its JSON value, and the value's text.
-ghost use Rattle.std.specs.Prelude.{◌≡◌, IfOk, Some};
+// A reply as its bytes, written piece by piece.
+ghost use Rattle.std.specs.Prelude.{◌≡◌, ◌++◌, string_bytes, codes, IfOk, Some};
+ghost use Rattle.std.specs.Fmt.{signed_decimal};
 ghost use Rattle.serde_json.specs.Read.{read};
-ghost use Rattle.serde_json.specs.View.{view};
-ghost use Rattle.lw_rpc.specs.Replies.{reply_bytes, HasOrderedEdits};
+ghost use Rattle.lw_rpc.specs.Readable.{ReadsBack};
+ghost use Rattle.lw_rpc.specs.Replies.{reply_bytes, done_text, error_text, id_or_null_text, id_text, log_text, outcome_text, HasOrderedEdits, HasOrderedFiles};
 ghost use Rattle.lw_rpc.specs.Values as spec;
 
-use crate::edits::edits_value;
-use crate::hello::hello_value;
-use crate::locations::{location_value, locations_value};
-use crate::published::publish_params;
-use crate::values::{Object, text_value};
+use crate::edits::write_edits;
+use crate::hello::write_hello;
+use crate::locations::{write_location, write_locations};
+use crate::offers::write_offers;
+use crate::published::write_publish;
+use crate::texts::{write_quoted, write_whole};
 use crate::{Id, Outcome, Reply};
 use lw_base::{Name, NoMemory};
-use serde_json::Value;
 use std::alloc::Global;
 
 /// The bytes of a reply: compact JSON, keys in byte order (JSON-RPC 2.0; Language Server Protocol 3.17).
-/// Memory is taken in proportion to their number, and time too, but for keeping the addresses of edits in
-/// order.
+/// They are written one behind another into one text. The work is linear in their number, and no memory is
+/// taken for an entry of a list but what the text grows by, which is in proportion to the bytes; only a text
+/// that has characters to escape is copied into memory of its own first.
 pub fn reply_text(alloc: Global, reply: &Reply) -> Result<Name, NoMemory>
     requires ordered { HasOrderedEdits reply.now }
     ensures bytes { IfOk result (λ text. text ≡ reply_bytes reply.now) }
     ensures reads_back { IfOk result (λ text. read text ≡ Some (spec.value_of reply.now)) }
 {
-    let text = reply_value(alloc, reply)?.to_string(alloc)?;
+    let mut text = String::new(alloc);
+    write_reply(alloc, &mut text, reply)?;
     Ok(Name::from_string(text))
 }
 
-/// The JSON value of a reply: one case for each of them.
-#[tactic(auto, unfolding(crate::specs::Values::value_of))]
-fn reply_value(alloc: Global, reply: &Reply) -> Result<Value, NoMemory>
-    ensures { IfOk result (λ value. view value ≡ spec.value_of reply.now) }
+/// One case for each of the replies.
+#[tactic(auto, unfolding(crate::specs::Replies::reply_bytes, crate::specs::Values::value_of))]
+fn write_reply(alloc: Global, out: &mut String, reply: &Reply) -> Result<(), NoMemory>
+    requires { HasOrderedEdits reply.now }
+    ensures text { IfOk result (λ _. string_bytes out.new ≡ string_bytes out.old ++ reply_bytes reply.now) }
+    ensures reads { IfOk result (λ _. ReadsBack (spec.value_of reply.now)) }
 {
     match reply {
-        Reply::Done(id, outcome) => done_value(alloc, id, outcome),
-        Reply::Error(id, code, message) => error_value(alloc, id, *code, message.text()),
+        Reply::Done(id, outcome) => write_done(alloc, out, id, outcome),
+        Reply::Error(id, code, message) => write_error(alloc, out, id, *code, message),
         Reply::Publish(uri, version, list) => {
-            let params = publish_params(alloc, uri.text(), *version, list.as_slice())?;
-            notification_value(alloc, "textDocument/publishDiagnostics", params)
+            write_publish(alloc, out, uri, version, list.as_slice())
         }
-        Reply::Log(message) => {
-            let params = log_params(alloc, message.text())?;
-            notification_value(alloc, "window/logMessage", params)
-        }
+        Reply::Log(message) => write_log(alloc, out, message),
     }
 }
 
-fn done_value(alloc: Global, id: &Id, outcome: &Outcome) -> Result<Value, NoMemory>
-    ensures { IfOk result (λ value. view value ≡ spec.done_value id.now outcome.now) }
+fn write_done(alloc: Global, out: &mut String, id: &Id, outcome: &Outcome) -> Result<(), NoMemory>
+    requires { HasOrderedFiles outcome.now }
+    ensures text { IfOk result (λ _. string_bytes out.new ≡ string_bytes out.old ++ done_text id.now outcome.now) }
+    ensures reads { IfOk result (λ _. ReadsBack (spec.done_value id.now outcome.now)) }
 {
-    Ok(
-        Object::new(alloc)
-            .with(alloc, "id", id_value(alloc, id)?)?
-            .with(alloc, "jsonrpc", text_value(alloc, "2.0")?)?
-            .with(alloc, "result", outcome_value(alloc, outcome)?)?
-            .value(),
-    )
+    out.push_str(r#"{"id":"#)?;
+    write_id(alloc, out, id)?;
+    out.push_str(r#","jsonrpc":"2.0","result":"#)?;
+    write_outcome(alloc, out, outcome)?;
+    out.push_str("}")?;
+    Ok(())
 }
 
-fn error_value(alloc: Global, id: &Option<Id>, code: i32, message: &str) -> Result<Value, NoMemory>
-    ensures { IfOk result (λ value. view value ≡ spec.error_value id.now code message.now) }
+fn write_error(
+    alloc: Global,
+    out: &mut String,
+    id: &Option<Id>,
+    code: i32,
+    message: &Name,
+) -> Result<(), NoMemory>
+    ensures text { IfOk result (λ _. string_bytes out.new ≡ string_bytes out.old ++ error_text id.now code message.now) }
+    ensures reads { IfOk result (λ _. ReadsBack (spec.error_value id.now code message.now)) }
 {
-    Ok(
-        Object::new(alloc)
-            .with(alloc, "error", fault_value(alloc, code, message)?)?
-            .with(alloc, "id", id_or_null(alloc, id)?)?
-            .with(alloc, "jsonrpc", text_value(alloc, "2.0")?)?
-            .value(),
-    )
+    out.push_str(r#"{"error":{"code":"#)?;
+    write_code(out, code)?;
+    out.push_str(r#","message":"#)?;
+    write_quoted(alloc, out, message)?;
+    out.push_str(r#"},"id":"#)?;
+    write_id_or_null(alloc, out, id)?;
+    out.push_str(r#","jsonrpc":"2.0"}"#)?;
+    Ok(())
 }
 
-fn fault_value(alloc: Global, code: i32, message: &str) -> Result<Value, NoMemory>
-    ensures { IfOk result (λ value. view value ≡ spec.fault_value code message.now) }
+fn write_code(out: &mut String, code: i32) -> Result<(), NoMemory>
+    ensures text { IfOk result (λ _. string_bytes out.new ≡ string_bytes out.old ++ signed_decimal code) }
+    ensures reads { IfOk result (λ _. ReadsBack (spec.whole code)) }
 {
-    Ok(
-        Object::new(alloc)
-            .with(alloc, "code", Value::from(code))?
-            .with(alloc, "message", text_value(alloc, message)?)?
-            .value(),
-    )
+    write_whole(out, i64::from(code))
 }
 
-fn notification_value(alloc: Global, method: &str, params: Value) -> Result<Value, NoMemory>
-    ensures { IfOk result (λ value. view value ≡ spec.notification_value method.now (view params)) }
+fn write_log(alloc: Global, out: &mut String, message: &Name) -> Result<(), NoMemory>
+    ensures text { IfOk result (λ _. string_bytes out.new ≡ string_bytes out.old ++ log_text message.now) }
+    ensures reads { IfOk result (λ _. ReadsBack (spec.notification_value (codes "window/logMessage") (spec.log_params message.now))) }
 {
-    Ok(
-        Object::new(alloc)
-            .with(alloc, "jsonrpc", text_value(alloc, "2.0")?)?
-            .with(alloc, "method", text_value(alloc, method)?)?
-            .with(alloc, "params", params)?
-            .value(),
-    )
+    out.push_str(r#"{"jsonrpc":"2.0","method":"window/logMessage","params":{"message":"#)?;
+    write_quoted(alloc, out, message)?;
+    out.push_str(r#","type":1}}"#)?;
+    Ok(())
 }
 
-fn log_params(alloc: Global, message: &str) -> Result<Value, NoMemory>
-    ensures { IfOk result (λ value. view value ≡ spec.log_params message.now) }
-{
-    Ok(
-        Object::new(alloc)
-            .with(alloc, "message", text_value(alloc, message)?)?
-            .with(alloc, "type", Value::from(1u8))?
-            .value(),
-    )
-}
-
-fn outcome_value(alloc: Global, outcome: &Outcome) -> Result<Value, NoMemory>
-    ensures { IfOk result (λ value. view value ≡ spec.outcome_value outcome.now) }
+fn write_outcome(alloc: Global, out: &mut String, outcome: &Outcome) -> Result<(), NoMemory>
+    requires { HasOrderedFiles outcome.now }
+    ensures text { IfOk result (λ _. string_bytes out.new ≡ string_bytes out.old ++ outcome_text outcome.now) }
+    ensures reads { IfOk result (λ _. ReadsBack (spec.outcome_value outcome.now)) }
 {
     match outcome {
-        Outcome::Nothing => Ok(Value::Null),
-        Outcome::Hello => hello_value(alloc),
-        Outcome::Spot(location) => location_value(alloc, location),
-        Outcome::Spots(list) => locations_value(alloc, list.as_slice()),
-        Outcome::Edits(files) => edits_value(alloc, files.as_slice()),
+        Outcome::Nothing => write_null(out),
+        Outcome::Hello => write_hello(out),
+        Outcome::Spot(location) => write_location(alloc, out, location),
+        Outcome::Spots(list) => write_locations(alloc, out, list.as_slice()),
+        Outcome::Edits(files) => write_edits(alloc, out, files.as_slice()),
+        Outcome::Offers(list) => write_offers(alloc, out, list.as_slice()),
     }
 }
 
-fn id_value(alloc: Global, id: &Id) -> Result<Value, NoMemory>
-    ensures { IfOk result (λ value. view value ≡ spec.id_value id.now) }
+fn write_id_or_null(alloc: Global, out: &mut String, id: &Option<Id>) -> Result<(), NoMemory>
+    ensures text { IfOk result (λ _. string_bytes out.new ≡ string_bytes out.old ++ id_or_null_text id.now) }
+    ensures reads { IfOk result (λ _. ReadsBack (spec.id_or_null id.now)) }
 {
     match id {
-        Id::Whole(number) => Ok(Value::from(*number)),
-        Id::Words(text) => text_value(alloc, text.text()),
+        Some(id) => write_id(alloc, out, id),
+        None => write_null(out),
     }
 }
 
-fn id_or_null(alloc: Global, id: &Option<Id>) -> Result<Value, NoMemory>
-    ensures { IfOk result (λ value. view value ≡ spec.id_or_null id.now) }
+fn write_id(alloc: Global, out: &mut String, id: &Id) -> Result<(), NoMemory>
+    ensures text { IfOk result (λ _. string_bytes out.new ≡ string_bytes out.old ++ id_text id.now) }
+    ensures reads { IfOk result (λ _. ReadsBack (spec.id_value id.now)) }
 {
     match id {
-        Some(id) => id_value(alloc, id),
-        None => Ok(Value::Null),
+        Id::Whole(number) => write_whole(out, *number),
+        Id::Words(text) => write_quoted(alloc, out, text),
     }
+}
+
+fn write_null(out: &mut String) -> Result<(), NoMemory>
+    ensures { IfOk result (λ _. string_bytes out.new ≡ string_bytes out.old ++ codes "null") }
+{
+    out.push_str("null")?;
+    Ok(())
 }

@@ -68,6 +68,7 @@ asks : (phase : Phase) → IsLive phase → (id : Id) (address : List ℕ) (at :
 asks phase live id address at question.Definition = rw (live.0, live.1) refl
 asks phase live id address at (question.References declaration) = rw (live.0, live.1) refl
 asks phase live id address at (question.Rename new) = rw (live.0, live.1) refl
+asks phase live id address at question.Completion = rw (live.0, live.1) refl
 
 edits : (phase : Phase) → IsLive phase → (edited : Edited) → gate phase (edited_message edited) ≡ Passes
 edits phase live edited = rw (live.0, live.1) refl

@@ -33,7 +33,7 @@ use Rattle.lw_session.proofs.Known.{same_get, turn}
 
 -- ---- the documents that a workspace stands for
 
-turned_text : (is_built : Bool) (held : Numbered) → (turn is_built held).text ≡ held.doc.text
+pub turned_text : (is_built : Bool) (held : Numbered) → (turn is_built held).text ≡ held.doc.text
 turned_text true held = refl
 turned_text false held = refl
 

@@ -4,3 +4,4 @@ pub mod Answers
 pub mod Loads
 pub mod Asked
 pub mod Renames
+pub mod Offered

@@ -5,3 +5,4 @@ pub mod Loading
 pub mod Seen
 pub mod Locating
 pub mod Editing
+pub mod Completing

@@ -2,7 +2,7 @@
 -- Language Server Protocol 3.17, "Server lifecycle".
 use Rattle.std.specs.Prelude.{◌≡◌, List, true, false}
 use Rattle.lw_rpc.specs.declared.message.Message.{Message}
-use Rattle.lw_rpc.specs.declared.message.Message.TheVariants.{DidOpen, DidChange, Definition, References, Rename}
+use Rattle.lw_rpc.specs.declared.message.Message.TheVariants.{DidOpen, DidChange, Definition, References, Rename, Completion}
 use Rattle.lw_rpc.specs.declared.reply.Reply.{Reply}
 use Rattle.lw_conversation.specs.Gate.{Passage, gate}
 use Rattle.lw_conversation.specs.Gate as at_gate
@@ -45,6 +45,7 @@ abbrev pub question_message : Id → List ℕ → Pos → Question → Message
 question_message id address at question.Definition = Definition id address at
 question_message id address at (question.References declaration) = References id address at declaration
 question_message id address at (question.Rename new) = Rename id address at new
+question_message id address at question.Completion = Completion id address at
 
 abbrev pub asked_message : Asked → Message
 asked_message asked = question_message asked.id asked.address asked.at asked.question

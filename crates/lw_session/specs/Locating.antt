@@ -2,6 +2,7 @@
 -- Language Server Protocol 3.17, "Location" and "Position".
 use Rattle.std.specs.Prelude.{ℕ, ◌≡◌, List, Some, Contains}
 use Rattle.std.specs.FinMap.{get}
+use Rattle.std.specs.Str.{IsCharBoundary}
 use Rattle.lw_base.specs.declared.token.Span.{Span}
 use Rattle.lw_build.specs.Readings.{present_texts_of}
 use Rattle.lw_build.specs.Seen.{SeenView, StandsSeen, seen_tree}
@@ -39,9 +40,10 @@ pub record IsLocated (v : SeenView) (spot : Spot) (l : Location) : Type 0 where
   pub begins : IsPosition text spot.span.start l.start
   pub ends : IsPosition text spot.span.end l.end
 
--- the document at an address, by its number, and the byte of its text that a position means
+-- the document at an address, by its number, and the byte of its text that a position means, where a character begins or the text ends
 pub record IsAskedPlace (v : WorkspaceView) (address : List ℕ) (at : Pos) (asked : PlaceAsked) : Type 0 where
   pub held : Numbered
   pub here : get v.kept address ≡ Some held
   pub number : asked.doc ≡ held.number
   pub means : IsOffset Utf16 held.doc.text at asked.off
+  pub boundary : IsCharBoundary held.doc.text asked.off

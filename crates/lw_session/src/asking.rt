@@ -1,4 +1,4 @@
-// What is asked of what stands at a place: all documents are built first, and the reply comes behind what that publishes.
+// What is asked about a place: all documents are built first, and the reply comes behind what that publishes.
 ghost use Rattle.std.specs.Prelude.{◌≡◌, ◌∷◌, ◌++◌, [], IfOk, OnErr, map, true};
 ghost use Rattle.lw_build.specs.View.{documents};
 ghost use Rattle.lw_conversation.specs.Answered.{IsCutShort};
@@ -7,6 +7,7 @@ ghost use Rattle.lw_conversation.specs.Effects.{as_reply};
 ghost use Rattle.lw_session.specs.Answering.{IsAnswered, standing_of};
 ghost use Rattle.lw_session.specs.Lifecycle.{IsLive, asked_message, telling};
 
+use crate::completing::completion_at;
 use crate::lifecycle::Told;
 use crate::locating::{asked_at, location_of, locations_of};
 use crate::renaming::rename_at;
@@ -63,6 +64,10 @@ fn reply_to(alloc: Global, workspace: &Workspace, asked: Asked) -> Result<Reply,
             Ok(Reply::Done(id, outcome))
         }
         Question::Rename(new) => rename_at(alloc, workspace, id, &address, at, &new),
+        Question::Completion => {
+            let outcome = completion_at(alloc, workspace, &address, at)?;
+            Ok(Reply::Done(id, outcome))
+        }
     }
 }
 

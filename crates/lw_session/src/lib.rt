@@ -11,14 +11,15 @@
 //! may be in the middle of the message. The grammar stays, and so do the files of the store.
 //!
 //! How it is made: `lifecycle` decides a message by the two facts of a session alone; `opening` puts a text
-//! and `editing` makes the changes of one in the workspace (`lw_build`), `asking` answers what is asked of what stands
-//! at a place, over documents that are built (`locating`, `renaming`), `serving` builds all documents behind a message,
+//! and `editing` makes the changes of one in the workspace (`lw_build`), `asking` answers what is asked about a place, over
+//! documents that are built (`locating`, `renaming`, `completing`), `serving` builds all documents behind a message,
 //! and `texts` makes bytes of what is told. The documents of the standing are those of the machine that the
 //! workspace stands for (`specs/Seen.antt`), and a message is handled over any documents that it may stand for
 //! (`specs/Answering.antt`), since a build comes to the same from all of them.
 #![tactic(auto)]
 
 mod asking;
+mod completing;
 mod editing;
 mod lifecycle;
 mod locating;

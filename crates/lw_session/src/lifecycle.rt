@@ -32,7 +32,7 @@ pub(crate) enum Step {
     Opens(Opened),
     /// It changes a document, in a session that is live.
     Edits(Edited),
-    /// It asks of what stands at a place, in a session that is live.
+    /// It asks about a place, in a session that is live.
     Asks(Asked),
 }
 
@@ -97,6 +97,9 @@ pub(crate) fn decide(alloc: Global, phase: Phase, message: Message) -> Result<St
             position,
             new_name,
         } => asks(alloc, phase, id, uri, position, Question::Rename(new_name)),
+        Message::Completion { id, uri, position } => {
+            asks(alloc, phase, id, uri, position, Question::Completion)
+        }
     }
 }
 

@@ -25,7 +25,7 @@ pub(crate) struct Edited {
     pub changes: Items<Change>,
 }
 
-/// What an editor asks of what stands at a place of a document.
+/// What an editor asks about a place of a document.
 #[derive(Drop)]
 pub(crate) struct Asked {
     pub id: Id,
@@ -43,4 +43,6 @@ pub(crate) enum Question {
     References(bool),
     /// Which edits give it this name.
     Rename(Name),
+    /// What may be written there.
+    Completion,
 }

@@ -4,8 +4,9 @@ use Rattle.langbench.proofs.serve.serve.Goals as goal
 
 pub returns-clause-works : goal.returns-clause-works
 returns-clause-works g c =
-    works_told _ c.args.root.path.now c.args.root.k _ _ _ _ _ c.in_ok-language.language.grammar c.in_ok-session.session.grammar c.in_ok-language.ensures.holds c.in_ok-language.ensures.clear c.converse-outcome.result
-    c.in_ok-session.ensures.grammar c.converse-outcome.ensures.conversed
+    let of = c.in_ok-language.language.grammar in
+    works_told _ c.args.root.path.now c.args.root.k _ _ _ _ _ of c.in_ok-session.session.grammar c.in_ok-language.ensures.holds c.in_ok-language.ensures.clear
+    (c.one_outcome.ensures.bodies of (one_way of c.args.root.k c.in_ok-language.ensures.clear)) c.converse-outcome.result c.in_ok-session.ensures.grammar c.converse-outcome.ensures.conversed
 
 pub returns-clause-cause : goal.returns-clause-cause
 returns-clause-cause g c =

@@ -17,4 +17,4 @@ returns g c =
       noted = c.finish.ensures.noted;
       noted_part = c.finish.ensures.part;
     } in
-    record { ends = ends; checks_all = checks_all _ _ _ _ _ ends; serves_all = serves_all _ _ _ _ _ ends }
+    record { ends = ends; checks_all = checks_all _ _ _ _ _ ends; serves_all = serves_all c.one_outcome.ensures.bodies _ _ _ _ _ ends }

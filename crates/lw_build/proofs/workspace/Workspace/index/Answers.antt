@@ -1,16 +1,26 @@
-use Rattle.std.proofs.Common.{◌≡◌, true, subst}
+use Rattle.std.proofs.Common.{◌≡◌, ℕ, List, Some, true, subst}
+use Rattle.std.specs.FinMap.{get}
+use Rattle.lw_docs.specs.Documents.{Numbered}
 use Rattle.lw_link.specs.Indexed.{IsIndexOf}
+use Rattle.lw_link.specs.Visible.{IsNumberAt}
 use Rattle.lw_machine.specs.Documents.{present_texts}
 use Rattle.lw_scopes.specs.Links.{AreTreesOfTexts}
 use Rattle.lw_scoping.specs.Links.{Trees}
 use Rattle.lw_build.specs.Readings.{trees_of}
 use Rattle.lw_build.specs.View.{WorkspaceView, documents}
-use Rattle.lw_build.proofs.Trees.{is_index}
+use Rattle.lw_build.proofs.Trees.{is_index, is_number_at}
 use Rattle.lw_build.proofs.Views.{present_trees}
 use Rattle.lw_build.proofs.workspace.Workspace.index.Goals as goal
 
-pub returns : goal.returns
-returns c =
+pub returns-clause-numbers : goal.returns-clause-numbers
+returns-clause-numbers c =
+    let readings = c.self.inside.readings in
+    subst (λ (v : WorkspaceView). (address : List ℕ) (held : Numbered) → get v.kept address ≡ Some held → IsNumberAt readings.index held.number.0 address)
+    c.self.view_is
+    (is_number_at c.self.inside.language.grammar c.self.inside.language.texts c.self.inside.docs c.self.invariant.numbered readings c.self.invariant.read)
+
+pub returns-clause-trees : goal.returns-clause-trees
+returns-clause-trees c =
     let of = c.self.inside.language.grammar in
     let texts = c.self.inside.language.texts in
     let docs = c.self.inside.docs in

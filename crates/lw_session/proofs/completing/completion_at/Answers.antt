@@ -1,0 +1,58 @@
+use Rattle.std.proofs.Common.{List, ℕ, All, sym, ◌∙◌, subst}
+use Rattle.std.specs.List.{AllZip}
+use Rattle.std.specs.Str.{IsCharBoundary}
+use Rattle.lw_base.specs.declared.numbers.DocId.{DocId}
+use Rattle.lw_build.specs.View.{documents}
+use Rattle.lw_complete.specs.declared.item.Item.{Item}
+use Rattle.lw_conversation.specs.Asking as tell
+use Rattle.lw_conversation.specs.Asking.{TellsCompletion}
+use Rattle.lw_grammar.specs.declared.grammar.Grammar.{Grammar}
+use Rattle.lw_link.specs.Visible.{IsNumberAt}
+use Rattle.lw_machine.specs.Documents.{present_texts}
+use Rattle.lw_reading.specs.Laws.{IsReadOneWay}
+use Rattle.lw_rpc.specs.declared.reply.Outcome.TheVariants.{Offers}
+use Rattle.lw_scopes.specs.Links.{AreTreesOfTexts}
+use Rattle.lw_session.specs.Completing.{IsItemTold, TakesWord}
+use Rattle.lw_session.proofs.Asked.{none_held}
+use Rattle.lw_session.proofs.Offered.{same_text, take_words, tells_offers}
+use Rattle.lw_session.proofs.completing.completion_at.Goals as goal
+
+pub returns-in_default : goal.returns-in_default
+returns-in_default c =
+    let v = c.args.workspace.now in
+    subst (λ items. TellsCompletion v.grammar (documents v) c.args.address.now c.args.at (Offers items)) (sym c.new.ensures)
+    (tell.not_held (none_held v c.args.address.now c.in_default.ensures))
+
+pub complete-requires-boundary : goal.complete-requires-boundary
+complete-requires-boundary c =
+    let is = c.in-Some.ensures in
+    subst (λ (t : List ℕ). IsCharBoundary t c.in-Some.asked.off)
+    (same_text c.args.workspace.now c.args.address.now c.args.at c.in-Some.asked is c.in-Some-2.text.now c.in-Some-2.ensures ∙ sym c.as_name.ensures.text)
+    is.boundary
+
+pub complete-requires-one_way : goal.complete-requires-one_way
+complete-requires-one_way c = subst IsReadOneWay (sym c.language.ensures) c.agrees.ensures.one_way
+
+pub told_items-requires : goal.told_items-requires
+told_items-requires c =
+    subst (λ (t : List ℕ). All (TakesWord t) c.as_slice.result.now) c.as_name.ensures.text
+    (subst (All (TakesWord c.as_name.result.now)) (sym c.as_slice.ensures.value)
+    (take_words c.as_name.result.now c.in-Some.asked.off c.in_ok-offered.offered.items c.in_ok-offered.ensures.spans))
+
+pub returns : goal.returns
+returns c =
+    let v = c.args.workspace.now in
+    let is = c.in-Some.ensures in
+    let text = c.as_name.result.now in
+    let same = same_text v c.args.address.now c.args.at c.in-Some.asked is c.in-Some-2.text.now c.in-Some-2.ensures ∙ sym c.as_name.ensures.text in
+    let items = c.in_ok-offered.offered.items in
+    let told = c.in_ok-items.items in
+    let (trees, are_trees, is_index) = c.index.ensures.trees c.requires in
+    let number = subst (λ (d : DocId). IsNumberAt c.index.result.now d.0 c.args.address.now) (sym is.number)
+    (c.index.ensures.numbers c.args.address.now is.held is.here) in
+    let of = c.language.result.now.grammar in
+    let are = c.in_ok-offered.ensures.offers (present_texts (documents v)) trees c.args.address.now
+    (subst (λ (g : Grammar). AreTreesOfTexts g (present_texts (documents v)) trees) (sym c.language.ensures) are_trees) is_index number in
+    tells_offers v of c.language.ensures c.args.address.now c.args.at c.in-Some.asked is text same items told are c.in_ok-offered.ensures.spans
+    (subst (λ (t : List ℕ). AllZip (IsItemTold t) items told) (sym c.as_name.ensures.text)
+    (subst (λ (is : List Item). AllZip (IsItemTold c.in-Some-2.text.now) is told) c.as_slice.ensures.value c.in_ok-items.ensures))
