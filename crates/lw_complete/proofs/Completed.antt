@@ -1,5 +1,5 @@
 -- All that is offered at an offset, from what is offered in place of the word that is typed there.
-use Rattle.std.proofs.Common.{◌≡◌, ◌↔◌, ◌⊎◌, inl, inr, ◌<◌, ◌≤◌, ℕ, List, [], AllPairs, Contains, length, map, subst, arith}
+use Rattle.std.proofs.Common.{◌≡◌, ◌↔◌, ◌⊎◌, inl, inr, ◌<◌, ◌≤◌, ℕ, List, [], AllPairs, Contains, length, map, Result, Ok, Err, IfOk, sym, subst, arith}
 use Rattle.lw_base.specs.declared.limits.TheConstants.{LONGEST_DOCUMENT}
 use Rattle.lw_base.specs.declared.token.Token.{Token}
 use Rattle.lw_grammar.specs.declared.grammar.Grammar.{Grammar}
@@ -68,6 +68,22 @@ module _ (g : Grammar) (texts : Texts) (trees : Trees) (are_trees : AreTreesOfTe
             (subst (λ (w : List ℕ). IsOffered g of lexicon trees address front rest is.tokens w x) same_word
             (subst (λ (r : List ℕ). IsOffered g of lexicon trees address front r is.tokens is.word x) same_rest
             (subst (λ (f : List ℕ). IsOffered g of lexicon trees address f is.rest is.tokens is.word x) same_front is.offered)))
+
+    -- the same of what was answered
+    pub answered : {X E : Type 0} (tokens : List Token) → length text ≤ LONGEST_DOCUMENT → IsCut lexicon front tokens →
+        ((others : List Token) → IsCut lexicon front others → others ≡ tokens) → (offers : X → List Offer) (r : Result X E) →
+        IfOk r (λ items. (x : Offer) → Contains (offers items) x ↔ IsOffered g of lexicon trees address front rest tokens word x) →
+        IfOk r (λ items. AllPairs OfferPrecedes (offers items)) → IfOk r (λ items. AreOffers g texts address text offset (offers items))
+    answered tokens short cut only offers (Ok items) exact ordered = all_offers tokens short cut only (offers items) exact ordered
+    answered tokens short cut only offers (Err e) exact ordered = tt
+
+-- the parts of a text around a word, by other names
+pub typed_as : {text front word rest f w r : List ℕ} {offset : ℕ} → IsTypedAt text offset f w r → front ≡ f → word ≡ w → rest ≡ r →
+    IsTypedAt text offset front word rest
+typed_as {text} {front} {word} {r} {f} {w} {offset} typed same_front same_word same_rest =
+    subst (λ (rest : List ℕ). IsTypedAt text offset front word rest) (sym same_rest)
+    (subst (λ (word : List ℕ). IsTypedAt text offset front word r) (sym same_word)
+    (subst (λ (front : List ℕ). IsTypedAt text offset front w r) (sym same_front) typed))
 
 -- what is offered in place of the word are these keywords and these names
 module _ (g : Grammar) (of : Kinds) (lexicon : Lexicon) (trees : Trees) (address front rest word : List ℕ) (tokens : List Token) (keywords names : List (List ℕ))

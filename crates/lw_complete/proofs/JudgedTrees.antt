@@ -1,5 +1,5 @@
 -- A reference leads alike in trees with the same tables, and a text that is read one way has one such tree.
-use Rattle.std.proofs.Common.{◌≡◌, ◌+◌, ◌++◌, ℕ, List, Bool, true, false, Option, Some, None, IsTrue, Contains, if◌then◌else◌, length, refl, sym, subst}
+use Rattle.std.proofs.Common.{◌≡◌, ◌+◌, ◌++◌, ℕ, List, Bool, true, false, Option, Some, None, Contains, if◌then◌else◌, length, refl, sym, subst}
 use Rattle.std.specs.Str.{bytes_eq}
 use Rattle.std.proofs.lemmas.Option.{same_Some}
 use Rattle.lw_grammar.specs.declared.grammar.Grammar.{Grammar}
@@ -96,7 +96,7 @@ module _ (typing : Typing) (one_way : IsReadOneWay (grammar_of typing)) (trees :
     stands_here r among at = record { reads = is; among = among; starts = at.0; ends = at.1 }
 
     pub judged : (found : Option Bool) → IsTold found → IsJudged typing trees address name found
-    judged None none other r stands = none r (there_too other r stands) (stands.starts, stands.ends)
+    judged None none = λ other r stands. none r (there_too other r stands) (stands.starts, stands.ends)
     judged (Some leads) (some, exactly) = (
       (tree, some.0, stands_here some.0 some.1 some.2),
       (

@@ -23,6 +23,7 @@ mod NamedOffered
 mod NamedOnce
 mod NamedPuts
 mod NamedSays
+mod ParserKnown
 mod ReadKinds
 mod TypedTokens
 mod TypedWords

@@ -45,10 +45,10 @@ pub fn complete(
     ensures spans { IfOk result (λ items. All (λ item. (front : List ℕ) × (word : List ℕ) × (rest : List ℕ) × IsTypedAt text.now off front word rest
         × TakesThePlace (length front) off item) items.items) }
 {
+    language.tokens();
     if text.bytes().len() > LONGEST_DOCUMENT {
         return Ok(Vec::new(alloc));
     }
-    language.tokens();
     let start = word_start(text.text(), off as usize);
     let front = Name::from_text(alloc, &text.text()[..start])?;
     let rest = Name::from_text(alloc, &text.text()[off as usize..])?;
