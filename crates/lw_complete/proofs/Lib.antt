@@ -14,11 +14,10 @@ mod JudgedTrees
 mod KeywordsNext
 mod KindNumbers
 mod NamedFront
-mod NamedMarks
+mod NamedReads
 mod NamedNext
 mod NamedOffered
 mod NamedOnce
-mod NamedPuts
 mod NamedSays
 mod ReadKinds
 mod TypedTokens

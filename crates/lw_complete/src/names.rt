@@ -92,9 +92,10 @@ fn known_starts<'s>(
     ensures starts { IfOk result (λ known. map (λ one. one.start.now) known.items ≡ starts.now) }
     ensures known { (of : Kinds) (lexicon : Lexicon) (trees : Trees) (address : List ℕ) → IsTypedBy of lexicon typing.now → IsIndexOf trees typing.now.index.now →
         IsNumberAt typing.now.index.now typing.now.doc.0 address → IfOk result (λ known. All (IsKnownStart of typing.now trees address) known.items) }
-    ensures found { (of : Kinds) (lexicon : Lexicon) (trees : Trees) (address : List ℕ) → IsTypedBy of lexicon typing.now → IsIndexOf trees typing.now.index.now →
+    ensures found { (of : Kinds) (lexicon : Lexicon) (tasks : List Task) (trees : Trees) (address : List ℕ) → IsTypedBy of lexicon typing.now →
+        IsParsedBy of tasks typing.now parser.now → All (IsStartNext of tasks typing.now) starts.now → IsIndexOf trees typing.now.index.now →
         IsNumberAt typing.now.index.now typing.now.doc.0 address →
-        OnOk result (Finds (OfSome (IsFoundAt of lexicon typing.now trees address) starts.now) found.old.items found.new.items) }
+        OnOk result (Finds (OfSome (IsFoundAt of lexicon tasks typing.now trees address) starts.now) found.old.items found.new.items) }
 {
     let blank = blank(alloc, typing)?;
     let mut known = Vec::new(alloc);
@@ -121,9 +122,11 @@ fn known_start(
     ensures known { (of : Kinds) (lexicon : Lexicon) (trees : Trees) (address : List ℕ) → IsTypedBy of lexicon typing.now → IsIndexOf trees typing.now.index.now →
         IsNumberAt typing.now.index.now typing.now.doc.0 address →
         IfOk result (λ front. IsKnownStart of typing.now trees address (record { start = start; front = front })) }
-    ensures found { (of : Kinds) (lexicon : Lexicon) (trees : Trees) (address : List ℕ) → IsTypedBy of lexicon typing.now → IsIndexOf trees typing.now.index.now →
-        IsNumberAt typing.now.index.now typing.now.doc.0 address →
-        OnOk result (Finds (IsFoundAt of lexicon typing.now trees address start.now) found.old.items found.new.items) }
+    ensures found { (of : Kinds) (lexicon : Lexicon) (tasks : List Task) (trees : Trees) (address : List ℕ) → IsTypedBy of lexicon typing.now →
+        IsParsedBy of tasks typing.now parser.now → IsStartNext of tasks typing.now start.now →
+        MatchOption blank.now ((others : List AToken) → ¬ IsCut lexicon typing.now.rest.now others) (IsBlank typing.now lexicon) →
+        IsIndexOf trees typing.now.index.now → IsNumberAt typing.now.index.now typing.now.doc.0 address →
+        OnOk result (Finds (IsFoundAt of lexicon tasks typing.now trees address start.now) found.old.items found.new.items) }
 {
     let front = front_names(alloc, typing, start)?;
     if let Some(blank) = blank {
