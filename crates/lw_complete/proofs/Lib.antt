@@ -14,10 +14,10 @@ mod JudgedTrees
 mod KeywordsNext
 mod KindNumbers
 mod NamedFront
-mod NamedReads
 mod NamedNext
 mod NamedOffered
 mod NamedOnce
+mod NamedReads
 mod NamedSays
 mod ReadKinds
 mod TypedTokens

@@ -1,5 +1,5 @@
 -- The names that are offered are those that may come next.
-use Rattle.std.proofs.Common.{◌≡◌, ◌⊎◌, inl, inr, ◌↔◌, ◌∷◌, [], ℕ, List, Bool, true, false, IsTrue, All, Contains, map, refl, sym, subst}
+use Rattle.std.proofs.Common.{◌≡◌, ◌⊎◌, inl, inr, ◌↔◌, ◌∷◌, [], ℕ, List, Bool, true, false, IsTrue, All, Contains, map, refl, sym, subst, true≢false}
 use Rattle.std.proofs.lemmas.List.Elements.{All-contains}
 use Rattle.lw_begins.specs.Gives.{PlacesGive}
 use Rattle.lw_grammar.specs.Kinds.{Kinds}
@@ -131,14 +131,14 @@ module _ (typing : Typing) (of : Kinds) (lexicon : Lexicon) (tasks : List Task) 
     judge : (name : List ℕ) (next : ReferenceNext) (one : Known) → Contains known one → ComesAt of typing next one.start.now →
         LeadsSomewhere (grammar_of typing) of lexicon trees address typing.front.now typing.rest.now typing.tokens.now next name → Judgement name next one
     judge name next one among at (offer.in_whole {tree} {r} stands target) =
-        record { judged = false; leads = λ is. absurd is; whole = inl (tree, r, stands, target) }
+        record { judged = false; leads = λ is. absurd (true≢false (sym is)); whole = inl (tree, r, stands, target) }
     judge name next one among at (offer.in_front {tree} {r} none is target) =
         let told = (All-contains (IsKnownStart of typing trees address) known one are_known among).told next at in
         let (same, reference) = one_front (grammar_of typing) of typing.front.now typing.tokens.now next tree told.tree r told.r is told.is_tree in
         let there = target_over (grammar_of typing) trees address tree told.tree (renamed_to name r) same target in
         let contained = (told.exact name).1
         (subst (λ (x : Reference). HasTarget (IsNumberBelow (grammar_of typing)) trees address told.tree (renamed_to name x)) reference there) in
-        record { judged = true; leads = λ yes. contained; whole = inr (tt, none) }
+        record { judged = true; leads = λ yes. contained; whole = inr (refl, none) }
 
     pub next_offered : (name : List ℕ) → BeginsBy typing.word.now name → IsNext name → IsOffered name
     next_offered name word is =
