@@ -17,8 +17,11 @@ mod NamedFront
 mod NamedNext
 mod NamedOffered
 mod NamedOnce
+mod NamedOrdered
 mod NamedReads
 mod NamedSays
+mod NamedTried
+mod NamedWritten
 mod ReadKinds
 mod TypedTokens
 mod TypedWords

@@ -274,14 +274,39 @@ fn is_read(
         × IsReadAt of tasks typing.now leads written.now.added.now written.now.name.now one)) }
 {
     'known: for one in known {
-        if leads && !one.front.names.contains(written.name) {
-            continue;
-        }
-        if is_read_as(alloc, typing, parser, one.start, written)? {
+        if is_read_at(alloc, typing, parser, one, written, leads)? {
             return Ok(true);
         }
     }
     Ok(false)
+}
+
+/// Whether the name is read as this start; where `leads`, as one by which it leads somewhere in the tree of what was read before.
+fn is_read_at(
+    alloc: Global,
+    typing: &Typing<'_>,
+    parser: &Parser,
+    one: &Known<'_>,
+    written: &Written<'_>,
+    leads: bool,
+) -> Result<bool, NoMemory>
+    requires known { (of : Kinds) × (lexicon : Lexicon) × (tasks : List Task) × IsWritten of lexicon typing.now written.now × IsParsedBy of tasks typing.now parser.now
+        × IsStartNext of tasks typing.now one.now.start.now }
+    ensures { (of : Kinds) (lexicon : Lexicon) (tasks : List Task) → IsWritten of lexicon typing.now written.now → IsParsedBy of tasks typing.now parser.now →
+        IsStartNext of tasks typing.now one.now.start.now →
+        IfOk result (λ read. IsTrue read ↔ IsReadAt of tasks typing.now leads written.now.added.now written.now.name.now one.now) }
+{
+    if !may_lead(one, written.name, leads) {
+        return Ok(false);
+    }
+    is_read_as(alloc, typing, parser, one.start, written)
+}
+
+/// Whether the name is one by which the start leads somewhere in the tree of what was read before, where `leads`.
+fn may_lead(one: &Known<'_>, name: &Name, leads: bool) -> bool
+    ensures { IsTrue result ↔ (IsTrue leads → Contains one.now.front.names.items name.now) }
+{
+    !leads || one.front.names.contains(name)
 }
 
 /// Whether the tokens are what the value of this start may read, and say the name.
@@ -298,7 +323,10 @@ fn is_read_as(
         IsParsedBy of tasks typing.now parser.now → IsStartNext of tasks typing.now start.now → ComesAt of typing.now next start.now →
         IfOk result (λ read. IsTrue read ↔ IsReadBy of tasks typing.now next start.now written.now.added.now written.now.name.now) }
 {
-    if written.added.is_empty() || !says(alloc, parser, start, written)? {
+    if written.added.is_empty() {
+        return Ok(false);
+    }
+    if !says(alloc, parser, start, written)? {
         return Ok(false);
     }
     gives(alloc, parser, start, written.added)
