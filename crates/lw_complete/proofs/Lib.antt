@@ -14,6 +14,7 @@ mod JudgedTrees
 mod KeywordsNext
 mod KindNumbers
 mod NamedFront
+mod NamedKnown
 mod NamedNext
 mod NamedOffered
 mod NamedOnce

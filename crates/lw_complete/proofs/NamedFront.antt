@@ -1,5 +1,5 @@
 -- The tree of what was read before a reference is one, and so is the reference behind it.
-use Rattle.std.proofs.Common.{◌≡◌, ℕ, List, Option, length, slice_get, refl, sym, ap, ap₂, ◌∙◌, subst}
+use Rattle.std.proofs.Common.{◌≡◌, ℕ, List, Option, Contains, length, slice_get, refl, sym, ap, ap₂, ◌∙◌, subst}
 use Rattle.std.proofs.lemmas.Option.{same_Some}
 use Rattle.lw_base.specs.declared.numbers.PropId.{PropId}
 use Rattle.lw_base.specs.declared.token.Token.{Token}
@@ -10,11 +10,19 @@ use Rattle.lw_marks.specs.Follows.{Closes}
 use Rattle.lw_marks.specs.Grown.{Grown}
 use Rattle.lw_marks.specs.Trees.{IsOpenedTree, parts_of_tree}
 use Rattle.lw_offers.specs.Starting.{IsFrontTree, ReferenceNext}
+use Rattle.lw_offers.specs.Targets.{HasTarget, renamed_to}
 use Rattle.lw_rooted.proofs.OneTree.{one_close, one_follows}
+use Rattle.lw_scopes.specs.Links.{IsNumberBelow}
+use Rattle.lw_scoping.specs.Links.{Trees}
 use Rattle.lw_sentences.specs.Marks.{Mark}
 use Rattle.lw_tree.specs.declared.node.Reference.{Reference}
 use Rattle.lw_tree.specs.Parts.{Parts, SameTables, values_at}
+use Rattle.lw_complete.specs.declared.starting.FrontNames.{FrontNames}
+use Rattle.lw_complete.specs.declared.typing.Typing.{Typing}
+use Rattle.lw_complete.specs.Starts.{AreFrontNames, LeadsInFront}
+use Rattle.lw_complete.specs.Typing.{grammar_of}
 use Rattle.lw_complete.proofs.BlankTrees.{one_naming}
+use Rattle.lw_complete.proofs.JudgedTrees.{target_over}
 
 one_opened : (g : Grammar) (text : List ℕ) (m : List Mark) (seen tokens : List Token) (a b : Parts) → IsOpenedTree g text m seen tokens a →
     IsOpenedTree g text m seen tokens b → SameTables a b
@@ -32,7 +40,7 @@ one_opened g text m seen tokens a b is was =
       name = named;
     }
 
-pub one_front : (g : Grammar) (of : Kinds) (front : List ℕ) (tokens : List Token) (next : ReferenceNext) (a b : Parts) (r s : Reference) →
+one_front : (g : Grammar) (of : Kinds) (front : List ℕ) (tokens : List Token) (next : ReferenceNext) (a b : Parts) (r s : Reference) →
     IsFrontTree g of front tokens next a r → IsFrontTree g of front tokens next b s → SameTables a b × (r ≡ s)
 one_front g of front tokens next a b r s is was =
     let tree = one_opened g front _ _ tokens a b is.opened was.opened in
@@ -41,3 +49,12 @@ one_front g of front tokens next a b r s is was =
       same_Some r s
           (sym is.reference ∙ ap₂ (λ (xs ys : List Reference). slice_get xs (length ys)) behind.refs tree.refs ∙ was.reference),
     )
+
+-- by a name by which it leads somewhere in a tree of what was read before, it leads somewhere in each
+pub leads_by : (of : Kinds) (typing : Typing) (trees : Trees) (address : List ℕ) (next : ReferenceNext) (found : FrontNames) →
+    AreFrontNames of typing trees address next found → (name : List ℕ) → LeadsInFront of typing trees address next name → Contains found.names.items name
+leads_by of typing trees address next found are name (tree, r, is, target) =
+    let g = grammar_of typing in
+    let (same, reference) = one_front g of typing.front.now typing.tokens.now next tree are.tree r are.r is are.is_tree in
+    let there : HasTarget (IsNumberBelow g) trees address are.tree (renamed_to name r) = target_over g trees address tree are.tree (renamed_to name r) same target in
+    (are.exact name).1 (subst (λ (x : Reference). HasTarget (IsNumberBelow g) trees address are.tree (renamed_to name x)) reference there)

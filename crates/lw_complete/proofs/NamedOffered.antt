@@ -6,7 +6,6 @@ use Rattle.lw_grammar.specs.Kinds.{Kinds}
 use Rattle.lw_parse.specs.Parsers.{ParserParts}
 use Rattle.lw_program.specs.Says.{Task}
 use Rattle.lw_rooted.proofs.Listed.{mapped}
-use Rattle.lw_scopes.specs.Links.{IsNumberBelow}
 use Rattle.lw_scoping.specs.Links.{Trees}
 use Rattle.lw_sentences.specs.Sentences.{IsSentence}
 use Rattle.lw_tokens.specs.Lexicon.{Lexicon}
@@ -14,7 +13,6 @@ use Rattle.lw_offers.specs.Offers.{IsFoundNext, IsNameNext, LeadsSomewhere}
 use Rattle.lw_offers.specs.Offers as offer
 use Rattle.lw_offers.specs.Starting.{ComesNext, IsFindable, ReferenceNext}
 use Rattle.lw_offers.specs.Starting as find
-use Rattle.lw_offers.specs.Targets.{HasTarget, renamed_to}
 use Rattle.lw_offers.specs.Words.{BeginsBy}
 use Rattle.lw_tokens.specs.Cut.{kinds, visible}
 use Rattle.lw_tree.specs.declared.node.Reference.{Reference}
@@ -29,8 +27,7 @@ use Rattle.lw_complete.specs.declared.typing.Typing.{Typing}
 use Rattle.lw_complete.specs.Judged.{LeadsWhole, StandsWhole}
 use Rattle.lw_complete.specs.Starts.{ComesAt, IsBlankName, IsFoundAt, IsKnownStart, IsOfferedBy, IsParsedBy, LeadsInFront}
 use Rattle.lw_complete.specs.Typing.{grammar_of, kinds_before}
-use Rattle.lw_complete.proofs.JudgedTrees.{target_over}
-use Rattle.lw_complete.proofs.NamedFront.{one_front}
+use Rattle.lw_complete.proofs.NamedFront.{leads_by}
 use Rattle.lw_complete.proofs.NamedNext.{IsStart, begins, reads_so}
 
 unmapped : {X Y : Type 0} (f : X → Y) (xs : List X) (y : Y) → Contains (map f xs) y → (x : X) × Contains xs x × (f x ≡ y)
@@ -134,11 +131,7 @@ module _ (typing : Typing) (of : Kinds) (lexicon : Lexicon) (tasks : List Task) 
         record { judged = false; leads = λ is. absurd (true≢false (sym is)); whole = inl (tree, r, stands, target) }
     judge name next one among at (offer.in_front {tree} {r} none is target) =
         let told = (All-contains (IsKnownStart of typing trees address) known one are_known among).told next at in
-        let (same, reference) = one_front (grammar_of typing) of typing.front.now typing.tokens.now next tree told.tree r told.r is told.is_tree in
-        let there = target_over (grammar_of typing) trees address tree told.tree (renamed_to name r) same target in
-        let contained = (told.exact name).1
-        (subst (λ (x : Reference). HasTarget (IsNumberBelow (grammar_of typing)) trees address told.tree (renamed_to name x)) reference there) in
-        record { judged = true; leads = λ yes. contained; whole = inr (refl, none) }
+        record { judged = true; leads = λ yes. leads_by of typing trees address next one.front told name (tree, r, is, target); whole = inr (refl, none) }
 
     pub next_offered : (name : List ℕ) → BeginsBy typing.word.now name → IsNext name → IsOffered name
     next_offered name word is =

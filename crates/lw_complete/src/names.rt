@@ -30,7 +30,7 @@ ghost use Rattle.lw_viable.specs.Aims.{EndsSome};
 ghost use Rattle.lw_viable.specs.Fronts.{IsProgramWith};
 ghost use Rattle.lw_viable.specs.Readings.{HasTask};
 ghost use Rattle.lw_viable.specs.Visiting.{IsReferencePut};
-ghost use Rattle.lw_complete.specs.Starts.{ComesAt, IsBlank, IsFoundAt, IsKnownStart, IsOfferedBy, IsParsedBy, IsReadAt, IsReadBy, IsStartNext, IsWritten};
+ghost use Rattle.lw_complete.specs.Starts.{ComesAt, IsBlank, IsBlankName, IsFoundAt, IsKnownStart, IsOfferedBy, IsParsedBy, IsReadAt, IsReadBy, IsSoundStart, IsStartNext, IsWritten, StandsBehind};
 ghost use Rattle.lw_complete.specs.Typing.{AreReadings, IsTypedBy, grammar_of};
 
 use crate::judging::leads_in_whole;
@@ -129,11 +129,34 @@ fn known_start(
         OnOk result (Finds (IsFoundAt of lexicon tasks typing.now trees address start.now) found.old.items found.new.items) }
 {
     let front = front_names(alloc, typing, start)?;
-    if let Some(blank) = blank {
-        put_blank_names(alloc, typing, parser, start, front.before, blank, found)?;
-    }
+    put_unnamed(alloc, typing, parser, start, front.before, blank, found)?;
     put_copies(alloc, found, front.names.as_slice())?;
     Ok(front)
+}
+
+/// Puts in the names by which this start would lead somewhere in the tree of the text with the reference left blank, where there is one.
+fn put_unnamed(
+    alloc: Global,
+    typing: &Typing<'_>,
+    parser: &Parser,
+    start: &ReferenceStart,
+    before: usize,
+    blank: &Option<Blank>,
+    found: &mut Vec<Name>,
+) -> Result<(), NoMemory>
+    requires known { (of : Kinds) × (lexicon : Lexicon) × (tasks : List Task) × (next : ReferenceNext) × IsTypedBy of lexicon typing.now
+        × MatchOption blank.now ((others : List AToken) → ¬ IsCut lexicon typing.now.rest.now others) (IsBlank typing.now lexicon)
+        × IsParsedBy of tasks typing.now parser.now × IsSoundStart of tasks typing.now next start.now × StandsBehind of typing.now next before }
+    ensures { (of : Kinds) (lexicon : Lexicon) (tasks : List Task) (next : ReferenceNext) (trees : Trees) (address : List ℕ) → IsTypedBy of lexicon typing.now →
+        MatchOption blank.now ((others : List AToken) → ¬ IsCut lexicon typing.now.rest.now others) (IsBlank typing.now lexicon) →
+        IsParsedBy of tasks typing.now parser.now → IsSoundStart of tasks typing.now next start.now → StandsBehind of typing.now next before →
+        IsIndexOf trees typing.now.index.now → IsNumberAt typing.now.index.now typing.now.doc.0 address →
+        OnOk result (Finds (IsBlankName of typing.now trees address lexicon tasks next start.now) found.old.items found.new.items) }
+{
+    match blank {
+        None => Ok(()),
+        Some(blank) => put_blank_names(alloc, typing, parser, start, before, blank, found),
+    }
 }
 
 fn put_copies(alloc: Global, names: &mut Vec<Name>, others: &[Name]) -> Result<(), NoMemory>
