@@ -1,7 +1,8 @@
 -- The names that are offered are those that may come next.
-use Rattle.std.proofs.Common.{◌≡◌, ◌⊎◌, inl, inr, ◌↔◌, ◌∷◌, [], ℕ, List, Bool, true, false, IsTrue, All, Contains, map, refl, sym, subst, true≢false}
+use Rattle.std.proofs.Common.{◌≡◌, ◌⊎◌, inl, inr, ◌↔◌, ◌∷◌, [], ℕ, List, Bool, true, false, IsTrue, All, Contains, map, refl, sym, subst, true≢false, arith}
 use Rattle.std.proofs.lemmas.List.Elements.{All-contains}
 use Rattle.lw_begins.specs.Gives.{PlacesGive}
+use Rattle.lw_findings.specs.Finding.{Finds, OfSome}
 use Rattle.lw_grammar.specs.Kinds.{Kinds}
 use Rattle.lw_parse.specs.Parsers.{ParserParts}
 use Rattle.lw_program.specs.Says.{Task}
@@ -76,6 +77,18 @@ module _ (typing : Typing) (of : Kinds) (lexicon : Lexicon) (tasks : List Task) 
     λ is. by_start name is.next is.comes is.findable,
     λ (start, has, (next, at, either)). record { next = next; comes = at.comes; findable = findable name next start either },
   )
+
+  -- those that were gathered
+  pub names_found : (names : List (List ℕ)) → Finds (OfSome (IsFoundAt of lexicon tasks typing trees address) starts) [] names → (name : List ℕ) →
+      Contains names name ↔ IsFound name
+  names_found names finds name = (
+    λ has. (found_both name).1 (some ((finds.exact name).0 has)),
+    λ found. (finds.exact name).1 (inr ((found_both name).0 found)),
+  )
+    where
+      some : Contains [] name ⊎ IsFoundBySome name → IsFoundBySome name
+      some (inl (k, inside, is)) = absurd (omega (arith, inside))
+      some (inr is) = is
 
   -- ---- what is offered
 
@@ -160,3 +173,11 @@ module _ (typing : Typing) (of : Kinds) (lexicon : Lexicon) (tasks : List Task) 
           );
           whole = j.whole;
         }
+
+    pub all_next : (names : List (List ℕ)) → ((name : List ℕ) → Contains names name ↔ IsFound name) → (found : List (List ℕ)) →
+        ((name : List ℕ) → Contains found name ↔ (Contains names name × IsOffered name)) → (name : List ℕ) →
+        Contains found name ↔ (BeginsBy typing.word.now name × IsNext name)
+    all_next names are found exact name = (
+      λ has. (let (among, is) = (exact name).0 has in (is.begins, offered_next name ((are name).0 among) is)),
+      λ (word, is). (exact name).1 ((are name).1 is.found, next_offered name word is),
+    )

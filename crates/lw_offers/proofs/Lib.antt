@@ -1,1 +1,2 @@
 mod OneList
+pub mod OneWord

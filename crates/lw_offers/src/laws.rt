@@ -8,7 +8,7 @@ ghost use Rattle.lw_tree.specs.declared.node.Reference.{Reference};
 ghost use Rattle.lw_tree.specs.Parts.{Parts};
 ghost use Rattle.lw_offers.specs.Offers.{AreOffers, Offer};
 ghost use Rattle.lw_offers.specs.Targets.{AreVisible};
-ghost use Rattle.lw_offers.specs.Words.{BeginsBy};
+ghost use Rattle.lw_offers.specs.Words.{BeginsBy, IsTypedAt};
 
 /// By a grammar by which a text is read in one way there is one list of offers at most at an offset of a document. A reference has one list
 /// at most of names by which it leads somewhere.
@@ -24,4 +24,10 @@ pub fn words_go_on()
     ensures { (g : Grammar) (texts : Texts) (address text : List ℕ) (offset : ℕ) (offers : List Offer) (offer : Offer) →
         AreOffers g texts address text offset offers → Contains offers offer →
         (front : List ℕ) × (word : List ℕ) × (take offset text ≡ front ++ word) × BeginsBy word offer.label × ((offer.kind ≡ 14) ⊎ (offer.kind ≡ 18)) }
+{}
+
+/// At an offset of a text one word is being typed.
+pub fn one_word()
+    ensures { (text : List ℕ) (offset : ℕ) (front word rest other_front other_word other_rest : List ℕ) → IsTypedAt text offset front word rest →
+        IsTypedAt text offset other_front other_word other_rest → (front ≡ other_front) × (word ≡ other_word) × (rest ≡ other_rest) }
 {}

@@ -7,9 +7,10 @@
 //! is written. Places are byte offsets, counted from zero.
 //!
 //! There is no code here. Each function has an empty body, and its contract is a law that a reader would expect: there is one list of offers
-//! and one list of names ([`one_list`]), and what is offered goes on with the word that was typed ([`words_go_on`]).
+//! and one list of names ([`one_list`]), one word is being typed at an offset ([`one_word`]), and what is offered goes on with it
+//! ([`words_go_on`]).
 #![tactic(auto)]
 
 mod laws;
 
-pub use laws::{one_list, words_go_on};
+pub use laws::{one_list, one_word, words_go_on};
