@@ -1,5 +1,6 @@
--- The names that are found at a start.
-use Rattle.std.proofs.Common.{◌≡◌, ◌⊎◌, inl, inr, ◌++◌, ℕ, List, Contains, sym, subst}
+-- The names that are found at starts.
+use Rattle.std.proofs.Common.{◌≡◌, ◌⊎◌, inl, inr, ◌+◌, ◌<◌, ◌++◌, ◌∷◌, [], ℕ, List, Contains, get_or, length, map, take, sym, ap, ◌∙◌, subst}
+use Rattle.std.proofs.lemmas.List.{map-append, take_more}
 use Rattle.std.proofs.lemmas.List.Elements.{Contains-append_cases, Contains-append_left, Contains-append_right}
 use Rattle.lw_findings.specs.Finding.{Finds}
 use Rattle.lw_findings.proofs.Joining.{Finds-nothing}
@@ -11,12 +12,20 @@ use Rattle.lw_base.specs.declared.token.Token.{Token}
 use Rattle.lw_tokens.specs.Cut.{IsCut}
 use Rattle.lw_tokens.specs.Lexicon.{Lexicon}
 use Rattle.lw_viable.specs.declared.reference_start.ReferenceStart.{ReferenceStart}
+use Rattle.lw_complete.specs.declared.names.Known.{Known}
 use Rattle.lw_complete.specs.declared.starting.FrontNames.{FrontNames}
 use Rattle.lw_complete.specs.declared.typing.Typing.{Typing}
 use Rattle.lw_complete.specs.Starts.{AreFrontNames, ComesAt, IsBlankName, IsFoundAt, LeadsInFront}
 use Rattle.lw_complete.specs.Typing.{grammar_of}
 use Rattle.lw_complete.proofs.NamedFront.{leads_by}
 use Rattle.lw_complete.proofs.NamedOnce.{one_start}
+
+-- one more start
+pub starts_more : (known : List Known) (starts : List ReferenceStart) (i : ℕ) (one : Known) → i < length starts → one.start.now ≡ get_or starts i one.start.now →
+    map (λ (one : Known). one.start.now) known ≡ take i starts → map (λ (one : Known). one.start.now) (known ++ one ∷ []) ≡ take (i + 1) starts
+starts_more known starts i one inside is same =
+    map-append (λ (one : Known). one.start.now) known (one ∷ []) ∙ ap (λ (xs : List ReferenceStart). xs ++ one.start.now ∷ []) same
+    ∙ ap (λ (x : ReferenceStart). take i starts ++ x ∷ []) is ∙ sym (take_more starts i one.start.now inside)
 
 module _ (of : Kinds) (lexicon : Lexicon) (tasks : List Task) (typing : Typing) (trees : Trees) (address : List ℕ) (start : ReferenceStart) (next : ReferenceNext) where
   abbrev IsBlankOne : List ℕ → Type 0
