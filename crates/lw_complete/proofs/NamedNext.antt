@@ -1,12 +1,13 @@
 -- The starts of the readings, and the sentences in which a reference comes next.
 use Rattle.std.proofs.Common.{◌≡◌, ◌++◌, ◌∷◌, [], ℕ, List, Some, All, Contains, append_assoc, map, slice_get, refl, sym, ap, ◌∙◌, subst}
-use Rattle.std.proofs.lemmas.List.Elements.{All-contains}
+use Rattle.std.proofs.lemmas.List.Elements.{All-contains, All-weaker}
 use Rattle.lw_begins.specs.Gives.{PlacesGive}
 use Rattle.lw_grammar.specs.declared.grammar.Grammar.{Grammar}
 use Rattle.lw_grammar.specs.Kinds.{Kinds}
 use Rattle.lw_marks.specs.Follows.{MakesReference}
 use Rattle.lw_parse.specs.Parsers.{ParserParts}
 use Rattle.lw_program.specs.Says.{Reads, Task}
+use Rattle.lw_recipes.specs.Making.{AreRecipesOf, RecipeLists}
 use Rattle.lw_rooted.proofs.Listed.{same_head, same_tail}
 use Rattle.lw_sentences.specs.Marks.{End, Mark, Put, Token, kinds_of}
 use Rattle.lw_sentences.specs.Sentences.{IsSentence}
@@ -80,6 +81,19 @@ module _ (typing : Typing) (of : Kinds) (tasks : List Task) (parser : ParserPart
         is.whole parsed.faultless.supplied is.kinds_are;
     value = is.value;
   }
+
+  -- the starts that were found by these recipes, as they are lent
+  abbrev pub AreStarts : RecipeLists → List ReferenceStart → Type 0
+  AreStarts recipes starts = AreReferenceStarts g of tasks recipes (IsSentence g of) (kinds_before typing) starts
+
+  pub all_starts : (recipes : RecipeLists) (starts lent : List ReferenceStart) → recipes ≡ parser.recipes → lent ≡ starts →
+      (AreRecipesOf g recipes → AreStarts recipes starts) → AreStarts parser.recipes lent
+  all_starts recipes starts lent same lends told =
+      subst (AreStarts parser.recipes) (sym lends)
+      (subst (λ (rs : RecipeLists). AreStarts rs starts) same (told (subst (AreRecipesOf g) (sym same) parsed.faultless.parser.recipes)))
+
+  pub all_next : (starts : List ReferenceStart) → AreStarts parser.recipes starts → All (IsStartNext of tasks typing) starts
+  all_next starts all = All-weaker IsStart (IsStartNext of tasks typing) start_next starts all.each
 
   -- whatever the place of the value gives is read as the reference of the start
   pub reads_so : (start : ReferenceStart) → IsStart start → (next : ReferenceNext) → ComesAt of typing next start → (read : List ℕ) →

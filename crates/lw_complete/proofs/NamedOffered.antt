@@ -174,10 +174,10 @@ module _ (typing : Typing) (of : Kinds) (lexicon : Lexicon) (tasks : List Task) 
           whole = j.whole;
         }
 
-    pub all_next : (names : List (List ℕ)) → ((name : List ℕ) → Contains names name ↔ IsFound name) → (found : List (List ℕ)) →
+    pub all_offered : (names : List (List ℕ)) → ((name : List ℕ) → Contains names name ↔ IsFound name) → (found : List (List ℕ)) →
         ((name : List ℕ) → Contains found name ↔ (Contains names name × IsOffered name)) → (name : List ℕ) →
         Contains found name ↔ (BeginsBy typing.word.now name × IsNext name)
-    all_next names are found exact name = (
+    all_offered names are found exact name = (
       λ has. (let (among, is) = (exact name).0 has in (is.begins, offered_next name ((are name).0 among) is)),
       λ (word, is). (exact name).1 ((are name).1 is.found, next_offered name word is),
     )
