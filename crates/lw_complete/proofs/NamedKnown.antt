@@ -1,12 +1,13 @@
 -- The names that are found at starts.
-use Rattle.std.proofs.Common.{◌≡◌, ◌⊎◌, inl, inr, ◌+◌, ◌<◌, ◌++◌, ◌∷◌, [], ℕ, List, Contains, get_or, length, map, take, sym, ap, ◌∙◌, subst}
+use Rattle.std.proofs.Common.{◌≡◌, ◌⊎◌, inl, inr, ◌+◌, ◌<◌, ◌++◌, ◌∷◌, [], ℕ, List, All, Contains, get_or, length, map, take, sym, ap, ◌∙◌, subst}
 use Rattle.std.proofs.lemmas.List.{map-append, take_more}
-use Rattle.std.proofs.lemmas.List.Elements.{Contains-append_cases, Contains-append_left, Contains-append_right}
+use Rattle.std.proofs.lemmas.List.Elements.{All-contains, Contains-append_cases, Contains-append_left, Contains-append_right, Contains-get_or}
 use Rattle.lw_findings.specs.Finding.{Finds}
 use Rattle.lw_findings.proofs.Joining.{Finds-nothing}
 use Rattle.lw_grammar.specs.Kinds.{Kinds}
 use Rattle.lw_offers.specs.Starting.{ReferenceNext}
 use Rattle.lw_program.specs.Says.{Task}
+use Rattle.lw_rooted.proofs.Listed.{mapped}
 use Rattle.lw_scoping.specs.Links.{Trees}
 use Rattle.lw_base.specs.declared.token.Token.{Token}
 use Rattle.lw_tokens.specs.Cut.{IsCut}
@@ -19,6 +20,14 @@ use Rattle.lw_complete.specs.Starts.{AreFrontNames, ComesAt, IsBlankName, IsFoun
 use Rattle.lw_complete.specs.Typing.{grammar_of}
 use Rattle.lw_complete.proofs.NamedFront.{leads_by}
 use Rattle.lw_complete.proofs.NamedOnce.{one_start}
+
+-- what holds of the starts holds of those of which something is known
+pub known_all : (P : ReferenceStart → Type 0) (known : List Known) (starts : List ReferenceStart) → map (λ (one : Known). one.start.now) known ≡ starts → All P starts →
+    All (λ (one : Known). P one.start.now) known
+known_all P known starts are all i d inside =
+    All-contains P starts (get_or known i d).start.now all
+    (subst (λ (xs : List ReferenceStart). Contains xs (get_or known i d).start.now) are
+    (mapped (λ (one : Known). one.start.now) known (get_or known i d) (Contains-get_or known i d inside)))
 
 -- one more start
 pub starts_more : (known : List Known) (starts : List ReferenceStart) (i : ℕ) (one : Known) → i < length starts → one.start.now ≡ get_or starts i one.start.now →
