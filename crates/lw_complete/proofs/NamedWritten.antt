@@ -30,8 +30,8 @@ use Rattle.lw_complete.proofs.NamedSays.{HasRecipe, IsReferenceBy, recipe_of, re
 pub never : {P : Type 0} → ¬ P → IsTrue false ↔ P
 never {P} not = (λ is. absurd (true≢false (sym is)), λ (so : P). absurd (not so))
 
-pub next_there : (of : Kinds) (tasks : List Task) (typing : Typing) (start : ReferenceStart) → IsStartNext of tasks typing start → (next : ReferenceNext) × ComesAt of typing next start
-next_there of tasks typing start is = (is.next, record { is_start = is.sound.is_start; comes = is.sound.comes })
+pub comes_at : (of : Kinds) (tasks : List Task) (typing : Typing) (start : ReferenceStart) (is : IsStartNext of tasks typing start) → ComesAt of typing is.next start
+comes_at of tasks typing start is = record { is_start = is.sound.is_start; comes = is.sound.comes }
 
 module _ (typing : Typing) (of : Kinds) (tasks : List Task) (parser : ParserParts) (parsed : IsParsedBy of tasks typing parser) (start : ReferenceStart)
     (next : ReferenceNext) (at : ComesAt of typing next start) where

@@ -1,7 +1,7 @@
 use Rattle.std.proofs.Common.{◌≡◌, ◌∙◌, sym}
 use Rattle.std.proofs.lemmas.Result.{IfOk-weaker}
 use Rattle.lw_complete.specs.Typing.{grammar_of}
-use Rattle.lw_complete.proofs.NamedWritten.{given, never, next_there, none_read, reference_put, unsaid}
+use Rattle.lw_complete.proofs.NamedWritten.{comes_at, given, never, none_read, reference_put, unsaid}
 use Rattle.lw_complete.proofs.names.is_read_as.Goals as goal
 
 pub says-requires-clause-parts : goal.says-requires-clause-parts
@@ -10,7 +10,7 @@ says-requires-clause-parts c = let (of, lexicon, tasks, written, parsed, is) = c
 pub says-requires-clause-recipe : goal.says-requires-clause-recipe
 says-requires-clause-recipe c =
     let (of, lexicon, tasks, written, parsed, is) = c.requires.known in
-    reference_put c.args.typing.now of tasks c.args.parser.now parsed c.args.start.now is.next (next_there of tasks c.args.typing.now c.args.start.now is).1
+    reference_put c.args.typing.now of tasks c.args.parser.now parsed c.args.start.now is.next (comes_at of tasks c.args.typing.now c.args.start.now is)
 
 pub gives-requires : goal.gives-requires
 gives-requires c =

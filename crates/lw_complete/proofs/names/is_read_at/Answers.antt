@@ -1,7 +1,9 @@
-use Rattle.std.proofs.Common.{◌≡◌, ◌∙◌, Contains, IsTrue, true≢false, sym}
+use Rattle.std.proofs.Common.{◌≡◌, ◌∙◌, ◌↔◌, IsTrue, true≢false, sym}
 use Rattle.std.proofs.lemmas.Result.{IfOk-weaker}
+use Rattle.lw_offers.specs.Starting.{ReferenceNext}
+use Rattle.lw_complete.specs.Starts.{ComesAt, IsReadAt, IsReadBy}
 use Rattle.lw_complete.proofs.NamedTried.{not_led, read_at}
-use Rattle.lw_complete.proofs.NamedWritten.{never, next_there}
+use Rattle.lw_complete.proofs.NamedWritten.{comes_at, never}
 use Rattle.lw_complete.proofs.names.is_read_at.Goals as goal
 
 pub is_read_as-requires : goal.is_read_as-requires
@@ -14,4 +16,12 @@ returns-then-not-may_lead c of lexicon tasks written parsed next =
 
 pub returns : goal.returns
 returns c of lexicon tasks written parsed is =
-    let (next, at) = next_there of tasks c.args.typing.now c.args.one.now.start.now is in ?
+    let one = c.args.one.now in
+    let added = c.args.written.now.added.now in
+    let name = c.args.written.now.name.now in
+    IfOk-weaker c.is_read_as.result
+    (λ r. (next : ReferenceNext) → ComesAt of c.args.typing.now next one.start.now → IsTrue r ↔ IsReadBy of tasks c.args.typing.now next one.start.now added name)
+    (λ r. IsTrue r ↔ IsReadAt of tasks c.args.typing.now c.args.leads added name one)
+    (λ r told.
+    read_at of tasks c.args.typing.now c.args.leads added name one r (c.may_lead.ensures.0 c.if-not-may_lead.false) (is.next, comes_at of tasks c.args.typing.now one.start.now is)
+    told) ?

@@ -1,6 +1,6 @@
 use Rattle.std.proofs.Common.{◌≡◌, ◌++◌, ◌∙◌, List, ap}
 use Rattle.lw_complete.proofs.NamedKnown.{start_found}
-use Rattle.lw_complete.proofs.NamedWritten.{next_there}
+use Rattle.lw_complete.proofs.NamedWritten.{comes_at}
 use Rattle.lw_complete.proofs.names.known_start.Goals as goal
 
 pub front_names-requires : goal.front_names-requires
@@ -29,8 +29,7 @@ returns-clause-known c of lexicon trees address typed index number =
 
 pub returns-clause-found : goal.returns-clause-found
 returns-clause-found c of lexicon tasks trees address typed parsed is blank index number =
-    let (next, at) = next_there of tasks c.args.typing.now c.args.start.now is in
-    start_found of lexicon tasks c.args.typing.now trees address c.args.start.now is.next (next_there of tasks c.args.typing.now c.args.start.now is).1
+    start_found of lexicon tasks c.args.typing.now trees address c.args.start.now is.next (comes_at of tasks c.args.typing.now c.args.start.now is)
     c.in_ok-front.front (c.in_ok-front.ensures.names of lexicon is.next trees address typed is.sound.is_start is.sound.comes index number)
     c.args.found.now.items c.put_unnamed.new.found.items c.put_copies.new.names.items
     (c.in_ok-put_unnamed.ensures of lexicon tasks is.next trees address typed blank parsed is.sound
