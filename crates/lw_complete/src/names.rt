@@ -342,9 +342,10 @@ fn is_read_as(
 ) -> Result<bool, NoMemory>
     requires known { (of : Kinds) × (lexicon : Lexicon) × (tasks : List Task) × IsWritten of lexicon typing.now written.now × IsParsedBy of tasks typing.now parser.now
         × IsStartNext of tasks typing.now start.now }
-    ensures { (of : Kinds) (lexicon : Lexicon) (tasks : List Task) (next : ReferenceNext) → IsWritten of lexicon typing.now written.now →
-        IsParsedBy of tasks typing.now parser.now → IsStartNext of tasks typing.now start.now → ComesAt of typing.now next start.now →
-        IfOk result (λ read. IsTrue read ↔ IsReadBy of tasks typing.now next start.now written.now.added.now written.now.name.now) }
+    ensures { (of : Kinds) (lexicon : Lexicon) (tasks : List Task) → IsWritten of lexicon typing.now written.now →
+        IsParsedBy of tasks typing.now parser.now → IsStartNext of tasks typing.now start.now →
+        IfOk result (λ read. (next : ReferenceNext) → ComesAt of typing.now next start.now →
+        IsTrue read ↔ IsReadBy of tasks typing.now next start.now written.now.added.now written.now.name.now) }
 {
     if written.added.is_empty() {
         return Ok(false);

@@ -1,5 +1,10 @@
-use Rattle.std.proofs.Common.{◌≡◌, ◌∙◌, sym}
+use Rattle.std.proofs.Common.{◌≡◌, ◌∙◌, ◌↔◌, ◌∷◌, [], IsTrue, sym}
 use Rattle.std.proofs.lemmas.Result.{IfOk-weaker}
+use Rattle.lw_begins.specs.Gives.{PlacesGive}
+use Rattle.lw_offers.specs.Starting.{ReferenceNext}
+use Rattle.lw_tokens.specs.Cut.{kinds, visible}
+use Rattle.lw_viable.specs.Aims.{EndsSome}
+use Rattle.lw_complete.specs.Starts.{ComesAt, IsReadBy}
 use Rattle.lw_complete.specs.Typing.{grammar_of}
 use Rattle.lw_complete.proofs.NamedWritten.{comes_at, given, never, none_read, reference_put, unsaid}
 use Rattle.lw_complete.proofs.names.is_read_as.Goals as goal
@@ -16,3 +21,19 @@ pub gives-requires : goal.gives-requires
 gives-requires c =
     let (of, lexicon, tasks, written, parsed, is) = c.requires.known in
     record { known = (grammar_of c.args.typing.now, of, tasks, parsed.program, is.value, written.of_kinds) }
+
+pub returns-then-is_empty : goal.returns-then-is_empty
+returns-then-is_empty c of lexicon tasks written parsed is next at = never (none_read c.args.typing.now of tasks c.args.parser.now parsed c.args.start.now next at lexicon c.args.written.now written ?)
+
+pub returns-then-not-says : goal.returns-then-not-says
+returns-then-not-says c of lexicon tasks written parsed is next at =
+    never (unsaid c.args.typing.now of tasks c.args.parser.now parsed c.args.start.now next at lexicon c.args.written.now written c.in_ok-says.says ? ?)
+
+pub returns : goal.returns
+returns c of lexicon tasks written parsed is =
+    let typing = c.args.typing.now in
+    let start = c.args.start.now in
+    IfOk-weaker c.gives.result (λ r. IsTrue r ↔ EndsSome (PlacesGive (grammar_of typing) of tasks (start.value ∷ [])) (kinds (visible c.args.written.now.added.now)))
+    (λ r. (next : ReferenceNext) → ComesAt of typing next start → IsTrue r ↔ IsReadBy of tasks typing next start c.args.written.now.added.now c.args.written.now.name.now)
+    (λ r told next at. given typing of tasks c.args.parser.now parsed start next at lexicon c.args.written.now written c.in_ok-says.says ? ? ? r told)
+    (c.gives.ensures (grammar_of typing) of tasks parsed.program is.value written.of_kinds)

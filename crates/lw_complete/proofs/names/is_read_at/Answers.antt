@@ -24,4 +24,4 @@ returns c of lexicon tasks written parsed is =
     (λ r. IsTrue r ↔ IsReadAt of tasks c.args.typing.now c.args.leads added name one)
     (λ r told.
     read_at of tasks c.args.typing.now c.args.leads added name one r (c.may_lead.ensures.0 c.if-not-may_lead.false) (is.next, comes_at of tasks c.args.typing.now one.start.now is)
-    told) ?
+    told) (c.is_read_as.ensures of lexicon tasks written parsed is)
