@@ -48,9 +48,9 @@ pub record HasRecipe (g : Grammar) (recipes : RecipeLists) (n : ℕ) (op : Op) (
 
 pub recipe_of : (g : Grammar) {recipes : RecipeLists} {n : ℕ} {p : List ℕ} {op : Op} {c : Value0} → AreRecipesOf g recipes →
     MeansMark g (numbered.Put n) (Put p op c) → MakesReference op c → HasRecipe g recipes n op c
-recipe_of g {n} {p} {op} {c} are (meant.puts {s} at assigned part) makes =
-    let (recipe, made, number, content) = are.values n s p op c at assigned part in
-    record { recipe = recipe; made = made; content = content; reference = are.references n s p op c at assigned part makes recipe made }
+recipe_of g {n} {p} {op} {c} are (meant.puts {s} at assigned stands) makes =
+    let (recipe, made, number, content) = are.values n s p op c at assigned stands in
+    record { recipe = recipe; made = made; content = content; reference = are.references n s p op c at assigned stands makes recipe made }
 
 same_form : {a b : TypeId} {one other : TextForm} → ◌≡◌ {A = Content} (Reference a one) (Reference b other) → one ≡ other
 same_form is = cc

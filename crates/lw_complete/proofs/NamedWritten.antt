@@ -86,11 +86,11 @@ module _ (typing : Typing) (of : Kinds) (tasks : List Task) (parser : ParserPart
     none_read none read = read.some none
 
     pub unsaid : (b : Bool) → TellsSaid b → b ≡ false → ¬ IsRead
-    unsaid b told no read = true≢false (sym ((said b told).1 read.says) ∙ no)
+    unsaid b told not_so read = true≢false (sym ((said b told).1 read.says) ∙ not_so)
 
     pub given : (b : Bool) → TellsSaid b → b ≡ true → written.added.now ≢ [] → (r : Bool) →
         IsTrue r ↔ EndsSome (PlacesGive g of tasks (start.value ∷ [])) (kinds (visible written.added.now)) → IsTrue r ↔ IsRead
-    given b told yes some r gives = (
-      λ so. record { some = some; gives = gives.0 so; says = (said b told).0 yes },
+    given b told so some r gives = (
+      λ ends. record { some = some; gives = gives.0 ends; says = (said b told).0 so },
       λ (read : IsRead). gives.1 read.gives,
     )

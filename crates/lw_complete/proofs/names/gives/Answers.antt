@@ -70,7 +70,7 @@ pub returns : goal.returns
 returns c g of tasks program value are =
     let parser = c.args.parser.now in
     let places = c.args.start.now.value ∷ [] in
-    c.complete.ensures g of tasks (Places places) (kinds (visible c.args.added.now))
+    c.complete-2.ensures g of tasks (Places places) (kinds (visible c.args.added.now))
     (c.in_ok-read.ensures g of tasks (Places places) []
     (c.in_ok-fronts.ensures g of tasks
     (lent g of tasks parser.program c.program.result.now parser.begins c.begins.result.now c.program.ensures c.begins.ensures program)

@@ -34,5 +34,11 @@ known-preserved c of lexicon tasks written parsed all =
     let next =
     All-contains (λ (one : Known). IsStartNext of tasks c.args.typing.now one.start.now) known c.one-item.result all (i, inside, sym c.one-item.is) in
     none_more (IsReadAt of tasks c.args.typing.now c.args.leads c.args.written.now.added.now c.args.written.now.name.now) known i c.one-item.result inside c.one-item.is
-    (λ is. true≢false (sym ((c.in_ok-is_read_at.ensures of lexicon tasks written parsed next).1 is) ∙ c.if-is_read_at.false))
+    (λ is. true≢false (sym ((c.in_ok-is_read_at.ensures of lexicon tasks written parsed next).1 is) ∙ c.if-branch.false))
     (c.known.invariant of lexicon tasks written parsed all)
+
+pub returns-then-branch : goal.returns-then-branch
+returns-then-branch c of lexicon tasks written parsed all = ?
+
+pub returns : goal.returns
+returns c of lexicon tasks written parsed all = ?

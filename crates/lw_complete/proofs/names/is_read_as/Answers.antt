@@ -23,17 +23,23 @@ gives-requires c =
     record { known = (grammar_of c.args.typing.now, of, tasks, parsed.program, is.value, written.of_kinds) }
 
 pub returns-then-is_empty : goal.returns-then-is_empty
-returns-then-is_empty c of lexicon tasks written parsed is next at = never (none_read c.args.typing.now of tasks c.args.parser.now parsed c.args.start.now next at lexicon c.args.written.now written ?)
+returns-then-is_empty c of lexicon tasks written parsed is next at =
+    let h = c.is_empty.ensures in
+    let k = c.if-is_empty.true in
+    never (none_read c.args.typing.now of tasks c.args.parser.now parsed c.args.start.now next at lexicon c.args.written.now written ?)
 
-pub returns-then-not-says : goal.returns-then-not-says
-returns-then-not-says c of lexicon tasks written parsed is next at =
-    never (unsaid c.args.typing.now of tasks c.args.parser.now parsed c.args.start.now next at lexicon c.args.written.now written c.in_ok-says.says ? ?)
+pub returns-then-not-branch : goal.returns-then-not-branch
+returns-then-not-branch c of lexicon tasks written parsed is next at =
+    let h = c.if-not-branch.true in
+    let k = c.in_ok-says.ensures in
+    never (unsaid c.args.typing.now of tasks c.args.parser.now parsed c.args.start.now next at lexicon c.args.written.now written c.in_ok-says.field-0 ? ?)
 
 pub returns : goal.returns
 returns c of lexicon tasks written parsed is =
     let typing = c.args.typing.now in
     let start = c.args.start.now in
+    let k = c.if-not-branch.false in
     IfOk-weaker c.gives.result (λ r. IsTrue r ↔ EndsSome (PlacesGive (grammar_of typing) of tasks (start.value ∷ [])) (kinds (visible c.args.written.now.added.now)))
     (λ r. (next : ReferenceNext) → ComesAt of typing next start → IsTrue r ↔ IsReadBy of tasks typing next start c.args.written.now.added.now c.args.written.now.name.now)
-    (λ r told next at. given typing of tasks c.args.parser.now parsed start next at lexicon c.args.written.now written c.in_ok-says.says ? ? ? r told)
+    (λ r told next at. given typing of tasks c.args.parser.now parsed start next at lexicon c.args.written.now written c.in_ok-says.field-0 c.in_ok-says.ensures k ? r told)
     (c.gives.ensures (grammar_of typing) of tasks parsed.program is.value written.of_kinds)
