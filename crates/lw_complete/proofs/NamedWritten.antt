@@ -1,5 +1,6 @@
 -- A name that is written is read as a reference, or it is not.
-use Rattle.std.proofs.Common.{◌≡◌, ◌≢◌, ◌↔◌, ◌∙◌, ℕ, List, [], ◌∷◌, Bool, true, false, Some, IsTrue, slice_get, sym, subst, true≢false}
+use Rattle.std.proofs.Common.{◌≡◌, ◌≢◌, ◌==◌, ◌↔◌, ◌∙◌, ℕ, List, [], ◌∷◌, Bool, true, false, Some, IsTrue, length, slice_get, refl, sym, ap, subst, true≢false, arith}
+use Rattle.std.proofs.lemmas.Bool.Decides.{Decides-eqb}
 use Rattle.lw_base.specs.declared.numbers.TypeId.{TypeId}
 use Rattle.lw_begins.specs.Gives.{PlacesGive}
 use Rattle.lw_builder.specs.Contents.{said_in}
@@ -25,6 +26,17 @@ use Rattle.lw_complete.specs.Starts.{ComesAt, IsParsedBy, IsReadBy, IsSaidBy, Is
 use Rattle.lw_complete.specs.Typing.{grammar_of}
 use Rattle.lw_complete.proofs.NamedReads.{next_read}
 use Rattle.lw_complete.proofs.NamedSays.{HasRecipe, IsReferenceBy, recipe_of, reference_by, says_name}
+
+emptied : {X : Type 0} (xs : List X) → length xs ≡ 0 → xs ≡ []
+emptied [] is = refl
+emptied (x ∷ xs) is = absurd (omega (arith, is))
+
+-- a list that is told to be empty
+pub is_empty_there : {X : Type 0} (xs : List X) (r : Bool) → r ≡ (length xs == 0) → r ≡ true → xs ≡ []
+is_empty_there xs r told so = emptied xs ((Decides-eqb (length xs) 0).0 (sym told ∙ so))
+
+pub not_empty_there : {X : Type 0} (xs : List X) (r : Bool) → r ≡ (length xs == 0) → r ≡ false → xs ≢ []
+not_empty_there {X} xs r told not_so none = true≢false (sym (told ∙ ap (λ (ys : List X). length ys == 0) none) ∙ not_so)
 
 -- what is not so is told by no
 pub never : {P : Type 0} → ¬ P → IsTrue false ↔ P

@@ -1,4 +1,4 @@
-use Rattle.std.proofs.Common.{◌≡◌, ◌<◌, ◌≤◌, false, true≢false, length, sym, ◌∙◌, arith}
+use Rattle.std.proofs.Common.{◌≡◌, ◌<◌, ◌≤◌, true≢false, length, refl, sym, ◌∙◌, arith}
 use Rattle.std.proofs.lemmas.List.Elements.{All-contains}
 use Rattle.lw_complete.specs.declared.names.Known.{Known}
 use Rattle.lw_complete.specs.Starts.{IsReadAt, IsStartNext}
@@ -38,7 +38,19 @@ known-preserved c of lexicon tasks written parsed all =
     (c.known.invariant of lexicon tasks written parsed all)
 
 pub returns-then-branch : goal.returns-then-branch
-returns-then-branch c of lexicon tasks written parsed all = ?
+returns-then-branch c of lexicon tasks written parsed all =
+    let known = c.args.known.now in
+    let i = c.known.one-index in
+    let inside : i < length known = omega arith in
+    let next =
+    All-contains (λ (one : Known). IsStartNext of tasks c.args.typing.now one.start.now) known c.one-item.result all (i, inside, sym c.one-item.is) in (
+      λ _. (c.one-item.result, (i, inside, sym c.one-item.is), (c.in_ok-is_read_at.ensures of lexicon tasks written parsed next).0 c.if-branch.true),
+      λ _. refl,
+    )
 
 pub returns : goal.returns
-returns c of lexicon tasks written parsed all = ?
+returns c of lexicon tasks written parsed all =
+    let past : length c.args.known.now ≤ c.known.one-index = omega arith in
+    never
+    (none_all (IsReadAt of tasks c.args.typing.now c.args.leads c.args.written.now.added.now c.args.written.now.name.now) c.args.known.now c.known.one-index past
+    (c.known.invariant of lexicon tasks written parsed all))

@@ -6,7 +6,7 @@ use Rattle.lw_tokens.specs.Cut.{kinds, visible}
 use Rattle.lw_viable.specs.Aims.{EndsSome}
 use Rattle.lw_complete.specs.Starts.{ComesAt, IsReadBy}
 use Rattle.lw_complete.specs.Typing.{grammar_of}
-use Rattle.lw_complete.proofs.NamedWritten.{comes_at, given, never, none_read, reference_put, unsaid}
+use Rattle.lw_complete.proofs.NamedWritten.{comes_at, given, is_empty_there, never, none_read, not_empty_there, reference_put, unsaid}
 use Rattle.lw_complete.proofs.names.is_read_as.Goals as goal
 
 pub says-requires-clause-parts : goal.says-requires-clause-parts
@@ -24,22 +24,24 @@ gives-requires c =
 
 pub returns-then-is_empty : goal.returns-then-is_empty
 returns-then-is_empty c of lexicon tasks written parsed is next at =
-    let h = c.is_empty.ensures in
-    let k = c.if-is_empty.true in
-    never (none_read c.args.typing.now of tasks c.args.parser.now parsed c.args.start.now next at lexicon c.args.written.now written ?)
+    never
+    (none_read c.args.typing.now of tasks c.args.parser.now parsed c.args.start.now next at lexicon c.args.written.now written
+    (is_empty_there c.args.written.now.added.now c.is_empty.result c.is_empty.ensures c.if-is_empty.true))
 
 pub returns-then-not-branch : goal.returns-then-not-branch
 returns-then-not-branch c of lexicon tasks written parsed is next at =
-    let h = c.if-not-branch.true in
-    let k = c.in_ok-says.ensures in
-    never (unsaid c.args.typing.now of tasks c.args.parser.now parsed c.args.start.now next at lexicon c.args.written.now written c.in_ok-says.field-0 ? ?)
+    never
+    (unsaid c.args.typing.now of tasks c.args.parser.now parsed c.args.start.now next at lexicon c.args.written.now written c.in_ok-says.field-0 c.in_ok-says.ensures
+    c.if-not-branch.true)
 
 pub returns : goal.returns
 returns c of lexicon tasks written parsed is =
     let typing = c.args.typing.now in
     let start = c.args.start.now in
-    let k = c.if-not-branch.false in
-    IfOk-weaker c.gives.result (λ r. IsTrue r ↔ EndsSome (PlacesGive (grammar_of typing) of tasks (start.value ∷ [])) (kinds (visible c.args.written.now.added.now)))
-    (λ r. (next : ReferenceNext) → ComesAt of typing next start → IsTrue r ↔ IsReadBy of tasks typing next start c.args.written.now.added.now c.args.written.now.name.now)
-    (λ r told next at. given typing of tasks c.args.parser.now parsed start next at lexicon c.args.written.now written c.in_ok-says.field-0 c.in_ok-says.ensures k ? r told)
+    let added = c.args.written.now.added.now in
+    IfOk-weaker c.gives.result (λ r. IsTrue r ↔ EndsSome (PlacesGive (grammar_of typing) of tasks (start.value ∷ [])) (kinds (visible added)))
+    (λ r. (next : ReferenceNext) → ComesAt of typing next start → IsTrue r ↔ IsReadBy of tasks typing next start added c.args.written.now.name.now)
+    (λ r told next at.
+    given typing of tasks c.args.parser.now parsed start next at lexicon c.args.written.now written c.in_ok-says.field-0 c.in_ok-says.ensures c.if-not-branch.false
+    (not_empty_there added c.is_empty.result c.is_empty.ensures c.if-is_empty.false) r told)
     (c.gives.ensures (grammar_of typing) of tasks parsed.program is.value written.of_kinds)
