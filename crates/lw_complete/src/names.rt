@@ -121,7 +121,7 @@ fn known_start(
         × MatchOption blank.now ((others : List AToken) → ¬ IsCut lexicon typing.now.rest.now others) (IsBlank typing.now lexicon) }
     ensures known { (of : Kinds) (lexicon : Lexicon) (trees : Trees) (address : List ℕ) → IsTypedBy of lexicon typing.now → IsIndexOf trees typing.now.index.now →
         IsNumberAt typing.now.index.now typing.now.doc.0 address →
-        IfOk result (λ front. IsKnownStart of typing.now trees address (record { start = start; front = front })) }
+        IfOk result (λ front. IsKnownStart of typing.now trees address (record { start = start.entry; front = front })) }
     ensures found { (of : Kinds) (lexicon : Lexicon) (tasks : List Task) (trees : Trees) (address : List ℕ) → IsTypedBy of lexicon typing.now →
         IsParsedBy of tasks typing.now parser.now → IsStartNext of tasks typing.now start.now →
         MatchOption blank.now ((others : List AToken) → ¬ IsCut lexicon typing.now.rest.now others) (IsBlank typing.now lexicon) →
