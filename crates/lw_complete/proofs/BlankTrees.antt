@@ -65,7 +65,7 @@ module _ (place : ℕ) where
 same_root : {x y : Grown} → ◌≡◌ {A = List Bracket} (Root x ∷ []) (Root y ∷ []) → x ≡ y
 same_root e = cc
 
-one_naming : (g : Grammar) (a b : Option PropId) → IsNamingProperty g a → IsNamingProperty g b → a ≡ b
+pub one_naming : (g : Grammar) (a b : Option PropId) → IsNamingProperty g a → IsNamingProperty g b → a ≡ b
 one_naming g None None is was = refl
 one_naming g None (Some q) is was = absurd (is q.0 was)
 one_naming g (Some p) None is was = absurd (was p.0 is)

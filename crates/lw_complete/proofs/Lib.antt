@@ -17,12 +17,15 @@ mod JudgedTrees
 mod KeywordsNext
 mod KindNumbers
 mod NamedFront
-mod NamedMarks
+mod NamedKnown
 mod NamedNext
 mod NamedOffered
 mod NamedOnce
-mod NamedPuts
+mod NamedOrdered
+mod NamedReads
 mod NamedSays
+mod NamedTried
+mod NamedWritten
 mod ParserKnown
 mod ReadKinds
 mod TypedTokens
