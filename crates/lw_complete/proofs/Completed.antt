@@ -1,5 +1,5 @@
 -- All that is offered at an offset, from what is offered in place of the word that is typed there.
-use Rattle.std.proofs.Common.{◌≡◌, ◌↔◌, ◌⊎◌, inl, inr, ◌<◌, ◌≤◌, ℕ, List, [], AllPairs, Contains, length, map, Result, Ok, Err, IfOk, sym, subst, arith}
+use Rattle.std.proofs.Common.{◌≡◌, ◌↔◌, ◌⊎◌, inl, inr, ◌<◌, ◌≤◌, ℕ, List, [], AllPairs, Contains, length, map, slice_range, take, ap, Result, Ok, Err, IfOk, sym, subst, arith}
 use Rattle.lw_base.specs.declared.limits.TheConstants.{LONGEST_DOCUMENT}
 use Rattle.lw_base.specs.declared.token.Token.{Token}
 use Rattle.lw_grammar.specs.declared.grammar.Grammar.{Grammar}
@@ -77,10 +77,14 @@ module _ (g : Grammar) (texts : Texts) (trees : Trees) (are_trees : AreTreesOfTe
     answered tokens short cut only offers (Ok items) exact ordered = all_offers tokens short cut only (offers items) exact ordered
     answered tokens short cut only offers (Err e) exact ordered = tt
 
+-- the beginning of a text
+pub first_bytes : (text : List ℕ) (n : ℕ) → slice_range text 0 n ≡ take n text
+first_bytes text n = ap (λ k. take k text) (omega arith)
+
 -- the parts of a text around a word, by other names
 pub typed_as : {text front word rest f w r : List ℕ} {offset : ℕ} → IsTypedAt text offset f w r → front ≡ f → word ≡ w → rest ≡ r →
     IsTypedAt text offset front word rest
-typed_as {text} {front} {word} {r} {f} {w} {offset} typed same_front same_word same_rest =
+typed_as {text} {front} {word} {f} {w} {r} {offset} typed same_front same_word same_rest =
     subst (λ (rest : List ℕ). IsTypedAt text offset front word rest) (sym same_rest)
     (subst (λ (word : List ℕ). IsTypedAt text offset front word r) (sym same_word)
     (subst (λ (front : List ℕ). IsTypedAt text offset front w r) (sym same_front) typed))

@@ -1,4 +1,4 @@
-use Rattle.std.proofs.Common.{◌≡◌, ◌≤◌, ◌<◌, ℕ, List, length, map, take, drop, slice_range, refl, ap, sym, ◌∙◌, subst, arith}
+use Rattle.std.proofs.Common.{◌≡◌, ◌≤◌, ◌<◌, ℕ, List, length, map, take, drop, slice_range, Err, refl, ap, sym, ◌∙◌, subst, arith}
 use Rattle.lw_base.specs.declared.limits.TheConstants.{LONGEST_DOCUMENT}
 use Rattle.lw_base.specs.declared.token.Token.{Token}
 use Rattle.lw_offers.specs.Offers.{AreOffers, Offer}
@@ -8,7 +8,7 @@ use Rattle.lw_parse.specs.Parsers.{AreOfKinds}
 use Rattle.lw_tokens.specs.Cut.{IsCut}
 use Rattle.lw_tree.specs.Parts.{Tile}
 use Rattle.lw_complete.specs.Items.{offer_of}
-use Rattle.lw_complete.proofs.Completed.{answered, none_in_long, none_uncut, nothing, typed_as}
+use Rattle.lw_complete.proofs.Completed.{answered, first_bytes, none_in_long, none_uncut, nothing, typed_as}
 use Rattle.lw_complete.proofs.completion.complete.Goals as goal
 
 pub returns-then-bytes-gt-LONGEST_DOCUMENT-clause-offers : goal.returns-then-bytes-gt-LONGEST_DOCUMENT-clause-offers
@@ -33,11 +33,11 @@ returns-in-Err-NoToken-clause-offers c texts trees address are is number =
     let typed : IsTypedAt text off c.in_ok-front.front (slice_range text start off) (drop off text) =
     typed_as
     (subst (λ (bytes : List ℕ). IsTypedAt bytes off (take start bytes) (slice_range bytes start off) (drop off bytes)) c.text.ensures.text c.word_start-start.ensures.typed)
-    (c.in_ok-front.ensures ∙ c.range.ensures.value ∙ ap (take start) c.text-2.ensures.text) refl refl in
+    (c.in_ok-front.ensures ∙ c.range.ensures.value ∙ first_bytes c.text-2.result.now start ∙ ap (take start) c.text-2.ensures.text) refl refl in
     subst (AreOffers g texts address text off) (sym (ap (map offer_of) c.new-in-Err-NoToken.ensures.items))
     (nothing g texts trees are address text off of are_kinds lexicon is_lexicon
     (none_uncut g texts trees are address text off of are_kinds lexicon is_lexicon c.in_ok-front.front (slice_range text start off) (drop off text) typed
-    (c.cut.ensures.no_cut of lexicon c.in-Err-NoToken.field-0-0 are_kinds is_lexicon refl)))
+    (c.cut.ensures.no_cut of lexicon c.in-Err-NoToken.field-0-0 are_kinds is_lexicon (c.in-Err-NoToken.is ∙ ap Err c.in-Err-NoToken.field-0-is))))
 
 pub returns-clause-offers : goal.returns-clause-offers
 returns-clause-offers c texts trees address are is number =
@@ -55,7 +55,7 @@ returns-clause-offers c texts trees address are is number =
     let typed : IsTypedAt text off front word rest =
     typed_as
     (subst (λ (bytes : List ℕ). IsTypedAt bytes off (take start bytes) (slice_range bytes start off) (drop off bytes)) c.text.ensures.text c.word_start-start.ensures.typed)
-    (c.in_ok-front.ensures ∙ c.range.ensures.value ∙ ap (take start) c.text-2.ensures.text)
+    (c.in_ok-front.ensures ∙ c.range.ensures.value ∙ first_bytes c.text-2.result.now start ∙ ap (take start) c.text-2.ensures.text)
     (c.range-2.ensures.value ∙ ap (λ (bytes : List ℕ). slice_range bytes start off) c.text-4.ensures.text)
     (c.in_ok-rest.ensures ∙ c.range_from.ensures.value ∙ ap (drop off) c.text-3.ensures.text) in
     let cut = c.in-Ok.ensures.cut of lexicon are_kinds is_lexicon in
