@@ -1,5 +1,5 @@
 -- What a session does with the bodies of a stream is settled, since a build has one outcome.
-use Rattle.std.proofs.Common.{◌≡◌, ℕ, ℤ, ◌≤◌, ◌<◌, List, [], ◌∷◌, ◌++◌, map, length, true, false, Some, Result, Ok, Err, codes, decimal, inl, inr, sym, refl, ap, ap₂, ◌∙◌, subst, true≢false, arith}
+use Rattle.std.proofs.Common.{◌≡◌, ℕ, ℤ, List, [], ◌∷◌, ◌++◌, map, Some, Result, codes, decimal, inl, inr, sym, refl, ap, ap₂, ◌∙◌, subst, true≢false, arith}
 use Rattle.lw_grammar.specs.declared.grammar.Grammar.{Grammar}
 use Rattle.lw_io.specs.declared.store.Found.{Found}
 use Rattle.lw_reading.specs.Laws.{IsReadOneWay}
@@ -20,8 +20,7 @@ use Rattle.lw_machine.specs.declared.published.Published.{Published}
 use Rattle.lw_machine.specs.Events.{edited}
 use Rattle.lw_machine.proofs.OneBuild.{one_build}
 use Rattle.lw_conversation.specs.Standing.{Standing, with_documents, with_phase}
-use Rattle.lw_conversation.specs.Gate.{Stops, Passes, gate}
-use Rattle.lw_conversation.specs.Opening.{HasRoom, IsFull, OpensDocument, too_long, too_many, puts, most_documents}
+use Rattle.lw_conversation.specs.Opening.{HasRoom, IsFull, OpensDocument, too_long, too_many, puts}
 use Rattle.lw_conversation.specs.Editing.{IsOpenAt, IsUnknown, EditsDocument, unknown, bad_range, edits}
 use Rattle.lw_conversation.specs.Editing as editing
 use Rattle.lw_conversation.specs.Asking.{RepliesTo}
@@ -32,7 +31,6 @@ use Rattle.lw_conversation.specs.Sessions.{Handles, Serves, unbuilt, built, wait
 use Rattle.lw_conversation.proofs.OneReply.{HasOneList, one_reply}
 use Rattle.lw_conversation.specs.declared.ended.Ended.{Ended}
 use Rattle.lw_conversation.specs.declared.ended.Ended.TheVariants.{No}
-use Rattle.lw_conversation.specs.declared.phase.Phase.{Phase}
 
 never_both : {A : Type 0} (m : Documents) (address : List ℕ) → IsFull m address → HasRoom m address → A
 never_both m address (absent, full) (inl held) = absurd (true≢false (sym held ∙ absent))

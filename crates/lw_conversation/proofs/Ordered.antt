@@ -1,5 +1,5 @@
 -- The addresses of edits that are replied are in order, each once, since mentions are.
-use Rattle.std.proofs.Common.{◌≡◌, ◌≢◌, ◌&&◌, ℕ, ℤ, zero, suc, List, [], ◌∷◌, ◌++◌, Bool, true, false, not, Option, Some, None, Ok, All, AllPairs, Contains, map, refl, sym, ap, ap₂, ◌∙◌, subst, true≢false, arith}
+use Rattle.std.proofs.Common.{◌≡◌, ◌&&◌, ℕ, ℤ, suc, List, [], ◌∷◌, ◌++◌, Bool, true, false, not, Some, None, Ok, All, AllPairs, map, refl, sym, ap₂, ◌∙◌, subst, true≢false, arith}
 use Rattle.std.specs.Prelude.{if◌then◌else◌, ⊤}
 use Rattle.std.specs.Cmp.Lexicographic.{slice_cmp}
 use Rattle.std.specs.List.{AllZip}

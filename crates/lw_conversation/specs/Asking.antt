@@ -2,7 +2,7 @@
 -- what may be written at a place.
 -- Language Server Protocol 3.17, "Goto Definition Request", "Find References Request", "Rename Request" and "Completion Request"; the texts of the errors are
 -- this profile's.
-use Rattle.std.specs.Prelude.{ℕ, ℤ, ◌≡◌, ◌+◌, List, [], ◌∷◌, ◌++◌, Bool, Option, Some, None, Ok, Err, codes, decimal, length, slice_get, if◌then◌else◌}
+use Rattle.std.specs.Prelude.{ℕ, ◌≡◌, ◌+◌, List, [], ◌∷◌, ◌++◌, Bool, Option, Some, None, Ok, Err, codes, decimal, length, slice_get, if◌then◌else◌}
 use Rattle.std.specs.List.{AllZip}
 use Rattle.std.specs.FinMap.{get}
 use Rattle.std.specs.Str.{bytes_eq}

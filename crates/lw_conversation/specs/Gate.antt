@@ -2,7 +2,7 @@
 -- is no message; a response; `exit`; what comes before `initialize`; what comes after `shutdown`; a second `initialize`; what is not known;
 -- parameters of another shape than the method asks for.
 -- Language Server Protocol 3.17, "Server lifecycle" and "ErrorCodes"; JSON-RPC 2.0, "Error object".
-use Rattle.std.specs.Prelude.{ℕ, ℤ, List, [], ◌∷◌, ◌++◌, Bool, true, ◌&&◌, not, if◌then◌else◌, Option, Some, None, codes}
+use Rattle.std.specs.Prelude.{ℕ, ℤ, List, [], ◌∷◌, ◌++◌, true, ◌&&◌, not, if◌then◌else◌, Option, Some, None, codes}
 use Rattle.lw_rpc.specs.declared.message.Id.{Id}
 use Rattle.lw_rpc.specs.declared.message.Message.{Message}
 use Rattle.lw_rpc.specs.declared.message.Message.TheVariants.{BadJson, BadRequest, Response, Unknown, BadParams, Initialize, Shutdown, Exit, DidOpen, DidChange, Definition, References, Rename, Completion}
