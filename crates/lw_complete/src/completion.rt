@@ -30,6 +30,9 @@ use std::alloc::Global;
 ///
 /// The word that ends at the offset is replaced. Nothing is offered in a text that is longer than a document may be, or that cannot be cut
 /// into tokens up to the word. Want of memory is the only error.
+///
+/// The text before the word is cut once for each keyword that may come next and once for each name that begins with the word and would lead
+/// somewhere, and for each such name the text with it is read as well. So time grows with the length of the text times the number of names.
 pub fn complete(
     alloc: Global,
     language: &Language,
