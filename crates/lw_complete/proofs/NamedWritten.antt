@@ -1,21 +1,23 @@
 -- A name that is written is read as a reference, or it is not.
-use Rattle.std.proofs.Common.{◌≡◌, ◌≢◌, ◌==◌, ◌↔◌, ◌∙◌, ℕ, List, [], ◌∷◌, Bool, true, false, Some, IsTrue, length, slice_get, refl, sym, ap, subst, true≢false, arith}
+use Rattle.std.proofs.Common.{◌≡◌, ◌≢◌, ◌==◌, ◌↔◌, ◌∙◌, ℕ, List, [], ◌∷◌, ◌++◌, Bool, true, false, Some, IsTrue, length, slice_get, refl, sym, ap, subst, true≢false, arith}
 use Rattle.std.proofs.lemmas.Bool.Decides.{Decides-eqb}
 use Rattle.lw_base.specs.declared.numbers.TypeId.{TypeId}
+use Rattle.lw_base.specs.declared.token.Token.{Token}
 use Rattle.lw_begins.specs.Gives.{PlacesGive}
+use Rattle.lw_builder.specs.Built.{ArePartsOf}
 use Rattle.lw_builder.specs.Contents.{said_in}
 use Rattle.lw_grammar.specs.declared.grammar.Grammar.{Grammar}
 use Rattle.lw_grammar.specs.Kinds.{Kinds}
 use Rattle.lw_marks.specs.Brackets.{joined_texts}
 use Rattle.lw_marks.specs.Follows.{LooksUp}
 use Rattle.lw_offers.specs.Starting.{ReferenceNext}
-use Rattle.lw_parse.specs.Parsers.{ParserParts}
+use Rattle.lw_parse.specs.Parsers.{AreOfKinds, ParserParts}
 use Rattle.lw_program.specs.Says.{Task}
 use Rattle.lw_recipes.specs.declared.recipe.Content.TheVariants.{Reference}
 use Rattle.lw_recipes.specs.declared.recipe.TextForm.{TextForm}
 use Rattle.lw_recipes.specs.declared.recipe.ValueRecipe.{ValueRecipe}
 use Rattle.lw_rooted.proofs.Meant.{IsReadAs}
-use Rattle.lw_tokens.specs.Cut.{kinds, visible}
+use Rattle.lw_tokens.specs.Cut.{IsCut, kinds, visible}
 use Rattle.lw_tokens.specs.Lexicon.{Lexicon}
 use Rattle.lw_viable.specs.Aims.{EndsSome}
 use Rattle.lw_viable.specs.Visiting.{IsReferencePut}
@@ -41,6 +43,17 @@ not_empty_there {X} xs r told not_so none = true≢false (sym (told ∙ ap (λ (
 -- what is not so is told by no
 pub never : {P : Type 0} → ¬ P → IsTrue false ↔ P
 never {P} not = (λ is. absurd (true≢false (sym is)), λ (so : P). absurd (not so))
+
+-- what a name comes to behind the text before the word
+pub written_there : (of : Kinds) (lexicon : Lexicon) (typing : Typing) (written : Written) (added : List Token) →
+    written.text.now ≡ typing.front.now ++ written.name.now → written.added.now ≡ added → IsCut lexicon written.text.now (typing.tokens.now ++ added) →
+    ArePartsOf written.text.now added → AreOfKinds of added → IsWritten of lexicon typing written
+written_there of lexicon typing written added text same cut parts kinds = record {
+  text = text;
+  cut = subst (λ (ts : List Token). IsCut lexicon written.text.now (typing.tokens.now ++ ts)) (sym same) cut;
+  parts = subst (λ (ts : List Token). ArePartsOf written.text.now ts) (sym same) parts;
+  of_kinds = subst (λ (ts : List Token). AreOfKinds of ts) (sym same) kinds;
+}
 
 pub comes_at : (of : Kinds) (tasks : List Task) (typing : Typing) (start : ReferenceStart) (is : IsStartNext of tasks typing start) → ComesAt of typing is.next start
 comes_at of tasks typing start is = record { is_start = is.sound.is_start; comes = is.sound.comes }

@@ -97,10 +97,11 @@ fn known_starts<'s>(
         IsNumberAt typing.now.index.now typing.now.doc.0 address →
         OnOk result (Finds (OfSome (IsFoundAt of lexicon tasks typing.now trees address) starts.now) found.old.items found.new.items) }
 {
-    let blank = blank(alloc, typing)?;
+    let made = blank(alloc, typing)?;
+    let blank = &made;
     let mut known = Vec::new(alloc);
     'starts: for start in starts {
-        let front = known_start(alloc, typing, parser, start, &blank, found)?;
+        let front = known_start(alloc, typing, parser, start, blank, found)?;
         known.push(Known { start, front })?;
     }
     Ok(known)

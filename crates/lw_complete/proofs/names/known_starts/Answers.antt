@@ -21,7 +21,7 @@ known_start-requires c =
         typed,
         parsed,
         All-contains (IsStartNext of tasks c.args.typing.now) starts x all (i, inside, sym c.start-item.is),
-        c.in_ok-blank.ensures of lexicon typed,
+        c.in_ok-made.ensures of lexicon typed,
       );
     }
 
@@ -41,19 +41,18 @@ starts-preserved c =
     let inv = c.starts.invariant in
     let i = c.starts.start-index in
     let x = c.start-item.result in
-    let inside : i < length starts = omega arith in
-    let one : Known = record { start = c.start; front = c.in_ok-front.front } in record {
+    let inside : i < length starts = omega arith in record {
       starts =
           subst (λ (known : List Known). map (λ (one : Known). one.start.now) known ≡ take (i + 1) starts) (sym c.in_ok-push.ensures.items)
-          (starts_more c.starts.known.items starts i one inside c.start-item.is inv.starts);
+          (starts_more c.starts.known.items starts i _ inside c.start-item.is inv.starts);
       known = λ of lexicon trees address typed index number.
           subst (All (IsKnownStart of typing trees address)) (sym c.in_ok-push.ensures.items)
-          (All-push (IsKnownStart of typing trees address) c.starts.known.items one (inv.known of lexicon trees address typed index number)
+          (All-push (IsKnownStart of typing trees address) c.starts.known.items _ (inv.known of lexicon trees address typed index number)
           (c.in_ok-front.ensures.known of lexicon trees address typed index number));
       found = λ of lexicon tasks trees address typed parsed all index number.
           Finds-more (IsFoundAt of lexicon tasks typing trees address) starts i x inside c.start-item.is (inv.found of lexicon tasks trees address typed parsed all index number)
           (c.in_ok-front.ensures.found of lexicon tasks trees address typed parsed
-          (All-contains (IsStartNext of tasks typing) starts x all (i, inside, sym c.start-item.is)) (c.in_ok-blank.ensures of lexicon typed) index number);
+          (All-contains (IsStartNext of tasks typing) starts x all (i, inside, sym c.start-item.is)) (c.in_ok-made.ensures of lexicon typed) index number);
     }
 
 pub returns-clause-starts : goal.returns-clause-starts
