@@ -16,7 +16,7 @@ use Rattle.lw_tokens.specs.Lexicon.{IsLexicon, Lexicon}
 use Rattle.lw_complete.proofs.ItemsOrdered.{of_mapped}
 
 module _ (g : Grammar) (texts : Texts) (trees : Trees) (are_trees : AreTreesOfTexts g texts trees) (address text : List ℕ) (offset : ℕ) (of : Kinds)
-  (are_kinds : AreKinds g of) (lexicon : Lexicon) (is_lexicon : IsLexicon g of lexicon) where
+    (are_kinds : AreKinds g of) (lexicon : Lexicon) (is_lexicon : IsLexicon g of lexicon) where
   abbrev pub IsOfferHere : Offer → Type 0
   IsOfferHere = IsOffer g of lexicon trees address text offset
 
@@ -91,8 +91,8 @@ typed_as {text} {front} {word} {f} {w} {r} {offset} typed same_front same_word s
 
 -- what is offered in place of the word are these keywords and these names
 module _ (g : Grammar) (of : Kinds) (lexicon : Lexicon) (trees : Trees) (address front rest word : List ℕ) (tokens : List Token) (keywords names : List (List ℕ))
-  (keywords_are : (text : List ℕ) → Contains keywords text ↔ (BeginsBy word text × IsKeywordNext g of lexicon front tokens text))
-  (names_are : (name : List ℕ) → Contains names name ↔ (BeginsBy word name × IsNameNext g of lexicon trees address front rest tokens name)) where
+    (keywords_are : (text : List ℕ) → Contains keywords text ↔ (BeginsBy word text × IsKeywordNext g of lexicon front tokens text))
+    (names_are : (name : List ℕ) → Contains names name ↔ (BeginsBy word name × IsNameNext g of lexicon trees address front rest tokens name)) where
   abbrev Offers : Offer → Type 0
   Offers = IsOffered g of lexicon trees address front rest tokens word
 

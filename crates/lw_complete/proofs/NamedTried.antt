@@ -86,25 +86,25 @@ module _ (of : Kinds) (lexicon : Lexicon) (tasks : List Task) (typing : Typing) 
     pub by_whole : IsJudged typing trees address name (Some true) → (r : Bool) → IsTrue r ↔ SomeRead false → IsTrue r ↔ IsOffered
     by_whole (some, leads) r read = (
       λ yes. (
-        let (one, among, reads) = read.0 yes in
-        record { begins = begins; added = added; cut = cut_there; one = one; among = among; judged = false; reads = reads; whole = inl (leads.0 refl) }
-      ),
+          let (one, among, reads) = read.0 yes in
+          record { begins = begins; added = added; cut = cut_there; one = one; among = among; judged = false; reads = reads; whole = inl (leads.0 refl) }
+          ),
       λ (is : IsOffered). (
-        let (next, at, read_by, has) = reads_here is in
-        read.1 (is.one, is.among, (next, at, read_by, λ no. absurd (true≢false (sym no))))
-      ),
+          let (next, at, read_by, has) = reads_here is in
+          read.1 (is.one, is.among, (next, at, read_by, λ no. absurd (true≢false (sym no))))
+          ),
     )
 
     pub by_front : IsJudged typing trees address name None → (r : Bool) → IsTrue r ↔ SomeRead true → IsTrue r ↔ IsOffered
     by_front none r read = (
       λ yes. (
-        let (one, among, reads) = read.0 yes in
-        record { begins = begins; added = added; cut = cut_there; one = one; among = among; judged = true; reads = reads; whole = inr (refl, none) }
-      ),
+          let (one, among, reads) = read.0 yes in
+          record { begins = begins; added = added; cut = cut_there; one = one; among = among; judged = true; reads = reads; whole = inr (refl, none) }
+          ),
       λ (is : IsOffered). (
-        let (next, at, read_by, has) = reads_here is in
-        read.1 (is.one, is.among, (next, at, read_by, λ yes. has (judged_front is.judged is.whole)))
-      ),
+          let (next, at, read_by, has) = reads_here is in
+          read.1 (is.one, is.among, (next, at, read_by, λ yes. has (judged_front is.judged is.whole)))
+          ),
     )
       where
         judged_front : (judged : Bool) → LeadsWhole typing trees address name ⊎ (IsTrue judged × ((tree : Parts) (r : Reference) → ¬ StandsWhole typing trees address name tree r)) →

@@ -41,7 +41,7 @@ begins tokens first r is = starts_is token_eq-decides tokens first r is
 
 -- what stands behind these first tokens of the one cut of a text
 module _ {X : Type 0} (items : X → List Token) (lexicon : Lexicon) (text : List ℕ) (tokens first : List Token) (cut : IsCut lexicon text tokens)
-  (one : (others : List Token) → IsCut lexicon text others → others ≡ tokens) where
+    (one : (others : List Token) → IsCut lexicon text others → others ≡ tokens) where
   abbrev pub IsBehind : Option X → Type 0
   IsBehind found = MatchOption found ((others : List Token) → ¬ (tokens ≡ first ++ others)) (λ added. tokens ≡ first ++ items added)
 
