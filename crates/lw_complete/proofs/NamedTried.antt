@@ -56,12 +56,6 @@ module _ (of : Kinds) (lexicon : Lexicon) (tasks : List Task) (typing : Typing) 
   abbrev pub IsOffered : Type 0
   IsOffered = IsOfferedBy of lexicon tasks typing trees address known name
 
-  pub not_begun : ¬ BeginsBy typing.word.now name → ¬ IsOffered
-  not_begun not is = not is.begins
-
-  pub not_cut : (text : List ℕ) → text ≡ typing.front.now ++ name → ((others : List Token) → ¬ IsCut lexicon text (typing.tokens.now ++ others)) → ¬ IsOffered
-  not_cut text same not is = not is.added (subst (λ (t : List ℕ). IsCut lexicon t (typing.tokens.now ++ is.added)) (sym same) is.cut)
-
   pub not_led_whole : IsJudged typing trees address name (Some false) → ¬ IsOffered
   not_led_whole ((tree, r, stands), leads) is = by is.whole
     where

@@ -1,6 +1,8 @@
 -- A name that is written is read as a reference, or it is not.
-use Rattle.std.proofs.Common.{◌≡◌, ◌≢◌, ◌==◌, ◌↔◌, ◌∙◌, ℕ, List, [], ◌∷◌, ◌++◌, Bool, true, false, Some, IsTrue, length, slice_get, refl, sym, ap, subst, true≢false, arith}
+use Rattle.std.proofs.Common.{◌≡◌, ◌≢◌, ◌==◌, ◌↔◌, ◌∙◌, ℕ, List, [], ◌∷◌, ◌++◌, Bool, true, false, Some, IsTrue, drop, eqb, length, slice_get, refl, sym, ap, subst, true≢false, arith}
+use Rattle.std.specs.List.{starts_with}
 use Rattle.std.proofs.lemmas.Bool.Decides.{Decides-eqb}
+use Rattle.std.proofs.lemmas.Slice.Eq.{starts_is}
 use Rattle.lw_base.specs.declared.numbers.TypeId.{TypeId}
 use Rattle.lw_base.specs.declared.token.Token.{Token}
 use Rattle.lw_begins.specs.Gives.{PlacesGive}
@@ -11,6 +13,7 @@ use Rattle.lw_grammar.specs.Kinds.{Kinds}
 use Rattle.lw_marks.specs.Brackets.{joined_texts}
 use Rattle.lw_marks.specs.Follows.{LooksUp}
 use Rattle.lw_offers.specs.Starting.{ReferenceNext}
+use Rattle.lw_offers.specs.Words.{BeginsBy}
 use Rattle.lw_parse.specs.Parsers.{AreOfKinds, ParserParts}
 use Rattle.lw_program.specs.Says.{Task}
 use Rattle.lw_recipes.specs.declared.recipe.Content.TheVariants.{Reference}
@@ -43,6 +46,11 @@ not_empty_there {X} xs r told not_so none = true≢false (sym (told ∙ ap (λ (
 -- what is not so is told by no
 pub never : {P : Type 0} → ¬ P → IsTrue false ↔ P
 never {P} not = (λ is. absurd (true≢false (sym is)), λ (so : P). absurd (not so))
+
+-- what is told of how a name begins
+pub begun : (word name lent : List ℕ) (r : Bool) → lent ≡ name → r ≡ starts_with eqb lent word → r ≡ true → BeginsBy word name
+begun word name lent r same told so =
+    (drop (length word) name, subst (λ (t : List ℕ). t ≡ word ++ drop (length word) t) same ((starts_is Decides-eqb lent word r told).0 so))
 
 -- what a name comes to behind the text before the word
 pub written_there : (of : Kinds) (lexicon : Lexicon) (typing : Typing) (written : Written) (added : List Token) →
