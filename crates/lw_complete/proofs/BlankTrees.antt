@@ -1,5 +1,5 @@
 -- The trees of a text in which a reference is left blank.
-use Rattle.std.proofs.Common.{◌≡◌, ◌↔◌, ◌+◌, ◌<◌, ◌≤◌, ℕ, codes, List, [], ◌∷◌, ◌++◌, Option, Some, None, Bool, true, false, not, cond, map, All, length, slice_get, refl, sym, ap, subst, ◌∙◌, arith}
+use Rattle.std.proofs.Common.{◌≡◌, ◌+◌, ◌≤◌, ℕ, codes, List, [], ◌∷◌, ◌++◌, Option, Some, None, Bool, true, false, not, cond, map, length, slice_get, refl, sym, ap, subst, ◌∙◌, arith}
 use Rattle.std.proofs.lemmas.List.{append-nil, append_assoc}
 use Rattle.std.proofs.lemmas.List.Elements.{All-head, All-tail, filter-append}
 use Rattle.lw_base.specs.declared.numbers.PropId.{PropId}

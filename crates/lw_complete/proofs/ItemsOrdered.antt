@@ -1,5 +1,5 @@
 -- Items that were sorted, and of which doubles were taken out, are offers in order.
-use Rattle.std.proofs.Common.{◌≡◌, ◌↔◌, ◌⊎◌, inl, inr, zero, suc, ◌++◌, ◌∷◌, [], ℕ, ◌<◌, List, Bool, true, false, ◌&&◌, All, Contains, AllPairs, Ordering, length, map, get_or, nat_eq, bytes_eq, refl, sym, ap, ◌∙◌, subst, arith}
+use Rattle.std.proofs.Common.{◌≡◌, ◌↔◌, ◌⊎◌, inl, inr, zero, suc, ◌∷◌, [], ℕ, ◌<◌, List, Bool, true, false, ◌&&◌, All, Contains, AllPairs, Ordering, length, map, get_or, nat_eq, bytes_eq, refl, sym, ap, ◌∙◌, subst, arith}
 use Rattle.std.specs.List.{dedup}
 use Rattle.std.specs.List.Sorted.{IsSorted, IsPermutation}
 use Rattle.std.specs.Ordering.{nat_cmp, ordering_then, eq_by_cmp, MatchOrdering}

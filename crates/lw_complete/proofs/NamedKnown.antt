@@ -16,7 +16,7 @@ use Rattle.lw_viable.specs.declared.reference_start.ReferenceStart.{ReferenceSta
 use Rattle.lw_complete.specs.declared.names.Known.{Known}
 use Rattle.lw_complete.specs.declared.starting.FrontNames.{FrontNames}
 use Rattle.lw_complete.specs.declared.typing.Typing.{Typing}
-use Rattle.lw_complete.specs.Starts.{AreFrontNames, ComesAt, IsBlankName, IsFoundAt, LeadsInFront}
+use Rattle.lw_complete.specs.Starts.{AreFrontNames, ComesAt, IsBlankName, IsNameFoundAt, LeadsInFront}
 use Rattle.lw_complete.specs.Typing.{grammar_of}
 use Rattle.lw_complete.proofs.NamedFront.{leads_by}
 use Rattle.lw_complete.proofs.NamedOnce.{one_start}
@@ -46,7 +46,7 @@ module _ (of : Kinds) (lexicon : Lexicon) (tasks : List Task) (typing : Typing) 
 
   module _ (at : ComesAt of typing next start) (front : FrontNames) (are : AreFrontNames of typing trees address next front) where
     abbrev IsFound : List ℕ → Type 0
-    IsFound = IsFoundAt of lexicon tasks typing trees address start
+    IsFound = IsNameFoundAt of lexicon tasks typing trees address start
 
     abbrev IsEither : ReferenceNext → List ℕ → Type 0
     IsEither other name = LeadsInFront of typing trees address other name ⊎ IsBlankName of typing trees address lexicon tasks other start name

@@ -26,7 +26,7 @@ use Rattle.lw_viable.proofs.Handed.{any_of_mapped}
 use Rattle.lw_complete.specs.declared.names.Known.{Known}
 use Rattle.lw_complete.specs.declared.typing.Typing.{Typing}
 use Rattle.lw_complete.specs.Judged.{LeadsWhole, StandsWhole}
-use Rattle.lw_complete.specs.Starts.{ComesAt, IsBlankName, IsFoundAt, IsKnownStart, IsOfferedBy, IsParsedBy, LeadsInFront}
+use Rattle.lw_complete.specs.Starts.{ComesAt, IsBlankName, IsNameFoundAt, IsKnownStart, IsOfferedBy, IsParsedBy, LeadsInFront}
 use Rattle.lw_complete.specs.Typing.{grammar_of, kinds_before}
 use Rattle.lw_complete.proofs.NamedFront.{leads_by}
 use Rattle.lw_complete.proofs.NamedNext.{IsStart, begins, reads_so}
@@ -46,7 +46,7 @@ module _ (typing : Typing) (of : Kinds) (lexicon : Lexicon) (tasks : List Task) 
   IsFound = IsFoundNext (grammar_of typing) of lexicon trees address typing.front.now typing.rest.now typing.tokens.now
 
   abbrev pub IsFoundBySome : List ℕ → Type 0
-  IsFoundBySome name = (start : ReferenceStart) × Contains starts start × IsFoundAt of lexicon tasks typing trees address start name
+  IsFoundBySome name = (start : ReferenceStart) × Contains starts start × IsNameFoundAt of lexicon tasks typing trees address start name
 
   -- ---- what is found is found at a start
 
@@ -79,7 +79,7 @@ module _ (typing : Typing) (of : Kinds) (lexicon : Lexicon) (tasks : List Task) 
   )
 
   -- those that were gathered
-  pub names_found : (names : List (List ℕ)) → Finds (OfSome (IsFoundAt of lexicon tasks typing trees address) starts) [] names → (name : List ℕ) →
+  pub names_found : (names : List (List ℕ)) → Finds (OfSome (IsNameFoundAt of lexicon tasks typing trees address) starts) [] names → (name : List ℕ) →
       Contains names name ↔ IsFound name
   names_found names finds name = (
     λ has. (found_both name).1 (some ((finds.exact name).0 has)),

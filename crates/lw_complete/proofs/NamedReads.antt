@@ -1,5 +1,5 @@
 -- The value of a reference that comes next is read by what it calls.
-use Rattle.std.proofs.Common.{◌≡◌, ℕ, List, [], ◌++◌, Option, None, sym, subst}
+use Rattle.std.proofs.Common.{ℕ, List, [], ◌++◌, Option, None, sym, subst}
 use Rattle.std.proofs.lemmas.List.{append-nil}
 use Rattle.lw_base.specs.declared.numbers.PropId.{PropId}
 use Rattle.lw_base.specs.declared.token.Token.{Token}

@@ -1,5 +1,5 @@
 -- What the recipe of a reference says is what the reference looks up.
-use Rattle.std.proofs.Common.{◌≡◌, ◌↔◌, ℕ, List, Option, Some, None, slice_get, refl, sym, ap, ◌∙◌, subst}
+use Rattle.std.proofs.Common.{◌≡◌, ◌↔◌, ℕ, List, Some, None, slice_get, refl, sym, ap, ◌∙◌, subst}
 use Rattle.lw_alike.proofs.OneReference.{no_plain_reference}
 use Rattle.lw_base.specs.declared.numbers.TypeId.{TypeId}
 use Rattle.lw_base.specs.declared.token.Token.{Token}

@@ -1,5 +1,5 @@
 -- Which starts a name is read as, and whether it is offered.
-use Rattle.std.proofs.Common.{◌≡◌, ◌↔◌, ◌+◌, ◌<◌, ◌≤◌, ◌++◌, ◌∷◌, [], ◌⊎◌, inl, inr, ℕ, List, Bool, true, false, Option, Some, None, IsTrue, All, Contains, get_or, length, take, refl, sym, ap, ◌∙◌, subst, true≢false, arith}
+use Rattle.std.proofs.Common.{◌≡◌, ◌↔◌, ◌+◌, ◌<◌, ◌≤◌, ◌++◌, ◌∷◌, [], ◌⊎◌, inl, inr, ℕ, List, Bool, true, false, Some, None, IsTrue, Contains, get_or, length, take, refl, sym, ap, ◌∙◌, subst, true≢false, arith}
 use Rattle.std.proofs.lemmas.List.{take_all, take_more}
 use Rattle.std.proofs.lemmas.List.Elements.{Contains-push_cases}
 use Rattle.lw_grammar.specs.Kinds.{Kinds}
@@ -14,8 +14,8 @@ use Rattle.lw_offers.specs.Starting.{ReferenceNext}
 use Rattle.lw_offers.specs.Words.{BeginsBy}
 use Rattle.lw_complete.specs.declared.names.Known.{Known}
 use Rattle.lw_complete.specs.declared.typing.Typing.{Typing}
-use Rattle.lw_complete.specs.Judged.{IsJudged, LeadsWhole, StandsWhole}
-use Rattle.lw_complete.specs.Starts.{ComesAt, IsOfferedBy, IsReadAt, IsReadBy}
+use Rattle.lw_complete.specs.Judged.{IsVerdict, LeadsWhole, StandsWhole}
+use Rattle.lw_complete.specs.Starts.{ComesAt, IsOfferedBy, IsReadAt, IsReadAsStart}
 
 -- ---- the starts one after the other
 
@@ -43,7 +43,7 @@ module _ (of : Kinds) (tasks : List Task) (typing : Typing) (leads : Bool) (adde
   not_led not (next, at, read, has) = not has
 
   pub read_at : (r : Bool) → (IsTrue leads → Contains one.front.names.items name) → (next : ReferenceNext) × ComesAt of typing next one.start.now →
-      ((next : ReferenceNext) → ComesAt of typing next one.start.now → IsTrue r ↔ IsReadBy of tasks typing next one.start.now added name) →
+      ((next : ReferenceNext) → ComesAt of typing next one.start.now → IsTrue r ↔ IsReadAsStart of tasks typing next one.start.now added name) →
       IsTrue r ↔ IsReadAt of tasks typing leads added name one
   read_at r has (next, at) told = (
     λ yes. (next, at, (told next at).0 yes, has),
@@ -56,7 +56,7 @@ module _ (of : Kinds) (lexicon : Lexicon) (tasks : List Task) (typing : Typing) 
   abbrev pub IsOffered : Type 0
   IsOffered = IsOfferedBy of lexicon tasks typing trees address known name
 
-  pub not_led_whole : IsJudged typing trees address name (Some false) → ¬ IsOffered
+  pub not_led_whole : IsVerdict typing trees address name (Some false) → ¬ IsOffered
   not_led_whole ((tree, r, stands), leads) is = by is.whole
     where
       by : LeadsWhole typing trees address name ⊎ (IsTrue is.judged × ((tree : Parts) (r : Reference) → ¬ StandsWhole typing trees address name tree r)) → ⊥
@@ -77,7 +77,7 @@ module _ (of : Kinds) (lexicon : Lexicon) (tasks : List Task) (typing : Typing) 
     reads_here : (is : IsOffered) → IsReadAt of tasks typing is.judged added name is.one
     reads_here is = subst (λ (ts : List Token). IsReadAt of tasks typing is.judged ts name is.one) (added_are is) is.reads
 
-    pub by_whole : IsJudged typing trees address name (Some true) → (r : Bool) → IsTrue r ↔ SomeRead false → IsTrue r ↔ IsOffered
+    pub by_whole : IsVerdict typing trees address name (Some true) → (r : Bool) → IsTrue r ↔ SomeRead false → IsTrue r ↔ IsOffered
     by_whole (some, leads) r read = (
       λ yes. (
           let (one, among, reads) = read.0 yes in
@@ -89,7 +89,7 @@ module _ (of : Kinds) (lexicon : Lexicon) (tasks : List Task) (typing : Typing) 
           ),
     )
 
-    pub by_front : IsJudged typing trees address name None → (r : Bool) → IsTrue r ↔ SomeRead true → IsTrue r ↔ IsOffered
+    pub by_front : IsVerdict typing trees address name None → (r : Bool) → IsTrue r ↔ SomeRead true → IsTrue r ↔ IsOffered
     by_front none r read = (
       λ yes. (
           let (one, among, reads) = read.0 yes in

@@ -27,7 +27,7 @@ use Rattle.lw_viable.specs.Visiting.{IsReferencePut}
 use Rattle.lw_viable.specs.declared.reference_start.ReferenceStart.{ReferenceStart}
 use Rattle.lw_complete.specs.declared.names.Written.{Written}
 use Rattle.lw_complete.specs.declared.typing.Typing.{Typing}
-use Rattle.lw_complete.specs.Starts.{ComesAt, IsParsedBy, IsReadBy, IsSaidBy, IsStartNext, IsWritten}
+use Rattle.lw_complete.specs.Starts.{ComesAt, IsParsedBy, IsReadAsStart, IsSaidBy, IsStartNext, IsWritten}
 use Rattle.lw_complete.specs.Typing.{grammar_of}
 use Rattle.lw_complete.proofs.NamedReads.{next_read}
 use Rattle.lw_complete.proofs.NamedSays.{HasRecipe, IsReferenceBy, recipe_of, reference_by, says_name}
@@ -113,7 +113,7 @@ module _ (typing : Typing) (of : Kinds) (tasks : List Task) (parser : ParserPart
         )
 
     abbrev pub IsRead : Type 0
-    IsRead = IsReadBy of tasks typing next start written.added.now written.name.now
+    IsRead = IsReadAsStart of tasks typing next start written.added.now written.name.now
 
     pub none_read : written.added.now ≡ [] → ¬ IsRead
     none_read none read = read.some none

@@ -1,5 +1,5 @@
 -- The parser of a language, by the kinds of its grammar.
-use Rattle.std.proofs.Common.{◌≡◌, ℕ, List, refl, subst}
+use Rattle.std.proofs.Common.{ℕ, List, refl, subst}
 use Rattle.lw_grammar.specs.Kinds.{AreKinds, Kinds}
 use Rattle.lw_grammar.specs.Named.{IsEntry}
 use Rattle.lw_grammar.specs.declared.rule.Rule.{Rule}

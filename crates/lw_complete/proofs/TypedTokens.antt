@@ -1,5 +1,5 @@
 -- Tokens that are compared, and the tokens behind those of a text.
-use Rattle.std.proofs.Common.{ℕ, ◌≡◌, ◌==◌, ◌&&◌, Bool, true, false, List, [], ◌∷◌, ◌++◌, All, drop, length, Option, Some, None, Result, IfOk, IfSome, MatchOption, refl, sym, ◌∙◌, subst, ap}
+use Rattle.std.proofs.Common.{ℕ, ◌≡◌, ◌==◌, ◌&&◌, Bool, true, List, [], ◌∷◌, ◌++◌, All, drop, length, Option, Some, None, Result, IfOk, IfSome, MatchOption, sym, ◌∙◌, subst, ap}
 use Rattle.std.proofs.Math.Bool.{beq}
 use Rattle.std.proofs.lemmas.Bool.Decides.{Decides-and, Decides-eqb}
 use Rattle.std.proofs.lemmas.List.{append_cancel_left}

@@ -6,7 +6,7 @@ use Rattle.lw_builder.specs.Built.{ArePartsOf}
 use Rattle.lw_grammar.specs.declared.grammar.Grammar.{Grammar}
 use Rattle.lw_grammar.specs.Kinds.{AreKinds, Kinds}
 use Rattle.lw_marks.specs.Follows.{LooksUp, RefersBy}
-use Rattle.lw_offers.specs.Starting.{ComesNext, IsBlankTree, IsFrontTree, ReferenceNext, moved_by, marks_with, token_marks}
+use Rattle.lw_offers.specs.Starting.{ComesNext, IsBlankTree, IsFrontTree, ReferenceNext, moved_by, marks_with}
 use Rattle.lw_offers.specs.Targets.{HasTarget, renamed_to}
 use Rattle.lw_offers.specs.Words.{BeginsBy}
 use Rattle.lw_marks.specs.Trees.{IsTree}
@@ -132,7 +132,7 @@ pub record IsSaidBy (typing : Typing) (next : ReferenceNext) (added : List Token
   pub means : LooksUp (grammar_of typing) (typing.front.now ++ name) rule (visible added) name
 
 -- These tokens have the kinds of what the place of the start's value gives, and the name is what the reference looks up by them.
-pub record IsReadBy (of : Kinds) (tasks : List Task) (typing : Typing) (next : ReferenceNext) (start : ReferenceStart) (added : List Token) (name : List ℕ) : Type 0 where
+pub record IsReadAsStart (of : Kinds) (tasks : List Task) (typing : Typing) (next : ReferenceNext) (start : ReferenceStart) (added : List Token) (name : List ℕ) : Type 0 where
   pub some : added ≢ []
   pub gives : EndsSome (PlacesGive (grammar_of typing) of tasks (start.value ∷ [])) (kinds (visible added))
   pub says : IsSaidBy typing next added name
@@ -149,15 +149,15 @@ LeadsInFront of typing trees address next name =
 
 -- a name by which the cross-reference of the start leads somewhere, in that tree or in a tree of the whole text with the reference left blank, whose marks
 -- behind it the places behind the start give
-abbrev pub IsFoundAt : Kinds → Lexicon → List Task → Typing → Trees → List ℕ → ReferenceStart → List ℕ → Type 0
-IsFoundAt of lexicon tasks typing trees address start name =
+abbrev pub IsNameFoundAt : Kinds → Lexicon → List Task → Typing → Trees → List ℕ → ReferenceStart → List ℕ → Type 0
+IsNameFoundAt of lexicon tasks typing trees address start name =
     (next : ReferenceNext) × ComesAt of typing next start
     × (LeadsInFront of typing trees address next name ⊎ IsBlankName of typing trees address lexicon tasks next start name)
 
 -- the name is read as one of these starts, of those alone by which it leads somewhere in the tree of what was read before, where `leads`
 abbrev pub IsReadAt : Kinds → List Task → Typing → Bool → List Token → List ℕ → Known → Type 0
 IsReadAt of tasks typing leads added name one =
-    (next : ReferenceNext) × ComesAt of typing next one.start.now × IsReadBy of tasks typing next one.start.now added name
+    (next : ReferenceNext) × ComesAt of typing next one.start.now × IsReadAsStart of tasks typing next one.start.now added name
     × (IsTrue leads → Contains one.front.names.items name)
 
 -- the name is offered

@@ -30,7 +30,7 @@ ghost use Rattle.lw_viable.specs.Aims.{EndsSome};
 ghost use Rattle.lw_viable.specs.Fronts.{IsProgramWith};
 ghost use Rattle.lw_viable.specs.Readings.{HasTask};
 ghost use Rattle.lw_viable.specs.Visiting.{IsReferencePut};
-ghost use Rattle.lw_complete.specs.Starts.{ComesAt, IsBlank, IsBlankName, IsFoundAt, IsKnownStart, IsOfferedBy, IsParsedBy, IsReadAt, IsReadBy, IsSoundStart, IsStartNext, IsWritten, StandsBehind};
+ghost use Rattle.lw_complete.specs.Starts.{ComesAt, IsBlank, IsBlankName, IsNameFoundAt, IsKnownStart, IsOfferedBy, IsParsedBy, IsReadAt, IsReadAsStart, IsSoundStart, IsStartNext, IsWritten, StandsBehind};
 ghost use Rattle.lw_complete.specs.Typing.{AreReadings, IsTypedBy, grammar_of};
 
 use crate::judging::leads_in_whole;
@@ -95,7 +95,7 @@ fn known_starts<'s>(
     ensures found { (of : Kinds) (lexicon : Lexicon) (tasks : List Task) (trees : Trees) (address : List ℕ) → IsTypedBy of lexicon typing.now →
         IsParsedBy of tasks typing.now parser.now → All (IsStartNext of tasks typing.now) starts.now → IsIndexOf trees typing.now.index.now →
         IsNumberAt typing.now.index.now typing.now.doc.0 address →
-        OnOk result (Finds (OfSome (IsFoundAt of lexicon tasks typing.now trees address) starts.now) found.old.items found.new.items) }
+        OnOk result (Finds (OfSome (IsNameFoundAt of lexicon tasks typing.now trees address) starts.now) found.old.items found.new.items) }
 {
     let made = blank(alloc, typing)?;
     let blank = &made;
@@ -127,7 +127,7 @@ fn known_start(
         IsParsedBy of tasks typing.now parser.now → IsStartNext of tasks typing.now start.now →
         MatchOption blank.now ((others : List AToken) → ¬ IsCut lexicon typing.now.rest.now others) (IsBlank typing.now lexicon) →
         IsIndexOf trees typing.now.index.now → IsNumberAt typing.now.index.now typing.now.doc.0 address →
-        OnOk result (Finds (IsFoundAt of lexicon tasks typing.now trees address start.now) found.old.items found.new.items) }
+        OnOk result (Finds (IsNameFoundAt of lexicon tasks typing.now trees address start.now) found.old.items found.new.items) }
 {
     let front = front_names(alloc, typing, start)?;
     put_unnamed(alloc, typing, parser, start, front.before, blank, found)?;
@@ -346,7 +346,7 @@ fn is_read_as(
     ensures { (of : Kinds) (lexicon : Lexicon) (tasks : List Task) → IsWritten of lexicon typing.now written.now →
         IsParsedBy of tasks typing.now parser.now → IsStartNext of tasks typing.now start.now →
         IfOk result (λ read. (next : ReferenceNext) → ComesAt of typing.now next start.now →
-        IsTrue read ↔ IsReadBy of tasks typing.now next start.now written.now.added.now written.now.name.now) }
+        IsTrue read ↔ IsReadAsStart of tasks typing.now next start.now written.now.added.now written.now.name.now) }
 {
     if written.added.is_empty() {
         return Ok(false);

@@ -1,4 +1,4 @@
-use Rattle.std.proofs.Common.{◌↔◌, ◌⊎◌, ◌++◌, [], List, Contains, map, sym, subst}
+use Rattle.std.proofs.Common.{◌↔◌, ◌⊎◌, [], Contains, map, sym, subst}
 use Rattle.std.proofs.lemmas.Result.{IfOk-weaker}
 use Rattle.lw_grammar.specs.Named.{IsEntry}
 use Rattle.lw_offers.specs.Offers.{IsOffered, Offer, keyword_offer, name_offer}

@@ -7,7 +7,7 @@ use Rattle.lw_program.specs.ProgramOf.{ProgramParts}
 use Rattle.lw_program.specs.Says.{Task}
 use Rattle.lw_tokens.specs.Cut.{kinds, visible}
 use Rattle.lw_viable.specs.Aims.{Places}
-use Rattle.lw_viable.specs.Fronts.{HoldReadings, IsProgramWith}
+use Rattle.lw_viable.specs.Fronts.{IsProgramWith}
 use Rattle.lw_viable.specs.Readings.{HasTask}
 use Rattle.lw_complete.proofs.names.gives.Goals as goal
 

@@ -1,10 +1,10 @@
-use Rattle.std.proofs.Common.{◌≡◌, ◌∙◌, ◌↔◌, ◌∷◌, [], IsTrue, sym}
+use Rattle.std.proofs.Common.{◌↔◌, ◌∷◌, [], IsTrue}
 use Rattle.std.proofs.lemmas.Result.{IfOk-weaker}
 use Rattle.lw_begins.specs.Gives.{PlacesGive}
 use Rattle.lw_offers.specs.Starting.{ReferenceNext}
 use Rattle.lw_tokens.specs.Cut.{kinds, visible}
 use Rattle.lw_viable.specs.Aims.{EndsSome}
-use Rattle.lw_complete.specs.Starts.{ComesAt, IsReadBy}
+use Rattle.lw_complete.specs.Starts.{ComesAt, IsReadAsStart}
 use Rattle.lw_complete.specs.Typing.{grammar_of}
 use Rattle.lw_complete.proofs.NamedWritten.{comes_at, given, is_empty_there, never, none_read, not_empty_there, reference_put, unsaid}
 use Rattle.lw_complete.proofs.names.is_read_as.Goals as goal
@@ -40,7 +40,7 @@ returns c of lexicon tasks written parsed is =
     let start = c.args.start.now in
     let added = c.args.written.now.added.now in
     IfOk-weaker c.gives.result (λ r. IsTrue r ↔ EndsSome (PlacesGive (grammar_of typing) of tasks (start.value ∷ [])) (kinds (visible added)))
-    (λ r. (next : ReferenceNext) → ComesAt of typing next start → IsTrue r ↔ IsReadBy of tasks typing next start added c.args.written.now.name.now)
+    (λ r. (next : ReferenceNext) → ComesAt of typing next start → IsTrue r ↔ IsReadAsStart of tasks typing next start added c.args.written.now.name.now)
     (λ r told next at.
     given typing of tasks c.args.parser.now parsed start next at lexicon c.args.written.now written c.in_ok-says.field-0 c.in_ok-says.ensures c.if-not-branch.false
     (not_empty_there added c.is_empty.result c.is_empty.ensures c.if-is_empty.false) r told)

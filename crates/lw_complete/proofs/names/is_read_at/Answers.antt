@@ -1,7 +1,7 @@
-use Rattle.std.proofs.Common.{◌≡◌, ◌∙◌, ◌↔◌, IsTrue, true≢false, sym}
+use Rattle.std.proofs.Common.{◌∙◌, ◌↔◌, IsTrue, true≢false, sym}
 use Rattle.std.proofs.lemmas.Result.{IfOk-weaker}
 use Rattle.lw_offers.specs.Starting.{ReferenceNext}
-use Rattle.lw_complete.specs.Starts.{ComesAt, IsReadAt, IsReadBy}
+use Rattle.lw_complete.specs.Starts.{ComesAt, IsReadAt, IsReadAsStart}
 use Rattle.lw_complete.proofs.NamedTried.{not_led, read_at}
 use Rattle.lw_complete.proofs.NamedWritten.{comes_at, never}
 use Rattle.lw_complete.proofs.names.is_read_at.Goals as goal
@@ -20,7 +20,7 @@ returns c of lexicon tasks written parsed is =
     let added = c.args.written.now.added.now in
     let name = c.args.written.now.name.now in
     IfOk-weaker c.is_read_as.result
-    (λ r. (next : ReferenceNext) → ComesAt of c.args.typing.now next one.start.now → IsTrue r ↔ IsReadBy of tasks c.args.typing.now next one.start.now added name)
+    (λ r. (next : ReferenceNext) → ComesAt of c.args.typing.now next one.start.now → IsTrue r ↔ IsReadAsStart of tasks c.args.typing.now next one.start.now added name)
     (λ r. IsTrue r ↔ IsReadAt of tasks c.args.typing.now c.args.leads added name one)
     (λ r told.
     read_at of tasks c.args.typing.now c.args.leads added name one r (c.may_lead.ensures.0 c.if-not-may_lead.false) (is.next, comes_at of tasks c.args.typing.now one.start.now is)

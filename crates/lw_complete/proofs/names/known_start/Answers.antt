@@ -1,4 +1,4 @@
-use Rattle.std.proofs.Common.{◌≡◌, ◌++◌, ◌∙◌, List, ap}
+use Rattle.std.proofs.Common.{◌++◌, ◌∙◌, ap}
 use Rattle.lw_complete.proofs.NamedKnown.{start_found}
 use Rattle.lw_complete.proofs.NamedWritten.{comes_at}
 use Rattle.lw_complete.proofs.names.known_start.Goals as goal

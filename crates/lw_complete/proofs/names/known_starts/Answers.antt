@@ -3,7 +3,7 @@ use Rattle.std.proofs.lemmas.List.{take_all}
 use Rattle.std.proofs.lemmas.List.Elements.{All-contains, All-nil, All-push}
 use Rattle.lw_findings.proofs.Joining.{Finds-all, Finds-begin, Finds-more}
 use Rattle.lw_complete.specs.declared.names.Known.{Known}
-use Rattle.lw_complete.specs.Starts.{IsFoundAt, IsKnownStart, IsStartNext}
+use Rattle.lw_complete.specs.Starts.{IsNameFoundAt, IsKnownStart, IsStartNext}
 use Rattle.lw_complete.proofs.NamedKnown.{starts_more}
 use Rattle.lw_complete.proofs.names.known_starts.Goals as goal
 
@@ -31,7 +31,7 @@ starts-init c = record {
   known = λ of lexicon trees address typed index number.
       subst (All (IsKnownStart of c.args.typing.now trees address)) (sym c.new-known.ensures.items) (All-nil (IsKnownStart of c.args.typing.now trees address));
   found = λ of lexicon tasks trees address typed parsed all index number.
-      Finds-begin (IsFoundAt of lexicon tasks c.args.typing.now trees address) c.args.found.now.items c.args.starts.now;
+      Finds-begin (IsNameFoundAt of lexicon tasks c.args.typing.now trees address) c.args.found.now.items c.args.starts.now;
 }
 
 pub starts-preserved : goal.starts-preserved
@@ -50,7 +50,7 @@ starts-preserved c =
           (All-push (IsKnownStart of typing trees address) c.starts.known.items _ (inv.known of lexicon trees address typed index number)
           (c.in_ok-front.ensures.known of lexicon trees address typed index number));
       found = λ of lexicon tasks trees address typed parsed all index number.
-          Finds-more (IsFoundAt of lexicon tasks typing trees address) starts i x inside c.start-item.is (inv.found of lexicon tasks trees address typed parsed all index number)
+          Finds-more (IsNameFoundAt of lexicon tasks typing trees address) starts i x inside c.start-item.is (inv.found of lexicon tasks trees address typed parsed all index number)
           (c.in_ok-front.ensures.found of lexicon tasks trees address typed parsed
           (All-contains (IsStartNext of tasks typing) starts x all (i, inside, sym c.start-item.is)) (c.in_ok-made.ensures of lexicon typed) index number);
     }
@@ -66,5 +66,5 @@ returns-clause-known c of lexicon trees address typed index number = c.starts.in
 pub returns-clause-found : goal.returns-clause-found
 returns-clause-found c of lexicon tasks trees address typed parsed all index number =
     let past : length c.args.starts.now ≤ c.starts.start-index = omega arith in
-    Finds-all (IsFoundAt of lexicon tasks c.args.typing.now trees address) c.args.starts.now c.starts.start-index past
+    Finds-all (IsNameFoundAt of lexicon tasks c.args.typing.now trees address) c.args.starts.now c.starts.start-index past
     (c.starts.invariant.found of lexicon tasks trees address typed parsed all index number)

@@ -6,7 +6,7 @@ use Rattle.lw_link.specs.Visible.{IsNumberAt}
 use Rattle.lw_program.specs.Says.{Task}
 use Rattle.lw_scoping.specs.Links.{Trees}
 use Rattle.lw_tokens.specs.Lexicon.{Lexicon}
-use Rattle.lw_complete.specs.Starts.{IsFoundAt, IsKnownStart, IsParsedBy, IsStartNext}
+use Rattle.lw_complete.specs.Starts.{IsNameFoundAt, IsKnownStart, IsParsedBy, IsStartNext}
 use Rattle.lw_complete.specs.Typing.{IsTypedBy}
 use Rattle.lw_complete.proofs.names.known_starts.Given as goal
 
@@ -19,5 +19,5 @@ invariant-starts l = record {
   found : (of : Kinds) (lexicon : Lexicon) (tasks : List Task) (trees : Trees) (address : List ℕ) → IsTypedBy of lexicon l.typing →
       IsParsedBy of tasks l.typing l.parser → All (IsStartNext of tasks l.typing) l.starts → IsIndexOf trees l.typing.index.now →
       IsNumberAt l.typing.index.now l.typing.doc.0 address →
-      Finds (OfSome (IsFoundAt of lexicon tasks l.typing trees address) (take l.start-index l.starts)) l.initial.found.items l.found.items;
+      Finds (OfSome (IsNameFoundAt of lexicon tasks l.typing trees address) (take l.start-index l.starts)) l.initial.found.items l.found.items;
 }

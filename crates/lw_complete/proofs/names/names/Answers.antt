@@ -12,7 +12,7 @@ use Rattle.lw_offers.specs.Words.{BeginsBy}
 use Rattle.lw_recipes.specs.Making.{AreRecipesOf}
 use Rattle.lw_viable.specs.Aims.{Sentence}
 use Rattle.lw_complete.specs.declared.names.Known.{Known}
-use Rattle.lw_complete.specs.Starts.{IsFoundAt, IsKnownStart, IsOfferedBy, IsStartNext}
+use Rattle.lw_complete.specs.Starts.{IsNameFoundAt, IsKnownStart, IsOfferedBy, IsStartNext}
 use Rattle.lw_complete.specs.Typing.{grammar_of, kinds_before}
 use Rattle.lw_complete.proofs.NamedKnown.{known_all}
 use Rattle.lw_complete.proofs.NamedNext.{all_next, all_starts}
@@ -78,8 +78,8 @@ returns-clause-names c of lexicon tasks trees address typed readings parsed one_
     let are_known : All (IsKnownStart of typing trees address) known =
     subst (All (IsKnownStart of typing trees address)) (sym c.as_slice-2.ensures.value) (c.in_ok-known.ensures.known of lexicon trees address typed index number) in
     let gathered = c.known_starts.new.found.items in
-    let finds : Finds (OfSome (IsFoundAt of lexicon tasks typing trees address) starts) [] gathered =
-    subst (λ (old : List (List ℕ)). Finds (OfSome (IsFoundAt of lexicon tasks typing trees address) starts) old gathered) c.new-found.ensures.items
+    let finds : Finds (OfSome (IsNameFoundAt of lexicon tasks typing trees address) starts) [] gathered =
+    subst (λ (old : List (List ℕ)). Finds (OfSome (IsNameFoundAt of lexicon tasks typing trees address) starts) old gathered) c.new-found.ensures.items
     (c.in_ok-known.ensures.found of lexicon tasks trees address typed parsed next index number) in
     let sorted = c.sort_unstable.new.self.items in
     let kept : c.dedup.new.self.items ≡ dedup bytes_eq sorted = dedup_is bytes_eq _ _ c.dedup.ensures.filtered in

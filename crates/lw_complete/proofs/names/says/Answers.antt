@@ -1,4 +1,4 @@
-use Rattle.std.proofs.Common.{◌≡◌, List, sym, ◌∙◌, subst}
+use Rattle.std.proofs.Common.{List, sym, ◌∙◌, subst}
 use Rattle.lw_base.specs.declared.token.Token.{Token}
 use Rattle.lw_builder.specs.Built.{ArePartsOf}
 use Rattle.lw_builder.proofs.AllMarks.{visible_parts}
