@@ -14,7 +14,7 @@ use Rattle.lw_offers.specs.Starting.{ReferenceNext}
 use Rattle.lw_offers.specs.Words.{BeginsBy}
 use Rattle.lw_complete.specs.declared.names.Known.{Known}
 use Rattle.lw_complete.specs.declared.typing.Typing.{Typing}
-use Rattle.lw_complete.specs.Judged.{IsVerdict, LeadsWhole, StandsWhole}
+use Rattle.lw_complete.specs.Judged.{IsJudgement, LeadsWhole, StandsWhole}
 use Rattle.lw_complete.specs.Starts.{ComesAt, IsOfferedBy, IsReadAt, IsReadAsStart}
 
 -- ---- the starts one after the other
@@ -56,7 +56,7 @@ module _ (of : Kinds) (lexicon : Lexicon) (tasks : List Task) (typing : Typing) 
   abbrev pub IsOffered : Type 0
   IsOffered = IsOfferedBy of lexicon tasks typing trees address known name
 
-  pub not_led_whole : IsVerdict typing trees address name (Some false) → ¬ IsOffered
+  pub not_led_whole : IsJudgement typing trees address name (Some false) → ¬ IsOffered
   not_led_whole ((tree, r, stands), leads) is = by is.whole
     where
       by : LeadsWhole typing trees address name ⊎ (IsTrue is.judged × ((tree : Parts) (r : Reference) → ¬ StandsWhole typing trees address name tree r)) → ⊥
@@ -77,7 +77,7 @@ module _ (of : Kinds) (lexicon : Lexicon) (tasks : List Task) (typing : Typing) 
     reads_here : (is : IsOffered) → IsReadAt of tasks typing is.judged added name is.one
     reads_here is = subst (λ (ts : List Token). IsReadAt of tasks typing is.judged ts name is.one) (added_are is) is.reads
 
-    pub by_whole : IsVerdict typing trees address name (Some true) → (r : Bool) → IsTrue r ↔ SomeRead false → IsTrue r ↔ IsOffered
+    pub by_whole : IsJudgement typing trees address name (Some true) → (r : Bool) → IsTrue r ↔ SomeRead false → IsTrue r ↔ IsOffered
     by_whole (some, leads) r read = (
       λ yes. (
           let (one, among, reads) = read.0 yes in
@@ -89,7 +89,7 @@ module _ (of : Kinds) (lexicon : Lexicon) (tasks : List Task) (typing : Typing) 
           ),
     )
 
-    pub by_front : IsVerdict typing trees address name None → (r : Bool) → IsTrue r ↔ SomeRead true → IsTrue r ↔ IsOffered
+    pub by_front : IsJudgement typing trees address name None → (r : Bool) → IsTrue r ↔ SomeRead true → IsTrue r ↔ IsOffered
     by_front none r read = (
       λ yes. (
           let (one, among, reads) = read.0 yes in

@@ -1,5 +1,5 @@
 // The names that may be written.
-ghost use Rattle.std.specs.Prelude.{ℕ, ◌≡◌, ◌≢◌, ◌≤◌, ◌<◌, ◌+◌, ◌↔◌, ◌++◌, ◌∷◌, List, [], Some, slice_get, AllPairs, All, Contains, IfOk, IfSome, OnOk, IsTrue, MatchOption, length, map};
+ghost use Rattle.std.specs.Prelude.{ℕ, ◌≡◌, ◌≤◌, ◌<◌, ◌+◌, ◌↔◌, ◌++◌, ◌∷◌, List, [], Some, slice_get, AllPairs, All, Contains, IfOk, OnOk, IsTrue, MatchOption, length, map};
 ghost use Rattle.std.specs.Cmp.Lexicographic.{slice_cmp};
 ghost use Rattle.std.specs.Ordering.{nat_cmp};
 ghost use Rattle.std.specs.declared.cmp.Ordering.TheVariants.{Less};
@@ -16,7 +16,7 @@ ghost use Rattle.lw_link.specs.Indexed.{IsIndexOf};
 ghost use Rattle.lw_link.specs.Visible.{IsNumberAt};
 ghost use Rattle.lw_marks.specs.Brackets.{joined_texts};
 ghost use Rattle.lw_offers.specs.Offers.{IsNameNext};
-ghost use Rattle.lw_offers.specs.Starting.{ReferenceNext, moved_by};
+ghost use Rattle.lw_offers.specs.Starting.{ReferenceNext};
 ghost use Rattle.lw_offers.specs.Words.{BeginsBy};
 ghost use Rattle.lw_parse.specs.Parsers.{AreOfKinds};
 ghost use Rattle.lw_program.specs.Says.{Task};
@@ -33,13 +33,13 @@ ghost use Rattle.lw_viable.specs.Visiting.{IsReferencePut};
 ghost use Rattle.lw_complete.specs.Starts.{ComesAt, IsBlank, IsBlankName, IsNameFoundAt, IsKnownStart, IsOfferedBy, IsParsedBy, IsReadAt, IsReadAsStart, IsSoundStart, IsStartNext, IsWritten, StandsBehind};
 ghost use Rattle.lw_complete.specs.Typing.{AreReadings, IsTypedBy, grammar_of};
 
+use crate::blanks::blank;
 use crate::judging::leads_in_whole;
 use crate::reading::read;
 use crate::starting::{Blank, FrontNames, front_names, put_blank_names};
 use crate::typing::Typing;
 use lw_base::{Name, NoMemory, Token};
 use lw_builder::said_by;
-use lw_lang::LexFault;
 use lw_parse::Parser;
 use lw_recipes::Content;
 use lw_viable::{Fronts, ReferenceStart};
@@ -167,49 +167,6 @@ fn put_copies(alloc: Global, names: &mut Vec<Name>, others: &[Name]) -> Result<(
         names.push(name.copy(alloc)?)?;
     }
     Ok(())
-}
-
-/// The text without the word, with its tokens. None where what stands behind the offset is not cut into tokens.
-fn blank(alloc: Global, typing: &Typing<'_>) -> Result<Option<Blank>, NoMemory>
-    requires short { length typing.now.front.now + length typing.now.rest.now ≤ LONGEST_DOCUMENT }
-    ensures { (of : Kinds) (lexicon : Lexicon) → IsTypedBy of lexicon typing.now →
-        IfOk result (λ blank. MatchOption blank ((others : List AToken) → ¬ IsCut lexicon typing.now.rest.now others) (IsBlank typing.now lexicon)) }
-{
-    let others = match typing.language.cut(alloc, typing.rest) {
-        Ok(others) => others,
-        Err(LexFault::NoToken(_)) => return Ok(None),
-        Err(LexFault::NoMemory) => return Err(NoMemory),
-    };
-    Ok(Some(Blank {
-        text: typing.with(alloc, typing.rest.text())?,
-        tokens: joined(alloc, typing, others.as_slice())?,
-        others,
-    }))
-}
-
-/// The tokens before the word, and these of what stands behind the offset behind them.
-fn joined(alloc: Global, typing: &Typing<'_>, others: &[Token]) -> Result<Vec<Token>, NoMemory>
-    requires short { length typing.now.front.now + length typing.now.rest.now ≤ LONGEST_DOCUMENT }
-    requires within { All (λ t. (t.span.start ≤ length typing.now.rest.now) × (t.span.end ≤ length typing.now.rest.now)) others.now }
-    ensures { IfOk result (λ tokens. tokens.items ≡ typing.now.tokens.now ++ map (moved_by (length typing.now.front.now)) others.now) }
-{
-    let by = typing.front.bytes().len() as u32;
-    let mut tokens = Vec::from_slice(alloc, typing.tokens)?;
-    'tokens: for token in others {
-        tokens.push(moved_by(by, *token))?;
-    }
-    Ok(tokens)
-}
-
-/// The token so many bytes further behind.
-fn moved_by(by: u32, token: Token) -> Token
-    requires { (by + token.span.start ≤ 4294967295) × (by + token.span.end ≤ 4294967295) }
-    ensures { result ≡ moved_by by token }
-{
-    let mut moved = token;
-    moved.span.start += by;
-    moved.span.end += by;
-    moved
 }
 
 /// Those of the names that are offered.

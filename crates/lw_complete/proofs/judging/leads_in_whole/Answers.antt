@@ -2,7 +2,7 @@ use Rattle.std.proofs.Common.{◌+◌, ◌++◌, ℕ, List, IfOk, length, subst}
 use Rattle.std.proofs.lemmas.Result.{IfOk-weaker}
 use Rattle.lw_reading.specs.Reading.{Reads}
 use Rattle.lw_reading.specs.declared.parsed.Parsed.TheVariants.{Broken, Whole}
-use Rattle.lw_complete.specs.Judged.{IsVerdict, IsToldOf}
+use Rattle.lw_complete.specs.Judged.{IsJudgement, IsToldOf}
 use Rattle.lw_complete.specs.Typing.{grammar_of}
 use Rattle.lw_complete.proofs.JudgedTrees.{judged, judged_broken}
 use Rattle.lw_complete.proofs.judging.leads_in_whole.Goals as goal
@@ -22,7 +22,7 @@ returns-in-Whole c trees address one_way is number =
     (subst (λ (text : List ℕ). IfOk c.leads_in.result (IsToldOf typing trees address tree (length text) (length text + length c.bytes.result.now) tree.refs))
     c.bytes-start.ensures.bytes (c.leads_in.ensures trees address is number)) in
     IfOk-weaker c.leads_in.result (IsToldOf typing trees address tree (length front) (length front + length name) tree.refs)
-    (IsVerdict typing trees address name) (judged typing one_way trees address name tree reads) told
+    (IsJudgement typing trees address name) (judged typing one_way trees address name tree reads) told
 
 pub returns : goal.returns
 returns c trees address one_way is number =

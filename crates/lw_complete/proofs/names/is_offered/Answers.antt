@@ -4,7 +4,7 @@ use Rattle.std.proofs.lemmas.Str.Pattern.{starts_text}
 use Rattle.lw_base.specs.declared.token.Token.{Token}
 use Rattle.lw_tokens.specs.Cut.{IsCut}
 use Rattle.lw_complete.specs.declared.names.Known.{Known}
-use Rattle.lw_complete.specs.Judged.{IsVerdict}
+use Rattle.lw_complete.specs.Judged.{IsJudgement}
 use Rattle.lw_complete.specs.Starts.{IsOfferedBy, IsReadAt}
 use Rattle.lw_complete.proofs.NamedTried.{by_front, by_whole, not_led_whole}
 use Rattle.lw_complete.proofs.NamedWritten.{begun, never, written_there}
@@ -47,8 +47,8 @@ is_read-requires-in-None c =
 pub returns-in-Some-false : goal.returns-in-Some-false
 returns-in-Some-false c of lexicon tasks trees address typed parsed all one_way index number =
     let typing = c.args.typing.now in
-    let judged : IsVerdict typing trees address c.args.name.now (Some false) =
-    subst (IsVerdict typing trees address c.args.name.now) (c.in-Some-false.is ∙ ap Some c.in-Some-false.field-0-test)
+    let judged : IsJudgement typing trees address c.args.name.now (Some false) =
+    subst (IsJudgement typing trees address c.args.name.now) (c.in-Some-false.is ∙ ap Some c.in-Some-false.field-0-test)
     (c.in_ok-leads_in_whole.ensures trees address one_way index number) in
     never (not_led_whole of lexicon tasks typing trees address c.args.known.now c.args.name.now judged)
 
@@ -68,8 +68,8 @@ returns-in-Some-true c of lexicon tasks trees address typed parsed all one_way i
     let begins =
     begun word name c.text.result.now c.starts_with.result c.text.ensures.text (starts_text c.starts_with.result word c.text.result.now c.starts_with.ensures.cases)
     c.if-not-starts_with.false in
-    let judged : IsVerdict typing trees address name (Some true) =
-    subst (IsVerdict typing trees address name) (c.in-Some-true.is ∙ ap Some c.in-Some-true.field-0-test)
+    let judged : IsJudgement typing trees address name (Some true) =
+    subst (IsJudgement typing trees address name) (c.in-Some-true.is ∙ ap Some c.in-Some-true.field-0-test)
     (c.in_ok-leads_in_whole.ensures trees address one_way index number) in
     IfOk-weaker c.is_read.result (λ r. IsTrue r ↔ ((one : Known) × Contains known one × IsReadAt of tasks typing false added name one))
     (λ r. IsTrue r ↔ IsOfferedBy of lexicon tasks typing trees address known name)
@@ -94,7 +94,7 @@ returns c of lexicon tasks trees address typed parsed all one_way index number =
     let begins =
     begun word name c.text.result.now c.starts_with.result c.text.ensures.text (starts_text c.starts_with.result word c.text.result.now c.starts_with.ensures.cases)
     c.if-not-starts_with.false in
-    let judged = subst (IsVerdict typing trees address name) c.in-None.is (c.in_ok-leads_in_whole.ensures trees address one_way index number) in
+    let judged = subst (IsJudgement typing trees address name) c.in-None.is (c.in_ok-leads_in_whole.ensures trees address one_way index number) in
     IfOk-weaker c.is_read-in-None.result (λ r. IsTrue r ↔ ((one : Known) × Contains known one × IsReadAt of tasks typing true added name one))
     (λ r. IsTrue r ↔ IsOfferedBy of lexicon tasks typing trees address known name)
     (λ r read.

@@ -2,7 +2,7 @@ use Rattle.std.proofs.Common.{◌++◌, ℕ, List, length, map, ap, ◌∙◌}
 use Rattle.lw_base.specs.declared.token.Token.{Token}
 use Rattle.lw_offers.specs.Starting.{moved_by}
 use Rattle.lw_complete.proofs.JoinedTokens.{is_blank}
-use Rattle.lw_complete.proofs.names.blank.Goals as goal
+use Rattle.lw_complete.proofs.blanks.blank.Goals as goal
 
 pub returns : goal.returns
 returns c of lexicon typed =

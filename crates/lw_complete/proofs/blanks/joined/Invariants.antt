@@ -1,6 +1,6 @@
 use Rattle.std.proofs.Common.{◌≡◌, ◌++◌, length, map, take}
 use Rattle.lw_offers.specs.Starting.{moved_by}
-use Rattle.lw_complete.proofs.names.joined.Given as goal
+use Rattle.lw_complete.proofs.blanks.joined.Given as goal
 
 -- those so far stand behind the tokens before the word
 abbrev pub invariant-tokens : goal.invariant-tokens
