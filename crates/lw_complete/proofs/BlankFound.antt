@@ -1,9 +1,8 @@
 -- The names that are found in blank trees of one start.
-use Rattle.std.proofs.Common.{◌≡◌, ◌↔◌, ◌⊎◌, inl, inr, ℕ, List, [], ◌∷◌, ◌++◌, Some, Any, Contains, map, length, slice_get, refl, sym, ap, subst, ◌∙◌}
+use Rattle.std.proofs.Common.{◌≡◌, ◌↔◌, ◌⊎◌, inl, inr, ℕ, List, [], ◌∷◌, ◌++◌, Any, Contains, map, length, slice_get, sym, ap, subst, ◌∙◌}
 use Rattle.std.proofs.lemmas.List.Elements.{Contains-append_cases, Contains-append_left, Contains-append_right}
 use Rattle.lw_base.specs.declared.token.Token.{Token}
 use Rattle.lw_begins.specs.Gives.{PlacesGive}
-use Rattle.lw_builder.specs.Built.{ArePartsOf}
 use Rattle.lw_findings.specs.Finding.{Finds, OfSome}
 use Rattle.lw_grammar.specs.declared.grammar.Grammar.{Grammar}
 use Rattle.lw_grammar.specs.Kinds.{Kinds}
@@ -29,7 +28,7 @@ use Rattle.lw_viable.proofs.Meaning.{meant_joined}
 use Rattle.lw_alike.proofs.Placed.{front_counts, one_place}
 use Rattle.lw_complete.specs.declared.starting.Blank.{Blank}
 use Rattle.lw_complete.specs.declared.typing.Typing.{Typing}
-use Rattle.lw_complete.specs.Starts.{GrowsReference, IsBlank, IsBlankName, IsParsedBy, IsSoundStart, IsTreeOfBlank, LeadsInBlank}
+use Rattle.lw_complete.specs.Starts.{GrowsReference, IsBlank, IsBlankName, IsParsedBy, IsSoundStart, LeadsInBlank}
 use Rattle.lw_complete.specs.Typing.{IsTypedBy, grammar_of}
 use Rattle.lw_complete.proofs.BlankTrees.{blank_grows, blank_reference, marks_are, stand_in_row}
 

@@ -1,5 +1,5 @@
 -- What is known of a blank tree and of the reference there.
-use Rattle.std.proofs.Common.{◌≡◌, ◌<◌, ℕ, List, Some, All, length, slice_get, get_or, sym, ap, ◌∙◌}
+use Rattle.std.proofs.Common.{◌≡◌, ◌<◌, ℕ, List, Some, length, slice_get, get_or, sym, ap, ◌∙◌}
 use Rattle.std.proofs.lemmas.List.Elements.{All-contains}
 use Rattle.std.proofs.lemmas.Option.{same_Some, slice_get_within}
 use Rattle.lw_numbers.specs.Numbering.{type_names}

@@ -1,5 +1,5 @@
 -- The trees of a text in which a reference is left blank.
-use Rattle.std.proofs.Common.{◌≡◌, ◌↔◌, ◌+◌, ◌<◌, ◌≤◌, ℕ, codes, List, [], ◌∷◌, ◌++◌, Option, Some, None, Bool, true, false, not, cond, map, All, length, slice_get, refl, sym, ap, subst, ◌∙◌, arith}
+use Rattle.std.proofs.Common.{◌≡◌, ◌+◌, ◌≤◌, ℕ, codes, List, [], ◌∷◌, ◌++◌, Option, Some, None, Bool, true, false, not, cond, map, length, slice_get, refl, sym, ap, subst, ◌∙◌, arith}
 use Rattle.std.proofs.lemmas.List.{append-nil, append_assoc}
 use Rattle.std.proofs.lemmas.List.Elements.{All-head, All-tail, filter-append}
 use Rattle.lw_base.specs.declared.numbers.PropId.{PropId}
@@ -65,7 +65,7 @@ module _ (place : ℕ) where
 same_root : {x y : Grown} → ◌≡◌ {A = List Bracket} (Root x ∷ []) (Root y ∷ []) → x ≡ y
 same_root e = cc
 
-one_naming : (g : Grammar) (a b : Option PropId) → IsNamingProperty g a → IsNamingProperty g b → a ≡ b
+pub one_naming : (g : Grammar) (a b : Option PropId) → IsNamingProperty g a → IsNamingProperty g b → a ≡ b
 one_naming g None None is was = refl
 one_naming g None (Some q) is was = absurd (is q.0 was)
 one_naming g (Some p) None is was = absurd (was p.0 is)

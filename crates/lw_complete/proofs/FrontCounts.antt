@@ -1,6 +1,6 @@
 -- Where each cross-reference reads tokens alone, none is open where the next one comes, and an opened tree leaves none out.
 use Rattle.std.proofs.Common.{◌≡◌, ◌+◌, ◌<◌, ℕ, List, [], ◌∷◌, ◌++◌, Option, Some, None, length, slice_get, get_or, refl, sym, ap, subst, ◌∙◌, arith}
-use Rattle.std.proofs.lemmas.List.{append-nil, append_assoc}
+use Rattle.std.proofs.lemmas.List.{append-nil}
 use Rattle.std.proofs.lemmas.Option.{slice_get-get_or}
 use Rattle.lw_base.specs.declared.token.Token.{Token}
 use Rattle.lw_grammar.specs.declared.grammar.Grammar.{Grammar}
@@ -10,13 +10,12 @@ use Rattle.lw_marks.specs.Brackets.{Bracket, InNode, InValue, Root, Shuts, in_va
 use Rattle.lw_marks.specs.Follows.{ChangesOpen, Closes, FollowsMarks, IsCross, MakesReference, PutsValueIn, RefersBy}
 use Rattle.lw_marks.specs.Follows as f
 use Rattle.lw_marks.specs.Grown.{Grown, Held}
-use Rattle.lw_marks.specs.Trees.{IsOpenedTree, points, points_of, refs}
+use Rattle.lw_marks.specs.Trees.{IsOpenedTree, points}
 use Rattle.lw_offers.specs.Starting.{ReferenceNext, marks_with, token_marks}
 use Rattle.lw_rooted.proofs.Listed.{same_head, same_tail}
 use Rattle.lw_rooted.proofs.OneTree.{one_follows}
 use Rattle.lw_sentences.specs.Marks.{Mark, Put, End}
 use Rattle.lw_sentences.specs.Marks as mark
-use Rattle.lw_tokens.specs.Cut.{kinds}
 use Rattle.lw_tree.specs.declared.node.Reference.{Reference}
 use Rattle.lw_tree.specs.Parts.{Parts}
 use Rattle.lw_alike.specs.Growth.{points_open}

@@ -1,5 +1,5 @@
 -- Marks with numbers mean one thing.
-use Rattle.std.proofs.Common.{◌≡◌, ℕ, List, [], ◌∷◌, Some, slice_get, refl, sym, ap, ap₂, subst, ◌∙◌}
+use Rattle.std.proofs.Common.{◌≡◌, ℕ, List, ◌∷◌, Some, slice_get, refl, sym, ap, subst, ◌∙◌}
 use Rattle.std.proofs.lemmas.Option.{same_Some}
 use Rattle.lw_base.specs.declared.token.Span.{Span}
 use Rattle.lw_grammar.specs.declared.grammar.Grammar.{Grammar}
@@ -9,14 +9,12 @@ use Rattle.lw_grammar.specs.declared.rule.Element.TheOpen as layer
 use Rattle.lw_grammar.specs.declared.rule.Element.TheOpen.{Element-F}
 use Rattle.lw_grammar.specs.declared.rule.Op.{Op}
 use Rattle.lw_grammar.specs.declared.rule.Value0.{Value0}
-use Rattle.lw_grammar.specs.declared.rule.Value0.TheOpen as value
 use Rattle.lw_grammar.specs.declared.rule.Value0.TheOpen.{Value0-F}
 use Rattle.lw_look.specs.Sites.{PartSite, Body, Value, IsPartAt, ElementAt, ValueAt}
 use Rattle.lw_look.specs.Sites as site
 use Rattle.lw_look.proofs.Standing.{one_stands, same_body, same_value, no_body_is_value}
 use Rattle.lw_program.specs.Numbered.{put_sites, act_sites}
 use Rattle.lw_recipes.specs.declared.mark.TreeMark.{TreeMark}
-use Rattle.lw_recipes.specs.declared.mark.TreeMark.TheVariants as numbered
 use Rattle.lw_recipes.specs.Meant.{AreMeant, AssignedAt, MeansMark}
 use Rattle.lw_recipes.specs.Meant as meant
 use Rattle.lw_sentences.specs.Marks.{Mark}

@@ -1,6 +1,8 @@
 -- What is told of some references, once one more is looked at.
-use Rattle.std.proofs.Common.{◌≡◌, ◌⊎◌, inl, inr, ◌↔◌, ◌++◌, ◌∷◌, [], ℕ, List, Bool, true, false, Option, None, IsTrue, Contains, refl, sym, subst}
+use Rattle.std.proofs.Common.{◌≡◌, ◌⊎◌, inl, inr, ◌++◌, ◌∷◌, [], ℕ, List, Bool, true, false, Option, None, Contains, refl, sym, subst}
 use Rattle.std.proofs.Common.{Some as Just}
+use Rattle.std.specs.Option.{unwrap_or}
+use Rattle.std.proofs.lemmas.Bool.{false≢true}
 use Rattle.std.proofs.lemmas.List.Elements.{Contains-append_left, Contains-push, Contains-push_cases}
 use Rattle.lw_offers.specs.Targets.{HasTarget}
 use Rattle.lw_scopes.specs.Links.{IsNumberBelow}
@@ -8,7 +10,7 @@ use Rattle.lw_scoping.specs.Links.{Trees}
 use Rattle.lw_tree.specs.declared.node.Reference.{Reference}
 use Rattle.lw_tree.specs.Parts.{Parts}
 use Rattle.lw_complete.specs.declared.typing.Typing.{Typing}
-use Rattle.lw_complete.specs.Judged.{IsToldOf, SomeLeads, SomeStands, StandsAt}
+use Rattle.lw_complete.specs.Judged.{IsToldOf, SomeLeads, StandsBetween}
 use Rattle.lw_complete.specs.Typing.{grammar_of}
 
 module _ (typing : Typing) (trees : Trees) (address : List ℕ) (tree : Parts) (start end : ℕ) where
@@ -25,22 +27,22 @@ module _ (typing : Typing) (trees : Trees) (address : List ℕ) (tree : Parts) (
   more_leads refs r (other, has, at, leads) = (other, Contains-append_left refs (r ∷ []) other has, at, leads)
 
   -- one that does not stand there
-  pub passed : (refs : List Reference) (r : Reference) (found : Option Bool) → Told refs found → ¬ StandsAt start end r → Told (refs ++ r ∷ []) found
+  pub passed : (refs : List Reference) (r : Reference) (found : Option Bool) → Told refs found → ¬ StandsBetween start end r → Told (refs ++ r ∷ []) found
   passed refs r None none not = λ other has at. by other at (Contains-push_cases refs r other has)
     where
-      by : (other : Reference) → StandsAt start end other → Contains refs other ⊎ (r ≡ other) → ⊥
+      by : (other : Reference) → StandsBetween start end other → Contains refs other ⊎ (r ≡ other) → ⊥
       by other at (inl before) = none other before at
-      by other at (inr same) = not (subst (StandsAt start end) (sym same) at)
+      by other at (inr same) = not (subst (StandsBetween start end) (sym same) at)
   passed refs r (Just leads) ((other, has, at), exactly) not = (
     (other, Contains-append_left refs (r ∷ []) other has, at),
     (λ true_. more_leads refs r (exactly.0 true_), λ (another, among, stands, target). exactly.1 (by another stands target (Contains-push_cases refs r another among))),
   )
     where
-      by : (another : Reference) → StandsAt start end another → Leads another → Contains refs another ⊎ (r ≡ another) → Leading refs
+      by : (another : Reference) → StandsBetween start end another → Leads another → Contains refs another ⊎ (r ≡ another) → Leading refs
       by another stands target (inl before) = (another, before, stands, target)
-      by another stands target (inr same) = absurd (not (subst (StandsAt start end) (sym same) stands))
+      by another stands target (inr same) = absurd (not (subst (StandsBetween start end) (sym same) stands))
 
-  here_leads : (refs : List Reference) (r : Reference) → StandsAt start end r → Leads r → Leading (refs ++ r ∷ [])
+  here_leads : (refs : List Reference) (r : Reference) → StandsBetween start end r → Leads r → Leading (refs ++ r ∷ [])
   here_leads refs r at leads = (r, Contains-push refs r, at, leads)
 
   some_before : (refs : List Reference) (r : Reference) → ¬ Leads r → Leading (refs ++ r ∷ []) → Leading refs
@@ -51,20 +53,15 @@ module _ (typing : Typing) (trees : Trees) (address : List ℕ) (tree : Parts) (
       by (inr same) = absurd (not (subst Leads (sym same) leads))
 
   -- one that stands there and leads somewhere
-  pub leads_here : (refs : List Reference) (r : Reference) → StandsAt start end r → Leads r → Told (refs ++ r ∷ []) (Just true)
-  leads_here refs r at leads = ((r, Contains-push refs r, at), (λ is. here_leads refs r at leads, λ some. tt))
+  pub leads_here : (refs : List Reference) (r : Reference) → StandsBetween start end r → Leads r → Told (refs ++ r ∷ []) (Just true)
+  leads_here refs r at leads = ((r, Contains-push refs r, at), (λ is. here_leads refs r at leads, λ some. refl))
 
   -- one that stands there and leads nowhere
-  pub leads_not : (refs : List Reference) (r : Reference) (found : Option Bool) → Told refs found → StandsAt start end r → ¬ Leads r → (before : Bool) →
-      ((found ≡ None) × (before ≡ false)) ⊎ (found ≡ Just before) → Told (refs ++ r ∷ []) (Just before)
-  leads_not refs r found told at not before (inl (none, same)) =
-      subst (λ b. Told (refs ++ r ∷ []) (Just b)) (sym same) (
-        (r, Contains-push refs r, at),
-        (λ is. absurd is, λ some. nothing (some_before refs r not some)),
-      )
+  pub leads_not : (refs : List Reference) (r : Reference) (found : Option Bool) → Told refs found → StandsBetween start end r → ¬ Leads r →
+      Told (refs ++ r ∷ []) (Just (unwrap_or found false))
+  leads_not refs r None none at not = ((r, Contains-push refs r, at), (λ is. absurd (false≢true is), λ some. absurd (nothing (some_before refs r not some))))
     where
-      nothing : Leading refs → IsTrue false
-      nothing (other, has, stands, leads) = absurd ((subst (Told refs) none told) other has stands)
-  leads_not refs r found told at not before (inr same) =
-      let was = (subst (Told refs) same told) in
-      ((r, Contains-push refs r, at), (λ is. more_leads refs r (was.1.0 is), λ some. was.1.1 (some_before refs r not some)))
+      nothing : Leading refs → ⊥
+      nothing (other, has, stands, leads) = none other has stands
+  leads_not refs r (Just before) (some, exactly) at not =
+      ((r, Contains-push refs r, at), (λ is. more_leads refs r (exactly.0 is), λ leads. exactly.1 (some_before refs r not leads)))

@@ -1,5 +1,5 @@
 -- A reference leads alike in trees with the same tables, and a text that is read one way has one such tree.
-use Rattle.std.proofs.Common.{◌≡◌, ◌+◌, ◌++◌, ℕ, List, Bool, true, false, Option, Some, None, IsTrue, Contains, if◌then◌else◌, length, refl, sym, subst}
+use Rattle.std.proofs.Common.{◌≡◌, ◌+◌, ◌++◌, ℕ, List, Bool, true, false, Option, Some, None, Contains, if◌then◌else◌, length, refl, sym, subst}
 use Rattle.std.specs.Str.{bytes_eq}
 use Rattle.std.proofs.lemmas.Option.{same_Some}
 use Rattle.lw_grammar.specs.declared.grammar.Grammar.{Grammar}
@@ -18,7 +18,7 @@ use Rattle.lw_tree.specs.declared.issue.Issue.{Issue}
 use Rattle.lw_tree.specs.declared.node.Reference.{Reference}
 use Rattle.lw_tree.specs.Parts.{Parts, SameTables}
 use Rattle.lw_complete.specs.declared.typing.Typing.{Typing}
-use Rattle.lw_complete.specs.Judged.{IsJudged, IsToldOf, StandsAt, StandsWhole}
+use Rattle.lw_complete.specs.Judged.{IsJudgement, IsToldOf, StandsBetween, StandsWhole}
 use Rattle.lw_complete.specs.Typing.{grammar_of}
 
 same_as_itself : (tree : Parts) → SameTables tree tree
@@ -80,7 +80,7 @@ module _ (typing : Typing) (one_way : IsReadOneWay (grammar_of typing)) (trees :
   abbrev text : List ℕ
   text = typing.front.now ++ name ++ typing.rest.now
 
-  pub judged_broken : (issue : Issue) → Reads (grammar_of typing) text (Broken issue) → IsJudged typing trees address name None
+  pub judged_broken : (issue : Issue) → Reads (grammar_of typing) text (Broken issue) → IsJudgement typing trees address name None
   judged_broken issue is tree r stands = no_tree one_way is stands.reads
 
   module _ (tree : Parts) (is : Reads (grammar_of typing) text (Whole tree)) where
@@ -91,12 +91,12 @@ module _ (typing : Typing) (one_way : IsReadOneWay (grammar_of typing)) (trees :
     there_too : (other : Parts) (r : Reference) → StandsWhole typing trees address name other r → Contains tree.refs r
     there_too other r stands = subst (λ (refs : List Reference). Contains refs r) (sym (same_trees one_way is stands.reads).refs) stands.among
 
-    stands_here : (r : Reference) → Contains tree.refs r → StandsAt (length typing.front.now) (length typing.front.now + length name) r →
+    stands_here : (r : Reference) → Contains tree.refs r → StandsBetween (length typing.front.now) (length typing.front.now + length name) r →
         StandsWhole typing trees address name tree r
     stands_here r among at = record { reads = is; among = among; starts = at.0; ends = at.1 }
 
-    pub judged : (found : Option Bool) → IsTold found → IsJudged typing trees address name found
-    judged None none other r stands = none r (there_too other r stands) (stands.starts, stands.ends)
+    pub judged : (found : Option Bool) → IsTold found → IsJudgement typing trees address name found
+    judged None none = λ other r stands. none r (there_too other r stands) (stands.starts, stands.ends)
     judged (Some leads) (some, exactly) = (
       (tree, some.0, stands_here some.0 some.1 some.2),
       (

@@ -1,5 +1,5 @@
 -- Which of the first kinds are keywords that can be written.
-use Rattle.std.proofs.Common.{ℕ, ◌≡◌, ◌≢◌, ◌↔◌, ◌<◌, ◌≤◌, ◌+◌, List, [], ◌∷◌, ◌++◌, Some, ◌⊎◌, inl, inr, Contains, AllPairs, length, get_or, slice_get, map, refl, sym, ap, ◌∙◌, subst, arith}
+use Rattle.std.proofs.Common.{ℕ, ◌≡◌, ◌≢◌, ◌↔◌, ◌<◌, ◌≤◌, ◌+◌, List, [], ◌∷◌, ◌++◌, Some, ◌⊎◌, inl, inr, Contains, AllPairs, length, get_or, slice_get, map, sym, ap, ◌∙◌, subst, arith}
 use Rattle.std.specs.List.Sorted.{IsStrictlyIncreasing}
 use Rattle.std.proofs.lemmas.Bool.{cases_lt}
 use Rattle.std.specs.Option.{option_map}
@@ -50,6 +50,7 @@ module _ (keywords : List (List ℕ)) (expected : List KindId) where
         there : Contains found other ⊎ (text ≡ other) → (k : ℕ) × k < i + 1 × IsNextAt other k
         there (inl has) = let (k, below, next) = (before other).0 has in (k, omega (arith, below), next)
         there (inr same) = (i, omega arith, subst (λ t. IsNextAt t i) same is)
+
         back : (k : ℕ) × k < i + 1 × IsNextAt other k → Contains (found ++ text ∷ []) other
         back (k, below, next) = elim (cases_lt k i) [
           | inl less ↦ Contains-append_left found (text ∷ []) other ((before other).1 (k, less, next))
@@ -96,7 +97,7 @@ module _ (typing : Typing) (keywords : List (List ℕ)) (expected : List KindId)
   -- the keyword at the place's kind is not next
   pub not_next : (i : ℕ) (kind : KindId) (keyword : List ℕ) → slice_get expected i ≡ Some kind → slice_get keywords kind.0 ≡ Some keyword →
       ((of : Kinds) (lexicon : Lexicon) → IsTypedBy of lexicon typing → ¬ (BeginsBy typing.word.now keyword
-        × IsCut lexicon (typing.front.now ++ keyword) (typing.tokens.now ++ visible_token kind.0 (length typing.front.now) (length keyword) ∷ []))) →
+      × IsCut lexicon (typing.front.now ++ keyword) (typing.tokens.now ++ visible_token kind.0 (length typing.front.now) (length keyword) ∷ []))) →
       (of : Kinds) (lexicon : Lexicon) → IsTypedBy of lexicon typing → (text : List ℕ) →
       ¬ IsNextAt keywords expected lexicon typing.front.now typing.word.now typing.tokens.now text i
   not_next i kind keyword expects at not of lexicon typed text next =
@@ -106,7 +107,7 @@ module _ (typing : Typing) (keywords : List (List ℕ)) (expected : List KindId)
       not of lexicon typed (
         subst (BeginsBy typing.word.now) same next.begins,
         subst (λ (k : KindId). IsCut lexicon (typing.front.now ++ keyword) (typing.tokens.now ++ visible_token k.0 (length typing.front.now) (length keyword) ∷ [])) kinds
-        (subst (λ t. IsCut lexicon (typing.front.now ++ t) (typing.tokens.now ++ visible_token next.expected_at.kind.0 (length typing.front.now) (length t) ∷ [])) same next.cut),
+            (subst (λ t. IsCut lexicon (typing.front.now ++ t) (typing.tokens.now ++ visible_token next.expected_at.kind.0 (length typing.front.now) (length t) ∷ [])) same next.cut),
       )
 
   -- there is no keyword of the place's kind
@@ -128,7 +129,7 @@ module _ (typing : Typing) (keywords : List (List ℕ)) (expected : List KindId)
 
   pub so_far_pass : (i : ℕ) (found : List (List ℕ)) → AreSoFar typing keywords expected i found →
       ((of : Kinds) (lexicon : Lexicon) → IsTypedBy of lexicon typing → (text : List ℕ) →
-        ¬ IsNextAt keywords expected lexicon typing.front.now typing.word.now typing.tokens.now text i) →
+      ¬ IsNextAt keywords expected lexicon typing.front.now typing.word.now typing.tokens.now text i) →
       AreSoFar typing keywords expected (i + 1) found
   so_far_pass i found before not = record {
     exact = λ of lexicon typed. next_pass keywords expected lexicon typing.front.now typing.word.now typing.tokens.now i found (before.exact of lexicon typed) (not of lexicon typed);
@@ -140,7 +141,7 @@ module _ (typing : Typing) (keywords : List (List ℕ)) (expected : List KindId)
       IsStrictlyIncreasing (map (λ (kind : KindId). kind.0) expected) → i < length expected → AreSoFar typing keywords expected i found →
       (at : IsExpectedAt keywords expected text i) →
       ((of : Kinds) (lexicon : Lexicon) → IsTypedBy of lexicon typing → BeginsBy typing.word.now text
-        × IsCut lexicon (typing.front.now ++ text) (typing.tokens.now ++ visible_token at.kind.0 (length typing.front.now) (length text) ∷ [])) →
+      × IsCut lexicon (typing.front.now ++ text) (typing.tokens.now ++ visible_token at.kind.0 (length typing.front.now) (length text) ∷ [])) →
       AreSoFar typing keywords expected (i + 1) (found ++ text ∷ [])
   so_far_push i found text distinct rising inside before at is = record {
     exact = λ of lexicon typed. next_push keywords expected lexicon typing.front.now typing.word.now typing.tokens.now i found text (before.exact of lexicon typed)
@@ -151,10 +152,12 @@ module _ (typing : Typing) (keywords : List (List ℕ)) (expected : List KindId)
     where
       numbers : List ℕ
       numbers = map (λ (kind : KindId). kind.0) expected
+
       number_at : {other : List ℕ} (k : ℕ) → (was : IsExpectedAt keywords expected other k) → get_or numbers k 0 ≡ was.kind.0
       number_at {other} k was =
           get_or_from_slice_get numbers k was.kind.0 0
           (slice_get-map (λ (kind : KindId). kind.0) expected k ∙ ap (option_map (λ (kind : KindId). kind.0)) was.expects)
+
       apart_places : (place : ℕ) → place < i → {other : List ℕ} → IsExpectedAt keywords expected other place → other ≡ text → ⊥
       apart_places place below {other} was same =
           let ordered : get_or numbers place 0 < get_or numbers i 0 =
@@ -162,14 +165,15 @@ module _ (typing : Typing) (keywords : List (List ℕ)) (expected : List KindId)
           let less : was.kind.0 < at.kind.0 = omega (arith, ordered, number_at place was, number_at i at) in
           distinct was.kind.0 at.kind.0 text less (slice_get_within keywords at.kind.0 text at.at)
           (get_or_from_slice_get keywords was.kind.0 other text was.at ∙ same ∙ sym (get_or_from_slice_get keywords at.kind.0 text text at.at))
+
       differ : (k : ℕ) (d : List ℕ) → k < length found → get_or found k d ≡ text → ⊥
       differ k d within same =
           let (place, below, was) = before.from (get_or found k d) (k, within, get_or_default found k (get_or found k d) d within) in
           apart_places place below was same
 
 module _ (g : Grammar) (of : Kinds) (typing : Typing) (keywords : List (List ℕ)) (expected : List KindId) (found : List (List ℕ)) (i : ℕ)
-  (so_far : AreSoFar typing keywords expected i found) (past : length expected ≤ i) (same : keywords ≡ of.keywords)
-  (told : (kind : KindId) → Contains expected kind ↔ Starts g of (kinds (visible typing.tokens.now) ++ kind.0 ∷ [])) where
+    (so_far : AreSoFar typing keywords expected i found) (past : length expected ≤ i) (same : keywords ≡ of.keywords)
+    (told : (kind : KindId) → Contains expected kind ↔ Starts g of (kinds (visible typing.tokens.now) ++ kind.0 ∷ [])) where
   -- all that was found is next, and all that is next was found
   pub all_next : (lexicon : Lexicon) → IsTypedBy of lexicon typing → (text : List ℕ) → Contains found text ↔
       (BeginsBy typing.word.now text × IsKeywordNext g of lexicon typing.front.now typing.tokens.now text)
@@ -187,16 +191,21 @@ module _ (g : Grammar) (of : Kinds) (typing : Typing) (keywords : List (List ℕ
               starts = (told kind).0 (k, slice_get_within expected k kind next.expected_at.expects, get_or_from_slice_get expected k kind kind next.expected_at.expects);
             },
           )
+
       back : BeginsBy typing.word.now text × IsKeywordNext g of lexicon typing.front.now typing.tokens.now text → Contains found text
       back (begins, next) =
           let kind : KindId = record { 0 = next.kind } in
           let (k, within, is) = (told kind).1 next.starts in
-          (so_far.exact of lexicon typed text).1 (k, omega (arith, within, past), record {
-            expected_at = record {
-              kind = kind;
-              expects = slice_get-get_or expected k kind within ∙ ap Some is;
-              at = subst (λ texts. slice_get texts next.kind ≡ Some text) (sym same) next.is_kind;
-            };
-            begins = begins;
-            cut = next.cut;
-          })
+          (so_far.exact of lexicon typed text).1 (
+            k,
+            omega (arith, within, past),
+            record {
+              expected_at = record {
+                kind = kind;
+                expects = slice_get-get_or expected k kind within ∙ ap Some is;
+                at = subst (λ texts. slice_get texts next.kind ≡ Some text) (sym same) next.is_kind;
+              };
+              begins = begins;
+              cut = next.cut;
+            },
+          )

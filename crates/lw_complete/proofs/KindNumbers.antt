@@ -1,9 +1,9 @@
 -- How many kinds there are, and which of them are keywords.
-use Rattle.std.proofs.Common.{ℕ, ◌≡◌, ◌≢◌, ◌↔◌, ◌<◌, ◌+◌, List, [], ◌∷◌, ◌++◌, Some, Contains, length, map, slice_get, refl, ap, ◌∙◌}
+use Rattle.std.proofs.Common.{ℕ, ◌≡◌, List, length, refl, ap, ◌∙◌}
 use Rattle.std.proofs.lemmas.List.{length-append, length-map}
 use Rattle.lw_grammar.specs.declared.grammar.Grammar.{Grammar}
 use Rattle.lw_grammar.specs.Kinds.{AreKinds, Kinds, kind_count}
-use Rattle.lw_grammar.specs.KindTexts.{AreKindTexts, quoted, texts_of}
+use Rattle.lw_grammar.specs.KindTexts.{AreKindTexts, texts_of}
 use Rattle.lw_tokens.specs.Lexicon.{IsLexicon, Lexicon}
 use Rattle.lw_grammar.proofs.KindLemmas.{one_kinds}
 

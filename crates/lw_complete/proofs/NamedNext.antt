@@ -1,117 +1,146 @@
 -- The starts of the readings, and the sentences in which a reference comes next.
-use Rattle.std.proofs.Common.{◌≡◌, ◌++◌, ◌∷◌, [], ℕ, List, All, Any, Contains, append_assoc, refl, sym, ap, ◌∙◌, subst}
-use Rattle.std.proofs.lemmas.List.Elements.{All-cons, All-nil}
+use Rattle.std.proofs.Common.{◌≡◌, ◌++◌, ◌∷◌, [], ℕ, List, Some, All, Contains, append_assoc, slice_get, refl, sym, ap, ◌∙◌, subst}
+use Rattle.std.proofs.lemmas.List.Elements.{All-contains, All-weaker}
 use Rattle.lw_begins.specs.Gives.{PlacesGive}
-use Rattle.lw_faults.specs.Faults.{IsCheckFault, IsTypeFault}
-use Rattle.lw_grammar.specs.declared.fault.GrammarFault.{GrammarFault}
 use Rattle.lw_grammar.specs.declared.grammar.Grammar.{Grammar}
-use Rattle.lw_grammar.specs.declared.rule.Op.{Op}
-use Rattle.lw_grammar.specs.declared.rule.Value0.{Value0}
 use Rattle.lw_grammar.specs.Kinds.{Kinds}
-use Rattle.lw_look.specs.Supplied.{IsSupplied}
 use Rattle.lw_marks.specs.Follows.{MakesReference}
-use Rattle.lw_program.specs.Says.{Task}
+use Rattle.lw_parse.specs.Parsers.{ParserParts}
+use Rattle.lw_program.specs.Says.{Reads, Task}
 use Rattle.lw_recipes.specs.Making.{AreRecipesOf, RecipeLists}
-use Rattle.lw_sentences.specs.Marks.{End, Mark, Put, kinds_of}
+use Rattle.lw_rooted.proofs.Listed.{same_head, same_tail}
+use Rattle.lw_sentences.specs.Marks.{End, Mark, Put, Token, kinds_of}
 use Rattle.lw_sentences.specs.Sentences.{IsSentence}
-use Rattle.lw_tokens.specs.Cut.{kinds, visible}
-use Rattle.lw_base.specs.declared.token.Token.{Token}
 use Rattle.lw_offers.specs.Starting.{ComesNext, ReferenceNext, marks_with, token_marks}
 use Rattle.lw_viable.specs.Aims.{EndsSome}
-use Rattle.lw_viable.specs.Readings.{HasTask}
 use Rattle.lw_viable.specs.ReferenceStarts.{AreReferenceStarts, IsReferenceStart, StartsAt}
 use Rattle.lw_viable.specs.declared.reference_start.ReferenceStart.{ReferenceStart}
 use Rattle.lw_viable.proofs.Exploring.{of_any}
 use Rattle.lw_viable.proofs.Moves.Finishing.{places_give}
-use Rattle.lw_complete.specs.Starts.{IsStartOf}
-use Rattle.lw_complete.proofs.NamedMarks.{kinds_of_tokens, same_kinds}
-use Rattle.lw_complete.proofs.NamedPuts.{put_in_sentence}
-use Rattle.lw_complete.proofs.NamedSays.{makes_reference, recipe_of}
+use Rattle.lw_complete.specs.declared.typing.Typing.{Typing}
+use Rattle.lw_complete.specs.Starts.{ComesAt, IsParsedBy, IsStartNext, IsStartOf}
+use Rattle.lw_complete.specs.Typing.{grammar_of, kinds_before}
+use Rattle.lw_complete.proofs.FrontMakes.{makes_reference}
+use Rattle.lw_complete.proofs.FrontStarts.{behind_end, sound_start, value_tokens}
+use Rattle.lw_complete.proofs.NamedOnce.{one_start}
 
--- the marks of a whole, with what stands behind the put in one list
-grouped : (before : List Mark) (p : List ℕ) (op : Op) (c : Value0) (m n : List Mark) → before ++ Put p op c ∷ m ++ End ∷ n ≡ before ++ Put p op c ∷ (m ++ End ∷ n)
-grouped before p op c m n = append_assoc before (Put p op c ∷ m) (End ∷ n)
+-- ---- tokens and what ends behind them
 
-grouped_with : (next : ReferenceNext) (ks : List ℕ) (after : List Mark) →
-    marks_with next ks ++ after ≡ next.before ++ Put next.prop next.op next.value ∷ (token_marks ks ++ End ∷ after)
-grouped_with next ks after =
-    append_assoc (next.before ++ Put next.prop next.op next.value ∷ token_marks ks) (End ∷ []) after
-    ∙ grouped next.before next.prop next.op next.value (token_marks ks) after
+kinds_of_tokens : (ks : List ℕ) → kinds_of (token_marks ks) ≡ ks
+kinds_of_tokens [] = refl
+kinds_of_tokens (k ∷ ks) = ap (λ (l : List ℕ). k ∷ l) (kinds_of_tokens ks)
 
-module _ (g : Grammar) (of : Kinds) (types : (f : GrammarFault) → ¬ IsTypeFault g f) (checks : (f : GrammarFault) → ¬ IsCheckFault g f) (supplied : IsSupplied g of)
-    (tasks : List Task) (recipes : RecipeLists) (are : AreRecipesOf g recipes) (ks : List ℕ) where
-  abbrev IsStart : ReferenceStart → Type 0
-  IsStart = IsReferenceStart g of tasks recipes (IsSentence g of) ks
+same_token : {k j : ℕ} → ◌≡◌ {A = Mark} (Token k) (Token j) → k ≡ j
+same_token is = cc
 
-  next_of : {start : ReferenceStart} → IsStart start → ReferenceNext
-  next_of is = record { before = is.before; prop = is.p; op = is.op; value = is.c }
+no_end_is_token : {k : ℕ} → ◌≡◌ {A = Mark} End (Token k) → ⊥
+no_end_is_token is = cc
 
-  -- what a start gives is a sentence with a reference in it
-  record Read (start : ReferenceStart) (is : IsStart start) (m : List Mark) : Type 0 where
-    makes : MakesReference is.op is.c
-    some_kinds : List ℕ
-    after : List Mark
-    same : kinds_of m ≡ some_kinds
-    sentence : IsSentence g of (marks_with (record { before = is.before; prop = is.p; op = is.op; value = is.c }) some_kinds ++ after)
+before_end : (ks js : List ℕ) (m n : List Mark) → token_marks ks ++ End ∷ m ≡ token_marks js ++ End ∷ n → ks ≡ js
+before_end [] [] m n same = refl
+before_end [] (j ∷ js) m n same = absurd (no_end_is_token (same_head same))
+before_end (k ∷ ks) [] m n same = absurd (no_end_is_token (sym (same_head same)))
+before_end (k ∷ ks) (j ∷ js) m n same =
+    ap (λ (i : ℕ). i ∷ ks) (same_token (same_head same)) ∙ ap (λ (l : List ℕ). j ∷ l) (before_end ks js m n (same_tail same))
 
-  read_as : (start : ReferenceStart) (is : IsStart start) (m : List Mark) → PlacesGive g of tasks (start.value ∷ []) m → Read start is m
-  read_as start is m given =
-      let (n, behind) = places_give g of tasks supplied start.behind is.behind in
-      let whole = subst (IsSentence g of) (grouped is.before is.p is.op is.c m n) (is.whole m n given behind) in
-      let reads = put_in_sentence g types checks of [] is.before is.p is.op is.c (m ++ End ∷ n) whole in
-      let makes = makes_reference g [] reads.read (recipe_of g are is.puts) is.refers in
-      let (found, after, same) = reads.tokens makes.1 in
-      record {
-        makes = makes;
-        some_kinds = found;
-        after = after;
-        same = same_kinds g of m n after found given same;
-        sentence = subst (IsSentence g of)
-            (ap (λ x. is.before ++ Put is.p is.op is.c ∷ x) same
-            ∙ sym (grouped_with (record { before = is.before; prop = is.p; op = is.op; value = is.c }) found after)) whole;
-      }
+-- ---- marks of a sentence with a reference in it
 
-  pub record Starting (tokens : List Token) (start : ReferenceStart) : Type 0 where
-    pub next : ReferenceNext
-    pub is_start : IsStartOf g next start
-    pub comes : ComesNext g of tokens next
-    -- whatever the place of the value gives is read as the reference
-    pub reads : (read : List ℕ) → EndsSome (PlacesGive g of tasks (start.value ∷ [])) read → (after : List Mark) × IsSentence g of (marks_with next read ++ after)
+with_tokens : (next : ReferenceNext) (ks : List ℕ) (n : List Mark) →
+    next.before ++ Put next.prop next.op next.value ∷ token_marks ks ++ End ∷ n ≡ marks_with next ks ++ n
+with_tokens next ks n = sym (append_assoc (next.before ++ Put next.prop next.op next.value ∷ token_marks ks) (End ∷ []) n)
 
-  pub starting : (tokens : List Token) (start : ReferenceStart) → kinds (visible tokens) ≡ ks → IsStart start → Starting tokens start
-  starting tokens start same is =
-      let (m, given) = places_give g of tasks supplied (start.value ∷ []) (value_alone is.value) in
-      let first = read_as start is m given in
-      record {
-        next = record { before = is.before; prop = is.p; op = is.op; value = is.c };
-        is_start = record { meant = is.meant; puts = is.puts };
-        comes = record {
-          kinds_are = is.kinds_are ∙ sym same;
-          makes = first.makes;
-          some_kinds = first.some_kinds;
-          after = first.after;
-          sentence = first.sentence;
-        };
-        reads = λ read (l, gives, has).
-            let r = read_as start is l gives in (
-              r.after,
-              subst (λ ls. IsSentence g of (marks_with (record { before = is.before; prop = is.p; op = is.op; value = is.c }) ls ++ r.after)) (sym r.same ∙ has)
-                  r.sentence,
-            );
-      }
-    where
-      value_alone : {p : ℕ} → HasTask g of tasks p → All (HasTask g of tasks) (p ∷ [])
-      value_alone {p} has = All-cons (HasTask g of tasks) p [] has (All-nil (HasTask g of tasks))
+behind_put : (next : ReferenceNext) (ks : List ℕ) (n : List Mark) →
+    marks_with next ks ++ n ≡ next.before ++ Put next.prop next.op next.value ∷ (token_marks ks ++ End ∷ n)
+behind_put next ks n =
+    sym (with_tokens next ks n) ∙ append_assoc next.before (Put next.prop next.op next.value ∷ token_marks ks) (End ∷ n)
 
-  -- a sentence in which a reference is read behind the tokens goes on from a start, and what it reads is what the place of the value gives
-  pub found_start : (starts : List ReferenceStart) → AreReferenceStarts g of tasks recipes (IsSentence g of) ks starts → (next : ReferenceNext) (read : List ℕ) (after : List Mark) →
-      kinds_of next.before ≡ ks → MakesReference next.op next.value → IsSentence g of (marks_with next read ++ after) →
-      (start : ReferenceStart) × Contains starts start × IsStartOf g next start × EndsSome (PlacesGive g of tasks (start.value ∷ [])) read
-  found_start starts all next read after same makes sentence =
-      let whole = subst (IsSentence g of) (grouped_with next read after) sentence in
-      let (start, has, at) = of_any _ starts (all.all next.before next.prop next.op next.value (token_marks read ++ End ∷ after) whole same makes) in (
-        start,
-        has,
-        record { meant = at.meant; puts = at.puts },
-        (at.inner, at.value, same_kinds g of at.inner at.others after read at.value (sym at.are)),
+module _ (typing : Typing) (of : Kinds) (tasks : List Task) (parser : ParserParts) (parsed : IsParsedBy of tasks typing parser) where
+  abbrev g : Grammar
+  g = grammar_of typing
+
+  abbrev pub IsStart : ReferenceStart → Type 0
+  IsStart = IsReferenceStart g of tasks parser.recipes (IsSentence g of) (kinds_before typing)
+
+  abbrev next_of : (start : ReferenceStart) → IsStart start → ReferenceNext
+  next_of start is = record { before = is.before; prop = is.p; op = is.op; value = is.c }
+
+  start_of : (start : ReferenceStart) (is : IsStart start) → IsStartOf g (next_of start is) start
+  start_of start is = record { meant = is.meant; puts = is.puts }
+
+  makes : (start : ReferenceStart) (is : IsStart start) → MakesReference is.op is.c
+  makes start is =
+      let known = parsed.program.known.program in
+      makes_reference g of parser.program known parser.recipes parsed.faultless.parser.recipes start.value is.numbers
+      (subst (λ (ts : List Task). slice_get ts start.value ≡ Some (Reads is.site)) (sym parsed.program.tasks_are) is.reads) is.puts is.refers
+
+  pub start_next : (start : ReferenceStart) → IsStart start → IsStartNext of tasks typing start
+  start_next start is = record {
+    next = next_of start is;
+    sound =
+        sound_start typing of tasks parsed.faultless.checks (next_of start is) start is.site (start_of start is) (makes start is) is.numbers is.reads is.value is.behind
+        is.whole parsed.faultless.supplied is.kinds_are;
+    value = is.value;
+  }
+
+  -- the starts that were found by these recipes, as they are lent
+  abbrev pub AreStarts : RecipeLists → List ReferenceStart → Type 0
+  AreStarts recipes starts = AreReferenceStarts g of tasks recipes (IsSentence g of) (kinds_before typing) starts
+
+  pub all_starts : (recipes : RecipeLists) (starts lent : List ReferenceStart) → recipes ≡ parser.recipes → lent ≡ starts →
+      (AreRecipesOf g recipes → AreStarts recipes starts) → AreStarts parser.recipes lent
+  all_starts recipes starts lent same lends told =
+      subst (AreStarts parser.recipes) (sym lends)
+      (subst (λ (rs : RecipeLists). AreStarts rs starts) same (told (subst (AreRecipesOf g) (sym same) parsed.faultless.parser.recipes)))
+
+  pub all_next : (starts : List ReferenceStart) → AreStarts parser.recipes starts → All (IsStartNext of tasks typing) starts
+  all_next starts all = All-weaker IsStart (IsStartNext of tasks typing) start_next starts all.each
+
+  -- whatever the place of the value gives is read as the reference of the start
+  pub reads_so : (start : ReferenceStart) → IsStart start → (next : ReferenceNext) → ComesAt of typing next start → (read : List ℕ) →
+      EndsSome (PlacesGive g of tasks (start.value ∷ [])) read → (after : List Mark) × IsSentence g of (marks_with next read ++ after)
+  reads_so start is next at read (m, give, has) =
+      let (ks, are) = value_tokens g of tasks parsed.faultless.checks is.numbers is.reads is.puts (makes start is).1 give in
+      let (n, behind) = places_give g of tasks parsed.faultless.supplied start.behind is.behind in
+      let same : next_of start is ≡ next = one_start g (next_of start is) next start (start_of start is) at.is_start in
+      let read_are : ks ≡ read = sym (kinds_of_tokens ks) ∙ sym (ap kinds_of are) ∙ has in
+      let sentence : IsSentence g of (marks_with (next_of start is) ks ++ n) =
+      subst (IsSentence g of)
+      (ap (λ (l : List Mark). is.before ++ Put is.p is.op is.c ∷ l ++ End ∷ n) are ∙ with_tokens (next_of start is) ks n) (is.whole m n give behind) in (
+        n,
+        subst (λ (x : ReferenceNext). IsSentence g of (marks_with x read ++ n)) same
+            (subst (λ (l : List ℕ). IsSentence g of (marks_with (next_of start is) l ++ n)) read_are sentence),
       )
+
+  -- a start from which a sentence goes on that reads these kinds as a reference and has these marks behind it
+  pub record Begins (starts : List ReferenceStart) (next : ReferenceNext) (read : List ℕ) (after : List Mark) : Type 0 where
+    pub start : ReferenceStart
+    pub among : Contains starts start
+    pub is_start : IsStartOf g next start
+    pub gives : EndsSome (PlacesGive g of tasks (start.value ∷ [])) read
+    pub behind : PlacesGive g of tasks start.behind after
+
+  module _ (starts : List ReferenceStart) (all : AreReferenceStarts g of tasks parser.recipes (IsSentence g of) (kinds_before typing) starts) where
+    begun : (next : ReferenceNext) (read : List ℕ) (after : List Mark) → MakesReference next.op next.value → (start : ReferenceStart) → Contains starts start →
+        StartsAt g of tasks next.before next.prop next.op next.value (token_marks read ++ End ∷ after) start → Begins starts next read after
+    begun next read after makes start among at =
+        let is : IsStart start = All-contains IsStart starts start all.each among in
+        let (js, are) = value_tokens g of tasks parsed.faultless.checks is.numbers is.reads at.puts makes.1 at.value in
+        let same : token_marks read ++ End ∷ after ≡ token_marks js ++ End ∷ at.others = at.are ∙ ap (λ (l : List Mark). l ++ End ∷ at.others) are in
+        record {
+          start = start;
+          among = among;
+          is_start = record { meant = at.meant; puts = at.puts };
+          gives = (at.inner, at.value, ap kinds_of are ∙ kinds_of_tokens js ∙ sym (before_end read js after at.others same));
+          behind = subst (PlacesGive g of tasks start.behind) (sym (behind_end read js after at.others same)) at.behind;
+        }
+
+    -- each sentence in which a reference comes next goes on from one
+    pub begins : (next : ReferenceNext) → ComesNext g of typing.tokens.now next → (read : List ℕ) (after : List Mark) → IsSentence g of (marks_with next read ++ after) →
+        Begins starts next read after
+    begins next comes read after sentence =
+        let whole : IsSentence g of (next.before ++ Put next.prop next.op next.value ∷ (token_marks read ++ End ∷ after)) =
+        subst (IsSentence g of) (behind_put next read after) sentence in
+        let (start, among, at) =
+        of_any (StartsAt g of tasks next.before next.prop next.op next.value (token_marks read ++ End ∷ after)) starts
+        (all.all next.before next.prop next.op next.value (token_marks read ++ End ∷ after) whole comes.kinds_are comes.makes) in
+        begun next read after comes.makes start among at

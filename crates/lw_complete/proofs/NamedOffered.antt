@@ -1,100 +1,104 @@
 -- The names that are offered are those that may come next.
-use Rattle.std.proofs.Common.{◌≡◌, ◌≢◌, ◌⊎◌, inl, inr, ◌↔◌, ◌++◌, ◌∷◌, [], ℕ, List, Bool, true, false, IsTrue, All, Contains, map, refl, sym, ap, ◌∙◌, subst}
+use Rattle.std.proofs.Common.{◌≡◌, ◌⊎◌, inl, inr, ◌↔◌, ◌∷◌, [], ℕ, List, Bool, true, false, IsTrue, All, Contains, map, refl, sym, subst, true≢false, arith}
 use Rattle.std.proofs.lemmas.List.Elements.{All-contains}
-use Rattle.lw_base.specs.declared.token.Token.{Token}
 use Rattle.lw_begins.specs.Gives.{PlacesGive}
-use Rattle.lw_faults.specs.Faults.{IsCheckFault, IsTypeFault}
-use Rattle.lw_grammar.specs.declared.fault.GrammarFault.{GrammarFault}
-use Rattle.lw_grammar.specs.declared.grammar.Grammar.{Grammar}
+use Rattle.lw_findings.specs.Finding.{Finds, OfSome}
 use Rattle.lw_grammar.specs.Kinds.{Kinds}
-use Rattle.lw_look.specs.Supplied.{IsSupplied}
+use Rattle.lw_parse.specs.Parsers.{ParserParts}
 use Rattle.lw_program.specs.Says.{Task}
-use Rattle.lw_recipes.specs.Making.{AreRecipesOf, RecipeLists}
 use Rattle.lw_rooted.proofs.Listed.{mapped}
-use Rattle.lw_scopes.specs.Links.{IsNumberBelow}
 use Rattle.lw_scoping.specs.Links.{Trees}
-use Rattle.lw_sentences.specs.Marks.{Mark}
 use Rattle.lw_sentences.specs.Sentences.{IsSentence}
 use Rattle.lw_tokens.specs.Lexicon.{Lexicon}
-use Rattle.lw_offers.specs.Offers.{IsNameNext, LeadsSomewhere}
+use Rattle.lw_offers.specs.Offers.{IsFoundNext, IsNameNext, LeadsSomewhere}
 use Rattle.lw_offers.specs.Offers as offer
-use Rattle.lw_offers.specs.Starting.{ComesNext, ReferenceNext, marks_with}
-use Rattle.lw_offers.specs.Targets.{HasTarget, renamed_to}
+use Rattle.lw_offers.specs.Starting.{ComesNext, IsFindable, ReferenceNext}
+use Rattle.lw_offers.specs.Starting as find
 use Rattle.lw_offers.specs.Words.{BeginsBy}
 use Rattle.lw_tokens.specs.Cut.{kinds, visible}
 use Rattle.lw_tree.specs.declared.node.Reference.{Reference}
 use Rattle.lw_tree.specs.Parts.{Parts}
 use Rattle.lw_viable.specs.Aims.{EndsSome}
-use Rattle.lw_viable.specs.ReferenceStarts.{AreReferenceStarts, IsReferenceStart}
+use Rattle.lw_viable.specs.ReferenceStarts.{AreReferenceStarts}
 use Rattle.lw_viable.specs.declared.reference_start.ReferenceStart.{ReferenceStart}
 use Rattle.lw_viable.proofs.Exploring.{any_of, of_any}
 use Rattle.lw_viable.proofs.Handed.{any_of_mapped}
 use Rattle.lw_complete.specs.declared.names.Known.{Known}
 use Rattle.lw_complete.specs.declared.typing.Typing.{Typing}
 use Rattle.lw_complete.specs.Judged.{LeadsWhole, StandsWhole}
-use Rattle.lw_complete.specs.Starts.{ComesAt, IsFoundAt, IsKnownStart, IsOfferedBy, IsReadAt}
+use Rattle.lw_complete.specs.Starts.{ComesAt, IsBlankName, IsNameFoundAt, IsKnownStart, IsOfferedBy, IsParsedBy, LeadsInFront}
 use Rattle.lw_complete.specs.Typing.{grammar_of, kinds_before}
-use Rattle.lw_complete.proofs.JudgedTrees.{target_over}
-use Rattle.lw_complete.proofs.NamedFront.{one_front}
-use Rattle.lw_complete.proofs.NamedNext.{Starting, found_start, starting}
-use Rattle.lw_complete.proofs.NamedOnce.{one_start}
+use Rattle.lw_complete.proofs.NamedFront.{leads_by}
+use Rattle.lw_complete.proofs.NamedNext.{IsStart, begins, reads_so}
 
 unmapped : {X Y : Type 0} (f : X → Y) (xs : List X) (y : Y) → Contains (map f xs) y → (x : X) × Contains xs x × (f x ≡ y)
-unmapped f xs y has = of_any (λ x. f x ≡ y) xs (any_of_mapped (λ z. z ≡ y) f xs (any_of (λ z. z ≡ y) (map f xs) y has refl))
+unmapped {X} {Y} f xs y has =
+    of_any (λ (x : X). f x ≡ y) xs (any_of_mapped (λ (z : Y). z ≡ y) f xs (any_of (λ (z : Y). z ≡ y) (map f xs) y has refl))
 
-module _ (typing : Typing) (of : Kinds) (lexicon : Lexicon) (tasks : List Task) (types : (f : GrammarFault) → ¬ IsTypeFault (grammar_of typing) f)
-    (checks : (f : GrammarFault) → ¬ IsCheckFault (grammar_of typing) f) (supplied : IsSupplied (grammar_of typing) of) (recipes : RecipeLists)
-    (are : AreRecipesOf (grammar_of typing) recipes) (starts : List ReferenceStart)
-    (all : AreReferenceStarts (grammar_of typing) of tasks recipes (IsSentence (grammar_of typing) of) (kinds_before typing) starts) where
-  abbrev IsStart : ReferenceStart → Type 0
-  IsStart = IsReferenceStart (grammar_of typing) of tasks recipes (IsSentence (grammar_of typing) of) (kinds_before typing)
+module _ (typing : Typing) (of : Kinds) (lexicon : Lexicon) (tasks : List Task) (parser : ParserParts) (parsed : IsParsedBy of tasks typing parser)
+    (starts : List ReferenceStart)
+    (all : AreReferenceStarts (grammar_of typing) of tasks parser.recipes (IsSentence (grammar_of typing) of) (kinds_before typing) starts) (trees : Trees)
+    (address : List ℕ) where
+  abbrev IsNext : List ℕ → Type 0
+  IsNext = IsNameNext (grammar_of typing) of lexicon trees address typing.front.now typing.rest.now typing.tokens.now
 
-  abbrev From : ReferenceStart → Type 0
-  From = Starting (grammar_of typing) of types checks supplied tasks recipes are (kinds_before typing) typing.tokens.now
+  abbrev IsFound : List ℕ → Type 0
+  IsFound = IsFoundNext (grammar_of typing) of lexicon trees address typing.front.now typing.rest.now typing.tokens.now
 
-  from : (start : ReferenceStart) → IsStart start → From start
-  from start is = starting (grammar_of typing) of types checks supplied tasks recipes are (kinds_before typing) typing.tokens.now start refl is
+  abbrev pub IsFoundBySome : List ℕ → Type 0
+  IsFoundBySome name = (start : ReferenceStart) × Contains starts start × IsNameFoundAt of lexicon tasks typing trees address start name
 
-  -- whatever the place of the value gives is read as the reference of the start
-  reads_so : (start : ReferenceStart) → IsStart start → (next : ReferenceNext) → ComesAt of typing next start → (read : List ℕ) →
-      EndsSome (PlacesGive (grammar_of typing) of tasks (start.value ∷ [])) read → (after : List Mark) × IsSentence (grammar_of typing) of (marks_with next read ++ after)
-  reads_so start is next at read gives =
-      let f = from start is in
-      let same : f.next ≡ next = one_start (grammar_of typing) f.next next start f.is_start at.is_start in
-      let (after, sentence) = f.reads read gives in
-      (after, subst (λ (n : ReferenceNext). IsSentence (grammar_of typing) of (marks_with n read ++ after)) same sentence)
+  -- ---- what is found is found at a start
 
-  -- a start at which the reference comes
-  start_of : (next : ReferenceNext) → ComesNext (grammar_of typing) of typing.tokens.now next → (read : List ℕ) (after : List Mark) →
-      IsSentence (grammar_of typing) of (marks_with next read ++ after) →
-      (start : ReferenceStart) × Contains starts start × ComesAt of typing next start × EndsSome (PlacesGive (grammar_of typing) of tasks (start.value ∷ [])) read
-  start_of next comes read after sentence =
-      let (start, has, is, gives) =
-      found_start (grammar_of typing) of types checks supplied tasks recipes are (kinds_before typing) starts all next read after comes.kinds_are comes.makes sentence in
-      (start, has, record { is_start = is; comes = comes }, gives)
+  by_start : (name : List ℕ) (next : ReferenceNext) → ComesNext (grammar_of typing) of typing.tokens.now next →
+      IsFindable (grammar_of typing) of lexicon trees address typing.front.now typing.rest.now typing.tokens.now next name → IsFoundBySome name
+  by_start name next comes (find.in_front {tree} {r} is target) =
+      let b = begins typing of tasks parser parsed starts all next comes comes.some_kinds comes.after comes.sentence in
+      (b.start, b.among, (next, record { is_start = b.is_start; comes = comes }, inl (tree, r, is, target)))
+  by_start name next comes (find.in_whole {front_tree} {tree} {r} {s} is is_blank target) =
+      let b = begins typing of tasks parser parsed starts all next comes is_blank.some_kinds is_blank.after is_blank.sentence in (
+        b.start,
+        b.among,
+        (
+          next,
+          record { is_start = b.is_start; comes = comes },
+          inr record { front_tree = front_tree; front_r = s; is_front = is; tree = tree; r = r; is_tree = is_blank; behind = b.behind; target = target },
+        ),
+      )
 
-  module _ (trees : Trees) (address : List ℕ) (known : List Known) (are_starts : map (λ (one : Known). one.start.now) known ≡ starts)
-      (are_known : All (IsKnownStart of typing trees address) known) where
-    abbrev IsNext : List ℕ → Type 0
-    IsNext = IsNameNext (grammar_of typing) of lexicon trees address typing.front.now typing.rest.now typing.tokens.now
+  findable : (name : List ℕ) (next : ReferenceNext) (start : ReferenceStart) →
+      LeadsInFront of typing trees address next name ⊎ IsBlankName of typing trees address lexicon tasks next start name →
+      IsFindable (grammar_of typing) of lexicon trees address typing.front.now typing.rest.now typing.tokens.now next name
+  findable name next start (inl (tree, r, is, target)) = find.in_front is target
+  findable name next start (inr is) = find.in_whole is.is_front is.is_tree is.target
 
-    abbrev IsFound : List ℕ → Type 0
-    IsFound = offer.IsFoundNext (grammar_of typing) of lexicon trees address typing.front.now typing.rest.now typing.tokens.now
+  pub found_both : (name : List ℕ) → IsFound name ↔ IsFoundBySome name
+  found_both name = (
+    λ is. by_start name is.next is.comes is.findable,
+    λ (start, has, (next, at, either)). record { next = next; comes = at.comes; findable = findable name next start either },
+  )
 
+  -- those that were gathered
+  pub names_found : (names : List (List ℕ)) → Finds (OfSome (IsNameFoundAt of lexicon tasks typing trees address) starts) [] names → (name : List ℕ) →
+      Contains names name ↔ IsFound name
+  names_found names finds name = (
+    λ has. (found_both name).1 (some ((finds.exact name).0 has)),
+    λ found. (finds.exact name).1 (inr ((found_both name).0 found)),
+  )
+    where
+      some : Contains [] name ⊎ IsFoundBySome name → IsFoundBySome name
+      some (inl (k, inside, is)) = absurd (omega (arith, inside))
+      some (inr is) = is
+
+  -- ---- what is offered
+
+  module _ (known : List Known) (are_starts : map (λ (one : Known). one.start.now) known ≡ starts) (are_known : All (IsKnownStart of typing trees address) known) where
     abbrev IsOffered : List ℕ → Type 0
     IsOffered = IsOfferedBy of lexicon tasks typing trees address known
 
-    pub found_both : (name : List ℕ) → IsFound name ↔ ((start : ReferenceStart) × Contains starts start × IsFoundAt of lexicon typing trees address start name)
-    found_both name = (
-      λ is.
-          let (start, has, at, gives) = start_of is.next is.comes is.comes.some_kinds is.comes.after is.comes.sentence in
-          (start, has, (is.next, at, is.findable)),
-      λ (start, has, (next, at, findable)). record { next = next; comes = at.comes; findable = findable },
-    )
-
-    is_start : (one : Known) → Contains known one → IsStart one.start.now
+    is_start : (one : Known) → Contains known one → IsStart typing of tasks parser parsed one.start.now
     is_start one among =
-        All-contains IsStart starts one.start.now all.each
+        All-contains (IsStart typing of tasks parser parsed) starts one.start.now all.each
         (subst (λ (xs : List ReferenceStart). Contains xs one.start.now) are_starts (mapped (λ (one : Known). one.start.now) known one among))
 
     leads_there : (name : List ℕ) (next : ReferenceNext) (one : Known) → Contains known one → ComesAt of typing next one.start.now → (judged : Bool) →
@@ -109,7 +113,8 @@ module _ (typing : Typing) (of : Kinds) (lexicon : Lexicon) (tasks : List Task) 
     pub offered_next : (name : List ℕ) → IsFound name → IsOffered name → IsNext name
     offered_next name found is =
         let (next, at, read, leads) = is.reads in
-        let (after, sentence) = reads_so is.one.start.now (is_start is.one is.among) next at (kinds (visible is.added)) read.gives in
+        let (after, sentence) =
+        reads_so typing of tasks parser parsed is.one.start.now (is_start is.one is.among) next at (kinds (visible is.added)) read.gives in
         record {
           found = found;
           next = next;
@@ -135,24 +140,22 @@ module _ (typing : Typing) (of : Kinds) (lexicon : Lexicon) (tasks : List Task) 
 
     judge : (name : List ℕ) (next : ReferenceNext) (one : Known) → Contains known one → ComesAt of typing next one.start.now →
         LeadsSomewhere (grammar_of typing) of lexicon trees address typing.front.now typing.rest.now typing.tokens.now next name → Judgement name next one
-    judge name next one among at (offer.in_whole {tree = tree} {r = r} stands target) =
-        record { judged = false; leads = λ is. absurd is; whole = inl (tree, r, stands, target) }
-    judge name next one among at (offer.in_front {tree = tree} {r = r} none is target) =
+    judge name next one among at (offer.in_whole {tree} {r} stands target) =
+        record { judged = false; leads = λ is. absurd (true≢false (sym is)); whole = inl (tree, r, stands, target) }
+    judge name next one among at (offer.in_front {tree} {r} none is target) =
         let told = (All-contains (IsKnownStart of typing trees address) known one are_known among).told next at in
-        let (same, reference) = one_front (grammar_of typing) of typing.front.now typing.tokens.now next tree told.tree r told.r is told.is_tree in
-        let there = target_over (grammar_of typing) trees address tree told.tree (renamed_to name r) same target in
-        let contained = (told.exact name).1
-        (subst (λ (x : Reference). HasTarget (IsNumberBelow (grammar_of typing)) trees address told.tree (renamed_to name x)) reference there) in
-        record { judged = true; leads = λ yes. contained; whole = inr (tt, none) }
+        record { judged = true; leads = λ yes. leads_by of typing trees address next one.front told name (tree, r, is, target); whole = inr (refl, none) }
 
     pub next_offered : (name : List ℕ) → BeginsBy typing.word.now name → IsNext name → IsOffered name
-    next_offered name begins is =
-        let (start, has, at, gives) = start_of is.next is.comes (kinds (visible is.read.added)) is.read.after is.read.sentence in
-        let (one, among, same) = unmapped (λ (one : Known). one.start.now) known start (subst (λ (xs : List ReferenceStart). Contains xs start) (sym are_starts) has) in
-        let there = subst (ComesAt of typing is.next) (sym same) at in
+    next_offered name word is =
+        let b = begins typing of tasks parser parsed starts all is.next is.comes (kinds (visible is.read.added)) is.read.after is.read.sentence in
+        let (one, among, same) =
+        unmapped (λ (one : Known). one.start.now) known b.start (subst (λ (xs : List ReferenceStart). Contains xs b.start) (sym are_starts) b.among) in
+        let there : ComesAt of typing is.next one.start.now =
+        subst (λ (s : ReferenceStart). ComesAt of typing is.next s) (sym same) record { is_start = b.is_start; comes = is.comes } in
         let j = judge name is.next one among there is.leads in
         record {
-          begins = begins;
+          begins = word;
           added = is.read.added;
           cut = is.read.cut;
           one = one;
@@ -163,10 +166,18 @@ module _ (typing : Typing) (of : Kinds) (lexicon : Lexicon) (tasks : List Task) 
             there,
             record {
               some = is.read.some;
-              gives = subst (λ (s : ReferenceStart). EndsSome (PlacesGive (grammar_of typing) of tasks (s.value ∷ [])) (kinds (visible is.read.added))) (sym same) gives;
+              gives = subst (λ (s : ReferenceStart). EndsSome (PlacesGive (grammar_of typing) of tasks (s.value ∷ [])) (kinds (visible is.read.added))) (sym same) b.gives;
               says = record { wanted = is.read.wanted; rule = is.read.rule; refers = is.read.refers; means = is.read.means };
             },
             j.leads,
           );
           whole = j.whole;
         }
+
+    pub all_offered : (names : List (List ℕ)) → ((name : List ℕ) → Contains names name ↔ IsFound name) → (found : List (List ℕ)) →
+        ((name : List ℕ) → Contains found name ↔ (Contains names name × IsOffered name)) → (name : List ℕ) →
+        Contains found name ↔ (BeginsBy typing.word.now name × IsNext name)
+    all_offered names are found exact name = (
+      λ has. (let (among, is) = (exact name).0 has in (is.begins, offered_next name ((are name).0 among) is)),
+      λ (word, is). (exact name).1 ((are name).1 is.found, next_offered name word is),
+    )

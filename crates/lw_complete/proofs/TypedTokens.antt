@@ -1,8 +1,9 @@
 -- Tokens that are compared, and the tokens behind those of a text.
-use Rattle.std.proofs.Common.{ℕ, ◌≡◌, ◌==◌, ◌&&◌, Bool, true, false, List, ◌++◌, drop, length, Option, Some, None, Result, IfOk, MatchOption, refl, sym, ◌∙◌, subst, ap}
+use Rattle.std.proofs.Common.{ℕ, ◌≡◌, ◌==◌, ◌&&◌, Bool, true, List, [], ◌∷◌, ◌++◌, All, drop, length, Option, Some, None, Result, IfOk, IfSome, MatchOption, sym, ◌∙◌, subst, ap}
 use Rattle.std.proofs.Math.Bool.{beq}
 use Rattle.std.proofs.lemmas.Bool.Decides.{Decides-and, Decides-eqb}
 use Rattle.std.proofs.lemmas.List.{append_cancel_left}
+use Rattle.std.proofs.lemmas.List.Elements.{All-tail}
 use Rattle.std.proofs.lemmas.Result.{IfOk-weaker}
 use Rattle.std.proofs.lemmas.Slice.Eq.{starts_is}
 use Rattle.std.specs.Bool.{Decides}
@@ -40,7 +41,7 @@ begins tokens first r is = starts_is token_eq-decides tokens first r is
 
 -- what stands behind these first tokens of the one cut of a text
 module _ {X : Type 0} (items : X → List Token) (lexicon : Lexicon) (text : List ℕ) (tokens first : List Token) (cut : IsCut lexicon text tokens)
-  (one : (others : List Token) → IsCut lexicon text others → others ≡ tokens) where
+    (one : (others : List Token) → IsCut lexicon text others → others ≡ tokens) where
   abbrev pub IsBehind : Option X → Type 0
   IsBehind found = MatchOption found ((others : List Token) → ¬ (tokens ≡ first ++ others)) (λ added. tokens ≡ first ++ items added)
 
@@ -57,3 +58,22 @@ module _ {X : Type 0} (items : X → List Token) (lexicon : Lexicon) (text : Lis
 
   pub added_in : {E : Type 0} (r : Result (Option X) E) → IfOk r IsBehind → IfOk r IsAdded
   added_in r = IfOk-weaker r IsBehind IsAdded added_of
+
+-- what holds of all holds of the last ones
+all_last : {X : Type 0} (P : X → Type 0) (xs ys : List X) → All P (xs ++ ys) → All P ys
+all_last P [] ys all = all
+all_last P (x ∷ xs) ys all = all_last P xs ys (All-tail P x (xs ++ ys) all)
+
+-- what holds of all tokens holds of those behind the first
+module _ {X : Type 0} (items : X → List Token) (P : Token → Type 0) (tokens first : List Token) (all : All P tokens) where
+  behind_all : (found : Option X) → MatchOption found ((others : List Token) → ¬ (tokens ≡ first ++ others)) (λ added. tokens ≡ first ++ items added) →
+      IfSome found (λ added. All P (items added))
+  behind_all None not = tt
+  behind_all (Some added) same = all_last P first (items added) (subst (All P) same all)
+
+  pub behind_all_in : {E : Type 0} (r : Result (Option X) E) →
+      IfOk r (λ found. MatchOption found ((others : List Token) → ¬ (tokens ≡ first ++ others)) (λ added. tokens ≡ first ++ items added)) →
+      IfOk r (λ found. IfSome found (λ added. All P (items added)))
+  behind_all_in r =
+      IfOk-weaker r (λ found. MatchOption found ((others : List Token) → ¬ (tokens ≡ first ++ others)) (λ added. tokens ≡ first ++ items added))
+      (λ found. IfSome found (λ added. All P (items added))) behind_all

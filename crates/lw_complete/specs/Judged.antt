@@ -10,21 +10,21 @@ use Rattle.lw_complete.specs.declared.typing.Typing.{Typing}
 use Rattle.lw_complete.specs.Typing.{grammar_of}
 
 -- the reference takes up just these bytes
-abbrev pub StandsAt : ℕ → ℕ → Reference → Type 0
-StandsAt start end r = (r.span.start ≡ start) × (r.span.end ≡ end)
+abbrev pub StandsBetween : ℕ → ℕ → Reference → Type 0
+StandsBetween start end r = (r.span.start ≡ start) × (r.span.end ≡ end)
 
 module _ (typing : Typing) (trees : Trees) (address : List ℕ) (tree : Parts) (start end : ℕ) (refs : List Reference) where
   -- one of these references of the tree takes up just these bytes
   abbrev pub SomeStands : Type 0
-  SomeStands = (r : Reference) × Contains refs r × StandsAt start end r
+  SomeStands = (r : Reference) × Contains refs r × StandsBetween start end r
 
   -- and it leads somewhere
   abbrev pub SomeLeads : Type 0
-  SomeLeads = (r : Reference) × Contains refs r × StandsAt start end r × HasTarget (IsNumberBelow (grammar_of typing)) trees address tree r
+  SomeLeads = (r : Reference) × Contains refs r × StandsBetween start end r × HasTarget (IsNumberBelow (grammar_of typing)) trees address tree r
 
   -- None where none of these references takes up just these bytes, else whether one of those that do leads somewhere
   abbrev pub IsToldOf : Option Bool → Type 0
-  IsToldOf None = (r : Reference) → Contains refs r → ¬ StandsAt start end r
+  IsToldOf None = (r : Reference) → Contains refs r → ¬ StandsBetween start end r
   IsToldOf (Some leads) = SomeStands × (IsTrue leads ↔ SomeLeads)
 
 module _ (typing : Typing) (trees : Trees) (address : List ℕ) (name : List ℕ) where
@@ -38,6 +38,6 @@ module _ (typing : Typing) (trees : Trees) (address : List ℕ) (name : List ℕ
   LeadsWhole = (tree : Parts) × (r : Reference) × StandsWhole tree r × HasTarget (IsNumberBelow (grammar_of typing)) trees address tree r
 
   -- None where the text has no such tree, else whether the reference leads somewhere
-  abbrev pub IsJudged : Option Bool → Type 0
-  IsJudged None = (tree : Parts) (r : Reference) → ¬ StandsWhole tree r
-  IsJudged (Some leads) = ((tree : Parts) × (r : Reference) × StandsWhole tree r) × (IsTrue leads ↔ LeadsWhole)
+  abbrev pub IsJudgement : Option Bool → Type 0
+  IsJudgement None = (tree : Parts) (r : Reference) → ¬ StandsWhole tree r
+  IsJudgement (Some leads) = ((tree : Parts) × (r : Reference) × StandsWhole tree r) × (IsTrue leads ↔ LeadsWhole)

@@ -6,7 +6,7 @@ use Rattle.lw_builder.specs.Built.{ArePartsOf}
 use Rattle.lw_grammar.specs.declared.grammar.Grammar.{Grammar}
 use Rattle.lw_grammar.specs.Kinds.{AreKinds, Kinds}
 use Rattle.lw_marks.specs.Follows.{LooksUp, RefersBy}
-use Rattle.lw_offers.specs.Starting.{ComesNext, IsBlankTree, IsFindable, IsFrontTree, ReferenceNext, moved_by, marks_with, token_marks}
+use Rattle.lw_offers.specs.Starting.{ComesNext, IsBlankTree, IsFrontTree, ReferenceNext, moved_by, marks_with}
 use Rattle.lw_offers.specs.Targets.{HasTarget, renamed_to}
 use Rattle.lw_offers.specs.Words.{BeginsBy}
 use Rattle.lw_marks.specs.Trees.{IsTree}
@@ -59,6 +59,11 @@ module _ (of : Kinds) (typing : Typing) (trees : Trees) (address : List ℕ) whe
     pub is_tree : IsBlankTree (grammar_of typing) of lexicon typing.front.now typing.rest.now typing.tokens.now next front_tree tree r
     pub behind : PlacesGive (grammar_of typing) of tasks start.behind is_tree.after
     pub target : HasTarget (IsNumberBelow (grammar_of typing)) trees address tree (renamed_to name r)
+
+-- so many references stand in the tree of what was read before the reference
+abbrev pub StandsBehind : Kinds → Typing → ReferenceNext → ℕ → Type 0
+StandsBehind of typing next before =
+    (tree : Parts) × (r : Reference) × IsFrontTree (grammar_of typing) of typing.front.now typing.tokens.now next tree r × (before ≡ length tree.refs)
 
 -- texts of the language are parsed by this parser, at the places of whose program these tasks stand
 pub record IsParsedBy (of : Kinds) (tasks : List Task) (typing : Typing) (parser : ParserParts) : Type 0 where
@@ -113,12 +118,11 @@ pub record ComesAt (of : Kinds) (typing : Typing) (next : ReferenceNext) (start 
   pub is_start : IsStartOf (grammar_of typing) next start
   pub comes : ComesNext (grammar_of typing) of typing.tokens.now next
 
--- some does, and its value has a task
+-- some does, a sentence goes on so with whatever its places behind give, and its value has a task
 pub record IsStartNext (of : Kinds) (tasks : List Task) (typing : Typing) (start : ReferenceStart) : Type 0 where
   pub next : ReferenceNext
-  pub at : ComesAt of typing next start
+  pub sound : IsSoundStart of tasks typing next start
   pub value : HasTask (grammar_of typing) of tasks start.value
-  pub behind : All (HasTask (grammar_of typing) of tasks) start.behind
 
 -- the name is what the reference looks up by these tokens, which are those of the name behind the text before the word
 pub record IsSaidBy (typing : Typing) (next : ReferenceNext) (added : List Token) (name : List ℕ) : Type 0 where
@@ -128,7 +132,7 @@ pub record IsSaidBy (typing : Typing) (next : ReferenceNext) (added : List Token
   pub means : LooksUp (grammar_of typing) (typing.front.now ++ name) rule (visible added) name
 
 -- These tokens have the kinds of what the place of the start's value gives, and the name is what the reference looks up by them.
-pub record IsReadBy (of : Kinds) (tasks : List Task) (typing : Typing) (next : ReferenceNext) (start : ReferenceStart) (added : List Token) (name : List ℕ) : Type 0 where
+pub record IsReadAsStart (of : Kinds) (tasks : List Task) (typing : Typing) (next : ReferenceNext) (start : ReferenceStart) (added : List Token) (name : List ℕ) : Type 0 where
   pub some : added ≢ []
   pub gives : EndsSome (PlacesGive (grammar_of typing) of tasks (start.value ∷ [])) (kinds (visible added))
   pub says : IsSaidBy typing next added name
@@ -137,16 +141,23 @@ pub record IsReadBy (of : Kinds) (tasks : List Task) (typing : Typing) (next : R
 pub record IsKnownStart (of : Kinds) (typing : Typing) (trees : Trees) (address : List ℕ) (known : Known) : Type 0 where
   pub told : (next : ReferenceNext) → ComesAt of typing next known.start.now → AreFrontNames of typing trees address next known.front
 
--- a name by which the cross-reference of the start leads somewhere, in that tree or in the tree of the whole text with the reference left blank
-abbrev pub IsFoundAt : Kinds → Lexicon → Typing → Trees → List ℕ → ReferenceStart → List ℕ → Type 0
-IsFoundAt of lexicon typing trees address start name =
+-- by this name the cross-reference leads somewhere in that tree
+abbrev pub LeadsInFront : Kinds → Typing → Trees → List ℕ → ReferenceNext → List ℕ → Type 0
+LeadsInFront of typing trees address next name =
+    (tree : Parts) × (r : Reference) × IsFrontTree (grammar_of typing) of typing.front.now typing.tokens.now next tree r
+    × HasTarget (IsNumberBelow (grammar_of typing)) trees address tree (renamed_to name r)
+
+-- a name by which the cross-reference of the start leads somewhere, in that tree or in a tree of the whole text with the reference left blank, whose marks
+-- behind it the places behind the start give
+abbrev pub IsNameFoundAt : Kinds → Lexicon → List Task → Typing → Trees → List ℕ → ReferenceStart → List ℕ → Type 0
+IsNameFoundAt of lexicon tasks typing trees address start name =
     (next : ReferenceNext) × ComesAt of typing next start
-    × IsFindable (grammar_of typing) of lexicon trees address typing.front.now typing.rest.now typing.tokens.now next name
+    × (LeadsInFront of typing trees address next name ⊎ IsBlankName of typing trees address lexicon tasks next start name)
 
 -- the name is read as one of these starts, of those alone by which it leads somewhere in the tree of what was read before, where `leads`
 abbrev pub IsReadAt : Kinds → List Task → Typing → Bool → List Token → List ℕ → Known → Type 0
 IsReadAt of tasks typing leads added name one =
-    (next : ReferenceNext) × ComesAt of typing next one.start.now × IsReadBy of tasks typing next one.start.now added name
+    (next : ReferenceNext) × ComesAt of typing next one.start.now × IsReadAsStart of tasks typing next one.start.now added name
     × (IsTrue leads → Contains one.front.names.items name)
 
 -- the name is offered

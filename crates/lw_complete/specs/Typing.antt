@@ -1,6 +1,5 @@
 -- What is known where a word is being typed.
-use Rattle.std.specs.Prelude.{ℕ, ◌≡◌, List, []}
-use Rattle.lw_base.specs.declared.token.Token.{Token}
+use Rattle.std.specs.Prelude.{ℕ, List}
 use Rattle.lw_builder.specs.Built.{ArePartsOf}
 use Rattle.lw_grammar.specs.declared.grammar.Grammar.{Grammar}
 use Rattle.lw_grammar.specs.Kinds.{AreKinds, Kinds}

@@ -1,14 +1,17 @@
 // What may be written at a place.
-ghost use Rattle.std.specs.Prelude.{ℕ, ◌≡◌, ◌≤◌, List, All, IfOk, IsCharBoundary, length, map};
-ghost use Rattle.lw_index.specs.Indexed.{Indexed};
+ghost use Rattle.std.specs.Prelude.{ℕ, ◌≡◌, ◌≤◌, ◌+◌, ◌++◌, ◌↔◌, ◌⊎◌, List, All, AllPairs, Contains, IfOk, OnOk, IsCharBoundary, length, map};
+ghost use Rattle.lw_base.specs.declared.limits.TheConstants.{LONGEST_DOCUMENT};
+ghost use Rattle.lw_grammar.specs.Kinds.{Kinds};
 ghost use Rattle.lw_link.specs.Indexed.{IsIndexOf};
 ghost use Rattle.lw_link.specs.Visible.{IsNumberAt};
-ghost use Rattle.lw_offers.specs.Offers.{AreOffers};
+ghost use Rattle.lw_offers.specs.Offers.{AreOffers, IsOffered, Offer, OfferPrecedes, keyword_offer, name_offer};
 ghost use Rattle.lw_offers.specs.Words.{IsTypedAt};
 ghost use Rattle.lw_reading.specs.Laws.{IsReadOneWay};
 ghost use Rattle.lw_scopes.specs.Links.{AreTreesOfTexts, Texts};
 ghost use Rattle.lw_scoping.specs.Links.{Trees};
-ghost use Rattle.lw_complete.specs.Items.{offer_of};
+ghost use Rattle.lw_tokens.specs.Lexicon.{Lexicon};
+ghost use Rattle.lw_complete.specs.Items.{TakesThePlace, item_of, items_of, offer_of};
+ghost use Rattle.lw_complete.specs.Typing.{IsTypedBy, grammar_of};
 
 use crate::item::{Item, KEYWORD_ITEM, REFERENCE_ITEM};
 use crate::keywords::keywords;
@@ -27,6 +30,9 @@ use std::alloc::Global;
 ///
 /// The word that ends at the offset is replaced. Nothing is offered in a text that is longer than a document may be, or that cannot be cut
 /// into tokens up to the word. Want of memory is the only error.
+///
+/// The text before the word is cut once for each keyword that may come next and once for each name that begins with the word and would lead
+/// somewhere, and for each such name the text with it is read as well. So time grows with the length of the text times the number of names.
 pub fn complete(
     alloc: Global,
     language: &Language,
@@ -40,8 +46,9 @@ pub fn complete(
     ensures offers { (texts : Texts) (trees : Trees) (address : List ℕ) → AreTreesOfTexts language.now.grammar texts trees → IsIndexOf trees index.now →
         IsNumberAt index.now doc.0 address → IfOk result (λ items. AreOffers language.now.grammar texts address text.now off (map offer_of items.items)) }
     ensures spans { IfOk result (λ items. All (λ item. (front : List ℕ) × (word : List ℕ) × (rest : List ℕ) × IsTypedAt text.now off front word rest
-        × (item.from ≡ length front) × (item.to ≡ off)) items.items) }
+        × TakesThePlace (length front) off item) items.items) }
 {
+    language.tokens();
     if text.bytes().len() > LONGEST_DOCUMENT {
         return Ok(Vec::new(alloc));
     }
@@ -66,16 +73,56 @@ pub fn complete(
 }
 
 /// What may be written in place of the word, which stands between these offsets.
-fn offers(alloc: Global, typing: &Typing<'_>, from: u32, to: u32) -> Result<Vec<Item>, NoMemory> {
+fn offers(alloc: Global, typing: &Typing<'_>, from: u32, to: u32) -> Result<Vec<Item>, NoMemory>
+    requires short { length typing.now.front.now + length typing.now.rest.now ≤ LONGEST_DOCUMENT }
+    requires known { (of : Kinds) × (lexicon : Lexicon) × IsTypedBy of lexicon typing.now }
+    requires one_way { IsReadOneWay (grammar_of typing.now) }
+    ensures exact { (of : Kinds) (lexicon : Lexicon) (trees : Trees) (address : List ℕ) → IsTypedBy of lexicon typing.now → IsIndexOf trees typing.now.index.now →
+        IsNumberAt typing.now.index.now typing.now.doc.0 address → IfOk result (λ items. (x : Offer) → Contains (map offer_of items.items) x ↔
+        IsOffered (grammar_of typing.now) of lexicon trees address typing.now.front.now typing.now.rest.now typing.now.tokens.now typing.now.word.now x) }
+    ensures ordered { IfOk result (λ items. AllPairs OfferPrecedes (map offer_of items.items)) }
+    ensures spans { IfOk result (λ items. All (TakesThePlace from to) items.items) }
+{
     let parser = typing.language.parser();
     let fronts = Fronts::start(alloc, parser.program(), parser.begins(), parser.entry())?;
     let mut fronts = read(fronts, typing.tokens)?;
-    let mut items = Vec::new(alloc);
-    let words = keywords(alloc, typing, &mut fronts)?;
-    put_items(&mut items, words, KEYWORD_ITEM, from, to)?;
+    let keywords = keywords(alloc, typing, &mut fronts)?;
     let names = names(alloc, typing, parser, &mut fronts)?;
+    in_order(alloc, keywords, names, from, to)
+}
+
+/// An item for each of these, in order.
+fn in_order(
+    alloc: Global,
+    keywords: Vec<Name>,
+    names: Vec<Name>,
+    from: u32,
+    to: u32,
+) -> Result<Vec<Item>, NoMemory>
+    ensures exact { IfOk result (λ items. (x : Offer) → Contains (map offer_of items.items) x ↔
+        (Contains (map keyword_offer keywords.items) x ⊎ Contains (map name_offer names.items) x)) }
+    ensures ordered { IfOk result (λ items. AllPairs OfferPrecedes (map offer_of items.items)) }
+    ensures spans { IfOk result (λ items. All (TakesThePlace from to) items.items) }
+{
+    let mut items = items_of(alloc, keywords, names, from, to)?;
+    items.sort_unstable();
+    items.dedup();
+    Ok(items)
+}
+
+/// An item for each of these, keywords first.
+fn items_of(
+    alloc: Global,
+    keywords: Vec<Name>,
+    names: Vec<Name>,
+    from: u32,
+    to: u32,
+) -> Result<Vec<Item>, NoMemory>
+    ensures { IfOk result (λ items. items.items ≡ items_of from to keywords.items names.items) }
+{
+    let mut items = Vec::new(alloc);
+    put_items(&mut items, keywords, KEYWORD_ITEM, from, to)?;
     put_items(&mut items, names, REFERENCE_ITEM, from, to)?;
-    items.sort_by(|one, other| one.label.cmp(&other.label).then(one.kind.cmp(&other.kind)))?;
     Ok(items)
 }
 
@@ -86,7 +133,9 @@ fn put_items(
     kind: u8,
     from: u32,
     to: u32,
-) -> Result<(), NoMemory> {
+) -> Result<(), NoMemory>
+    ensures { OnOk result (items.new.items ≡ items.old.items ++ map (item_of kind from to) labels.items) }
+{
     for label in labels {
         items.push(Item {
             label,

@@ -7,8 +7,8 @@ pub const KEYWORD_ITEM: u8 = 14;
 /// The kind of a name that refers to something. Language Server Protocol 3.17, `CompletionItemKind`.
 pub const REFERENCE_ITEM: u8 = 18;
 
-/// One thing that may be written in place of the word that is being typed.
-#[derive(Debug, Drop)]
+/// One thing that may be written in place of the word that is being typed. Items are compared by their labels, then by their kinds.
+#[derive(Debug, Drop, PartialEq, Eq, PartialOrd, Ord)]
 pub struct Item {
     /// What is written.
     pub label: Name,

@@ -10,7 +10,7 @@ ghost use Rattle.lw_scopes.specs.Links.{IsNumberBelow};
 ghost use Rattle.lw_scoping.specs.Links.{Trees};
 ghost use Rattle.lw_symbols.specs.Locals.{AreLocalsOf};
 ghost use Rattle.lw_tree.specs.declared.node.Reference.{Reference as AReference};
-ghost use Rattle.lw_complete.specs.Judged.{IsJudged, IsToldOf, StandsAt};
+ghost use Rattle.lw_complete.specs.Judged.{IsJudgement, IsToldOf, StandsBetween};
 ghost use Rattle.lw_complete.specs.Typing.{grammar_of};
 
 use crate::typing::Typing;
@@ -28,7 +28,7 @@ pub(crate) fn leads_in_whole(
     name: &Name,
 ) -> Result<Option<bool>, NoMemory>
     ensures { (trees : Trees) (address : List ℕ) → IsReadOneWay (grammar_of typing.now) → IsIndexOf trees typing.now.index.now →
-        IsNumberAt typing.now.index.now typing.now.doc.0 address → IfOk result (IsJudged typing.now trees address name.now) }
+        IsNumberAt typing.now.index.now typing.now.doc.0 address → IfOk result (IsJudgement typing.now trees address name.now) }
 {
     let text = text_with(alloc, typing, name)?;
     match typing.language.read(alloc, &text)? {
@@ -98,7 +98,7 @@ fn told(
 }
 
 fn stands_at(reference: &Reference, start: usize, end: usize) -> bool
-    ensures { IsTrue result ↔ StandsAt start end reference.now }
+    ensures { IsTrue result ↔ StandsBetween start end reference.now }
 {
     reference.span.start as usize == start && reference.span.end as usize == end
 }

@@ -28,7 +28,7 @@ pub(crate) fn keywords(
     ensures keywords { (of : Kinds) (lexicon : Lexicon) (tasks : List Task) → IsTypedBy of lexicon typing.now → AreReadings of tasks typing.now fronts.old →
         IsSupplied (grammar_of typing.now) of →
         IfOk result (λ found. (text : List ℕ) → Contains found.items text ↔
-            (BeginsBy typing.now.word.now text × IsKeywordNext (grammar_of typing.now) of lexicon typing.now.front.now typing.now.tokens.now text)) }
+        (BeginsBy typing.now.word.now text × IsKeywordNext (grammar_of typing.now) of lexicon typing.now.front.now typing.now.tokens.now text)) }
     ensures apart { IfOk result (λ found. AllPairs (λ one other. one ≢ other) found.items) }
     ensures same { fronts.new ≡ fronts.old }
 {
@@ -68,7 +68,7 @@ fn is_next(
     requires short { length typing.now.front.now ≤ LONGEST_DOCUMENT }
     ensures { (of : Kinds) (lexicon : Lexicon) → IsTypedBy of lexicon typing.now →
         IfOk result (λ is. IsTrue is ↔ (BeginsBy typing.now.word.now keyword.now × IsCut lexicon (typing.now.front.now ++ keyword.now)
-            (typing.now.tokens.now ++ visible_token kind.0 (length typing.now.front.now) (length keyword.now) ∷ []))) }
+        (typing.now.tokens.now ++ visible_token kind.0 (length typing.now.front.now) (length keyword.now) ∷ []))) }
 {
     if !keyword.text().starts_with(typing.word) {
         return Ok(false);

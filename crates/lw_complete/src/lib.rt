@@ -16,6 +16,7 @@
 //! export. For each that begins with the word the text with it in place of the word is read.
 #![tactic(auto)]
 
+mod blanks;
 mod completion;
 mod item;
 mod judging;

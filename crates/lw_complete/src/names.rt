@@ -1,5 +1,5 @@
 // The names that may be written.
-ghost use Rattle.std.specs.Prelude.{ℕ, ◌≡◌, ◌≢◌, ◌≤◌, ◌<◌, ◌+◌, ◌↔◌, ◌++◌, ◌∷◌, List, [], Some, slice_get, AllPairs, All, Contains, IfOk, IfSome, OnOk, IsTrue, MatchOption, length, map};
+ghost use Rattle.std.specs.Prelude.{ℕ, ◌≡◌, ◌≤◌, ◌<◌, ◌+◌, ◌↔◌, ◌++◌, ◌∷◌, List, [], Some, slice_get, AllPairs, All, Contains, IfOk, OnOk, IsTrue, MatchOption, length, map};
 ghost use Rattle.std.specs.Cmp.Lexicographic.{slice_cmp};
 ghost use Rattle.std.specs.Ordering.{nat_cmp};
 ghost use Rattle.std.specs.declared.cmp.Ordering.TheVariants.{Less};
@@ -16,7 +16,7 @@ ghost use Rattle.lw_link.specs.Indexed.{IsIndexOf};
 ghost use Rattle.lw_link.specs.Visible.{IsNumberAt};
 ghost use Rattle.lw_marks.specs.Brackets.{joined_texts};
 ghost use Rattle.lw_offers.specs.Offers.{IsNameNext};
-ghost use Rattle.lw_offers.specs.Starting.{ReferenceNext, moved_by};
+ghost use Rattle.lw_offers.specs.Starting.{ReferenceNext};
 ghost use Rattle.lw_offers.specs.Words.{BeginsBy};
 ghost use Rattle.lw_parse.specs.Parsers.{AreOfKinds};
 ghost use Rattle.lw_program.specs.Says.{Task};
@@ -30,16 +30,16 @@ ghost use Rattle.lw_viable.specs.Aims.{EndsSome};
 ghost use Rattle.lw_viable.specs.Fronts.{IsProgramWith};
 ghost use Rattle.lw_viable.specs.Readings.{HasTask};
 ghost use Rattle.lw_viable.specs.Visiting.{IsReferencePut};
-ghost use Rattle.lw_complete.specs.Starts.{ComesAt, IsBlank, IsFoundAt, IsKnownStart, IsOfferedBy, IsParsedBy, IsReadAt, IsReadBy, IsStartNext, IsWritten};
+ghost use Rattle.lw_complete.specs.Starts.{ComesAt, IsBlank, IsBlankName, IsNameFoundAt, IsKnownStart, IsOfferedBy, IsParsedBy, IsReadAt, IsReadAsStart, IsSoundStart, IsStartNext, IsWritten, StandsBehind};
 ghost use Rattle.lw_complete.specs.Typing.{AreReadings, IsTypedBy, grammar_of};
 
+use crate::blanks::blank;
 use crate::judging::leads_in_whole;
 use crate::reading::read;
 use crate::starting::{Blank, FrontNames, front_names, put_blank_names};
 use crate::typing::Typing;
 use lw_base::{Name, NoMemory, Token};
 use lw_builder::said_by;
-use lw_lang::LexFault;
 use lw_parse::Parser;
 use lw_recipes::Content;
 use lw_viable::{Fronts, ReferenceStart};
@@ -92,14 +92,16 @@ fn known_starts<'s>(
     ensures starts { IfOk result (λ known. map (λ one. one.start.now) known.items ≡ starts.now) }
     ensures known { (of : Kinds) (lexicon : Lexicon) (trees : Trees) (address : List ℕ) → IsTypedBy of lexicon typing.now → IsIndexOf trees typing.now.index.now →
         IsNumberAt typing.now.index.now typing.now.doc.0 address → IfOk result (λ known. All (IsKnownStart of typing.now trees address) known.items) }
-    ensures found { (of : Kinds) (lexicon : Lexicon) (trees : Trees) (address : List ℕ) → IsTypedBy of lexicon typing.now → IsIndexOf trees typing.now.index.now →
+    ensures found { (of : Kinds) (lexicon : Lexicon) (tasks : List Task) (trees : Trees) (address : List ℕ) → IsTypedBy of lexicon typing.now →
+        IsParsedBy of tasks typing.now parser.now → All (IsStartNext of tasks typing.now) starts.now → IsIndexOf trees typing.now.index.now →
         IsNumberAt typing.now.index.now typing.now.doc.0 address →
-        OnOk result (Finds (OfSome (IsFoundAt of lexicon typing.now trees address) starts.now) found.old.items found.new.items) }
+        OnOk result (Finds (OfSome (IsNameFoundAt of lexicon tasks typing.now trees address) starts.now) found.old.items found.new.items) }
 {
-    let blank = blank(alloc, typing)?;
+    let made = blank(alloc, typing)?;
+    let blank = &made;
     let mut known = Vec::new(alloc);
     'starts: for start in starts {
-        let front = known_start(alloc, typing, parser, start, &blank, found)?;
+        let front = known_start(alloc, typing, parser, start, blank, found)?;
         known.push(Known { start, front })?;
     }
     Ok(known)
@@ -120,17 +122,42 @@ fn known_start(
         × MatchOption blank.now ((others : List AToken) → ¬ IsCut lexicon typing.now.rest.now others) (IsBlank typing.now lexicon) }
     ensures known { (of : Kinds) (lexicon : Lexicon) (trees : Trees) (address : List ℕ) → IsTypedBy of lexicon typing.now → IsIndexOf trees typing.now.index.now →
         IsNumberAt typing.now.index.now typing.now.doc.0 address →
-        IfOk result (λ front. IsKnownStart of typing.now trees address (record { start = start; front = front })) }
-    ensures found { (of : Kinds) (lexicon : Lexicon) (trees : Trees) (address : List ℕ) → IsTypedBy of lexicon typing.now → IsIndexOf trees typing.now.index.now →
-        IsNumberAt typing.now.index.now typing.now.doc.0 address →
-        OnOk result (Finds (IsFoundAt of lexicon typing.now trees address start.now) found.old.items found.new.items) }
+        IfOk result (λ front. IsKnownStart of typing.now trees address (record { start = start.entry; front = front })) }
+    ensures found { (of : Kinds) (lexicon : Lexicon) (tasks : List Task) (trees : Trees) (address : List ℕ) → IsTypedBy of lexicon typing.now →
+        IsParsedBy of tasks typing.now parser.now → IsStartNext of tasks typing.now start.now →
+        MatchOption blank.now ((others : List AToken) → ¬ IsCut lexicon typing.now.rest.now others) (IsBlank typing.now lexicon) →
+        IsIndexOf trees typing.now.index.now → IsNumberAt typing.now.index.now typing.now.doc.0 address →
+        OnOk result (Finds (IsNameFoundAt of lexicon tasks typing.now trees address start.now) found.old.items found.new.items) }
 {
     let front = front_names(alloc, typing, start)?;
-    if let Some(blank) = blank {
-        put_blank_names(alloc, typing, parser, start, front.before, blank, found)?;
-    }
+    put_unnamed(alloc, typing, parser, start, front.before, blank, found)?;
     put_copies(alloc, found, front.names.as_slice())?;
     Ok(front)
+}
+
+/// Puts in the names by which this start would lead somewhere in the tree of the text with the reference left blank, where there is one.
+fn put_unnamed(
+    alloc: Global,
+    typing: &Typing<'_>,
+    parser: &Parser,
+    start: &ReferenceStart,
+    before: usize,
+    blank: &Option<Blank>,
+    found: &mut Vec<Name>,
+) -> Result<(), NoMemory>
+    requires known { (of : Kinds) × (lexicon : Lexicon) × (tasks : List Task) × (next : ReferenceNext) × IsTypedBy of lexicon typing.now
+        × MatchOption blank.now ((others : List AToken) → ¬ IsCut lexicon typing.now.rest.now others) (IsBlank typing.now lexicon)
+        × IsParsedBy of tasks typing.now parser.now × IsSoundStart of tasks typing.now next start.now × StandsBehind of typing.now next before }
+    ensures { (of : Kinds) (lexicon : Lexicon) (tasks : List Task) (next : ReferenceNext) (trees : Trees) (address : List ℕ) → IsTypedBy of lexicon typing.now →
+        MatchOption blank.now ((others : List AToken) → ¬ IsCut lexicon typing.now.rest.now others) (IsBlank typing.now lexicon) →
+        IsParsedBy of tasks typing.now parser.now → IsSoundStart of tasks typing.now next start.now → StandsBehind of typing.now next before →
+        IsIndexOf trees typing.now.index.now → IsNumberAt typing.now.index.now typing.now.doc.0 address →
+        OnOk result (Finds (IsBlankName of typing.now trees address lexicon tasks next start.now) found.old.items found.new.items) }
+{
+    match blank {
+        None => Ok(()),
+        Some(blank) => put_blank_names(alloc, typing, parser, start, before, blank, found),
+    }
 }
 
 fn put_copies(alloc: Global, names: &mut Vec<Name>, others: &[Name]) -> Result<(), NoMemory>
@@ -140,49 +167,6 @@ fn put_copies(alloc: Global, names: &mut Vec<Name>, others: &[Name]) -> Result<(
         names.push(name.copy(alloc)?)?;
     }
     Ok(())
-}
-
-/// The text without the word, with its tokens. None where what stands behind the offset is not cut into tokens.
-fn blank(alloc: Global, typing: &Typing<'_>) -> Result<Option<Blank>, NoMemory>
-    requires short { length typing.now.front.now + length typing.now.rest.now ≤ LONGEST_DOCUMENT }
-    ensures { (of : Kinds) (lexicon : Lexicon) → IsTypedBy of lexicon typing.now →
-        IfOk result (λ blank. MatchOption blank ((others : List AToken) → ¬ IsCut lexicon typing.now.rest.now others) (IsBlank typing.now lexicon)) }
-{
-    let others = match typing.language.cut(alloc, typing.rest) {
-        Ok(others) => others,
-        Err(LexFault::NoToken(_)) => return Ok(None),
-        Err(LexFault::NoMemory) => return Err(NoMemory),
-    };
-    Ok(Some(Blank {
-        text: typing.with(alloc, typing.rest.text())?,
-        tokens: joined(alloc, typing, others.as_slice())?,
-        others,
-    }))
-}
-
-/// The tokens before the word, and these of what stands behind the offset behind them.
-fn joined(alloc: Global, typing: &Typing<'_>, others: &[Token]) -> Result<Vec<Token>, NoMemory>
-    requires short { length typing.now.front.now + length typing.now.rest.now ≤ LONGEST_DOCUMENT }
-    requires within { All (λ t. (t.span.start ≤ length typing.now.rest.now) × (t.span.end ≤ length typing.now.rest.now)) others.now }
-    ensures { IfOk result (λ tokens. tokens.items ≡ typing.now.tokens.now ++ map (moved_by (length typing.now.front.now)) others.now) }
-{
-    let by = typing.front.bytes().len() as u32;
-    let mut tokens = Vec::from_slice(alloc, typing.tokens)?;
-    'tokens: for token in others {
-        tokens.push(moved_by(by, *token))?;
-    }
-    Ok(tokens)
-}
-
-/// The token so many bytes further behind.
-fn moved_by(by: u32, token: Token) -> Token
-    requires { (by + token.span.start ≤ 4294967295) × (by + token.span.end ≤ 4294967295) }
-    ensures { result ≡ moved_by by token }
-{
-    let mut moved = token;
-    moved.span.start += by;
-    moved.span.end += by;
-    moved
 }
 
 /// Those of the names that are offered.
@@ -271,14 +255,39 @@ fn is_read(
         × IsReadAt of tasks typing.now leads written.now.added.now written.now.name.now one)) }
 {
     'known: for one in known {
-        if leads && !one.front.names.contains(written.name) {
-            continue;
-        }
-        if is_read_as(alloc, typing, parser, one.start, written)? {
+        if is_read_at(alloc, typing, parser, one, written, leads)? {
             return Ok(true);
         }
     }
     Ok(false)
+}
+
+/// Whether the name is read as this start; where `leads`, as one by which it leads somewhere in the tree of what was read before.
+fn is_read_at(
+    alloc: Global,
+    typing: &Typing<'_>,
+    parser: &Parser,
+    one: &Known<'_>,
+    written: &Written<'_>,
+    leads: bool,
+) -> Result<bool, NoMemory>
+    requires known { (of : Kinds) × (lexicon : Lexicon) × (tasks : List Task) × IsWritten of lexicon typing.now written.now × IsParsedBy of tasks typing.now parser.now
+        × IsStartNext of tasks typing.now one.now.start.now }
+    ensures { (of : Kinds) (lexicon : Lexicon) (tasks : List Task) → IsWritten of lexicon typing.now written.now → IsParsedBy of tasks typing.now parser.now →
+        IsStartNext of tasks typing.now one.now.start.now →
+        IfOk result (λ read. IsTrue read ↔ IsReadAt of tasks typing.now leads written.now.added.now written.now.name.now one.now) }
+{
+    if !may_lead(one, written.name, leads) {
+        return Ok(false);
+    }
+    is_read_as(alloc, typing, parser, one.start, written)
+}
+
+/// Whether the name is one by which the start leads somewhere in the tree of what was read before, where `leads`.
+fn may_lead(one: &Known<'_>, name: &Name, leads: bool) -> bool
+    ensures { IsTrue result ↔ (IsTrue leads → Contains one.now.front.names.items name.now) }
+{
+    !leads || one.front.names.contains(name)
 }
 
 /// Whether the tokens are what the value of this start may read, and say the name.
@@ -291,11 +300,15 @@ fn is_read_as(
 ) -> Result<bool, NoMemory>
     requires known { (of : Kinds) × (lexicon : Lexicon) × (tasks : List Task) × IsWritten of lexicon typing.now written.now × IsParsedBy of tasks typing.now parser.now
         × IsStartNext of tasks typing.now start.now }
-    ensures { (of : Kinds) (lexicon : Lexicon) (tasks : List Task) (next : ReferenceNext) → IsWritten of lexicon typing.now written.now →
-        IsParsedBy of tasks typing.now parser.now → IsStartNext of tasks typing.now start.now → ComesAt of typing.now next start.now →
-        IfOk result (λ read. IsTrue read ↔ IsReadBy of tasks typing.now next start.now written.now.added.now written.now.name.now) }
+    ensures { (of : Kinds) (lexicon : Lexicon) (tasks : List Task) → IsWritten of lexicon typing.now written.now →
+        IsParsedBy of tasks typing.now parser.now → IsStartNext of tasks typing.now start.now →
+        IfOk result (λ read. (next : ReferenceNext) → ComesAt of typing.now next start.now →
+        IsTrue read ↔ IsReadAsStart of tasks typing.now next start.now written.now.added.now written.now.name.now) }
 {
-    if written.added.is_empty() || !says(alloc, parser, start, written)? {
+    if written.added.is_empty() {
+        return Ok(false);
+    }
+    if !says(alloc, parser, start, written)? {
         return Ok(false);
     }
     gives(alloc, parser, start, written.added)

@@ -22,7 +22,7 @@ ghost use Rattle.lw_tokens.specs.Cut.{visible as visible_tokens};
 ghost use Rattle.lw_tokens.specs.Lexicon.{Lexicon};
 ghost use Rattle.lw_tree.specs.declared.node.Reference.{Reference as AReference};
 ghost use Rattle.lw_tree.specs.Parts.{Parts};
-ghost use Rattle.lw_complete.specs.Starts.{AreFrontNames, GrowsReference, IsBlank, IsBlankName, IsParsedBy, IsSoundStart, IsStartOf, IsTreeOfBlank, LeadsInBlank};
+ghost use Rattle.lw_complete.specs.Starts.{AreFrontNames, GrowsReference, IsBlank, IsBlankName, IsParsedBy, IsSoundStart, IsStartOf, IsTreeOfBlank, LeadsInBlank, StandsBehind};
 ghost use Rattle.lw_complete.specs.Typing.{IsTypedBy, grammar_of};
 
 use crate::reading::read;
@@ -53,10 +53,13 @@ pub(crate) fn front_names(
 ) -> Result<FrontNames, NoMemory>
     requires { (of : Kinds) × (lexicon : Lexicon) × (next : ReferenceNext) × IsTypedBy of lexicon typing.now × IsStartOf (grammar_of typing.now) next start.now
         × ComesNext (grammar_of typing.now) of typing.now.tokens.now next }
-    ensures { (of : Kinds) (lexicon : Lexicon) (next : ReferenceNext) (trees : Trees) (address : List ℕ) → IsTypedBy of lexicon typing.now →
+    ensures names { (of : Kinds) (lexicon : Lexicon) (next : ReferenceNext) (trees : Trees) (address : List ℕ) → IsTypedBy of lexicon typing.now →
         IsStartOf (grammar_of typing.now) next start.now → ComesNext (grammar_of typing.now) of typing.now.tokens.now next →
         IsIndexOf trees typing.now.index.now → IsNumberAt typing.now.index.now typing.now.doc.0 address →
         IfOk result (AreFrontNames of typing.now trees address next) }
+    ensures stands { (of : Kinds) (lexicon : Lexicon) (next : ReferenceNext) → IsTypedBy of lexicon typing.now →
+        IsStartOf (grammar_of typing.now) next start.now → ComesNext (grammar_of typing.now) of typing.now.tokens.now next →
+        IfOk result (λ found. StandsBehind of typing.now next found.before) }
 {
     let recipes = typing.language.parser().recipes();
     let tree = front_tree(alloc, typing, recipes, start.marks.as_slice())?;

@@ -44,9 +44,9 @@ impl Typing<'_> {
     pub(crate) fn added(&self, alloc: Global, text: &Name) -> Result<Option<Vec<Token>>, NoMemory>
         ensures added { (of : Kinds) (lexicon : Lexicon) → IsTypedBy of lexicon self.now →
             IfOk result (λ found. MatchOption found
-                ((others : List AToken) → ¬ IsCut lexicon text.now (self.now.tokens.now ++ others))
-                (λ added. IsCut lexicon text.now (self.now.tokens.now ++ added.items)
-                × ((others : List AToken) → IsCut lexicon text.now (self.now.tokens.now ++ others) → others ≡ added.items))) }
+            ((others : List AToken) → ¬ IsCut lexicon text.now (self.now.tokens.now ++ others))
+            (λ added. IsCut lexicon text.now (self.now.tokens.now ++ added.items)
+            × ((others : List AToken) → IsCut lexicon text.now (self.now.tokens.now ++ others) → others ≡ added.items))) }
         ensures parts { IfOk result (λ found. IfSome found (λ added. ArePartsOf text.now added.items)) }
         ensures of_kinds { (of : Kinds) → AreKinds (grammar_of self.now) of → IfOk result (λ found. IfSome found (λ added. AreOfKinds of added.items)) }
         ensures short { IfOk result (λ found. length text.now ≤ LONGEST_TEXT) }
@@ -63,11 +63,7 @@ impl Typing<'_> {
 }
 
 /// What stands behind these first tokens, where the tokens begin with them.
-fn behind(
-    alloc: Global,
-    tokens: &[Token],
-    first: &[Token],
-) -> Result<Option<Vec<Token>>, NoMemory>
+fn behind(alloc: Global, tokens: &[Token], first: &[Token]) -> Result<Option<Vec<Token>>, NoMemory>
     ensures { IfOk result (λ found. MatchOption found
         ((others : List AToken) → ¬ (tokens.now ≡ first.now ++ others))
         (λ added. tokens.now ≡ first.now ++ added.items)) }

@@ -18,9 +18,15 @@ expected-requires-clause-few c = omega (arith, c.kind_count.ensures.few)
 -- src/keywords.rt:36:20
 pub expected-requires-clause-known : goal.expected-requires-clause-known
 expected-requires-clause-known c =
-    let (of, lexicon, tasks, typed, readings, supplied) = c.requires.known in
-    (grammar_of c.args.typing.now, of, tasks, Sentence, kinds_before c.args.typing.now, readings,
-    c.kind_count.ensures.count ∙ counted (grammar_of c.args.typing.now) of c.tokens-set.result.now.texts typed.are_kinds c.tokens-set.ensures.named)
+    let (of, lexicon, tasks, typed, readings, supplied) = c.requires.known in (
+      grammar_of c.args.typing.now,
+      of,
+      tasks,
+      Sentence,
+      kinds_before c.args.typing.now,
+      readings,
+      c.kind_count.ensures.count ∙ counted (grammar_of c.args.typing.now) of c.tokens-set.result.now.texts typed.are_kinds c.tokens-set.ensures.named,
+    )
 
 pub kinds-init : goal.kinds-init
 kinds-init c = so_far_start c.args.typing.now c.tokens-set.result.now.lexicon.keywords c.deref-kind-items.result.now c.new-found.result.items c.new-found.ensures.items

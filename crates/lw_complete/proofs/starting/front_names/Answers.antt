@@ -72,8 +72,8 @@ names_in-requires-clause-known c =
     c.as_slice-2.result.now c.as_slice.ensures (c.as_slice-2.ensures.value ∙ c.in_ok-marks.ensures) c.in_ok-tree.tree c.in_ok-behind.behind c.in_ok-tree.ensures
     c.in_ok-behind.ensures r at
 
-pub returns : goal.returns
-returns c of lexicon next trees address typed is_start comes index number =
+pub returns-clause-names : goal.returns-clause-names
+returns-clause-names c of lexicon next trees address typed is_start comes index number =
     let (kinds, are, k, faultless) = c.parser.ensures in
     let r = c.index-refs-before.result in
     let at : r ≡ get_or c.in_ok-behind.behind.refs (length c.in_ok-tree.tree.refs) r =
@@ -89,3 +89,18 @@ returns c of lexicon next trees address typed is_start comes index number =
       exact = c.in_ok-names_in.ensures trees address index number;
       before = ap length c.refs-before.ensures;
     }
+
+pub returns-clause-stands : goal.returns-clause-stands
+returns-clause-stands c of lexicon next typed is_start comes =
+    let (kinds, are, k, faultless) = c.parser.ensures in
+    let r = c.index-refs-before.result in
+    let at : r ≡ get_or c.in_ok-behind.behind.refs (length c.in_ok-tree.tree.refs) r =
+    c.index-refs-before.is ∙ ap (λ (rs : List Reference). get_or rs (length c.refs-before.result.now) r) c.refs.ensures
+    ∙ ap (λ (rs : List Reference). get_or c.in_ok-behind.behind.refs (length rs) r) c.refs-before.ensures in (
+      c.in_ok-tree.tree,
+      r,
+      front_is c.args.typing.now c.args.start.now of next is_start comes faultless.types faultless.checks _ faultless.parser.recipes.name c.as_slice.result.now
+          c.as_slice-2.result.now c.as_slice.ensures (c.as_slice-2.ensures.value ∙ c.in_ok-marks.ensures) c.in_ok-tree.tree c.in_ok-behind.behind c.in_ok-tree.ensures
+          c.in_ok-behind.ensures r at,
+      ap length c.refs-before.ensures,
+    )

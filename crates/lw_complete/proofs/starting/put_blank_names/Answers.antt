@@ -1,7 +1,7 @@
-use Rattle.std.proofs.Common.{◌≡◌, ◌↔◌, ◌<◌, ◌≤◌, ◌++◌, ◌∷◌, [], ℕ, List, All, Any, Contains, length, get_or, refl, sym, ap, subst, ◌∙◌, arith}
+use Rattle.std.proofs.Common.{◌≡◌, ◌↔◌, ◌<◌, ◌≤◌, ◌++◌, ◌∷◌, [], List, All, Any, Contains, length, sym, ap, subst, ◌∙◌, arith}
 use Rattle.std.proofs.lemmas.List.Elements.{All-contains}
 use Rattle.lw_begins.specs.Gives.{PlacesGive}
-use Rattle.lw_findings.specs.Finding.{Finds, OfSome}
+use Rattle.lw_findings.specs.Finding.{Finds}
 use Rattle.lw_findings.proofs.Joining.{Finds-all, Finds-begin, Finds-iff, Finds-more}
 use Rattle.lw_parse.specs.Parsers.{AreOfKinds}
 use Rattle.lw_offers.specs.Starting.{marks_with}

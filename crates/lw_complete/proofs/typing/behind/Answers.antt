@@ -1,4 +1,4 @@
-use Rattle.std.proofs.Common.{◌≡◌, ◌++◌, List, length, drop, take, true≢false, sym, ap, ◌∙◌}
+use Rattle.std.proofs.Common.{◌++◌, length, drop, take, true≢false, sym, ap, ◌∙◌}
 use Rattle.std.proofs.Math.Seq.{take-length}
 use Rattle.std.proofs.lemmas.List.{length-drop}
 use Rattle.lw_complete.proofs.TypedTokens.{begins}

@@ -1,0 +1,111 @@
+-- All that is offered at an offset, from what is offered in place of the word that is typed there.
+use Rattle.std.proofs.Common.{◌≡◌, ◌↔◌, ◌⊎◌, inl, inr, ◌<◌, ◌≤◌, ℕ, List, [], AllPairs, Contains, length, map, slice_range, take, ap, Result, Ok, Err, IfOk, sym, subst, arith}
+use Rattle.lw_base.specs.declared.limits.TheConstants.{LONGEST_DOCUMENT}
+use Rattle.lw_base.specs.declared.token.Token.{Token}
+use Rattle.lw_grammar.specs.declared.grammar.Grammar.{Grammar}
+use Rattle.lw_grammar.specs.Kinds.{AreKinds, Kinds}
+use Rattle.lw_offers.specs.Offers.{AreOffers, IsKeywordNext, IsNameNext, IsOffer, IsOffered, Offer, OfferPrecedes, keyword_offer, name_offer}
+use Rattle.lw_offers.specs.Offers as offer
+use Rattle.lw_offers.specs.Words.{BeginsBy, IsTypedAt}
+use Rattle.lw_offers.proofs.OneWord.{one_word_typed}
+use Rattle.lw_rooted.proofs.Listed.{mapped}
+use Rattle.lw_scopes.specs.Links.{AreTreesOfTexts, Texts}
+use Rattle.lw_scoping.specs.Links.{Trees}
+use Rattle.lw_tokens.specs.Cut.{IsCut}
+use Rattle.lw_tokens.specs.Lexicon.{IsLexicon, Lexicon}
+use Rattle.lw_complete.proofs.ItemsOrdered.{of_mapped}
+
+module _ (g : Grammar) (texts : Texts) (trees : Trees) (are_trees : AreTreesOfTexts g texts trees) (address text : List ℕ) (offset : ℕ) (of : Kinds)
+    (are_kinds : AreKinds g of) (lexicon : Lexicon) (is_lexicon : IsLexicon g of lexicon) where
+  abbrev pub IsOfferHere : Offer → Type 0
+  IsOfferHere = IsOffer g of lexicon trees address text offset
+
+  -- nothing, where there is no offer
+  pub nothing : ((x : Offer) → ¬ IsOfferHere x) → AreOffers g texts address text offset []
+  nothing none = record {
+    of = of;
+    are_kinds = are_kinds;
+    lexicon = lexicon;
+    is_lexicon = is_lexicon;
+    trees = trees;
+    are_trees = are_trees;
+    exact = λ x. (λ (k, inside, is). absurd (omega (arith, inside)), λ is. absurd (none x is));
+    ordered = λ i j d below inside. absurd (omega (arith, inside));
+  }
+
+  pub none_in_long : LONGEST_DOCUMENT < length text → (x : Offer) → ¬ IsOfferHere x
+  none_in_long long x is = omega (arith, long, is.short)
+
+  module _ (front word rest : List ℕ) (typed : IsTypedAt text offset front word rest) where
+    pub none_uncut : ((tokens : List Token) → ¬ IsCut lexicon front tokens) → (x : Offer) → ¬ IsOfferHere x
+    none_uncut uncut x is =
+        let (same, _, _) = one_word_typed text offset is.front is.word is.rest front word rest is.typed typed in
+        uncut is.tokens (subst (λ (f : List ℕ). IsCut lexicon f is.tokens) same is.cut)
+
+    pub all_offers : (tokens : List Token) → length text ≤ LONGEST_DOCUMENT → IsCut lexicon front tokens →
+        ((others : List Token) → IsCut lexicon front others → others ≡ tokens) → (offers : List Offer) →
+        ((x : Offer) → Contains offers x ↔ IsOffered g of lexicon trees address front rest tokens word x) → AllPairs OfferPrecedes offers →
+        AreOffers g texts address text offset offers
+    all_offers tokens short cut only offers exact ordered = record {
+      of = of;
+      are_kinds = are_kinds;
+      lexicon = lexicon;
+      is_lexicon = is_lexicon;
+      trees = trees;
+      are_trees = are_trees;
+      exact = λ x. (λ has. there x ((exact x).0 has), λ is. (exact x).1 (here x is));
+      ordered = ordered;
+    }
+      where
+        there : (x : Offer) → IsOffered g of lexicon trees address front rest tokens word x → IsOfferHere x
+        there x offered = record { short = short; front = front; word = word; rest = rest; typed = typed; tokens = tokens; cut = cut; offered = offered }
+
+        here : (x : Offer) → IsOfferHere x → IsOffered g of lexicon trees address front rest tokens word x
+        here x is =
+            let (same_front, same_word, same_rest) = one_word_typed text offset is.front is.word is.rest front word rest is.typed typed in
+            let same_tokens : is.tokens ≡ tokens = only is.tokens (subst (λ (f : List ℕ). IsCut lexicon f is.tokens) same_front is.cut) in
+            subst (λ (ts : List Token). IsOffered g of lexicon trees address front rest ts word x) same_tokens
+            (subst (λ (w : List ℕ). IsOffered g of lexicon trees address front rest is.tokens w x) same_word
+            (subst (λ (r : List ℕ). IsOffered g of lexicon trees address front r is.tokens is.word x) same_rest
+            (subst (λ (f : List ℕ). IsOffered g of lexicon trees address f is.rest is.tokens is.word x) same_front is.offered)))
+
+    -- the same of what was answered
+    pub answered : {X E : Type 0} (tokens : List Token) → length text ≤ LONGEST_DOCUMENT → IsCut lexicon front tokens →
+        ((others : List Token) → IsCut lexicon front others → others ≡ tokens) → (offers : X → List Offer) (r : Result X E) →
+        IfOk r (λ items. (x : Offer) → Contains (offers items) x ↔ IsOffered g of lexicon trees address front rest tokens word x) →
+        IfOk r (λ items. AllPairs OfferPrecedes (offers items)) → IfOk r (λ items. AreOffers g texts address text offset (offers items))
+    answered tokens short cut only offers (Ok items) exact ordered = all_offers tokens short cut only (offers items) exact ordered
+    answered tokens short cut only offers (Err e) exact ordered = tt
+
+-- the beginning of a text
+pub first_bytes : (text : List ℕ) (n : ℕ) → slice_range text 0 n ≡ take n text
+first_bytes text n = ap (λ k. take k text) (omega arith)
+
+-- the parts of a text around a word, by other names
+pub typed_as : {text front word rest f w r : List ℕ} {offset : ℕ} → IsTypedAt text offset f w r → front ≡ f → word ≡ w → rest ≡ r →
+    IsTypedAt text offset front word rest
+typed_as {text} {front} {word} {f} {w} {r} {offset} typed same_front same_word same_rest =
+    subst (λ (rest : List ℕ). IsTypedAt text offset front word rest) (sym same_rest)
+    (subst (λ (word : List ℕ). IsTypedAt text offset front word r) (sym same_word)
+    (subst (λ (front : List ℕ). IsTypedAt text offset front w r) (sym same_front) typed))
+
+-- what is offered in place of the word are these keywords and these names
+module _ (g : Grammar) (of : Kinds) (lexicon : Lexicon) (trees : Trees) (address front rest word : List ℕ) (tokens : List Token) (keywords names : List (List ℕ))
+    (keywords_are : (text : List ℕ) → Contains keywords text ↔ (BeginsBy word text × IsKeywordNext g of lexicon front tokens text))
+    (names_are : (name : List ℕ) → Contains names name ↔ (BeginsBy word name × IsNameNext g of lexicon trees address front rest tokens name)) where
+  abbrev Offers : Offer → Type 0
+  Offers = IsOffered g of lexicon trees address front rest tokens word
+
+  pub offered : (x : Offer) → Contains (map keyword_offer keywords) x ⊎ Contains (map name_offer names) x → Offers x
+  offered x (inl has) =
+      let (text, among, same) = of_mapped keyword_offer keywords x has in
+      let (begins, next) = (keywords_are text).0 among in
+      subst Offers same (offer.keyword begins next)
+  offered x (inr has) =
+      let (name, among, same) = of_mapped name_offer names x has in
+      let (begins, next) = (names_are name).0 among in
+      subst Offers same (offer.name begins next)
+
+  pub among : (x : Offer) → Offers x → Contains (map keyword_offer keywords) x ⊎ Contains (map name_offer names) x
+  among x (offer.keyword {text} begins next) = inl (mapped keyword_offer keywords text ((keywords_are text).1 (begins, next)))
+  among x (offer.name {n} begins next) = inr (mapped name_offer names n ((names_are n).1 (begins, next)))

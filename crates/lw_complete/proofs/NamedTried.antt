@@ -1,0 +1,107 @@
+-- Which starts a name is read as, and whether it is offered.
+use Rattle.std.proofs.Common.{◌≡◌, ◌↔◌, ◌+◌, ◌<◌, ◌≤◌, ◌++◌, ◌∷◌, [], ◌⊎◌, inl, inr, ℕ, List, Bool, true, false, Some, None, IsTrue, Contains, get_or, length, take, refl, sym, ap, ◌∙◌, subst, true≢false, arith}
+use Rattle.std.proofs.lemmas.List.{take_all, take_more}
+use Rattle.std.proofs.lemmas.List.Elements.{Contains-push_cases}
+use Rattle.lw_grammar.specs.Kinds.{Kinds}
+use Rattle.lw_program.specs.Says.{Task}
+use Rattle.lw_scoping.specs.Links.{Trees}
+use Rattle.lw_base.specs.declared.token.Token.{Token}
+use Rattle.lw_tokens.specs.Cut.{IsCut}
+use Rattle.lw_tokens.specs.Lexicon.{Lexicon}
+use Rattle.lw_tree.specs.declared.node.Reference.{Reference}
+use Rattle.lw_tree.specs.Parts.{Parts}
+use Rattle.lw_offers.specs.Starting.{ReferenceNext}
+use Rattle.lw_offers.specs.Words.{BeginsBy}
+use Rattle.lw_complete.specs.declared.names.Known.{Known}
+use Rattle.lw_complete.specs.declared.typing.Typing.{Typing}
+use Rattle.lw_complete.specs.Judged.{IsJudgement, LeadsWhole, StandsWhole}
+use Rattle.lw_complete.specs.Starts.{ComesAt, IsOfferedBy, IsReadAt, IsReadAsStart}
+
+-- ---- the starts one after the other
+
+module _ {X : Type 0} (P : X → Type 0) (xs : List X) where
+  pub none_first : (x : X) → Contains (take 0 xs) x → ¬ P x
+  none_first x (k, inside, is) = absurd (omega (arith, inside))
+
+  pub none_more : (i : ℕ) (x : X) → i < length xs → x ≡ get_or xs i x → ¬ P x → ((y : X) → Contains (take i xs) y → ¬ P y) → (y : X) → Contains (take (i + 1) xs) y → ¬ P y
+  none_more i x inside is not before y has = by (Contains-push_cases (take i xs) x y (subst (λ (ys : List X). Contains ys y) more has))
+    where
+      more : take (i + 1) xs ≡ take i xs ++ x ∷ []
+      more = take_more xs i x inside ∙ ap (λ (z : X). take i xs ++ z ∷ []) (sym is)
+
+      by : Contains (take i xs) y ⊎ (x ≡ y) → ¬ P y
+      by (inl there) = before y there
+      by (inr same) = subst (λ (z : X). ¬ P z) same not
+
+  pub none_all : (i : ℕ) → length xs ≤ i → ((y : X) → Contains (take i xs) y → ¬ P y) → ¬ ((y : X) × Contains xs y × P y)
+  none_all i past none (y, has, is) = none y (subst (λ (ys : List X). Contains ys y) (sym (take_all i xs past)) has) is
+
+-- ---- one start
+
+module _ (of : Kinds) (tasks : List Task) (typing : Typing) (leads : Bool) (added : List Token) (name : List ℕ) (one : Known) where
+  pub not_led : ¬ (IsTrue leads → Contains one.front.names.items name) → ¬ IsReadAt of tasks typing leads added name one
+  not_led not (next, at, read, has) = not has
+
+  pub read_at : (r : Bool) → (IsTrue leads → Contains one.front.names.items name) → (next : ReferenceNext) × ComesAt of typing next one.start.now →
+      ((next : ReferenceNext) → ComesAt of typing next one.start.now → IsTrue r ↔ IsReadAsStart of tasks typing next one.start.now added name) →
+      IsTrue r ↔ IsReadAt of tasks typing leads added name one
+  read_at r has (next, at) told = (
+    λ yes. (next, at, (told next at).0 yes, has),
+    λ (other, there, read, also). (told other there).1 read,
+  )
+
+-- ---- whether a name is offered
+
+module _ (of : Kinds) (lexicon : Lexicon) (tasks : List Task) (typing : Typing) (trees : Trees) (address : List ℕ) (known : List Known) (name : List ℕ) where
+  abbrev pub IsOffered : Type 0
+  IsOffered = IsOfferedBy of lexicon tasks typing trees address known name
+
+  pub not_led_whole : IsJudgement typing trees address name (Some false) → ¬ IsOffered
+  not_led_whole ((tree, r, stands), leads) is = by is.whole
+    where
+      by : LeadsWhole typing trees address name ⊎ (IsTrue is.judged × ((tree : Parts) (r : Reference) → ¬ StandsWhole typing trees address name tree r)) → ⊥
+      by (inl led) = true≢false (sym (leads.1 led))
+      by (inr (judged, none)) = none tree r stands
+
+  module _ (text : List ℕ) (same : text ≡ typing.front.now ++ name) (begins : BeginsBy typing.word.now name) (added : List Token)
+      (cut : IsCut lexicon text (typing.tokens.now ++ added)) (only : (others : List Token) → IsCut lexicon text (typing.tokens.now ++ others) → others ≡ added) where
+    abbrev pub SomeRead : Bool → Type 0
+    SomeRead leads = (one : Known) × Contains known one × IsReadAt of tasks typing leads added name one
+
+    cut_there : IsCut lexicon (typing.front.now ++ name) (typing.tokens.now ++ added)
+    cut_there = subst (λ (t : List ℕ). IsCut lexicon t (typing.tokens.now ++ added)) same cut
+
+    added_are : (is : IsOffered) → is.added ≡ added
+    added_are is = only is.added (subst (λ (t : List ℕ). IsCut lexicon t (typing.tokens.now ++ is.added)) (sym same) is.cut)
+
+    reads_here : (is : IsOffered) → IsReadAt of tasks typing is.judged added name is.one
+    reads_here is = subst (λ (ts : List Token). IsReadAt of tasks typing is.judged ts name is.one) (added_are is) is.reads
+
+    pub by_whole : IsJudgement typing trees address name (Some true) → (r : Bool) → IsTrue r ↔ SomeRead false → IsTrue r ↔ IsOffered
+    by_whole (some, leads) r read = (
+      λ yes. (
+          let (one, among, reads) = read.0 yes in
+          record { begins = begins; added = added; cut = cut_there; one = one; among = among; judged = false; reads = reads; whole = inl (leads.0 refl) }
+          ),
+      λ (is : IsOffered). (
+          let (next, at, read_by, has) = reads_here is in
+          read.1 (is.one, is.among, (next, at, read_by, λ no. absurd (true≢false (sym no))))
+          ),
+    )
+
+    pub by_front : IsJudgement typing trees address name None → (r : Bool) → IsTrue r ↔ SomeRead true → IsTrue r ↔ IsOffered
+    by_front none r read = (
+      λ yes. (
+          let (one, among, reads) = read.0 yes in
+          record { begins = begins; added = added; cut = cut_there; one = one; among = among; judged = true; reads = reads; whole = inr (refl, none) }
+          ),
+      λ (is : IsOffered). (
+          let (next, at, read_by, has) = reads_here is in
+          read.1 (is.one, is.among, (next, at, read_by, λ yes. has (judged_front is.judged is.whole)))
+          ),
+    )
+      where
+        judged_front : (judged : Bool) → LeadsWhole typing trees address name ⊎ (IsTrue judged × ((tree : Parts) (r : Reference) → ¬ StandsWhole typing trees address name tree r)) →
+            IsTrue judged
+        judged_front judged (inl (tree, r, stands, target)) = absurd (none tree r stands)
+        judged_front judged (inr (is, others)) = is

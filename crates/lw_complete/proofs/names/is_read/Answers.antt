@@ -1,0 +1,56 @@
+use Rattle.std.proofs.Common.{◌<◌, ◌≤◌, true≢false, length, refl, sym, ◌∙◌, arith}
+use Rattle.std.proofs.lemmas.List.Elements.{All-contains}
+use Rattle.lw_complete.specs.declared.names.Known.{Known}
+use Rattle.lw_complete.specs.Starts.{IsReadAt, IsStartNext}
+use Rattle.lw_complete.proofs.NamedTried.{none_all, none_first, none_more}
+use Rattle.lw_complete.proofs.NamedWritten.{never}
+use Rattle.lw_complete.proofs.names.is_read.Goals as goal
+
+pub is_read_at-requires : goal.is_read_at-requires
+is_read_at-requires c =
+    let (of, lexicon, tasks, written, parsed, all) = c.requires.known in
+    let known = c.args.known.now in
+    let i = c.known.one-index in
+    let inside : i < length known = omega arith in record {
+      known = (
+        of,
+        lexicon,
+        tasks,
+        written,
+        parsed,
+        All-contains (λ (one : Known). IsStartNext of tasks c.args.typing.now one.start.now) known c.one-item.result all (i, inside, sym c.one-item.is),
+      );
+    }
+
+pub known-init : goal.known-init
+known-init c of lexicon tasks written parsed all =
+    none_first (IsReadAt of tasks c.args.typing.now c.args.leads c.args.written.now.added.now c.args.written.now.name.now) c.args.known.now
+
+pub known-preserved : goal.known-preserved
+known-preserved c of lexicon tasks written parsed all =
+    let known = c.args.known.now in
+    let i = c.known.one-index in
+    let inside : i < length known = omega arith in
+    let next =
+    All-contains (λ (one : Known). IsStartNext of tasks c.args.typing.now one.start.now) known c.one-item.result all (i, inside, sym c.one-item.is) in
+    none_more (IsReadAt of tasks c.args.typing.now c.args.leads c.args.written.now.added.now c.args.written.now.name.now) known i c.one-item.result inside c.one-item.is
+    (λ is. true≢false (sym ((c.in_ok-is_read_at.ensures of lexicon tasks written parsed next).1 is) ∙ c.if-branch.false))
+    (c.known.invariant of lexicon tasks written parsed all)
+
+pub returns-then-branch : goal.returns-then-branch
+returns-then-branch c of lexicon tasks written parsed all =
+    let known = c.args.known.now in
+    let i = c.known.one-index in
+    let inside : i < length known = omega arith in
+    let next =
+    All-contains (λ (one : Known). IsStartNext of tasks c.args.typing.now one.start.now) known c.one-item.result all (i, inside, sym c.one-item.is) in (
+      λ _. (c.one-item.result, (i, inside, sym c.one-item.is), (c.in_ok-is_read_at.ensures of lexicon tasks written parsed next).0 c.if-branch.true),
+      λ _. refl,
+    )
+
+pub returns : goal.returns
+returns c of lexicon tasks written parsed all =
+    let past : length c.args.known.now ≤ c.known.one-index = omega arith in
+    never
+    (none_all (IsReadAt of tasks c.args.typing.now c.args.leads c.args.written.now.added.now c.args.written.now.name.now) c.args.known.now c.known.one-index past
+    (c.known.invariant of lexicon tasks written parsed all))

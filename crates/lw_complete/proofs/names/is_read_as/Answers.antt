@@ -1,0 +1,47 @@
+use Rattle.std.proofs.Common.{◌↔◌, ◌∷◌, [], IsTrue}
+use Rattle.std.proofs.lemmas.Result.{IfOk-weaker}
+use Rattle.lw_begins.specs.Gives.{PlacesGive}
+use Rattle.lw_offers.specs.Starting.{ReferenceNext}
+use Rattle.lw_tokens.specs.Cut.{kinds, visible}
+use Rattle.lw_viable.specs.Aims.{EndsSome}
+use Rattle.lw_complete.specs.Starts.{ComesAt, IsReadAsStart}
+use Rattle.lw_complete.specs.Typing.{grammar_of}
+use Rattle.lw_complete.proofs.NamedWritten.{comes_at, given, is_empty_there, never, none_read, not_empty_there, reference_put, unsaid}
+use Rattle.lw_complete.proofs.names.is_read_as.Goals as goal
+
+pub says-requires-clause-parts : goal.says-requires-clause-parts
+says-requires-clause-parts c = let (of, lexicon, tasks, written, parsed, is) = c.requires.known in written.parts
+
+pub says-requires-clause-recipe : goal.says-requires-clause-recipe
+says-requires-clause-recipe c =
+    let (of, lexicon, tasks, written, parsed, is) = c.requires.known in
+    reference_put c.args.typing.now of tasks c.args.parser.now parsed c.args.start.now is.next (comes_at of tasks c.args.typing.now c.args.start.now is)
+
+pub gives-requires : goal.gives-requires
+gives-requires c =
+    let (of, lexicon, tasks, written, parsed, is) = c.requires.known in
+    record { known = (grammar_of c.args.typing.now, of, tasks, parsed.program, is.value, written.of_kinds) }
+
+pub returns-then-is_empty : goal.returns-then-is_empty
+returns-then-is_empty c of lexicon tasks written parsed is next at =
+    never
+    (none_read c.args.typing.now of tasks c.args.parser.now parsed c.args.start.now next at lexicon c.args.written.now written
+    (is_empty_there c.args.written.now.added.now c.is_empty.result c.is_empty.ensures c.if-is_empty.true))
+
+pub returns-then-not-branch : goal.returns-then-not-branch
+returns-then-not-branch c of lexicon tasks written parsed is next at =
+    never
+    (unsaid c.args.typing.now of tasks c.args.parser.now parsed c.args.start.now next at lexicon c.args.written.now written c.in_ok-says.field-0 c.in_ok-says.ensures
+    c.if-not-branch.true)
+
+pub returns : goal.returns
+returns c of lexicon tasks written parsed is =
+    let typing = c.args.typing.now in
+    let start = c.args.start.now in
+    let added = c.args.written.now.added.now in
+    IfOk-weaker c.gives.result (λ r. IsTrue r ↔ EndsSome (PlacesGive (grammar_of typing) of tasks (start.value ∷ [])) (kinds (visible added)))
+    (λ r. (next : ReferenceNext) → ComesAt of typing next start → IsTrue r ↔ IsReadAsStart of tasks typing next start added c.args.written.now.name.now)
+    (λ r told next at.
+    given typing of tasks c.args.parser.now parsed start next at lexicon c.args.written.now written c.in_ok-says.field-0 c.in_ok-says.ensures c.if-not-branch.false
+    (not_empty_there added c.is_empty.result c.is_empty.ensures c.if-is_empty.false) r told)
+    (c.gives.ensures (grammar_of typing) of tasks parsed.program is.value written.of_kinds)

@@ -1,0 +1,70 @@
+use Rattle.std.proofs.Common.{◌≡◌, ◌<◌, ◌≤◌, ◌+◌, List, All, length, map, take, sym, ap, ◌∙◌, subst, arith}
+use Rattle.std.proofs.lemmas.List.{take_all}
+use Rattle.std.proofs.lemmas.List.Elements.{All-contains, All-nil, All-push}
+use Rattle.lw_findings.proofs.Joining.{Finds-all, Finds-begin, Finds-more}
+use Rattle.lw_complete.specs.declared.names.Known.{Known}
+use Rattle.lw_complete.specs.Starts.{IsNameFoundAt, IsKnownStart, IsStartNext}
+use Rattle.lw_complete.proofs.NamedKnown.{starts_more}
+use Rattle.lw_complete.proofs.names.known_starts.Goals as goal
+
+pub known_start-requires : goal.known_start-requires
+known_start-requires c =
+    let (of, lexicon, tasks, typed, parsed, all) = c.requires.known in
+    let starts = c.args.starts.now in
+    let i = c.starts.start-index in
+    let x = c.start-item.result in
+    let inside : i < length starts = omega arith in record {
+      known = (
+        of,
+        lexicon,
+        tasks,
+        typed,
+        parsed,
+        All-contains (IsStartNext of tasks c.args.typing.now) starts x all (i, inside, sym c.start-item.is),
+        c.in_ok-made.ensures of lexicon typed,
+      );
+    }
+
+pub starts-init : goal.starts-init
+starts-init c = record {
+  starts = ap (map (λ (one : Known). one.start.now)) c.new-known.ensures.items;
+  known = λ of lexicon trees address typed index number.
+      subst (All (IsKnownStart of c.args.typing.now trees address)) (sym c.new-known.ensures.items) (All-nil (IsKnownStart of c.args.typing.now trees address));
+  found = λ of lexicon tasks trees address typed parsed all index number.
+      Finds-begin (IsNameFoundAt of lexicon tasks c.args.typing.now trees address) c.args.found.now.items c.args.starts.now;
+}
+
+pub starts-preserved : goal.starts-preserved
+starts-preserved c =
+    let typing = c.args.typing.now in
+    let starts = c.args.starts.now in
+    let inv = c.starts.invariant in
+    let i = c.starts.start-index in
+    let x = c.start-item.result in
+    let inside : i < length starts = omega arith in record {
+      starts =
+          subst (λ (known : List Known). map (λ (one : Known). one.start.now) known ≡ take (i + 1) starts) (sym c.in_ok-push.ensures.items)
+          (starts_more c.starts.known.items starts i _ inside c.start-item.is inv.starts);
+      known = λ of lexicon trees address typed index number.
+          subst (All (IsKnownStart of typing trees address)) (sym c.in_ok-push.ensures.items)
+          (All-push (IsKnownStart of typing trees address) c.starts.known.items _ (inv.known of lexicon trees address typed index number)
+          (c.in_ok-front.ensures.known of lexicon trees address typed index number));
+      found = λ of lexicon tasks trees address typed parsed all index number.
+          Finds-more (IsNameFoundAt of lexicon tasks typing trees address) starts i x inside c.start-item.is (inv.found of lexicon tasks trees address typed parsed all index number)
+          (c.in_ok-front.ensures.found of lexicon tasks trees address typed parsed
+          (All-contains (IsStartNext of tasks typing) starts x all (i, inside, sym c.start-item.is)) (c.in_ok-made.ensures of lexicon typed) index number);
+    }
+
+pub returns-clause-starts : goal.returns-clause-starts
+returns-clause-starts c =
+    let past : length c.args.starts.now ≤ c.starts.start-index = omega arith in
+    c.starts.invariant.starts ∙ take_all c.starts.start-index c.args.starts.now past
+
+pub returns-clause-known : goal.returns-clause-known
+returns-clause-known c of lexicon trees address typed index number = c.starts.invariant.known of lexicon trees address typed index number
+
+pub returns-clause-found : goal.returns-clause-found
+returns-clause-found c of lexicon tasks trees address typed parsed all index number =
+    let past : length c.args.starts.now ≤ c.starts.start-index = omega arith in
+    Finds-all (IsNameFoundAt of lexicon tasks c.args.typing.now trees address) c.args.starts.now c.starts.start-index past
+    (c.starts.invariant.found of lexicon tasks trees address typed parsed all index number)

@@ -1,0 +1,105 @@
+use Rattle.std.proofs.Common.{◌≡◌, ◌↔◌, [], ℕ, List, All, AllPairs, Contains, bytes_eq, map, sym, ap, ◌∙◌, subst}
+use Rattle.std.specs.Cmp.Lexicographic.{slice_cmp}
+use Rattle.std.specs.List.{dedup}
+use Rattle.std.specs.Ordering.{nat_cmp}
+use Rattle.std.specs.declared.cmp.Ordering.TheVariants.{Less}
+use Rattle.std.proofs.lemmas.List.Filters.{dedup_is}
+use Rattle.std.proofs.lemmas.Result.{IfOk-weaker}
+use Rattle.lw_findings.specs.Finding.{Finds, OfSome}
+use Rattle.lw_link.proofs.NamesSorted.{names_ordered, same_names}
+use Rattle.lw_offers.specs.Offers.{IsNameNext}
+use Rattle.lw_offers.specs.Words.{BeginsBy}
+use Rattle.lw_recipes.specs.Making.{AreRecipesOf}
+use Rattle.lw_viable.specs.Aims.{Sentence}
+use Rattle.lw_complete.specs.declared.names.Known.{Known}
+use Rattle.lw_complete.specs.Starts.{IsNameFoundAt, IsKnownStart, IsOfferedBy, IsStartNext}
+use Rattle.lw_complete.specs.Typing.{grammar_of, kinds_before}
+use Rattle.lw_complete.proofs.NamedKnown.{known_all}
+use Rattle.lw_complete.proofs.NamedNext.{all_next, all_starts}
+use Rattle.lw_complete.proofs.NamedOffered.{all_offered, names_found}
+use Rattle.lw_complete.proofs.names.names.Goals as goal
+
+pub references-requires : goal.references-requires
+references-requires c =
+    let g = grammar_of c.args.typing.now in
+    let (of, lexicon, tasks, typed, readings, parsed) = c.requires.known in record {
+      known = (
+        g,
+        of,
+        tasks,
+        Sentence,
+        kinds_before c.args.typing.now,
+        readings,
+        subst (AreRecipesOf g) (sym c.recipes.ensures) parsed.faultless.parser.recipes,
+      );
+    }
+
+pub known_starts-requires-clause-known : goal.known_starts-requires-clause-known
+known_starts-requires-clause-known c =
+    let g = grammar_of c.args.typing.now in
+    let (of, lexicon, tasks, typed, readings, parsed) = c.requires.known in
+    let all =
+    all_starts c.args.typing.now of tasks c.args.parser.now parsed c.recipes.result.now c.in_ok-starts.starts.items c.as_slice.result.now c.recipes.ensures
+    c.as_slice.ensures.value (λ are. c.in_ok-starts.ensures.starts g of tasks Sentence (kinds_before c.args.typing.now) readings are) in
+    (of, lexicon, tasks, typed, parsed, all_next c.args.typing.now of tasks c.args.parser.now parsed c.as_slice.result.now all)
+
+pub offered-requires : goal.offered-requires
+offered-requires c =
+    let g = grammar_of c.args.typing.now in
+    let (of, lexicon, tasks, typed, readings, parsed) = c.requires.known in
+    let all =
+    all_starts c.args.typing.now of tasks c.args.parser.now parsed c.recipes.result.now c.in_ok-starts.starts.items c.as_slice.result.now c.recipes.ensures
+    c.as_slice.ensures.value (λ are. c.in_ok-starts.ensures.starts g of tasks Sentence (kinds_before c.args.typing.now) readings are) in record {
+      known = (
+        of,
+        lexicon,
+        tasks,
+        typed,
+        parsed,
+        subst (All (λ (one : Known). IsStartNext of tasks c.args.typing.now one.start.now)) (sym c.as_slice-2.ensures.value)
+            (known_all (IsStartNext of tasks c.args.typing.now) c.in_ok-known.known.items c.as_slice.result.now c.in_ok-known.ensures.starts
+            (all_next c.args.typing.now of tasks c.args.parser.now parsed c.as_slice.result.now all)),
+      );
+    }
+
+pub returns-clause-names : goal.returns-clause-names
+returns-clause-names c of lexicon tasks trees address typed readings parsed one_way index number =
+    let typing = c.args.typing.now in
+    let parser = c.args.parser.now in
+    let g = grammar_of typing in
+    let starts = c.as_slice.result.now in
+    let all =
+    all_starts typing of tasks parser parsed c.recipes.result.now c.in_ok-starts.starts.items starts c.recipes.ensures c.as_slice.ensures.value
+    (λ are. c.in_ok-starts.ensures.starts g of tasks Sentence (kinds_before typing) readings are) in
+    let next = all_next typing of tasks parser parsed starts all in
+    let known = c.as_slice-2.result.now in
+    let are_starts : map (λ (one : Known). one.start.now) known ≡ starts =
+    ap (map (λ (one : Known). one.start.now)) c.as_slice-2.ensures.value ∙ c.in_ok-known.ensures.starts in
+    let are_known : All (IsKnownStart of typing trees address) known =
+    subst (All (IsKnownStart of typing trees address)) (sym c.as_slice-2.ensures.value) (c.in_ok-known.ensures.known of lexicon trees address typed index number) in
+    let gathered = c.known_starts.new.found.items in
+    let finds : Finds (OfSome (IsNameFoundAt of lexicon tasks typing trees address) starts) [] gathered =
+    subst (λ (old : List (List ℕ)). Finds (OfSome (IsNameFoundAt of lexicon tasks typing trees address) starts) old gathered) c.new-found.ensures.items
+    (c.in_ok-known.ensures.found of lexicon tasks trees address typed parsed next index number) in
+    let sorted = c.sort_unstable.new.self.items in
+    let kept : c.dedup.new.self.items ≡ dedup bytes_eq sorted = dedup_is bytes_eq _ _ c.dedup.ensures.filtered in
+    let same : (name : List ℕ) → Contains c.dedup.new.self.items name ↔ Contains gathered name =
+    subst (λ (names : List (List ℕ)). (name : List ℕ) → Contains names name ↔ Contains gathered name) (sym kept)
+    (same_names gathered sorted c.sort_unstable.ensures.permutation) in
+    let found_are = names_found typing of lexicon tasks parser parsed starts all trees address gathered finds in
+    IfOk-weaker c.offered.result
+    (λ found. (name : List ℕ) → Contains found.items name ↔ (Contains c.dedup.new.self.items name × IsOfferedBy of lexicon tasks typing trees address known name))
+    (λ found. (name : List ℕ) → Contains found.items name ↔
+    (BeginsBy typing.word.now name × IsNameNext g of lexicon trees address typing.front.now typing.rest.now typing.tokens.now name))
+    (λ found exact.
+    all_offered typing of lexicon tasks parser parsed starts all trees address known are_starts are_known c.dedup.new.self.items
+    (λ name. (λ has. (found_are name).0 ((same name).0 has), λ is. (same name).1 ((found_are name).1 is))) found.items exact)
+    (c.offered.ensures.offered of lexicon tasks trees address typed parsed (known_all (IsStartNext of tasks typing) known starts are_starts next) one_way index number)
+
+pub returns-clause-ordered : goal.returns-clause-ordered
+returns-clause-ordered c =
+    let gathered = c.known_starts.new.found.items in
+    let sorted = c.sort_unstable.new.self.items in
+    let kept : c.dedup.new.self.items ≡ dedup bytes_eq sorted = dedup_is bytes_eq _ _ c.dedup.ensures.filtered in
+    c.offered.ensures.ordered
+    (subst (AllPairs (λ one other. slice_cmp nat_cmp one other ≡ Less)) (sym kept) (names_ordered gathered sorted c.sort_unstable.ensures.sorted))
