@@ -33,7 +33,7 @@ use Rattle.lw_session.proofs.Known.{same_get, turn}
 
 -- ---- the documents that a workspace stands for
 
-pub turned_text : (is_built : Bool) (held : Numbered) → (turn is_built held).text ≡ held.doc.text
+turned_text : (is_built : Bool) (held : Numbered) → (turn is_built held).text ≡ held.doc.text
 turned_text true held = refl
 turned_text false held = refl
 
@@ -55,6 +55,11 @@ module _ (v : WorkspaceView) (address : List ℕ) (at : Pos) (asked : PlaceAsked
     held = same_get v.is_built v.kept address ∙ ap (option_map (turn v.is_built)) is.here;
     means = subst (λ (t : List ℕ). IsOffset Utf16 t at asked.off) (sym (turned_text v.is_built is.held)) is.means;
   }
+
+  -- it has the text that is held
+  pub asked_text : is_asked.document.text ≡ is.held.doc.text
+  unfolding is_asked
+  asked_text = turned_text v.is_built is.held
 
 -- ---- mentions as spots and as locations
 

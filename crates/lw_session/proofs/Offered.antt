@@ -21,15 +21,9 @@ use Rattle.lw_text.specs.declared.place.Pos.{Pos}
 use Rattle.lw_session.specs.Completing.{IsItemTold, TakesWord}
 use Rattle.lw_session.specs.Locating.{IsAskedPlace}
 use Rattle.lw_session.specs.declared.locating.PlaceAsked.{PlaceAsked}
-use Rattle.lw_session.proofs.Asked.{is_asked, turned_text}
+use Rattle.lw_session.proofs.Asked.{asked_text, is_asked}
 
 -- ---- the word that is replaced
-
--- the text before the word ends before the offset
-pub front_inside : (text : List ℕ) (offset : ℕ) {front word rest : List ℕ} → IsTypedAt text offset front word rest → length front ≤ length text
-front_inside text offset {front} {word} is =
-    let counted : offset ≡ length front + length word = sym (length-take-le offset text is.inside) ∙ ap length is.before ∙ length-append front word in
-    omega (arith, counted, is.inside)
 
 -- items by the word that ends at an offset
 abbrev pub TakesWordAt : List ℕ → ℕ → Item → Type 0
@@ -73,11 +67,11 @@ module _ (v : WorkspaceView) (of : Grammar) (same_grammar : of ≡ v.grammar) (a
       AreOffers of (present_texts (documents v)) address text asked.off (map offer_of items) → All (TakesWordAt text asked.off) items →
       AllZip (IsItemTold text) items told → TellsCompletion v.grammar (documents v) address at (outcome.Offers told)
   tells_offers items told are words tells =
-      let back : text ≡ (is_asked v address at asked is).document.text = sym same ∙ sym (turned_text v.is_built is.held) in
+      let back : text ≡ (is_asked v address at asked is).document.text = sym same ∙ sym (asked_text v address at asked is) in
       ask.offered (is_asked v address at asked is)
       (subst₂ (λ (g : Grammar) (t : List ℕ). AreOffers g (present_texts (documents v)) address t asked.off (map offer_of items)) same_grammar back are)
       (subst (λ (t : List ℕ). AllZip (IsItemOf t asked.off) (map offer_of items) told) back
       (told_of_offers text asked.off items told (ends items words) tells))
     where
       ends : (items : List Item) → All (TakesWordAt text asked.off) items → All (λ (item : Item). item.to ≡ asked.off) items
-      ends items all = All-weaker (TakesWordAt text asked.off) (λ (item : Item). item.to ≡ asked.off) (λ item it. it.2.2.2.2.2) items all
+      ends items all = All-weaker (TakesWordAt text asked.off) (λ (item : Item). item.to ≡ asked.off) (λ item it. it.5) items all

@@ -11,5 +11,5 @@ returns-in-References c = rw c.in-References.is (tell.references c.in_ok-outcome
 pub returns-in-Rename : goal.returns-in-Rename
 returns-in-Rename c = rw c.in-Rename.is (IfOk-weaker c.rename_at.result _ _ (λ reply is. tell.rename is) c.rename_at.ensures)
 
-pub returns-in-Completion : goal.returns-in-Completion
-returns-in-Completion c = rw c.in-Completion.is (tell.completion c.in_ok-outcome-in-Completion.ensures)
+pub returns : goal.returns
+returns c = rw c.in-Completion.is (tell.completion c.in_ok-outcome-in-Completion.ensures)

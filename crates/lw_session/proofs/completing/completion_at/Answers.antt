@@ -1,6 +1,5 @@
 use Rattle.std.proofs.Common.{List, ℕ, All, sym, ◌∙◌, subst}
 use Rattle.std.specs.List.{AllZip}
-use Rattle.std.specs.Str.{IsCharBoundary}
 use Rattle.lw_base.specs.declared.numbers.DocId.{DocId}
 use Rattle.lw_build.specs.View.{documents}
 use Rattle.lw_complete.specs.declared.item.Item.{Item}
@@ -9,7 +8,6 @@ use Rattle.lw_conversation.specs.Asking.{TellsCompletion}
 use Rattle.lw_grammar.specs.declared.grammar.Grammar.{Grammar}
 use Rattle.lw_link.specs.Visible.{IsNumberAt}
 use Rattle.lw_machine.specs.Documents.{present_texts}
-use Rattle.lw_reading.specs.Laws.{IsReadOneWay}
 use Rattle.lw_rpc.specs.declared.reply.Outcome.TheVariants.{Offers}
 use Rattle.lw_scopes.specs.Links.{AreTreesOfTexts}
 use Rattle.lw_session.specs.Completing.{IsItemTold, TakesWord}
@@ -23,16 +21,6 @@ returns-in_default c =
     subst (λ items. TellsCompletion v.grammar (documents v) c.args.address.now c.args.at (Offers items)) (sym c.new.ensures)
     (tell.not_held (none_held v c.args.address.now c.in_default.ensures))
 
-pub complete-requires-boundary : goal.complete-requires-boundary
-complete-requires-boundary c =
-    let is = c.in-Some.ensures in
-    subst (λ (t : List ℕ). IsCharBoundary t c.in-Some.asked.off)
-    (same_text c.args.workspace.now c.args.address.now c.args.at c.in-Some.asked is c.in-Some-2.text.now c.in-Some-2.ensures ∙ sym c.as_name.ensures.text)
-    is.boundary
-
-pub complete-requires-one_way : goal.complete-requires-one_way
-complete-requires-one_way c = subst IsReadOneWay (sym c.language.ensures) c.agrees.ensures.one_way
-
 pub told_items-requires : goal.told_items-requires
 told_items-requires c =
     subst (λ (t : List ℕ). All (TakesWord t) c.as_slice.result.now) c.as_name.ensures.text
@@ -44,7 +32,7 @@ returns c =
     let v = c.args.workspace.now in
     let is = c.in-Some.ensures in
     let text = c.as_name.result.now in
-    let same = same_text v c.args.address.now c.args.at c.in-Some.asked is c.in-Some-2.text.now c.in-Some-2.ensures ∙ sym c.as_name.ensures.text in
+    let same = same_text v c.args.address.now c.args.at c.in-Some.asked is c.in-Some-text_of.text.now c.in-Some-text_of.ensures ∙ sym c.as_name.ensures.text in
     let items = c.in_ok-offered.offered.items in
     let told = c.in_ok-items.items in
     let (trees, are_trees, is_index) = c.index.ensures.trees c.requires in
@@ -55,4 +43,4 @@ returns c =
     (subst (λ (g : Grammar). AreTreesOfTexts g (present_texts (documents v)) trees) (sym c.language.ensures) are_trees) is_index number in
     tells_offers v of c.language.ensures c.args.address.now c.args.at c.in-Some.asked is text same items told are c.in_ok-offered.ensures.spans
     (subst (λ (t : List ℕ). AllZip (IsItemTold t) items told) (sym c.as_name.ensures.text)
-    (subst (λ (is : List Item). AllZip (IsItemTold c.in-Some-2.text.now) is told) c.as_slice.ensures.value c.in_ok-items.ensures))
+    (subst (λ (is : List Item). AllZip (IsItemTold c.in-Some-text_of.text.now) is told) c.as_slice.ensures.value c.in_ok-items.ensures))
