@@ -14,7 +14,6 @@ use Rattle.lw_conversation.specs.Asking.{IsAskedAt, IsLocationOf, TellsDefinitio
 use Rattle.lw_docs.specs.Documents.{ByAddress, Numbered}
 use Rattle.lw_machine.specs.Documents.{Document, present_texts}
 use Rattle.lw_places.specs.Mentions.{AreReferencesAt, IsDefinitionAt, IsMentionOf, IsNameHere, IsUseHere, Mention, declared, defined, mentioned, used}
-use Rattle.lw_places.specs.Mentions as place
 use Rattle.lw_query.specs.Viewed.{AreViewsOf, IsMentionAt}
 use Rattle.lw_query.specs.declared.spot.Spot.{Spot}
 use Rattle.lw_rpc.specs.declared.reply.Location.{Location}

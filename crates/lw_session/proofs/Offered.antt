@@ -1,8 +1,7 @@
 -- What is told of what is offered at a place, by what a workspace holds.
-use Rattle.std.proofs.Common.{◌≡◌, ◌≤◌, ◌+◌, ℕ, suc, List, [], ◌∷◌, ◌++◌, Some, All, length, length-append, map, refl, sym, ap, ◌∙◌, subst, subst₂, arith}
+use Rattle.std.proofs.Common.{◌≡◌, ℕ, suc, List, [], ◌∷◌, Some, All, length, map, sym, ap, ◌∙◌, subst, subst₂, arith}
 use Rattle.std.specs.FinMap.{get}
 use Rattle.std.specs.List.{AllZip}
-use Rattle.std.proofs.lemmas.List.{length-take-le}
 use Rattle.std.proofs.lemmas.List.Elements.{All-weaker}
 use Rattle.std.proofs.lemmas.Option.{same_Some}
 use Rattle.lw_build.specs.View.{WorkspaceView, documents}
@@ -13,7 +12,7 @@ use Rattle.lw_conversation.specs.Asking.{IsItemOf, TellsCompletion}
 use Rattle.lw_docs.specs.Documents.{Numbered}
 use Rattle.lw_grammar.specs.declared.grammar.Grammar.{Grammar}
 use Rattle.lw_machine.specs.Documents.{present_texts}
-use Rattle.lw_offers.specs.Offers.{AreOffers, Offer}
+use Rattle.lw_offers.specs.Offers.{AreOffers}
 use Rattle.lw_offers.specs.Words.{IsTypedAt}
 use Rattle.lw_rpc.specs.declared.reply.CompletionItem.{CompletionItem}
 use Rattle.lw_rpc.specs.declared.reply.Outcome.TheVariants as outcome

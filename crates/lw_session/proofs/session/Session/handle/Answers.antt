@@ -1,13 +1,10 @@
-use Rattle.std.proofs.Common.{◌++◌, List, [], map, refl, ap₂, ◌∙◌, subst}
+use Rattle.std.proofs.Common.{◌++◌, [], map, refl, subst}
 use Rattle.lw_conversation.specs.Effects.{as_reply}
 use Rattle.lw_machine.specs.Validity.{IsValid}
 use Rattle.lw_build.specs.View.{documents}
-use Rattle.lw_machine.specs.declared.published.Published.{Published}
 use Rattle.lw_grammar.specs.declared.grammar.Grammar.{Grammar}
 use Rattle.lw_rpc.specs.Messages.{message_of}
-use Rattle.lw_rpc.specs.Replies.{reply_bytes}
 use Rattle.lw_rpc.specs.declared.message.Message.{Message}
-use Rattle.lw_rpc.specs.declared.reply.Reply.{Reply}
 use Rattle.lw_conversation.specs.Sessions.{Handles}
 use Rattle.lw_session.specs.Answering.{standing_of}
 use Rattle.lw_session.proofs.Handling.{error_behind, error_not_begun, told_texts}
