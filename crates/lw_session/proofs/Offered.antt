@@ -5,7 +5,7 @@ use Rattle.std.specs.List.{AllZip}
 use Rattle.std.proofs.lemmas.List.Elements.{All-weaker}
 use Rattle.std.proofs.lemmas.Option.{same_Some}
 use Rattle.lw_build.specs.View.{WorkspaceView, documents}
-use Rattle.lw_complete.specs.Items.{offer_of}
+use Rattle.lw_complete.specs.Items.{TakesThePlace, offer_of}
 use Rattle.lw_complete.specs.declared.item.Item.{Item}
 use Rattle.lw_conversation.specs.Asking as ask
 use Rattle.lw_conversation.specs.Asking.{IsItemOf, TellsCompletion}
@@ -27,10 +27,10 @@ use Rattle.lw_session.proofs.Asked.{asked_text, is_asked}
 -- items by the word that ends at an offset
 abbrev pub TakesWordAt : List ℕ → ℕ → Item → Type 0
 TakesWordAt text offset item =
-    (front : List ℕ) × (word : List ℕ) × (rest : List ℕ) × IsTypedAt text offset front word rest × (item.from ≡ length front) × (item.to ≡ offset)
+    (front : List ℕ) × (word : List ℕ) × (rest : List ℕ) × IsTypedAt text offset front word rest × TakesThePlace (length front) offset item
 
 take_word : (text : List ℕ) (offset : ℕ) (item : Item) → TakesWordAt text offset item → TakesWord text item
-take_word text offset item (front, word, rest, typed, begins, ends) = record {
+take_word text offset item (front, word, rest, typed, (begins, ends)) = record {
   front = front;
   word = word;
   rest = rest;
@@ -73,4 +73,4 @@ module _ (v : WorkspaceView) (of : Grammar) (same_grammar : of ≡ v.grammar) (a
       (told_of_offers text asked.off items told (ends items words) tells))
     where
       ends : (items : List Item) → All (TakesWordAt text asked.off) items → All (λ (item : Item). item.to ≡ asked.off) items
-      ends items all = All-weaker (TakesWordAt text asked.off) (λ (item : Item). item.to ≡ asked.off) (λ item it. it.5) items all
+      ends items all = All-weaker (TakesWordAt text asked.off) (λ (item : Item). item.to ≡ asked.off) (λ item it. it.4.1) items all
