@@ -1,19 +1,69 @@
-// A text cut into tokens.
+// Texts cut into tokens.
 ghost use Rattle.std.specs.Prelude.{◌≡◌, ◌+◌, ◌<◌, ◌≤◌, List, IfOk, Err, ℕ, All, ◌++◌, length, encode_utf8, drop};
 ghost use Rattle.lw_base.specs.declared.limits.TheConstants.{LONGEST_TEXT};
 ghost use Rattle.std.specs.Char.{IsScalar};
 ghost use Rattle.lw_base.specs.declared.token.Span.{Span};
 ghost use Rattle.lw_base.specs.declared.token.Token.{Token};
 ghost use Rattle.lw_tokens.specs.Cut.{IsCut, HasNoTokenAt, IsCharacterAt};
+ghost use Rattle.lw_terminals.specs.TokenKinds.{AreTokenKinds};
 ghost use Rattle.lw_lexer.specs.TokenPlaces.{IsTokenPlace};
 
 use crate::LexFault;
 use crate::next::next_token;
-use lw_base::{Name, Span, Token};
-use lw_terminals::TokenSet;
+use lw_base::{Name, NoMemory, Span, Token};
+use lw_terminals::{TerminalMatcher, TokenSet};
 use std::alloc::Global;
+use std::marker::Model;
 
-/// The tokens of the text. Where the text has no token at some place, the first such place is refused.
+/// What cuts texts into tokens, seen as the set of these. What it learns of the patterns while it cuts one text serves for the next, so
+/// that many short texts are best cut by one.
+#[derive(Drop)]
+pub struct Lexer<'s> {
+    set: &'s TokenSet,
+    matchers: Vec<TerminalMatcher<'s>>,
+}
+
+impl<'s> Model for Lexer<'s> {
+    ghost use Rattle.std.specs.Prelude.{◌≡◌};
+    ghost use Rattle.lw_terminals.specs.TokenKinds.{TokenKinds, AreTokenKinds};
+
+    ghost Value = { TokenKinds };
+
+    ghost view = { λ l. l.set.now };
+
+    ghost invariant = { λ l. (l.matchers.items ≡ l.set.now.lexicon.terminals) × AreTokenKinds l.set.now };
+}
+
+impl<'s> Lexer<'s> {
+    /// What cuts texts by this set.
+    pub fn new(alloc: Global, set: &'s TokenSet) -> Result<Lexer<'s>, NoMemory>
+        ensures { IfOk result (λ lexer. lexer ≡ set.now) }
+    {
+        let matchers = set.matchers(alloc)?;
+        Ok(Lexer { set, matchers })
+    }
+
+    /// The tokens of the text. Where the text has no token at some place, the first such place is refused.
+    ///
+    /// At each token every pattern is tried once at its start, and of the keywords those that begin with its first byte.
+    pub fn cut(&mut self, alloc: Global, text: &Name) -> Result<Vec<Token>, LexFault>
+        requires { length text.now ≤ LONGEST_TEXT }
+        ensures cut { IfOk result (λ tokens. IsCut self.old.lexicon text.now tokens.items) }
+        ensures places { IfOk result (λ tokens. All (IsTokenPlace text.now) tokens.items) }
+        ensures no_token { (s : Span) → result ≡ Err (LexFault.NoToken s) → HasNoTokenAt self.old.lexicon text.now s.start }
+        ensures character { (s : Span) → result ≡ Err (LexFault.NoToken s) → IsCharacterAt text.now s }
+        ensures one_cut { IfOk result (λ tokens. (others : List Token) → IsCut self.old.lexicon text.now others → others ≡ tokens.items) }
+        ensures no_fault { IfOk result (λ _. (at : ℕ) → ¬ HasNoTokenAt self.old.lexicon text.now at) }
+        ensures no_cut { (s : Span) → result ≡ Err (LexFault.NoToken s) → (tokens : List Token) → ¬ IsCut self.old.lexicon text.now tokens }
+        ensures one_place { (s : Span) → result ≡ Err (LexFault.NoToken s) → (at : ℕ)
+            → HasNoTokenAt self.old.lexicon text.now at → at ≡ s.start }
+        ensures same { self.new ≡ self.old }
+    {
+        cut(alloc, self.set, &mut self.matchers, text)
+    }
+}
+
+/// The tokens of the text, as by a [`Lexer`] that cuts it alone.
 pub fn lex(alloc: Global, set: &TokenSet, text: &Name) -> Result<Vec<Token>, LexFault>
     requires { length text.now ≤ LONGEST_TEXT }
     ensures cut { IfOk result (λ tokens. IsCut set.now.lexicon text.now tokens.items) }
@@ -28,13 +78,36 @@ pub fn lex(alloc: Global, set: &TokenSet, text: &Name) -> Result<Vec<Token>, Lex
     ensures one_place { (s : Span) → result ≡ Err (LexFault.NoToken s) → (at : ℕ)
         → HasNoTokenAt set.now.lexicon text.now at → at ≡ s.start }
 {
-    let mut matchers = set.matchers(alloc)?;
+    Lexer::new(alloc, set)?.cut(alloc, text)
+}
+
+// The tokens of the text, by these matchers of the set's terminals.
+fn cut(
+    alloc: Global,
+    set: &TokenSet,
+    matchers: &mut Vec<TerminalMatcher<'_>>,
+    text: &Name,
+) -> Result<Vec<Token>, LexFault>
+    requires short { length text.now ≤ LONGEST_TEXT }
+    requires matchers { matchers.old.items ≡ set.now.lexicon.terminals }
+    requires kinds { AreTokenKinds set.now }
+    ensures cut { IfOk result (λ tokens. IsCut set.now.lexicon text.now tokens.items) }
+    ensures places { IfOk result (λ tokens. All (IsTokenPlace text.now) tokens.items) }
+    ensures no_token { (s : Span) → result ≡ Err (LexFault.NoToken s) → HasNoTokenAt set.now.lexicon text.now s.start }
+    ensures character { (s : Span) → result ≡ Err (LexFault.NoToken s) → IsCharacterAt text.now s }
+    ensures one_cut { IfOk result (λ tokens. (others : List Token) → IsCut set.now.lexicon text.now others → others ≡ tokens.items) }
+    ensures no_fault { IfOk result (λ _. (at : ℕ) → ¬ HasNoTokenAt set.now.lexicon text.now at) }
+    ensures no_cut { (s : Span) → result ≡ Err (LexFault.NoToken s) → (tokens : List Token) → ¬ IsCut set.now.lexicon text.now tokens }
+    ensures one_place { (s : Span) → result ≡ Err (LexFault.NoToken s) → (at : ℕ)
+        → HasNoTokenAt set.now.lexicon text.now at → at ≡ s.start }
+    ensures same { matchers.new.items ≡ matchers.old.items }
+{
     let text = text.text();
     let mut tokens = Vec::new(alloc);
     let mut at = 0;
     'cutting: while at < text.len() {
         let rest = &text[at..];
-        let Some(next) = next_token(set, &mut matchers, rest) else {
+        let Some(next) = next_token(set, matchers, rest) else {
             return Err(LexFault::NoToken(span_of(at, first_character(rest))));
         };
         let token = Token {

@@ -44,6 +44,13 @@ impl Terminal {
         }
     }
 
+    /// The text of the pattern.
+    pub fn pattern(&self) -> &Name
+        ensures { result.now ≡ self.now.pattern }
+    {
+        &self.pattern
+    }
+
     /// What finds the terminal's matches.
     pub fn matcher(&self, alloc: Global) -> Result<TerminalMatcher<'_>, NoMemory>
         ensures { IfOk result (λ matcher. matcher ≡ self.now) }

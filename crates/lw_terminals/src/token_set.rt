@@ -101,6 +101,13 @@ impl TokenSet {
         self.starting[byte as usize].as_slice()
     }
 
+    /// The terminals, in the order of kinds.
+    pub fn terminals(&self) -> &[Terminal]
+        ensures { result.now ≡ self.now.lexicon.terminals }
+    {
+        self.terminals.as_slice()
+    }
+
     /// What finds the matches of the terminals, in the order of kinds.
     pub fn matchers(&self, alloc: Global) -> Result<Vec<TerminalMatcher<'_>>, NoMemory>
         ensures terminals { IfOk result (λ matchers. matchers.items ≡ self.now.lexicon.terminals) }

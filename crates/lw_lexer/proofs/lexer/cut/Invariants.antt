@@ -1,7 +1,7 @@
 use Rattle.std.proofs.Common.{◌≡◌, ◌-◌, length, All, IsCharBoundary}
 use Rattle.lw_tokens.specs.Cut.{IsCutTo}
 use Rattle.lw_lexer.specs.TokenPlaces.{IsTokenPlace}
-use Rattle.lw_lexer.proofs.lexer.lex.Given as goal
+use Rattle.lw_lexer.proofs.lexer.cut.Given as goal
 
 abbrev pub invariant-cutting : goal.invariant-cutting
 invariant-cutting l = record {

@@ -9,7 +9,7 @@ use Rattle.lw_tokens.specs.NextToken.{IsNextToken}
 use Rattle.lw_lexer.specs.Place.{next_of}
 use Rattle.lw_lexer.specs.TokenPlaces.{IsTokenPlace}
 use Rattle.lw_tokens.proofs.OneCut.{one_cut, no_cut, one_place}
-use Rattle.lw_lexer.proofs.lexer.lex.Goals as goal
+use Rattle.lw_lexer.proofs.lexer.cut.Goals as goal
 
 pub cutting-init : goal.cutting-init
 cutting-init c = record {
@@ -53,7 +53,7 @@ returns-in_default-clause-no_cut c =
       inside = omega (arith, c.cutting-test.true);
       none = rw c.range_from-rest.ensures.value at c.in_default.ensures.next;
     } in
-    λ s e tokens cut. no_cut lexicon c.matchers.ensures.kinds.keywords c.args.text.now c.cutting.at tokens (rw c.text-text.ensures.text at fault) cut
+    λ s e tokens cut. no_cut lexicon c.requires.kinds.keywords c.args.text.now c.cutting.at tokens (rw c.text-text.ensures.text at fault) cut
 
 pub returns-in_default-clause-one_place : goal.returns-in_default-clause-one_place
 returns-in_default-clause-one_place c =
@@ -67,7 +67,7 @@ returns-in_default-clause-one_place c =
     } in
     λ s e at other.
     let same : c.span_of.result ≡ s = cc in
-    one_place lexicon c.matchers.ensures.kinds.keywords c.args.text.now at c.cutting.at other (rw c.text-text.ensures.text at fault)
+    one_place lexicon c.requires.kinds.keywords c.args.text.now at c.cutting.at other (rw c.text-text.ensures.text at fault)
     ∙ ap (λ (x : Span). x.start) (sym c.span_of.ensures ∙ same)
 
 pub returns-clause-one_cut : goal.returns-clause-one_cut
@@ -76,7 +76,7 @@ returns-clause-one_cut c =
     let held = c.text-text.result.now in
     let end : c.cutting.at ≡ length held = omega (arith, c.cutting-test.false, c.cutting.invariant.boundary.0) in
     let cut : IsCut lexicon held c.cutting.tokens.items = subst (λ n. IsCutTo lexicon held n c.cutting.tokens.items) end c.cutting.invariant.cut in
-    λ others other. one_cut lexicon c.matchers.ensures.kinds.keywords c.args.text.now c.cutting.tokens.items others (rw c.text-text.ensures.text at cut) other
+    λ others other. one_cut lexicon c.requires.kinds.keywords c.args.text.now c.cutting.tokens.items others (rw c.text-text.ensures.text at cut) other
 
 pub returns-clause-no_fault : goal.returns-clause-no_fault
 returns-clause-no_fault c =
@@ -84,4 +84,4 @@ returns-clause-no_fault c =
     let held = c.text-text.result.now in
     let end : c.cutting.at ≡ length held = omega (arith, c.cutting-test.false, c.cutting.invariant.boundary.0) in
     let cut : IsCut lexicon held c.cutting.tokens.items = subst (λ n. IsCutTo lexicon held n c.cutting.tokens.items) end c.cutting.invariant.cut in
-    λ at fault. no_cut lexicon c.matchers.ensures.kinds.keywords c.args.text.now at c.cutting.tokens.items fault (rw c.text-text.ensures.text at cut)
+    λ at fault. no_cut lexicon c.requires.kinds.keywords c.args.text.now at c.cutting.tokens.items fault (rw c.text-text.ensures.text at cut)
