@@ -1,15 +1,17 @@
 // Texts cut into tokens.
-ghost use Rattle.std.specs.Prelude.{◌≡◌, ◌+◌, ◌<◌, ◌≤◌, List, IfOk, Err, ℕ, All, ◌++◌, length, encode_utf8, drop};
+ghost use Rattle.std.specs.Prelude.{◌≡◌, ◌+◌, ◌<◌, ◌≤◌, List, IfOk, IfSome, Err, ℕ, All, ◌++◌, IsCharBoundary, length, encode_utf8, drop, option_map};
 ghost use Rattle.lw_base.specs.declared.limits.TheConstants.{LONGEST_TEXT};
 ghost use Rattle.std.specs.Char.{IsScalar};
 ghost use Rattle.lw_base.specs.declared.token.Span.{Span};
 ghost use Rattle.lw_base.specs.declared.token.Token.{Token};
 ghost use Rattle.lw_tokens.specs.Cut.{IsCut, HasNoTokenAt, IsCharacterAt};
+ghost use Rattle.lw_tokens.specs.NextToken.{IsNextToken};
+ghost use Rattle.lw_lexer.specs.Place.{next_of};
 ghost use Rattle.lw_terminals.specs.TokenKinds.{AreTokenKinds};
 ghost use Rattle.lw_lexer.specs.TokenPlaces.{IsTokenPlace};
 
 use crate::LexFault;
-use crate::next::next_token;
+use crate::next::{Next, next_token};
 use lw_base::{Name, NoMemory, Span, Token};
 use lw_terminals::{TerminalMatcher, TokenSet};
 use std::alloc::Global;
@@ -60,6 +62,16 @@ impl<'s> Lexer<'s> {
         ensures same { self.new ≡ self.old }
     {
         cut(alloc, self.set, &mut self.matchers, text)
+    }
+
+    /// The token at the start of the text, where one stands there.
+    pub fn next(&mut self, text: &str) -> Option<Next>
+        ensures next { IsNextToken self.old.lexicon text.now (option_map next_of result) }
+        ensures boundary { IfSome result (λ next. IsCharBoundary text.now next.bytes) }
+        ensures some { IfSome result (λ next. 0 < next.bytes) }
+        ensures same { self.new ≡ self.old }
+    {
+        next_token(self.set, &mut self.matchers, text)
     }
 }
 

@@ -16,6 +16,7 @@ mod terminal;
 
 pub use fault::LexFault;
 pub use lexer::{Lexer, lex};
+pub use next::Next;
 
 #[cfg(test)]
 mod tests;

@@ -11,10 +11,10 @@ use lw_terminals::{TerminalMatcher, TokenSet};
 
 /// A token at the start of a text: its kind, how many bytes it takes, and whether the parser skips it.
 #[derive(Clone, Copy)]
-pub(crate) struct Next {
-    pub(crate) kind: KindId,
-    pub(crate) bytes: usize,
-    pub(crate) hidden: bool,
+pub struct Next {
+    pub kind: KindId,
+    pub bytes: usize,
+    pub hidden: bool,
 }
 
 /// The token at the start of the text.
