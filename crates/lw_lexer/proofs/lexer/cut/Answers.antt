@@ -1,4 +1,4 @@
-use Rattle.std.proofs.Common.{◌≡◌, ◌<◌, ◌+◌, ◌∙◌, length, drop, Some, All, IsCharBoundary, sym, ap, subst, arith}
+use Rattle.std.proofs.Common.{◌≡◌, ◌<◌, ◌+◌, ◌∙◌, length, drop, Some, IsCharBoundary, sym, ap, subst, arith}
 use Rattle.std.proofs.lemmas.List.Elements.{All-nil, All-push}
 use Rattle.std.proofs.lemmas.Str.{IsCharBoundary-start, IsCharBoundary-from_rest}
 use Rattle.lw_base.specs.declared.token.Span.{Span}
@@ -13,7 +13,7 @@ use Rattle.lw_lexer.proofs.lexer.cut.Goals as goal
 
 pub cutting-init : goal.cutting-init
 cutting-init c = record {
-  matchers = c.in_ok-matchers.ensures.terminals;
+  matchers = c.requires.matchers;
   boundary = IsCharBoundary-start c.text-text.result.now c.text-text.utf8;
   cut = rw c.new-tokens.ensures.items cut.start;
   places = rw c.new-tokens.ensures.items (All-nil (IsTokenPlace c.text-text.result.now));
