@@ -1,5 +1,5 @@
 -- What is told of the cross-references that may come next, in words of the code.
-use Rattle.std.specs.Prelude.{ℕ, ◌≡◌, ◌≢◌, ◌⊎◌, ◌↔◌, ◌++◌, ◌∷◌, [], List, Bool, All, Contains, IsTrue, map, length, slice_get, Some}
+use Rattle.std.specs.Prelude.{ℕ, ◌≡◌, ◌≢◌, ◌≤◌, ◌⊎◌, ◌↔◌, ◌++◌, ◌∷◌, [], List, Bool, Option, All, Any, Contains, IsTrue, map, length, slice_get, Some, None}
 use Rattle.lw_base.specs.declared.token.Token.{Token}
 use Rattle.lw_begins.specs.Gives.{PlacesGive}
 use Rattle.lw_builder.specs.Built.{ArePartsOf}
@@ -12,12 +12,14 @@ use Rattle.lw_offers.specs.Words.{BeginsBy}
 use Rattle.lw_marks.specs.Trees.{IsTree}
 use Rattle.lw_parse.specs.Parsers.{AreOfKinds, ParserParts, ParsesFaultless}
 use Rattle.lw_program.specs.Says.{Task}
+use Rattle.lw_recipes.specs.declared.mark.TreeMark.{TreeMark}
 use Rattle.lw_recipes.specs.declared.mark.TreeMark.TheVariants as numbered
 use Rattle.lw_recipes.specs.Meant.{AreMeant, MeansMark}
+use Rattle.lw_recut.specs.Recut.{added, added_behind}
 use Rattle.lw_rooted.specs.Growing.{GrowsRoot}
 use Rattle.lw_scopes.specs.Links.{IsNumberBelow}
 use Rattle.lw_scoping.specs.Links.{Trees}
-use Rattle.lw_sentences.specs.Marks.{Mark, Put}
+use Rattle.lw_sentences.specs.Marks.{Mark, Put, kinds_of}
 use Rattle.lw_sentences.specs.Sentences.{IsSentence}
 use Rattle.lw_tokens.specs.Cut.{IsCut, kinds, visible}
 use Rattle.lw_tokens.specs.Lexicon.{Lexicon}
@@ -33,7 +35,7 @@ use Rattle.lw_complete.specs.declared.starting.Blank.{Blank}
 use Rattle.lw_complete.specs.declared.starting.FrontNames.{FrontNames}
 use Rattle.lw_complete.specs.declared.typing.Typing.{Typing}
 use Rattle.lw_complete.specs.Judged.{LeadsWhole, StandsWhole}
-use Rattle.lw_complete.specs.Typing.{grammar_of}
+use Rattle.lw_complete.specs.Typing.{IsTypedBy, grammar_of}
 
 -- the start is one of this reference
 pub record IsStartOf (g : Grammar) (next : ReferenceNext) (start : ReferenceStart) : Type 0 where
@@ -46,7 +48,7 @@ module _ (of : Kinds) (typing : Typing) (trees : Trees) (address : List ℕ) whe
     pub tree : Parts
     pub r : Reference
     pub is_tree : IsFrontTree (grammar_of typing) of typing.front.now typing.tokens.now next tree r
-    pub exact : (name : List ℕ) → Contains found.names.items name ↔ HasTarget (IsNumberBelow (grammar_of typing)) trees address tree (renamed_to name r)
+    pub exact : (name : List ℕ) → Contains found.names name ↔ HasTarget (IsNumberBelow (grammar_of typing)) trees address tree (renamed_to name r)
     pub before : found.before ≡ length tree.refs
 
   -- a name by which it leads somewhere in a tree of the whole text with the reference left blank, whose marks behind it the places behind this start give
@@ -89,6 +91,28 @@ pub record IsBlank (typing : Typing) (lexicon : Lexicon) (blank : Blank) : Type 
   pub tile : Tile 0 blank.tokens.items
   pub parts : ArePartsOf blank.text blank.tokens.items
 
+-- what is known where the blank trees of a start are made
+pub record IsReady (typing : Typing) (parser : ParserParts) (start : ReferenceStart) (before : ℕ) (blank : Blank) : Type 0 where
+  pub of : Kinds
+  pub lexicon : Lexicon
+  pub tasks : List Task
+  pub next : ReferenceNext
+  pub front_tree : Parts
+  pub r : Reference
+  pub typed : IsTypedBy of lexicon typing
+  pub is_blank : IsBlank typing lexicon blank
+  pub parsed : IsParsedBy of tasks typing parser
+  pub sound : IsSoundStart of tasks typing next start
+  pub front : IsFrontTree (grammar_of typing) of typing.front.now typing.tokens.now next front_tree r
+  pub counted : before ≡ length front_tree.refs
+
+-- these lists of marks, all of them, are given by the places behind the start with the kinds of the tokens behind the offset
+pub record AreBehind {typing : Typing} {parser : ParserParts} {start : ReferenceStart} {before : ℕ} {blank : Blank} (ready : IsReady typing parser start before blank)
+    (sentences : List (List TreeMark)) : Type 0 where
+  pub all : (n : List Mark) → (PlacesGive (grammar_of typing) ready.of ready.tasks start.behind n × (kinds_of n ≡ kinds (visible blank.others.items)))
+      ↔ Any (λ (marks : List TreeMark). AreMeant (grammar_of typing) marks n) sentences
+  pub each : All (λ (marks : List TreeMark). (m : List Mark) × AreMeant (grammar_of typing) marks m) sentences
+
 -- the whole tree of these marks of the text without the word
 abbrev pub IsTreeOfBlank : Typing → Blank → List Mark → Parts → Type 0
 IsTreeOfBlank typing blank m tree = IsTree (grammar_of typing) blank.text m (visible blank.tokens.items) blank.tokens.items tree
@@ -106,12 +130,15 @@ pub record LeadsInBlank (typing : Typing) (trees : Trees) (address : List ℕ) (
   pub reference : slice_get tree.refs before ≡ Some r
   pub target : HasTarget (IsNumberBelow (grammar_of typing)) trees address tree (renamed_to name r)
 
--- what a name comes to behind the text before the word: the text, and its tokens there
+-- what a name comes to behind the text before the word: the end of that text with the name behind it, and its tokens there
 pub record IsWritten (of : Kinds) (lexicon : Lexicon) (typing : Typing) (written : Written) : Type 0 where
-  pub text : written.text.now ≡ typing.front.now ++ written.name.now
-  pub cut : IsCut lexicon written.text.now (typing.tokens.now ++ written.added.now)
-  pub parts : ArePartsOf written.text.now written.added.now
-  pub of_kinds : AreOfKinds of written.added.now
+  pub head : List ℕ
+  pub text : typing.front.now ++ written.name.now ≡ head ++ written.recut.now.text
+  pub from : length head ≡ written.recut.now.from
+  pub cut : IsCut lexicon (typing.front.now ++ written.name.now) (typing.tokens.now ++ added_behind written.recut.now)
+  pub tail : written.recut.now.tail ≤ length written.recut.now.tokens.items
+  pub parts : ArePartsOf written.recut.now.text (added written.recut.now)
+  pub of_kinds : AreOfKinds of (added written.recut.now)
 
 -- a cross-reference of this start comes next
 pub record ComesAt (of : Kinds) (typing : Typing) (next : ReferenceNext) (start : ReferenceStart) : Type 0 where
@@ -137,9 +164,49 @@ pub record IsReadAsStart (of : Kinds) (tasks : List Task) (typing : Typing) (nex
   pub gives : EndsSome (PlacesGive (grammar_of typing) of tasks (start.value ∷ [])) (kinds (visible added))
   pub says : IsSaidBy typing next added name
 
+-- what is behind the offset may stand behind the start, with these marks
+pub record GoesOnBehind (of : Kinds) (lexicon : Lexicon) (tasks : List Task) (typing : Typing) (start : ReferenceStart) (after : List Mark) : Type 0 where
+  pub others : List Token
+  pub cut : IsCut lexicon typing.rest.now others
+  pub gives : PlacesGive (grammar_of typing) of tasks start.behind after
+  pub kinds_are : kinds_of after ≡ kinds (visible others)
+
+-- by which names a reference leads somewhere in the trees of the whole text with it left blank. None where what is behind the offset cannot stand behind it.
+abbrev pub AreBlankNames : Kinds → Lexicon → List Task → Typing → Trees → List ℕ → ReferenceNext → ReferenceStart → Option (List (List ℕ)) → Type 0
+AreBlankNames of lexicon tasks typing trees address next start None = (after : List Mark) → ¬ GoesOnBehind of lexicon tasks typing start after
+AreBlankNames of lexicon tasks typing trees address next start (Some names) =
+    ((after : List Mark) × GoesOnBehind of lexicon tasks typing start after)
+    × ((name : List ℕ) → Contains names name ↔ IsBlankName of typing trees address lexicon tasks next start name)
+
 -- by which names the cross-reference of the start leads somewhere in the tree of what was read before
 pub record IsKnownStart (of : Kinds) (typing : Typing) (trees : Trees) (address : List ℕ) (known : Known) : Type 0 where
   pub told : (next : ReferenceNext) → ComesAt of typing next known.start.now → AreFrontNames of typing trees address next known.front
+
+-- and by which it does in the trees of the whole text with it left blank
+pub record IsBlankKnown (of : Kinds) (lexicon : Lexicon) (tasks : List Task) (typing : Typing) (trees : Trees) (address : List ℕ) (known : Known) : Type 0 where
+  pub told : (next : ReferenceNext) → ComesAt of typing next known.start.now →
+      AreBlankNames of lexicon tasks typing trees address next known.start.now known.blank
+
+-- from one of the starts a sentence goes on that reads these kinds as the reference and has these marks behind it
+pub record BeginsAt (of : Kinds) (tasks : List Task) (typing : Typing) (known : List Known) (next : ReferenceNext) (read : List ℕ) (after : List Mark) : Type 0 where
+  pub one : Known
+  pub among : Contains known one
+  pub is_start : IsStartOf (grammar_of typing) next one.start.now
+  pub gives : EndsSome (PlacesGive (grammar_of typing) of tasks (one.start.now.value ∷ [])) read
+  pub behind : PlacesGive (grammar_of typing) of tasks one.start.now.behind after
+
+-- those names, if any
+abbrev pub names_in : Option (List (List ℕ)) → List (List ℕ)
+names_in None = []
+names_in (Some names) = names
+
+-- what is known of starts that come next
+pub record AreTried (of : Kinds) (lexicon : Lexicon) (tasks : List Task) (typing : Typing) (trees : Trees) (address : List ℕ) (known : List Known) : Type 0 where
+  pub next : All (λ one. IsStartNext of tasks typing one.start.now) known
+  pub blank : All (IsBlankKnown of lexicon tasks typing trees address) known
+  -- each cross-reference that comes next is that of one of them
+  pub all : (next : ReferenceNext) → ComesNext (grammar_of typing) of typing.tokens.now next → (read : List ℕ) (after : List Mark) →
+      IsSentence (grammar_of typing) of (marks_with next read ++ after) → BeginsAt of tasks typing known next read after
 
 -- by this name the cross-reference leads somewhere in that tree
 abbrev pub LeadsInFront : Kinds → Typing → Trees → List ℕ → ReferenceNext → List ℕ → Type 0
@@ -158,7 +225,16 @@ IsNameFoundAt of lexicon tasks typing trees address start name =
 abbrev pub IsReadAt : Kinds → List Task → Typing → Bool → List Token → List ℕ → Known → Type 0
 IsReadAt of tasks typing leads added name one =
     (next : ReferenceNext) × ComesAt of typing next one.start.now × IsReadAsStart of tasks typing next one.start.now added name
-    × (IsTrue leads → Contains one.front.names.items name)
+    × (IsTrue leads → Contains one.front.names name)
+
+-- the name, which comes to these tokens, is read as one of the starts and leads somewhere so
+pub record IsLedBy (of : Kinds) (tasks : List Task) (typing : Typing) (trees : Trees) (address : List ℕ) (known : List Known) (added : List Token)
+    (name : List ℕ) : Type 0 where
+  pub one : Known
+  pub among : Contains known one
+  pub judged : Bool
+  pub reads : IsReadAt of tasks typing judged added name one
+  pub whole : LeadsWhole typing trees address name ⊎ (IsTrue judged × ((tree : Parts) (r : Reference) → ¬ StandsWhole typing trees address name tree r))
 
 -- the name is offered
 pub record IsOfferedBy (of : Kinds) (lexicon : Lexicon) (tasks : List Task) (typing : Typing) (trees : Trees) (address : List ℕ) (known : List Known)
@@ -166,8 +242,4 @@ pub record IsOfferedBy (of : Kinds) (lexicon : Lexicon) (tasks : List Task) (typ
   pub begins : BeginsBy typing.word.now name
   pub added : List Token
   pub cut : IsCut lexicon (typing.front.now ++ name) (typing.tokens.now ++ added)
-  pub one : Known
-  pub among : Contains known one
-  pub judged : Bool
-  pub reads : IsReadAt of tasks typing judged added name one
-  pub whole : LeadsWhole typing trees address name ⊎ (IsTrue judged × ((tree : Parts) (r : Reference) → ¬ StandsWhole typing trees address name tree r))
+  pub led : IsLedBy of tasks typing trees address known added name

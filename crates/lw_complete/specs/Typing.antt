@@ -1,10 +1,11 @@
 -- What is known where a word is being typed.
-use Rattle.std.specs.Prelude.{ℕ, List}
+use Rattle.std.specs.Prelude.{ℕ, ◌≡◌, List}
 use Rattle.lw_builder.specs.Built.{ArePartsOf}
 use Rattle.lw_grammar.specs.declared.grammar.Grammar.{Grammar}
 use Rattle.lw_grammar.specs.Kinds.{AreKinds, Kinds}
 use Rattle.lw_parse.specs.Parsers.{AreOfKinds}
 use Rattle.lw_program.specs.Says.{Task}
+use Rattle.lw_recut.specs.Recut.{IsEndOf, RecutterParts}
 use Rattle.lw_tokens.specs.Cut.{IsCut, kinds, visible}
 use Rattle.lw_tokens.specs.Lexicon.{IsLexicon, Lexicon}
 use Rattle.lw_tree.specs.Parts.{Tile}
@@ -32,3 +33,9 @@ kinds_before typing = kinds (visible typing.tokens.now)
 -- all readings of them are kept
 abbrev pub AreReadings : Kinds → List Task → Typing → FrontsParts → Type 0
 AreReadings of tasks typing fronts = HoldReadings (grammar_of typing) of tasks Sentence (kinds_before typing) fronts
+
+-- what cuts texts that begin with the text before the word
+pub record CutsBehind (lexicon : Lexicon) (typing : Typing) (recutter : RecutterParts) : Type 0 where
+  pub lexicon_is : recutter.lexicon ≡ lexicon
+  pub end : IsEndOf recutter typing.front.now typing.tokens.now
+  pub own : IsCut recutter.lexicon recutter.text recutter.tokens

@@ -16,23 +16,26 @@ ghost use Rattle.lw_complete.specs.Typing.{IsTypedBy, grammar_of};
 use crate::item::{Item, KEYWORD_ITEM, REFERENCE_ITEM};
 use crate::keywords::keywords;
 use crate::names::names;
-use crate::reading::read;
+use crate::reading::read_front;
 use crate::typing::Typing;
 use crate::words::word_start;
 use lw_base::{DocId, LONGEST_DOCUMENT, Name, NoMemory};
 use lw_index::Index;
 use lw_lang::{Language, LexFault};
-use lw_viable::Fronts;
+use lw_recut::Recutter;
 use std::alloc::Global;
 
 /// What may be written at a byte offset of a text, the text of the document of this number: keywords and names, in the order of their labels and
 /// then of their kinds. The index holds what the other documents export; what it holds of this one is not looked at.
 ///
 /// The word that ends at the offset is replaced. Nothing is offered in a text that is longer than a document may be, or that cannot be cut
-/// into tokens up to the word. Want of memory is the only error.
+/// into tokens up to the word. Want of memory is the only error; a keyword or a name with which the text would be longer than one may be is
+/// told as that.
 ///
-/// The text before the word is cut once for each keyword that may come next and once for each name that begins with the word and would lead
-/// somewhere, and for each such name the text with it is read as well. So time grows with the length of the text times the number of names.
+/// The text before the word is cut and read once, and so is what stands behind the offset, for each cross-reference that may come next. Each
+/// keyword that may come next, and each name that begins with the word and would lead somewhere, takes the time of cutting the end of the
+/// text before the word with it, and some bytes behind it, and of a search among these names. Only where that does not tell how the whole
+/// text is cut, as where a pattern looks far ahead, is the text with the name read for it.
 pub fn complete(
     alloc: Global,
     language: &Language,
@@ -48,6 +51,7 @@ pub fn complete(
     ensures spans { IfOk result (λ items. All (λ item. (front : List ℕ) × (word : List ℕ) × (rest : List ℕ) × IsTypedAt text.now off front word rest
         × TakesThePlace (length front) off item) items.items) }
 {
+    // Its contract says that the grammar has kinds and a lexicon, by which offers are told where nothing is cut.
     language.tokens();
     if text.bytes().len() > LONGEST_DOCUMENT {
         return Ok(Vec::new(alloc));
@@ -84,10 +88,11 @@ fn offers(alloc: Global, typing: &Typing<'_>, from: u32, to: u32) -> Result<Vec<
     ensures spans { IfOk result (λ items. All (TakesThePlace from to) items.items) }
 {
     let parser = typing.language.parser();
-    let fronts = Fronts::start(alloc, parser.program(), parser.begins(), parser.entry())?;
-    let mut fronts = read(fronts, typing.tokens)?;
-    let keywords = keywords(alloc, typing, &mut fronts)?;
-    let names = names(alloc, typing, parser, &mut fronts)?;
+    let mut fronts = read_front(alloc, parser, typing.tokens)?;
+    let tokens = typing.language.tokens();
+    let mut recutter = Recutter::of(alloc, tokens, typing.front, typing.tokens)?;
+    let keywords = keywords(alloc, typing, &mut recutter, &mut fronts)?;
+    let names = names(alloc, typing, parser, &mut recutter, &mut fronts)?;
     in_order(alloc, keywords, names, from, to)
 }
 

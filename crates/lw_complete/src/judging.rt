@@ -22,7 +22,120 @@ use lw_tree::{Reference, Tree};
 use std::alloc::Global;
 
 /// Whether the reference that the name is in the text with it leads somewhere. None where that text has no tree with such a reference.
-pub(crate) fn leads_in_whole(
+///
+/// Where the text goes on behind the name as it did before, that is told by the trees with the reference left blank, and else the text is
+/// read.
+pub(crate) fn judge(
+    alloc: Global,
+    typing: &Typing<'_>,
+    parser: &Parser,
+    known: &[Known<'_>],
+    recutter: &mut Recutter<'_>,
+    written: &Written<'_>,
+) -> Result<Option<bool>, NoMemory>
+    requires known { (of : Kinds) × (lexicon : Lexicon) × (tasks : List Task) × IsWritten of lexicon typing.now written.now × IsParsedBy of tasks typing.now parser.now
+        × IsRecut recutter.old written.now.name.now written.now.recut.now × All (λ one. IsStartNext of tasks typing.now one.start.now) known.now }
+    ensures judged { (of : Kinds) (lexicon : Lexicon) (tasks : List Task) (trees : Trees) (address : List ℕ) → IsTypedBy of lexicon typing.now →
+        IsWritten of lexicon typing.now written.now → IsParsedBy of tasks typing.now parser.now → CutsBehind lexicon typing.now recutter.old →
+        IsRecut recutter.old written.now.name.now written.now.recut.now → AreTried of lexicon tasks typing.now trees address known.now →
+        IsReadOneWay (grammar_of typing.now) → IsIndexOf trees typing.now.index.now → IsNumberAt typing.now.index.now typing.now.doc.0 address →
+        IfOk result (IsJudgement typing.now trees address written.now.name.now) }
+    ensures same { recutter.new ≡ recutter.old }
+{
+    if LONGEST_DOCUMENT < length_with(typing, written.name) {
+        return Ok(None);
+    }
+    match recutter.seam(alloc, written.recut, typing.rest.text())? {
+        Seam::Crossed => Ok(None),
+        Seam::Meets => judge_apart(alloc, typing, parser, known, written),
+        Seam::Unknown => leads_in_whole(alloc, typing, written.name),
+    }
+}
+
+/// How long the text with the name is.
+fn length_with(typing: &Typing<'_>, name: &Name) -> usize
+    ensures { length typing.now.front.now + length name.now + length typing.now.rest.now ≤ LONGEST_DOCUMENT ↔ result ≤ LONGEST_DOCUMENT }
+{
+    let front = typing.front.bytes().len();
+    let rest = typing.rest.bytes().len();
+    front.saturating_add(name.bytes().len()).saturating_add(rest)
+}
+
+/// The same where the tokens of the text with the name begin with those up to the name's end.
+fn judge_apart(
+    alloc: Global,
+    typing: &Typing<'_>,
+    parser: &Parser,
+    known: &[Known<'_>],
+    written: &Written<'_>,
+) -> Result<Option<bool>, NoMemory>
+    requires known { (of : Kinds) × (lexicon : Lexicon) × (tasks : List Task) × IsWritten of lexicon typing.now written.now × IsParsedBy of tasks typing.now parser.now
+        × All (λ one. IsStartNext of tasks typing.now one.start.now) known.now }
+    ensures { (of : Kinds) (lexicon : Lexicon) (tasks : List Task) (trees : Trees) (address : List ℕ) → IsTypedBy of lexicon typing.now →
+        IsWritten of lexicon typing.now written.now → IsParsedBy of tasks typing.now parser.now → MeetsRest lexicon typing.now written.now →
+        AreTried of lexicon tasks typing.now trees address known.now →
+        IsReadOneWay (grammar_of typing.now) → IsIndexOf trees typing.now.index.now → IsNumberAt typing.now.index.now typing.now.doc.0 address →
+        IfOk result (IsJudgement typing.now trees address written.now.name.now) }
+{
+    match by_blank(alloc, parser, known, written)? {
+        Some(judged) => Ok(judged),
+        None => leads_in_whole(alloc, typing, written.name),
+    }
+}
+
+/// What is told by the names of blank trees. None where they do not tell it: where a start reads these tokens as another name.
+fn by_blank(
+    alloc: Global,
+    parser: &Parser,
+    known: &[Known<'_>],
+    written: &Written<'_>,
+) -> Result<Option<Option<bool>>, NoMemory>
+{
+    let added = written.recut.added();
+    if !takes_all(alloc, written)? {
+        return Ok(Some(None));
+    }
+    'known: for one in known {
+        if let Some(names) = &one.blank {
+            if gives(alloc, parser, one.start, added)? {
+                return told_by(alloc, parser, one, names, written);
+            }
+        }
+    }
+    Ok(Some(None))
+}
+
+/// What is told by the names of the blank trees of this start.
+fn told_by(
+    alloc: Global,
+    parser: &Parser,
+    one: &Known<'_>,
+    names: &SortedNames,
+    written: &Written<'_>,
+) -> Result<Option<Option<bool>>, NoMemory>
+{
+    if !says(alloc, parser, one.start, written)? {
+        return Ok(None);
+    }
+    Ok(Some(Some(names.has(written.name))))
+}
+
+/// Whether the tokens of the name that are not hidden stand from its first byte to its last.
+fn takes_all(alloc: Global, written: &Written<'_>) -> Result<bool, NoMemory>
+{
+    let tokens = shown(alloc, written.recut.added())?;
+    let end = written.recut.text.bytes().len();
+    let start = end - written.name.bytes().len();
+    match (tokens.first(), tokens.last()) {
+        (Some(first), Some(last)) => {
+            Ok(first.span.start as usize == start && last.span.end as usize == end)
+        }
+        _ => Ok(false),
+    }
+}
+
+/// Whether the reference that the name is in the text with it leads somewhere. None where that text has no tree with such a reference.
+fn leads_in_whole(
     alloc: Global,
     typing: &Typing<'_>,
     name: &Name,

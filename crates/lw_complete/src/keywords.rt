@@ -1,17 +1,18 @@
 // The keywords that may be written.
-ghost use Rattle.std.specs.Prelude.{ℕ, ◌≡◌, ◌≢◌, ◌↔◌, ◌+◌, ◌≤◌, ◌++◌, ◌∷◌, [], List, AllPairs, Contains, IfOk, IsTrue, length};
-ghost use Rattle.lw_base.specs.declared.limits.TheConstants.{LONGEST_DOCUMENT};
+ghost use Rattle.std.specs.Prelude.{ℕ, ◌≡◌, ◌≢◌, ◌↔◌, ◌-◌, ◌≤◌, ◌++◌, ◌∷◌, [], List, false, AllPairs, Contains, IfOk, IsTrue, length};
 ghost use Rattle.lw_grammar.specs.Kinds.{Kinds};
 ghost use Rattle.lw_look.specs.Supplied.{IsSupplied};
 ghost use Rattle.lw_offers.specs.Offers.{IsKeywordNext, visible_token};
 ghost use Rattle.lw_offers.specs.Words.{BeginsBy};
 ghost use Rattle.lw_program.specs.Says.{Task};
+ghost use Rattle.lw_recut.specs.Recut.{added};
 ghost use Rattle.lw_tokens.specs.Cut.{IsCut};
 ghost use Rattle.lw_tokens.specs.Lexicon.{Lexicon};
-ghost use Rattle.lw_complete.specs.Typing.{AreReadings, IsTypedBy, grammar_of};
+ghost use Rattle.lw_complete.specs.Typing.{AreReadings, CutsBehind, IsTypedBy, grammar_of};
 
 use crate::typing::Typing;
-use lw_base::{KindId, Name, NoMemory, Span, Token};
+use lw_base::{KindId, Name, NoMemory, Token};
+use lw_recut::{Recut, Recutter};
 use lw_terminals::TokenSet;
 use lw_viable::Fronts;
 use std::alloc::Global;
@@ -20,24 +21,25 @@ use std::alloc::Global;
 pub(crate) fn keywords(
     alloc: Global,
     typing: &Typing<'_>,
+    recutter: &mut Recutter<'_>,
     fronts: &mut Fronts<'_>,
 ) -> Result<Vec<Name>, NoMemory>
-    requires short { length typing.now.front.now ≤ LONGEST_DOCUMENT }
     requires known { (of : Kinds) × (lexicon : Lexicon) × (tasks : List Task) × IsTypedBy of lexicon typing.now × AreReadings of tasks typing.now fronts.old
-        × IsSupplied (grammar_of typing.now) of }
+        × IsSupplied (grammar_of typing.now) of × CutsBehind lexicon typing.now recutter.old }
     ensures keywords { (of : Kinds) (lexicon : Lexicon) (tasks : List Task) → IsTypedBy of lexicon typing.now → AreReadings of tasks typing.now fronts.old →
-        IsSupplied (grammar_of typing.now) of →
+        IsSupplied (grammar_of typing.now) of → CutsBehind lexicon typing.now recutter.old →
         IfOk result (λ found. (text : List ℕ) → Contains found.items text ↔
         (BeginsBy typing.now.word.now text × IsKeywordNext (grammar_of typing.now) of lexicon typing.now.front.now typing.now.tokens.now text)) }
     ensures apart { IfOk result (λ found. AllPairs (λ one other. one ≢ other) found.items) }
     ensures same { fronts.new ≡ fronts.old }
+    ensures kept { recutter.new ≡ recutter.old }
 {
     let set = typing.language.tokens();
     let expected = fronts.expected(alloc, kind_count(set))?;
     let mut found = Vec::new(alloc);
     'kinds: for kind in &expected {
         if let Some(keyword) = set.keywords().get(kind.0 as usize) {
-            if is_next(alloc, typing, *kind, keyword)? {
+            if is_next(alloc, typing, recutter, *kind, keyword)? {
                 found.push(keyword.copy(alloc)?)?;
             }
         }
@@ -62,44 +64,41 @@ fn kind_count(set: &TokenSet) -> usize
 fn is_next(
     alloc: Global,
     typing: &Typing<'_>,
+    recutter: &mut Recutter<'_>,
     kind: KindId,
     keyword: &Name,
 ) -> Result<bool, NoMemory>
-    requires short { length typing.now.front.now ≤ LONGEST_DOCUMENT }
-    ensures { (of : Kinds) (lexicon : Lexicon) → IsTypedBy of lexicon typing.now →
+    requires known { (lexicon : Lexicon) × CutsBehind lexicon typing.now recutter.old }
+    ensures next { (of : Kinds) (lexicon : Lexicon) → IsTypedBy of lexicon typing.now → CutsBehind lexicon typing.now recutter.old →
         IfOk result (λ is. IsTrue is ↔ (BeginsBy typing.now.word.now keyword.now × IsCut lexicon (typing.now.front.now ++ keyword.now)
         (typing.now.tokens.now ++ visible_token kind.0 (length typing.now.front.now) (length keyword.now) ∷ []))) }
+    ensures kept { recutter.new ≡ recutter.old }
 {
     if !keyword.text().starts_with(typing.word) {
         return Ok(false);
     }
-    let text = typing.with(alloc, keyword.text())?;
-    match typing.added(alloc, &text)? {
-        Some(added) => Ok(is_alone(added.as_slice(), token_behind(kind, typing.front, keyword))),
+    match recutter.cut(alloc, keyword.text())? {
+        Some(recut) => Ok(is_alone(&recut, kind, keyword)),
         None => Ok(false),
     }
 }
 
-/// The tokens are this one alone.
-fn is_alone(tokens: &[Token], token: Token) -> bool
-    ensures { IsTrue result ↔ (tokens.now ≡ token ∷ []) }
+/// Whether what is added is one visible token of this kind, which is the keyword.
+fn is_alone(recut: &Recut, kind: KindId, keyword: &Name) -> bool
+    requires tail { recut.now.tail ≤ length recut.now.tokens.items }
+    requires ends { length keyword.now ≤ length recut.now.text }
+    ensures { IsTrue result ↔ (added recut.now ≡ visible_token kind.0 (length recut.now.text - length keyword.now) (length keyword.now) ∷ []) }
 {
-    matches!(tokens, [one] if *one == token)
+    let end = recut.text.bytes().len();
+    let start = end - keyword.bytes().len();
+    match recut.added() {
+        [one] => is_visible(*one, kind) && one.span.start as usize == start && one.span.end as usize == end,
+        _ => false,
+    }
 }
 
-/// The visible token of this kind that the keyword is behind a text.
-fn token_behind(kind: KindId, front: &Name, keyword: &Name) -> Token
-    requires { length front.now + length keyword.now ≤ 4294967295 }
-    ensures { result ≡ visible_token kind.0 (length front.now) (length keyword.now) }
+fn is_visible(token: Token, kind: KindId) -> bool
+    ensures { IsTrue result ↔ ((token.hidden ≡ false) × (token.kind.0 ≡ kind.0)) }
 {
-    let start = front.bytes().len();
-    let end = start + keyword.bytes().len();
-    Token {
-        kind,
-        span: Span {
-            start: start as u32,
-            end: end as u32,
-        },
-        hidden: false,
-    }
+    !token.hidden && token.kind == kind
 }

@@ -23,6 +23,7 @@ mod judging;
 mod keywords;
 mod names;
 mod reading;
+mod sorted;
 mod starting;
 mod typing;
 mod words;

@@ -23,6 +23,7 @@ ghost use Rattle.lw_program.specs.Says.{Task};
 ghost use Rattle.lw_recipes.specs.declared.recipe.TextForm.{TextForm};
 ghost use Rattle.lw_recipes.specs.declared.recipe.ValueRecipe.{ValueRecipe};
 ghost use Rattle.lw_reading.specs.Laws.{IsReadOneWay};
+ghost use Rattle.lw_recut.specs.Recut.{IsRecut, added, added_behind};
 ghost use Rattle.lw_scoping.specs.Links.{Trees};
 ghost use Rattle.lw_tokens.specs.Cut.{IsCut, kinds, visible};
 ghost use Rattle.lw_tokens.specs.Lexicon.{Lexicon};
@@ -30,26 +31,30 @@ ghost use Rattle.lw_viable.specs.Aims.{EndsSome};
 ghost use Rattle.lw_viable.specs.Fronts.{IsProgramWith};
 ghost use Rattle.lw_viable.specs.Readings.{HasTask};
 ghost use Rattle.lw_viable.specs.Visiting.{IsReferencePut};
-ghost use Rattle.lw_complete.specs.Starts.{ComesAt, IsBlank, IsBlankName, IsNameFoundAt, IsKnownStart, IsOfferedBy, IsParsedBy, IsReadAt, IsReadAsStart, IsSoundStart, IsStartNext, IsWritten, StandsBehind};
-ghost use Rattle.lw_complete.specs.Typing.{AreReadings, IsTypedBy, grammar_of};
+ghost use Rattle.lw_complete.specs.Starts.{AreBlankNames, AreTried, ComesAt, IsBlank, IsBlankKnown, IsNameFoundAt, IsKnownStart, IsLedBy, IsOfferedBy, IsParsedBy, IsReadAt, IsReadAsStart, IsSoundStart, IsStartNext, IsWritten, StandsBehind, names_in};
+ghost use Rattle.lw_complete.specs.Typing.{AreReadings, CutsBehind, IsTypedBy, grammar_of};
 
 use crate::blanks::blank;
-use crate::judging::leads_in_whole;
-use crate::reading::read;
-use crate::starting::{Blank, FrontNames, front_names, put_blank_names};
+use crate::judging::judge;
+use crate::reading::read_over;
+use crate::sorted::SortedNames;
+use crate::starting::{Blank, FrontNames, blank_names, front_names};
 use crate::typing::Typing;
 use lw_base::{Name, NoMemory, Token};
 use lw_builder::said_by;
 use lw_parse::Parser;
 use lw_recipes::Content;
+use lw_recut::{Recut, Recutter};
 use lw_viable::{Fronts, ReferenceStart};
 use std::alloc::Global;
 
-/// A cross-reference that may come next, and the names by which it would lead somewhere in the tree of what was read before it.
+/// A cross-reference that may come next, the names by which it would lead somewhere in the tree of what was read before it, and those by which
+/// it would in the tree of the whole text with it left blank, where there is one.
 #[derive(Drop)]
 pub(crate) struct Known<'s> {
     pub(crate) start: &'s ReferenceStart,
     pub(crate) front: FrontNames,
+    pub(crate) blank: Option<SortedNames>,
 }
 
 /// The names that begin with the word, are read in its place as a cross-reference that may come next, and lead somewhere once they are written,
@@ -58,13 +63,14 @@ pub(crate) fn names(
     alloc: Global,
     typing: &Typing<'_>,
     parser: &Parser,
+    recutter: &mut Recutter<'_>,
     fronts: &mut Fronts<'_>,
 ) -> Result<Vec<Name>, NoMemory>
     requires short { length typing.now.front.now + length typing.now.rest.now ≤ LONGEST_DOCUMENT }
     requires known { (of : Kinds) × (lexicon : Lexicon) × (tasks : List Task) × IsTypedBy of lexicon typing.now × AreReadings of tasks typing.now fronts.old
-        × IsParsedBy of tasks typing.now parser.now }
+        × IsParsedBy of tasks typing.now parser.now × CutsBehind lexicon typing.now recutter.old }
     ensures names { (of : Kinds) (lexicon : Lexicon) (tasks : List Task) (trees : Trees) (address : List ℕ) → IsTypedBy of lexicon typing.now →
-        AreReadings of tasks typing.now fronts.old → IsParsedBy of tasks typing.now parser.now → IsReadOneWay (grammar_of typing.now) →
+        CutsBehind lexicon typing.now recutter.old → AreReadings of tasks typing.now fronts.old → IsParsedBy of tasks typing.now parser.now → IsReadOneWay (grammar_of typing.now) →
         IsIndexOf trees typing.now.index.now → IsNumberAt typing.now.index.now typing.now.doc.0 address → IfOk result (λ found. (name : List ℕ) → Contains found.items name ↔
         (BeginsBy typing.now.word.now name
         × IsNameNext (grammar_of typing.now) of lexicon trees address typing.now.front.now typing.now.rest.now typing.now.tokens.now name)) }
@@ -75,7 +81,7 @@ pub(crate) fn names(
     let known = known_starts(alloc, typing, parser, starts.as_slice(), &mut found)?;
     found.sort_unstable();
     found.dedup();
-    offered(alloc, typing, parser, known.as_slice(), found)
+    offered(alloc, typing, parser, known.as_slice(), recutter, found)
 }
 
 /// What is known of these starts. Puts in all names by which one of them would lead somewhere.
@@ -92,6 +98,10 @@ fn known_starts<'s>(
     ensures starts { IfOk result (λ known. map (λ one. one.start.now) known.items ≡ starts.now) }
     ensures known { (of : Kinds) (lexicon : Lexicon) (trees : Trees) (address : List ℕ) → IsTypedBy of lexicon typing.now → IsIndexOf trees typing.now.index.now →
         IsNumberAt typing.now.index.now typing.now.doc.0 address → IfOk result (λ known. All (IsKnownStart of typing.now trees address) known.items) }
+    ensures blank { (of : Kinds) (lexicon : Lexicon) (tasks : List Task) (trees : Trees) (address : List ℕ) → IsTypedBy of lexicon typing.now →
+        IsParsedBy of tasks typing.now parser.now → All (IsStartNext of tasks typing.now) starts.now → IsIndexOf trees typing.now.index.now →
+        IsNumberAt typing.now.index.now typing.now.doc.0 address →
+        IfOk result (λ known. All (IsBlankKnown of lexicon tasks typing.now trees address) known.items) }
     ensures found { (of : Kinds) (lexicon : Lexicon) (tasks : List Task) (trees : Trees) (address : List ℕ) → IsTypedBy of lexicon typing.now →
         IsParsedBy of tasks typing.now parser.now → All (IsStartNext of tasks typing.now) starts.now → IsIndexOf trees typing.now.index.now →
         IsNumberAt typing.now.index.now typing.now.doc.0 address →
@@ -101,62 +111,74 @@ fn known_starts<'s>(
     let blank = &made;
     let mut known = Vec::new(alloc);
     'starts: for start in starts {
-        let front = known_start(alloc, typing, parser, start, blank, found)?;
-        known.push(Known { start, front })?;
+        let one = known_start(alloc, typing, parser, start, blank)?;
+        put_names(alloc, &one, found)?;
+        known.push(one)?;
     }
     Ok(known)
 }
 
-/// By which names this start would lead somewhere in the tree of what was read before. Puts in these, and those by which it would in the tree of
-/// the text with the reference left blank.
-fn known_start(
+/// What is known of this start.
+fn known_start<'s>(
     alloc: Global,
     typing: &Typing<'_>,
     parser: &Parser,
-    start: &ReferenceStart,
+    start: &'s ReferenceStart,
     blank: &Option<Blank>,
-    found: &mut Vec<Name>,
-) -> Result<FrontNames, NoMemory>
+) -> Result<Known<'s>, NoMemory>
     requires known { (of : Kinds) × (lexicon : Lexicon) × (tasks : List Task) × IsTypedBy of lexicon typing.now × IsParsedBy of tasks typing.now parser.now
         × IsStartNext of tasks typing.now start.now
         × MatchOption blank.now ((others : List AToken) → ¬ IsCut lexicon typing.now.rest.now others) (IsBlank typing.now lexicon) }
+    ensures start { IfOk result (λ known. known.start.now ≡ start.now) }
     ensures known { (of : Kinds) (lexicon : Lexicon) (trees : Trees) (address : List ℕ) → IsTypedBy of lexicon typing.now → IsIndexOf trees typing.now.index.now →
-        IsNumberAt typing.now.index.now typing.now.doc.0 address →
-        IfOk result (λ front. IsKnownStart of typing.now trees address (record { start = start.entry; front = front })) }
-    ensures found { (of : Kinds) (lexicon : Lexicon) (tasks : List Task) (trees : Trees) (address : List ℕ) → IsTypedBy of lexicon typing.now →
+        IsNumberAt typing.now.index.now typing.now.doc.0 address → IfOk result (IsKnownStart of typing.now trees address) }
+    ensures blank { (of : Kinds) (lexicon : Lexicon) (tasks : List Task) (trees : Trees) (address : List ℕ) → IsTypedBy of lexicon typing.now →
         IsParsedBy of tasks typing.now parser.now → IsStartNext of tasks typing.now start.now →
         MatchOption blank.now ((others : List AToken) → ¬ IsCut lexicon typing.now.rest.now others) (IsBlank typing.now lexicon) →
         IsIndexOf trees typing.now.index.now → IsNumberAt typing.now.index.now typing.now.doc.0 address →
-        OnOk result (Finds (IsNameFoundAt of lexicon tasks typing.now trees address start.now) found.old.items found.new.items) }
+        IfOk result (IsBlankKnown of lexicon tasks typing.now trees address) }
 {
     let front = front_names(alloc, typing, start)?;
-    put_unnamed(alloc, typing, parser, start, front.before, blank, found)?;
-    put_copies(alloc, found, front.names.as_slice())?;
-    Ok(front)
+    let blank = names_behind(alloc, typing, parser, start, front.before, blank)?;
+    Ok(Known {
+        start,
+        front,
+        blank,
+    })
 }
 
-/// Puts in the names by which this start would lead somewhere in the tree of the text with the reference left blank, where there is one.
-fn put_unnamed(
+/// The names by which this start would lead somewhere in the tree of the text with the reference left blank, where there is one.
+fn names_behind(
     alloc: Global,
     typing: &Typing<'_>,
     parser: &Parser,
     start: &ReferenceStart,
     before: usize,
     blank: &Option<Blank>,
-    found: &mut Vec<Name>,
-) -> Result<(), NoMemory>
-    requires known { (of : Kinds) × (lexicon : Lexicon) × (tasks : List Task) × (next : ReferenceNext) × IsTypedBy of lexicon typing.now
+) -> Result<Option<SortedNames>, NoMemory>
+    requires { (of : Kinds) × (lexicon : Lexicon) × (tasks : List Task) × (next : ReferenceNext) × IsTypedBy of lexicon typing.now
         × MatchOption blank.now ((others : List AToken) → ¬ IsCut lexicon typing.now.rest.now others) (IsBlank typing.now lexicon)
         × IsParsedBy of tasks typing.now parser.now × IsSoundStart of tasks typing.now next start.now × StandsBehind of typing.now next before }
     ensures { (of : Kinds) (lexicon : Lexicon) (tasks : List Task) (next : ReferenceNext) (trees : Trees) (address : List ℕ) → IsTypedBy of lexicon typing.now →
         MatchOption blank.now ((others : List AToken) → ¬ IsCut lexicon typing.now.rest.now others) (IsBlank typing.now lexicon) →
         IsParsedBy of tasks typing.now parser.now → IsSoundStart of tasks typing.now next start.now → StandsBehind of typing.now next before →
         IsIndexOf trees typing.now.index.now → IsNumberAt typing.now.index.now typing.now.doc.0 address →
-        OnOk result (Finds (IsBlankName of typing.now trees address lexicon tasks next start.now) found.old.items found.new.items) }
+        IfOk result (AreBlankNames of lexicon tasks typing.now trees address next start.now) }
 {
     match blank {
+        None => Ok(None),
+        Some(blank) => blank_names(alloc, typing, parser, start, before, blank),
+    }
+}
+
+/// Puts in the names by which a start would lead somewhere in the one tree or the other.
+fn put_names(alloc: Global, known: &Known<'_>, found: &mut Vec<Name>) -> Result<(), NoMemory>
+    ensures { OnOk result (found.new.items ≡ found.old.items ++ known.now.front.names ++ names_in known.now.blank) }
+{
+    put_copies(alloc, found, known.front.names.as_slice())?;
+    match &known.blank {
         None => Ok(()),
-        Some(blank) => put_blank_names(alloc, typing, parser, start, before, blank, found),
+        Some(names) => put_copies(alloc, found, names.as_slice()),
     }
 }
 
@@ -175,21 +197,23 @@ fn offered(
     typing: &Typing<'_>,
     parser: &Parser,
     known: &[Known<'_>],
+    recutter: &mut Recutter<'_>,
     names: Vec<Name>,
 ) -> Result<Vec<Name>, NoMemory>
     requires known { (of : Kinds) × (lexicon : Lexicon) × (tasks : List Task) × IsTypedBy of lexicon typing.now × IsParsedBy of tasks typing.now parser.now
-        × All (λ one. IsStartNext of tasks typing.now one.start.now) known.now }
+        × CutsBehind lexicon typing.now recutter.old × All (λ one. IsStartNext of tasks typing.now one.start.now) known.now }
     ensures offered { (of : Kinds) (lexicon : Lexicon) (tasks : List Task) (trees : Trees) (address : List ℕ) → IsTypedBy of lexicon typing.now →
-        IsParsedBy of tasks typing.now parser.now → All (λ one. IsStartNext of tasks typing.now one.start.now) known.now → IsReadOneWay (grammar_of typing.now) →
-        IsIndexOf trees typing.now.index.now → IsNumberAt typing.now.index.now typing.now.doc.0 address →
+        IsParsedBy of tasks typing.now parser.now → CutsBehind lexicon typing.now recutter.old → AreTried of lexicon tasks typing.now trees address known.now →
+        IsReadOneWay (grammar_of typing.now) → IsIndexOf trees typing.now.index.now → IsNumberAt typing.now.index.now typing.now.doc.0 address →
         IfOk result (λ found. (name : List ℕ) → Contains found.items name ↔
         (Contains names.items name × IsOfferedBy of lexicon tasks typing.now trees address known.now name)) }
     ensures ordered { AllPairs (λ one other. slice_cmp nat_cmp one other ≡ Less) names.items →
         IfOk result (λ found. AllPairs (λ one other. slice_cmp nat_cmp one other ≡ Less) found.items) }
+    ensures same { recutter.new ≡ recutter.old }
 {
     let mut found = Vec::new(alloc);
     'names: for name in names {
-        if is_offered(alloc, typing, parser, known, &name)? {
+        if is_offered(alloc, typing, parser, known, recutter, &name)? {
             found.push(name)?;
         }
     }
@@ -202,40 +226,61 @@ fn is_offered(
     typing: &Typing<'_>,
     parser: &Parser,
     known: &[Known<'_>],
+    recutter: &mut Recutter<'_>,
     name: &Name,
 ) -> Result<bool, NoMemory>
     requires known { (of : Kinds) × (lexicon : Lexicon) × (tasks : List Task) × IsTypedBy of lexicon typing.now × IsParsedBy of tasks typing.now parser.now
-        × All (λ one. IsStartNext of tasks typing.now one.start.now) known.now }
-    ensures { (of : Kinds) (lexicon : Lexicon) (tasks : List Task) (trees : Trees) (address : List ℕ) → IsTypedBy of lexicon typing.now →
-        IsParsedBy of tasks typing.now parser.now → All (λ one. IsStartNext of tasks typing.now one.start.now) known.now → IsReadOneWay (grammar_of typing.now) →
-        IsIndexOf trees typing.now.index.now → IsNumberAt typing.now.index.now typing.now.doc.0 address →
+        × CutsBehind lexicon typing.now recutter.old × All (λ one. IsStartNext of tasks typing.now one.start.now) known.now }
+    ensures offered { (of : Kinds) (lexicon : Lexicon) (tasks : List Task) (trees : Trees) (address : List ℕ) → IsTypedBy of lexicon typing.now →
+        IsParsedBy of tasks typing.now parser.now → CutsBehind lexicon typing.now recutter.old → AreTried of lexicon tasks typing.now trees address known.now →
+        IsReadOneWay (grammar_of typing.now) → IsIndexOf trees typing.now.index.now → IsNumberAt typing.now.index.now typing.now.doc.0 address →
         IfOk result (λ offered. IsTrue offered ↔ IsOfferedBy of lexicon tasks typing.now trees address known.now name.now) }
+    ensures same { recutter.new ≡ recutter.old }
 {
     if !name.text().starts_with(typing.word) {
         return Ok(false);
     }
-    let text = typing.with(alloc, name.text())?;
-    let Some(added) = typing.added(alloc, &text)? else {
+    let Some(recut) = recutter.cut(alloc, name.text())? else {
         return Ok(false);
     };
     let written = Written {
         name,
-        text: &text,
-        added: added.as_slice(),
+        recut: &recut,
     };
-    match leads_in_whole(alloc, typing, name)? {
-        Some(false) => Ok(false),
-        Some(true) => is_read(alloc, typing, parser, known, &written, false),
-        None => is_read(alloc, typing, parser, known, &written, true),
-    }
+    is_led(alloc, typing, parser, known, recutter, &written)
 }
 
-/// A name, the text before the word with the name behind it, and the tokens that it comes to there.
+/// A name, and the end of the text before the word with it behind.
 #[derive(Clone, Copy)]
 pub(crate) struct Written<'w> {
     pub(crate) name: &'w Name,
-    pub(crate) text: &'w Name,
-    pub(crate) added: &'w [Token],
+    pub(crate) recut: &'w Recut,
+}
+
+/// Whether the name is read as one of the starts and leads somewhere so.
+fn is_led(
+    alloc: Global,
+    typing: &Typing<'_>,
+    parser: &Parser,
+    known: &[Known<'_>],
+    recutter: &mut Recutter<'_>,
+    written: &Written<'_>,
+) -> Result<bool, NoMemory>
+    requires known { (of : Kinds) × (lexicon : Lexicon) × (tasks : List Task) × IsWritten of lexicon typing.now written.now × IsParsedBy of tasks typing.now parser.now
+        × IsRecut recutter.old written.now.name.now written.now.recut.now × All (λ one. IsStartNext of tasks typing.now one.start.now) known.now }
+    ensures led { (of : Kinds) (lexicon : Lexicon) (tasks : List Task) (trees : Trees) (address : List ℕ) → IsTypedBy of lexicon typing.now →
+        IsWritten of lexicon typing.now written.now → IsParsedBy of tasks typing.now parser.now → CutsBehind lexicon typing.now recutter.old →
+        IsRecut recutter.old written.now.name.now written.now.recut.now → AreTried of lexicon tasks typing.now trees address known.now →
+        IsReadOneWay (grammar_of typing.now) → IsIndexOf trees typing.now.index.now → IsNumberAt typing.now.index.now typing.now.doc.0 address →
+        IfOk result (λ led. IsTrue led ↔
+        IsLedBy of tasks typing.now trees address known.now (added_behind written.now.recut.now) written.now.name.now) }
+    ensures same { recutter.new ≡ recutter.old }
+{
+    match judge(alloc, typing, parser, known, recutter, written)? {
+        Some(false) => Ok(false),
+        Some(true) => is_read(alloc, typing, parser, known, written, false),
+        None => is_read(alloc, typing, parser, known, written, true),
+    }
 }
 
 /// Whether the name is read as one of these starts; where `leads`, as one by which it leads somewhere in the tree of what was read before.
@@ -252,7 +297,7 @@ fn is_read(
     ensures { (of : Kinds) (lexicon : Lexicon) (tasks : List Task) → IsWritten of lexicon typing.now written.now → IsParsedBy of tasks typing.now parser.now →
         All (λ one. IsStartNext of tasks typing.now one.start.now) known.now →
         IfOk result (λ read. IsTrue read ↔ ((one : Known) × Contains known.now one
-        × IsReadAt of tasks typing.now leads written.now.added.now written.now.name.now one)) }
+        × IsReadAt of tasks typing.now leads (added_behind written.now.recut.now) written.now.name.now one)) }
 {
     'known: for one in known {
         if is_read_at(alloc, typing, parser, one, written, leads)? {
@@ -275,7 +320,7 @@ fn is_read_at(
         × IsStartNext of tasks typing.now one.now.start.now }
     ensures { (of : Kinds) (lexicon : Lexicon) (tasks : List Task) → IsWritten of lexicon typing.now written.now → IsParsedBy of tasks typing.now parser.now →
         IsStartNext of tasks typing.now one.now.start.now →
-        IfOk result (λ read. IsTrue read ↔ IsReadAt of tasks typing.now leads written.now.added.now written.now.name.now one.now) }
+        IfOk result (λ read. IsTrue read ↔ IsReadAt of tasks typing.now leads (added_behind written.now.recut.now) written.now.name.now one.now) }
 {
     if !may_lead(one, written.name, leads) {
         return Ok(false);
@@ -285,9 +330,9 @@ fn is_read_at(
 
 /// Whether the name is one by which the start leads somewhere in the tree of what was read before, where `leads`.
 fn may_lead(one: &Known<'_>, name: &Name, leads: bool) -> bool
-    ensures { IsTrue result ↔ (IsTrue leads → Contains one.now.front.names.items name.now) }
+    ensures { IsTrue result ↔ (IsTrue leads → Contains one.now.front.names name.now) }
 {
-    !leads || one.front.names.contains(name)
+    !leads || one.front.names.has(name)
 }
 
 /// Whether the tokens are what the value of this start may read, and say the name.
@@ -303,19 +348,20 @@ fn is_read_as(
     ensures { (of : Kinds) (lexicon : Lexicon) (tasks : List Task) → IsWritten of lexicon typing.now written.now →
         IsParsedBy of tasks typing.now parser.now → IsStartNext of tasks typing.now start.now →
         IfOk result (λ read. (next : ReferenceNext) → ComesAt of typing.now next start.now →
-        IsTrue read ↔ IsReadAsStart of tasks typing.now next start.now written.now.added.now written.now.name.now) }
+        IsTrue read ↔ IsReadAsStart of tasks typing.now next start.now (added_behind written.now.recut.now) written.now.name.now) }
 {
-    if written.added.is_empty() {
+    let added = written.recut.added();
+    if added.is_empty() {
         return Ok(false);
     }
     if !says(alloc, parser, start, written)? {
         return Ok(false);
     }
-    gives(alloc, parser, start, written.added)
+    gives(alloc, parser, start, added)
 }
 
 /// Whether the tokens are what the value of this start may read.
-fn gives(
+pub(crate) fn gives(
     alloc: Global,
     parser: &Parser,
     start: &ReferenceStart,
@@ -327,28 +373,30 @@ fn gives(
         HasTask g of tasks start.now.value → AreOfKinds of added.now →
         IfOk result (λ given. IsTrue given ↔ EndsSome (PlacesGive g of tasks (start.now.value ∷ [])) (kinds (visible added.now))) }
 {
-    let fronts = Fronts::over(alloc, parser.program(), parser.begins(), &[start.value])?;
-    Ok(read(fronts, added)?.complete())
+    let fronts = read_over(alloc, parser, &[start.value], added)?;
+    Ok(fronts.complete())
 }
 
 /// Whether the visible ones of the tokens say the name, in the form in which the start's value is looked up.
-fn says(
+pub(crate) fn says(
     alloc: Global,
     parser: &Parser,
     start: &ReferenceStart,
     written: &Written<'_>,
 ) -> Result<bool, NoMemory>
-    requires parts { ArePartsOf written.now.text.now written.now.added.now }
+    requires tail { written.now.recut.now.tail ≤ length written.now.recut.now.tokens.items }
+    requires parts { ArePartsOf written.now.recut.now.text (added written.now.recut.now) }
     requires recipe { IsReferencePut parser.now.recipes start.now.put }
     ensures { (recipe : ValueRecipe) (want : TypeId) (form : TextForm) → slice_get parser.now.recipes.made start.now.put ≡ Some recipe →
         recipe.content ≡ Content.Reference want form →
-        IfOk result (λ says. IsTrue says ↔ (said_in form (joined_texts written.now.text.now (visible written.now.added.now)) ≡ written.now.name.now)) }
+        IfOk result (λ says. IsTrue says ↔ (said_in form (joined_texts written.now.recut.now.text (visible (added written.now.recut.now))) ≡ written.now.name.now)) }
 {
     let Content::Reference(_, form) = &parser.recipes().value(start.put).content else {
         unreachable!()
     };
-    let tokens = shown(alloc, written.added)?;
-    Ok(said_by(alloc, *form, written.text, tokens.as_slice())? == *written.name)
+    let tokens = shown(alloc, written.recut.added())?;
+    let said = said_by(alloc, *form, &written.recut.text, tokens.as_slice())?;
+    Ok(said == *written.name)
 }
 
 /// The tokens that are not hidden.

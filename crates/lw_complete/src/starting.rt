@@ -1,6 +1,5 @@
 // The cross-references that may come next, and the trees in which their names are looked for.
 ghost use Rattle.std.specs.Prelude.{ℕ, ◌≡◌, ◌<◌, ◌↔◌, ◌++◌, ◌∷◌, List, Contains, IfOk, OnOk, length};
-ghost use Rattle.lw_findings.specs.Finding.{Finds};
 ghost use Rattle.lw_grammar.specs.Kinds.{Kinds};
 ghost use Rattle.lw_link.specs.Indexed.{IsIndexOf};
 ghost use Rattle.lw_link.specs.Visible.{IsNumberAt};
@@ -9,6 +8,7 @@ ghost use Rattle.lw_offers.specs.Starting.{ComesNext, IsFrontTree, ReferenceNext
 ghost use Rattle.lw_offers.specs.Targets.{HasTarget, renamed_to};
 ghost use Rattle.lw_outwards.specs.Known.{HasOneRoot};
 ghost use Rattle.lw_numbers.specs.Numbering.{type_names};
+ghost use Rattle.lw_parse.specs.Parsers.{ParserParts};
 ghost use Rattle.lw_program.specs.Says.{Task};
 ghost use Rattle.lw_recipes.specs.declared.mark.TreeMark.TheVariants as mark;
 ghost use Rattle.lw_recipes.specs.Making.{AreRecipesOf};
@@ -22,26 +22,27 @@ ghost use Rattle.lw_tokens.specs.Cut.{visible as visible_tokens};
 ghost use Rattle.lw_tokens.specs.Lexicon.{Lexicon};
 ghost use Rattle.lw_tree.specs.declared.node.Reference.{Reference as AReference};
 ghost use Rattle.lw_tree.specs.Parts.{Parts};
-ghost use Rattle.lw_complete.specs.Starts.{AreFrontNames, GrowsReference, IsBlank, IsBlankName, IsParsedBy, IsSoundStart, IsStartOf, IsTreeOfBlank, LeadsInBlank, StandsBehind};
+ghost use Rattle.lw_complete.specs.Starts.{AreBehind, AreBlankNames, AreFrontNames, GrowsReference, IsBlank, IsBlankName, IsParsedBy, IsReady, IsSoundStart, IsStartOf, IsTreeOfBlank, LeadsInBlank, StandsBehind};
 ghost use Rattle.lw_complete.specs.Typing.{IsTypedBy, grammar_of};
 
-use crate::reading::read;
+use crate::reading::read_over;
+use crate::sorted::SortedNames;
 use crate::typing::Typing;
-use lw_base::{Name, NoMemory, Token};
+use lw_base::{Items, Name, NoMemory, Token};
 use lw_builder::tree_of;
 use lw_link::visible;
 use lw_parse::Parser;
 use lw_recipes::{Recipes, TreeMark};
 use lw_symbols::Locals;
 use lw_tree::{Reference, Tree};
-use lw_viable::{Fronts, ReferenceStart};
+use lw_viable::ReferenceStart;
 use std::alloc::Global;
 
 /// The names by which a cross-reference that comes next would lead somewhere in the tree of what was read before it, and how many references
 /// that tree has.
 #[derive(Drop)]
 pub(crate) struct FrontNames {
-    pub(crate) names: Vec<Name>,
+    pub(crate) names: SortedNames,
     pub(crate) before: usize,
 }
 
@@ -66,8 +67,9 @@ pub(crate) fn front_names(
     let marks = marks_with(alloc, start, &[])?;
     let behind = front_tree(alloc, typing, recipes, marks.as_slice())?;
     let before = tree.refs().len();
+    let names = names_in(alloc, typing, &tree, &behind.refs()[before])?;
     Ok(FrontNames {
-        names: names_in(alloc, typing, &tree, &behind.refs()[before])?,
+        names: SortedNames::of(names),
         before,
     })
 }
@@ -143,17 +145,16 @@ pub(crate) struct Blank {
     pub(crate) others: Vec<Token>,
 }
 
-/// Puts in the names by which this start would lead somewhere in the tree of the whole text with the reference left blank, where that is a
+/// The names by which this start would lead somewhere in the tree of the whole text with the reference left blank. None where that is no
 /// sentence then. `before` says how many references stand before it.
-pub(crate) fn put_blank_names(
+pub(crate) fn blank_names(
     alloc: Global,
     typing: &Typing<'_>,
     parser: &Parser,
     start: &ReferenceStart,
     before: usize,
     blank: &Blank,
-    names: &mut Vec<Name>,
-) -> Result<(), NoMemory>
+) -> Result<Option<SortedNames>, NoMemory>
     requires { (of : Kinds) × (lexicon : Lexicon) × (tasks : List Task) × (next : ReferenceNext) × (front_tree : Parts) × (r : AReference) ×
         IsTypedBy of lexicon typing.now × IsBlank typing.now lexicon blank.now × IsParsedBy of tasks typing.now parser.now ×
         IsSoundStart of tasks typing.now next start.now
@@ -163,22 +164,45 @@ pub(crate) fn put_blank_names(
         IsSoundStart of tasks typing.now next start.now →
         IsFrontTree (grammar_of typing.now) of typing.now.front.now typing.now.tokens.now next front_tree r → before ≡ length front_tree.refs →
         IsIndexOf trees typing.now.index.now → IsNumberAt typing.now.index.now typing.now.doc.0 address →
-        OnOk result (Finds (IsBlankName of typing.now trees address lexicon tasks next start.now) names.old.items names.new.items) }
+        IfOk result (AreBlankNames of lexicon tasks typing.now trees address next start.now) }
 {
     let places = start.behind.as_slice();
-    let fronts = Fronts::over(alloc, parser.program(), parser.begins(), places)?;
-    let mut fronts = read(fronts, blank.others.as_slice())?;
+    let mut fronts = read_over(alloc, parser, places, blank.others.as_slice())?;
     let sentences = fronts.sentences(alloc)?;
-    'sentences: for after in &sentences {
-        let marks = marks_with(alloc, start, after.as_slice())?;
-        let found = blank_names(alloc, typing, marks.as_slice(), before, blank)?;
-        put_all(names, found)?;
+    if sentences.is_empty() {
+        return Ok(None);
     }
-    Ok(())
+    let names = names_behind(alloc, typing, start, before, blank, sentences.as_slice())?;
+    Ok(Some(SortedNames::of(names)))
+}
+
+/// The names by which this start would lead somewhere in the trees of the whole text with the reference left blank, where these marks, one
+/// list or another, come behind it.
+fn names_behind(
+    alloc: Global,
+    typing: &Typing<'_>,
+    start: &ReferenceStart,
+    before: usize,
+    blank: &Blank,
+    sentences: &[Items<TreeMark>],
+) -> Result<Vec<Name>, NoMemory>
+    requires { (parser : ParserParts) × (ready : IsReady typing.now parser start.now before blank.now) × AreBehind ready sentences.now }
+    ensures { (parser : ParserParts) (ready : IsReady typing.now parser start.now before blank.now) (trees : Trees) (address : List ℕ) → AreBehind ready sentences.now →
+        IsIndexOf trees typing.now.index.now → IsNumberAt typing.now.index.now typing.now.doc.0 address →
+        IfOk result (λ names. (name : List ℕ) → Contains names.items name ↔
+        IsBlankName ready.of typing.now trees address ready.lexicon ready.tasks ready.next start.now name) }
+{
+    let mut names = Vec::new(alloc);
+    'sentences: for after in sentences {
+        let marks = marks_with(alloc, start, after.as_slice())?;
+        let found = names_of_blank(alloc, typing, marks.as_slice(), before, blank)?;
+        put_all(&mut names, found)?;
+    }
+    Ok(names)
 }
 
 /// Those of the tree of these marks.
-fn blank_names(
+fn names_of_blank(
     alloc: Global,
     typing: &Typing<'_>,
     marks: &[TreeMark],

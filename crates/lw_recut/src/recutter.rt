@@ -1,0 +1,262 @@
+// The end of a text, from which it is cut again.
+ghost use Rattle.std.specs.Prelude.{ℕ, ◌≡◌, ◌≤◌, ◌<◌, ◌++◌, List, All, IfOk, IfSome, IsCharBoundary, MatchOption, Ok, length, map, take};
+ghost use Rattle.lw_base.specs.declared.limits.TheConstants.{LONGEST_TEXT};
+ghost use Rattle.lw_base.specs.declared.token.Token.{Token as AToken};
+ghost use Rattle.lw_foresee.specs.Nfas.{AreNfas};
+ghost use Rattle.lw_lexer.specs.TokenPlaces.{IsTokenPlace};
+ghost use Rattle.lw_sure.specs.Front.{end_from};
+ghost use Rattle.lw_tokens.specs.Cut.{IsCut, IsCutTo};
+ghost use Rattle.lw_tokens.specs.Lexicon.{Lexicon};
+ghost use Rattle.lw_recut.specs.Recut.{IsCrossed, IsEndOf, IsRecut, IsSurePlace, added_behind};
+ghost use Rattle.lw_recut.specs.declared.seam.Seam.TheVariants.{Meets, Crossed};
+
+use crate::recut::Recut;
+use crate::seam::{Seam, Step, step};
+use lw_base::{LONGEST_TEXT, Name, NoMemory, Token};
+use lw_foresee::{Walker, nfas_of};
+use lw_lexer::{LexFault, Lexer, Next};
+use lw_sure::{next_stays, sure_tokens};
+use lw_terminals::TokenSet;
+use regex_nfa::Nfa;
+use std::alloc::Global;
+use std::marker::Model;
+
+/// How many steps the walks over a text take at most, beside so many for each of its bytes.
+const LEAST_STEPS: u32 = 100000;
+const STEPS_A_BYTE: u32 = 64;
+
+/// How many bytes are looked at of what follows.
+const LOOKED_AT: usize = 64;
+
+/// Cuts texts that begin with one text, seen as the end of that text from where its tokens may change with what follows.
+#[derive(Drop)]
+pub struct Recutter<'a> {
+    lexer: Lexer<'a>,
+    keywords: &'a [Name],
+    // None where a pattern has none
+    nfas: Option<Vec<Nfa>>,
+    text: Name,
+    tokens: Vec<Token>,
+    from: usize,
+}
+
+impl<'a> Model for Recutter<'a> {
+    ghost use Rattle.std.specs.Prelude.{◌≡◌, IfSome};
+    ghost use Rattle.lw_foresee.specs.Nfas.{AreNfas};
+    ghost use Rattle.lw_recut.specs.Recut.{RecutterParts};
+
+    ghost Value = { RecutterParts };
+
+    ghost view = { λ r. record { lexicon = r.lexer.lexicon; text = r.text; tokens = r.tokens.items; from = r.from } };
+
+    ghost invariant = { λ r. (r.keywords.now ≡ r.lexer.lexicon.keywords) × IfSome r.nfas (λ nfas. AreNfas r.lexer.lexicon.terminals nfas.items) };
+}
+
+impl<'a> Recutter<'a> {
+    /// For texts that begin with this one, of which these are the tokens by the set.
+    pub fn of(
+        alloc: Global,
+        set: &'a TokenSet,
+        front: &Name,
+        tokens: &[Token],
+    ) -> Result<Recutter<'a>, NoMemory>
+        requires short { length front.now ≤ LONGEST_TEXT }
+        requires cut { IsCut set.now.lexicon front.now tokens.now }
+        requires places { All (IsTokenPlace front.now) tokens.now }
+        ensures lexicon { IfOk result (λ made. made.lexicon ≡ set.now.lexicon) }
+        ensures end { IfOk result (λ made. IsEndOf made front.now tokens.now) }
+        ensures own { IfOk result (λ made. IsCut made.lexicon made.text made.tokens) }
+    {
+        let keywords = set.keywords();
+        let nfas = nfas_in(alloc, set)?;
+        let from = sure_place(alloc, keywords, &nfas, front, tokens);
+        let text = Name::from_text(alloc, &front.text()[from..])?;
+        let mut lexer = Lexer::new(alloc, set)?;
+        let tokens = own_tokens(alloc, &mut lexer, &text)?;
+        Ok(Recutter {
+            lexer,
+            keywords,
+            nfas,
+            text,
+            tokens,
+            from,
+        })
+    }
+
+    /// The end of the text with more behind it, where the text with that is cut into its own tokens and others; what is longer than a text
+    /// may be is want of memory.
+    pub fn cut(&mut self, alloc: Global, more: &str) -> Result<Option<Recut>, NoMemory>
+        ensures added { (front : List ℕ) (tokens : List AToken) → IsEndOf self.old front tokens → IfOk result (λ found. MatchOption found
+            ((others : List AToken) → ¬ IsCut self.old.lexicon (front ++ more.now) (tokens ++ others))
+            (λ it. IsCut self.old.lexicon (front ++ more.now) (tokens ++ added_behind it)
+            × ((others : List AToken) → IsCut self.old.lexicon (front ++ more.now) (tokens ++ others) → others ≡ added_behind it))) }
+        ensures recut { IfOk result (λ found. IfSome found (IsRecut self.old more.now)) }
+        ensures same { self.new ≡ self.old }
+    {
+        let text = with_behind(alloc, &self.text, more)?;
+        if LONGEST_TEXT < text.bytes().len() {
+            return Err(NoMemory);
+        }
+        let tokens = match self.lexer.cut(alloc, &text) {
+            Ok(tokens) => tokens,
+            Err(LexFault::NoToken(_)) => return Ok(None),
+            Err(LexFault::NoMemory) => return Err(NoMemory),
+        };
+        if !tokens.starts_with(self.tokens.as_slice()) {
+            return Ok(None);
+        }
+        Ok(Some(Recut {
+            text,
+            tokens,
+            tail: self.tokens.len(),
+            from: self.from,
+        }))
+    }
+
+    /// What is known of the cut of the whole text, where the rest follows what was put behind its end.
+    pub fn seam(&mut self, alloc: Global, it: &Recut, rest: &str) -> Result<Seam, NoMemory>
+        requires { (more : List ℕ) × IsRecut self.old more it.now }
+        ensures meets { (front more : List ℕ) (tokens : List AToken) → result ≡ Ok Meets → IsEndOf self.old front tokens → All (λ b. b < 256) more →
+            IsRecut self.old more it.now →
+            IsCutTo self.old.lexicon (front ++ more ++ rest.now) (length (front ++ more)) (tokens ++ added_behind it.now) }
+        ensures crossed { (front more : List ℕ) (tokens : List AToken) → result ≡ Ok Crossed → IsEndOf self.old front tokens → All (λ b. b < 256) more →
+            IsRecut self.old more it.now → IsCrossed self.old.lexicon (front ++ more ++ rest.now) (length (front ++ more)) }
+        ensures same { self.new ≡ self.old }
+    {
+        if rest.is_empty() {
+            return Ok(Seam::Meets);
+        }
+        let Some(nfas) = &self.nfas else {
+            return Ok(Seam::Unknown);
+        };
+        let text = with_behind(alloc, &it.text, beginning(rest))?;
+        let mut walker = Walker::new(alloc, LEAST_STEPS);
+        'tokens: for token in &it.tokens {
+            let start = token.span.start as usize;
+            let behind = &text.text()[start..];
+            let found = self.lexer.next(behind);
+            if !stays(self.keywords, nfas.as_slice(), behind, &found, &mut walker) {
+                return Ok(Seam::Unknown);
+            }
+            match step(found, *token, it.text.bytes().len() - start) {
+                Step::Same => {}
+                Step::Across => return Ok(Seam::Crossed),
+                Step::Other => return Ok(Seam::Unknown),
+            }
+        }
+        Ok(Seam::Meets)
+    }
+}
+
+/// The automata of the terminals' patterns, where each has one.
+fn nfas_in(alloc: Global, set: &TokenSet) -> Result<Option<Vec<Nfa>>, NoMemory>
+    ensures { IfOk result (λ found. IfSome found (λ nfas. AreNfas set.now.lexicon.terminals nfas.items)) }
+{
+    let patterns = patterns_in(alloc, set)?;
+    nfas_of(alloc, patterns.as_slice())
+}
+
+/// The patterns of the terminals.
+fn patterns_in(alloc: Global, set: &TokenSet) -> Result<Vec<Name>, NoMemory>
+    ensures { IfOk result (λ patterns. patterns.items ≡ map (λ form. form.pattern) set.now.lexicon.terminals) }
+{
+    let mut patterns = Vec::new(alloc);
+    for terminal in set.terminals() {
+        patterns.push(terminal.pattern().copy(alloc)?)?;
+    }
+    Ok(patterns)
+}
+
+/// Where the tokens end that stand whatever follows the text. Where nothing is known of the patterns, or there is no memory, at its start.
+fn sure_place(
+    alloc: Global,
+    keywords: &[Name],
+    nfas: &Option<Vec<Nfa>>,
+    front: &Name,
+    tokens: &[Token],
+) -> usize
+    requires places { All (IsTokenPlace front.now) tokens.now }
+    ensures boundary { IsCharBoundary front.now result }
+    ensures sure { (lexicon : Lexicon) → lexicon.keywords ≡ keywords.now → IfSome nfas.now (λ nfas. AreNfas lexicon.terminals nfas.items) →
+        IsCut lexicon front.now tokens.now → IsSurePlace lexicon front.now tokens.now result }
+{
+    let Some(nfas) = nfas else {
+        return 0;
+    };
+    let mut walker = Walker::new(alloc, steps_for(front.bytes().len()));
+    let count = sure_tokens(
+        keywords,
+        nfas.as_slice(),
+        front.text(),
+        tokens,
+        &mut walker,
+    );
+    end_of(tokens, count)
+}
+
+fn steps_for(bytes: usize) -> u32 {
+    let steps = (bytes as u32).saturating_mul(STEPS_A_BYTE);
+    steps.saturating_add(LEAST_STEPS)
+}
+
+/// Where the first so many tokens end.
+fn end_of(tokens: &[Token], count: usize) -> usize
+    requires { count ≤ length tokens.now }
+    ensures { result ≡ end_from 0 (take count tokens.now) }
+{
+    match count.checked_sub(1) {
+        Some(last) => tokens[last].span.end as usize,
+        None => 0,
+    }
+}
+
+/// The tokens of a text that has a cut.
+fn own_tokens(
+    alloc: Global,
+    lexer: &mut Lexer<'_>,
+    text: &Name,
+) -> Result<Vec<Token>, NoMemory>
+    requires short { length text.now ≤ LONGEST_TEXT }
+    requires cut { (tokens : List AToken) × IsCut lexer.old.lexicon text.now tokens }
+    ensures cut { IfOk result (λ tokens. IsCut lexer.old.lexicon text.now tokens.items) }
+    ensures same { lexer.new ≡ lexer.old }
+{
+    match lexer.cut(alloc, text) {
+        Ok(tokens) => Ok(tokens),
+        Err(LexFault::NoToken(_)) => unreachable!(),
+        Err(LexFault::NoMemory) => Err(NoMemory),
+    }
+}
+
+/// A text with more behind it.
+fn with_behind(alloc: Global, text: &Name, more: &str) -> Result<Name, NoMemory>
+    ensures { IfOk result (λ whole. whole ≡ text.now ++ more.now) }
+{
+    let mut whole = String::with_capacity(alloc, text.bytes().len() + more.len())?;
+    whole.push_str(text.text())?;
+    whole.push_str(more)?;
+    Ok(Name::from_string(whole))
+}
+
+/// The first bytes of a text, as many as are looked at; no character is split.
+fn beginning(text: &str) -> &str
+    ensures { (others : List ℕ) × (text.now ≡ result.now ++ others) }
+{
+    &text[..text.floor_char_boundary(LOOKED_AT)]
+}
+
+/// Whether this token at the start of the text, or that none stands there, stays so whatever follows.
+fn stays(
+    keywords: &[Name],
+    nfas: &[Nfa],
+    text: &str,
+    found: &Option<Next>,
+    walker: &mut Walker,
+) -> bool
+{
+    let kind = match found {
+        Some(next) => Some(next.kind),
+        None => None,
+    };
+    next_stays(keywords, nfas, text, kind, walker)
+}
