@@ -1,0 +1,3 @@
+pub mod Nfas
+pub mod Steps
+pub mod Walk

@@ -1,0 +1,3 @@
+pub mod StaysLemmas
+pub mod PartedLemmas
+pub mod FrontLemmas

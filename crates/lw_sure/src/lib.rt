@@ -1,0 +1,8 @@
+//! How much of a text's cut into tokens stands, whatever follows the text.
+#![tactic(auto)]
+
+mod front;
+mod laws;
+
+pub use front::sure_tokens;
+pub use laws::stays;
