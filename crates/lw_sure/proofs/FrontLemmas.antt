@@ -90,7 +90,7 @@ counted_enough : (b : Bool) (t s j : ℕ) → j < cond b t s → j < t → j < c
 counted_enough true t s j h w = h
 counted_enough false t s j h w = omega arith
 
-counted_asked : (lexicon : Lexicon) (nfas : List Nfa) (text more : List ℕ) (following : Next) → AreNfas lexicon.terminals nfas →
+pub counted_asked : (lexicon : Lexicon) (nfas : List Nfa) (text more : List ℕ) (following : Next) → AreNfas lexicon.terminals nfas →
     TerminalsStay nfas text (counted (length lexicon.keywords) (length nfas) following.kind) → All (λ b. b < 256) (text ++ more) →
     FirstStay lexicon text more (asked lexicon text more (Some following))
 counted_asked lexicon nfas text more following are h small j form lt there =

@@ -1,3 +1,4 @@
 pub mod StaysLemmas
 pub mod PartedLemmas
 pub mod FrontLemmas
+pub mod NextLemmas

@@ -1,3 +1,4 @@
 pub mod Stays
 pub mod Parted
 pub mod Front
+pub mod Next

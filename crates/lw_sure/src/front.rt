@@ -32,7 +32,7 @@ pub fn sure_tokens(
 }
 
 // Whether the token of this kind at the start of the text stays, whatever bytes follow the text.
-fn token_stays(
+pub(crate) fn token_stays(
     keywords: &[Name],
     nfas: &[Nfa],
     text: &str,
@@ -61,7 +61,7 @@ fn asked(keywords: usize, terminals: usize, kind: usize) -> usize
 }
 
 // Whether no keyword goes on behind the text.
-fn none_begun(keywords: &[Name], text: &str) -> bool
+pub(crate) fn none_begun(keywords: &[Name], text: &str) -> bool
     ensures { IsTrue result → NoneBegun keywords.now text.now }
 {
     for keyword in keywords {
@@ -82,7 +82,7 @@ fn begins_longer(keyword: &Name, text: &str) -> bool
 }
 
 // Whether each of the first so many terminals matches the same, whatever bytes follow the text.
-fn terminals_stay(nfas: &[Nfa], text: &str, count: usize, walker: &mut Walker) -> bool
+pub(crate) fn terminals_stay(nfas: &[Nfa], text: &str, count: usize, walker: &mut Walker) -> bool
     requires { count ≤ length nfas.now }
     ensures stay { IsTrue result → TerminalsStay nfas.now text.now count }
     ensures left { walker.new ≤ walker.old }

@@ -3,6 +3,8 @@
 
 mod front;
 mod laws;
+mod next;
 
 pub use front::sure_tokens;
 pub use laws::stays;
+pub use next::next_stays;
