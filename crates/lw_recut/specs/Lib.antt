@@ -1,1 +1,2 @@
 pub mod Recut
+pub mod Seams

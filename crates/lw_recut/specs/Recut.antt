@@ -1,10 +1,14 @@
 -- The end of a text, from which it is cut again with more behind it, and what comes of that.
 -- Held against the rules of the cut: at each place the next token hangs on the text from there on alone.
-use Rattle.std.specs.Prelude.{ℕ, ◌≡◌, ◌<◌, ◌≤◌, ◌+◌, ◌⊎◌, List, ◌++◌, Option, Some, None, All, drop, length, map}
+use Rattle.std.specs.Prelude.{ℕ, ◌≡◌, ◌<◌, ◌≤◌, ◌+◌, ◌⊎◌, List, ◌++◌, Option, Some, None, All, IfSome, Vec, drop, length, map}
 use Rattle.lw_base.specs.declared.token.Token.{Token}
+use Rattle.regex_nfa.specs.declared.nfa.Nfa.{Nfa}
+use Rattle.std.specs.declared.alloc.global.Global.{Global}
+use Rattle.lw_foresee.specs.Nfas.{AreNfas}
 use Rattle.lw_lexer.specs.TokenPlaces.{IsTokenPlace}
 use Rattle.lw_sure.specs.Parted.{moved}
 use Rattle.lw_tokens.specs.Cut.{IsCut, IsCutTo}
+use Rattle.lw_tokens.specs.Keywords.{AreKeywords}
 use Rattle.lw_tokens.specs.Lexicon.{Lexicon}
 use Rattle.lw_tokens.specs.NextToken.{Next, IsNextToken}
 use Rattle.lw_recut.specs.declared.recut.Recut.{Recut}
@@ -15,6 +19,12 @@ pub record RecutterParts : Type 0 where
   pub text : List ℕ
   pub tokens : List Token
   pub from : ℕ
+
+-- the keywords are those of the lexicon and can be told apart, and the automata, if any, are those of its terminals
+pub record IsReady (lexicon : Lexicon) (keywords : List (List ℕ)) (nfas : Option (Vec Nfa Global)) : Type 0 where
+  pub same : keywords ≡ lexicon.keywords
+  pub apart : AreKeywords lexicon.keywords
+  pub automata : IfSome nfas (λ found. AreNfas lexicon.terminals found.items)
 
 -- a text that has these tokens ends so, and those before stand whatever follows
 pub record IsEndOf (parts : RecutterParts) (front : List ℕ) (tokens : List Token) : Type 0 where
@@ -58,3 +68,8 @@ pub record IsCrossed (lexicon : Lexicon) (text : List ℕ) (place : ℕ) : Type 
   pub found : Option Next
   pub is_next : IsNextToken lexicon (drop at text) found
   pub crosses : (found ≡ None) ⊎ ((next : Next) × (found ≡ Some next) × (place < at + next.bytes))
+
+-- what stands next at the start of the text stays next, by these keywords and the terminals of these automata
+abbrev pub StaysNext : List (List ℕ) → List Nfa → List ℕ → Option Next → Type 0
+StaysNext keywords nfas text found = (lexicon : Lexicon) → lexicon.keywords ≡ keywords → AreNfas lexicon.terminals nfas → IsNextToken lexicon text found →
+    (more : List ℕ) → All (λ b. b < 256) (text ++ more) → IsNextToken lexicon (text ++ more) found

@@ -1,17 +1,18 @@
 // The end of a text, from which it is cut again.
-ghost use Rattle.std.specs.Prelude.{ℕ, ◌≡◌, ◌≤◌, ◌<◌, ◌++◌, List, All, IfOk, IfSome, IsCharBoundary, MatchOption, Ok, length, map, take};
+ghost use Rattle.std.specs.Prelude.{ℕ, ◌≡◌, ◌≤◌, ◌<◌, ◌++◌, List, All, IfOk, IfSome, IsCharBoundary, IsTrue, MatchOption, Ok, length, map, option_map, take};
 ghost use Rattle.lw_base.specs.declared.limits.TheConstants.{LONGEST_TEXT};
 ghost use Rattle.lw_base.specs.declared.token.Token.{Token as AToken};
 ghost use Rattle.lw_foresee.specs.Nfas.{AreNfas};
+ghost use Rattle.lw_lexer.specs.Place.{next_of};
 ghost use Rattle.lw_lexer.specs.TokenPlaces.{IsTokenPlace};
 ghost use Rattle.lw_sure.specs.Front.{end_from};
 ghost use Rattle.lw_tokens.specs.Cut.{IsCut, IsCutTo};
 ghost use Rattle.lw_tokens.specs.Lexicon.{Lexicon};
-ghost use Rattle.lw_recut.specs.Recut.{IsCrossed, IsEndOf, IsRecut, IsSurePlace, added_behind};
+ghost use Rattle.lw_recut.specs.Recut.{IsCrossed, IsEndOf, IsRecut, IsSurePlace, StaysNext, added_behind};
 ghost use Rattle.lw_recut.specs.declared.seam.Seam.TheVariants.{Meets, Crossed};
 
 use crate::recut::Recut;
-use crate::seam::{Seam, Step, step};
+use crate::seam::{Meeting, Seam, compare};
 use lw_base::{LONGEST_TEXT, Name, NoMemory, Token};
 use lw_foresee::{Walker, nfas_of};
 use lw_lexer::{LexFault, Lexer, Next};
@@ -23,6 +24,7 @@ use std::marker::Model;
 
 /// How many steps the walks over a text take at most, beside so many for each of its bytes.
 const LEAST_STEPS: u32 = 100000;
+
 const STEPS_A_BYTE: u32 = 64;
 
 /// How many bytes are looked at of what follows.
@@ -41,15 +43,13 @@ pub struct Recutter<'a> {
 }
 
 impl<'a> Model for Recutter<'a> {
-    ghost use Rattle.std.specs.Prelude.{◌≡◌, IfSome};
-    ghost use Rattle.lw_foresee.specs.Nfas.{AreNfas};
-    ghost use Rattle.lw_recut.specs.Recut.{RecutterParts};
+    ghost use Rattle.lw_recut.specs.Recut.{IsReady, RecutterParts};
 
     ghost Value = { RecutterParts };
 
     ghost view = { λ r. record { lexicon = r.lexer.lexicon; text = r.text; tokens = r.tokens.items; from = r.from } };
 
-    ghost invariant = { λ r. (r.keywords.now ≡ r.lexer.lexicon.keywords) × IfSome r.nfas (λ nfas. AreNfas r.lexer.lexicon.terminals nfas.items) };
+    ghost invariant = { λ r. IsReady r.lexer.lexicon r.keywords.now r.nfas };
 }
 
 impl<'a> Recutter<'a> {
@@ -138,10 +138,10 @@ impl<'a> Recutter<'a> {
             if !stays(self.keywords, nfas.as_slice(), behind, &found, &mut walker) {
                 return Ok(Seam::Unknown);
             }
-            match step(found, *token, it.text.bytes().len() - start) {
-                Step::Same => {}
-                Step::Across => return Ok(Seam::Crossed),
-                Step::Other => return Ok(Seam::Unknown),
+            match compare(&found, *token, it.text.bytes().len() - start) {
+                Meeting::Same => {}
+                Meeting::Across => return Ok(Seam::Crossed),
+                Meeting::Other => return Ok(Seam::Unknown),
             }
         }
         Ok(Seam::Meets)
@@ -175,6 +175,7 @@ fn sure_place(
     front: &Name,
     tokens: &[Token],
 ) -> usize
+    requires short { length front.now ≤ LONGEST_TEXT }
     requires places { All (IsTokenPlace front.now) tokens.now }
     ensures boundary { IsCharBoundary front.now result }
     ensures sure { (lexicon : Lexicon) → lexicon.keywords ≡ keywords.now → IfSome nfas.now (λ nfas. AreNfas lexicon.terminals nfas.items) →
@@ -184,17 +185,13 @@ fn sure_place(
         return 0;
     };
     let mut walker = Walker::new(alloc, steps_for(front.bytes().len()));
-    let count = sure_tokens(
-        keywords,
-        nfas.as_slice(),
-        front.text(),
-        tokens,
-        &mut walker,
-    );
+    let count = sure_tokens(keywords, nfas.as_slice(), front.text(), tokens, &mut walker);
     end_of(tokens, count)
 }
 
-fn steps_for(bytes: usize) -> u32 {
+fn steps_for(bytes: usize) -> u32
+    requires { bytes ≤ LONGEST_TEXT }
+{
     let steps = (bytes as u32).saturating_mul(STEPS_A_BYTE);
     steps.saturating_add(LEAST_STEPS)
 }
@@ -211,11 +208,7 @@ fn end_of(tokens: &[Token], count: usize) -> usize
 }
 
 /// The tokens of a text that has a cut.
-fn own_tokens(
-    alloc: Global,
-    lexer: &mut Lexer<'_>,
-    text: &Name,
-) -> Result<Vec<Token>, NoMemory>
+fn own_tokens(alloc: Global, lexer: &mut Lexer<'_>, text: &Name) -> Result<Vec<Token>, NoMemory>
     requires short { length text.now ≤ LONGEST_TEXT }
     requires cut { (tokens : List AToken) × IsCut lexer.old.lexicon text.now tokens }
     ensures cut { IfOk result (λ tokens. IsCut lexer.old.lexicon text.now tokens.items) }
@@ -252,8 +245,7 @@ fn stays(
     text: &str,
     found: &Option<Next>,
     walker: &mut Walker,
-) -> bool
-{
+) -> bool {
     let kind = match found {
         Some(next) => Some(next.kind),
         None => None,

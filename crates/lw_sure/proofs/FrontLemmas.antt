@@ -42,24 +42,24 @@ terminals_more nfas text n nfa bytes h within is settled = record {
       (cases_lt j n);
 }
 
-end_from-push : (at : ℕ) (ts : List Token) (t : Token) → end_from at (ts ++ t ∷ []) ≡ t.span.end
+pub end_from-push : (at : ℕ) (ts : List Token) (t : Token) → end_from at (ts ++ t ∷ []) ≡ t.span.end
 end_from-push at [] t = refl
 end_from-push at (u ∷ us) t = end_from-push u.span.end us t
 
 -- the n-th token of a cut stands behind the first n
-record Nth (lexicon : Lexicon) (text : List ℕ) (tokens : List Token) (n : ℕ) : Type 0 where
-  at : ℕ
-  next : Next
-  inside : at < length text
-  found : IsNextToken lexicon (drop at text) (Some next)
-  is : (d : Token) → get_or tokens n d ≡ token_at at next
-  behind : end_from 0 (take n tokens) ≡ at
+pub record Nth (lexicon : Lexicon) (text : List ℕ) (tokens : List Token) (n : ℕ) : Type 0 where
+  pub at : ℕ
+  pub next : Next
+  pub inside : at < length text
+  pub found : IsNextToken lexicon (drop at text) (Some next)
+  pub is : (d : Token) → get_or tokens n d ≡ token_at at next
+  pub behind : end_from 0 (take n tokens) ≡ at
 
-cut_ends : (lexicon : Lexicon) (text : List ℕ) (to : ℕ) (tokens : List Token) → IsCutTo lexicon text to tokens → end_from 0 tokens ≡ to
+pub cut_ends : (lexicon : Lexicon) (text : List ℕ) (to : ℕ) (tokens : List Token) → IsCutTo lexicon text to tokens → end_from 0 tokens ≡ to
 cut_ends lexicon text to tokens cut.start = refl
 cut_ends lexicon text to tokens (cut.then {at = at} {tokens = before} {next = following} front inside found) = end_from-push 0 before (token_at at following)
 
-nth : (lexicon : Lexicon) (text : List ℕ) (to : ℕ) (tokens : List Token) → IsCutTo lexicon text to tokens → (n : ℕ) → n < length tokens → Nth lexicon text tokens n
+pub nth : (lexicon : Lexicon) (text : List ℕ) (to : ℕ) (tokens : List Token) → IsCutTo lexicon text to tokens → (n : ℕ) → n < length tokens → Nth lexicon text tokens n
 nth lexicon text to tokens cut.start n h = absurd (omega arith)
 nth lexicon text to tokens (cut.then {at = at} {tokens = before} {next = following} front inside found) n h = ⊎_elim
     (λ (within : n < length before).
