@@ -201,9 +201,9 @@ module _ (g : Grammar) (text : List ℕ) where
         spans = ap span_of_tokens (ap (drop at) is.tokens_are ∙ drop_at is.front is.mid at is.at_is);
       }
 
-  put_by_end : {m : List Mark} {ts : List Token} {ss : List Span} {s : Span} {n : ℕ} → ArePut m ts ss → n ≡ length ss →
+  put_by_end : (m : List Mark) (ts : List Token) (ss : List Span) (s : Span) (n : ℕ) → ArePut m ts ss → n ≡ length ss →
       IsPutAt g text (m ++ End ∷ []) ts n s → ArePut (m ++ End ∷ []) ts (ss ++ s ∷ [])
-  put_by_end {m} {ts} {ss} {s} {n} are count last i t at = by (one_of ss s i t at)
+  put_by_end m ts ss s n are count last i t at = by (one_of ss s i t at)
     where
       by : (slice_get ss i ≡ Some t) ⊎ ((i ≡ length ss) × (t ≡ s)) → IsPutAt g text (m ++ End ∷ []) ts i t
       by (inl before) = put_before_mark End (are i t before)
@@ -211,8 +211,8 @@ module _ (g : Grammar) (text : List ℕ) where
           subst (λ (j : ℕ). IsPutAt g text (m ++ End ∷ []) ts j t) (count ∙ sym is.0)
           (subst (λ (u : Span). IsPutAt g text (m ++ End ∷ []) ts n u) (sym is.1) last)
 
-  still_put : (mark : Mark) {m : List Mark} {ts : List Token} (ss us : List Span) → us ≡ ss → ArePut m ts ss → ArePut (m ++ mark ∷ []) ts us
-  still_put mark ss us same are i s at = put_before_mark mark (are i s (ap (λ (xs : List Span). slice_get xs i) (sym same) ∙ at))
+  still_put : (mark : Mark) (m : List Mark) (ts : List Token) (ss us : List Span) → us ≡ ss → ArePut m ts ss → ArePut (m ++ mark ∷ []) ts us
+  still_put mark m ts ss us same are i s at = put_before_mark mark (are i s (ap (λ (xs : List Span). slice_get xs i) (sym same) ∙ at))
 
   same_shut : {ts : List Token} {bs after : List Bracket} → Shuts ts bs after → spans_open after ≡ spans_open bs
   same_shut in_value = refl
@@ -221,17 +221,18 @@ module _ (g : Grammar) (text : List ℕ) where
 
   put_next : {m : List Mark} {mark : Mark} {ts : List Token} {bs after : List Bracket} → FollowsMarks g text m ts bs → ChangesOpen g text ts mark bs after →
       ArePut m ts (spans_open bs) → ArePut (m ++ mark ∷ []) ts (spans_open after)
-  put_next {mark} {bs} {after} follows (f.opens at has number) are = still_put mark (spans_open bs) (spans_open after) (append-nil (spans_open bs)) are
-  put_next {mark} {bs} {after} follows (f.puts number) are = still_put mark (spans_open bs) (spans_open after) refl are
-  put_next {mark} {bs} {after} follows (f.shuts shut) are = still_put mark (spans_open bs) (spans_open after) (same_shut shut) are
-  put_next {mark} {bs} {after} follows (f.renames none number) are = still_put mark (spans_open bs) (spans_open after) refl are
-  put_next {mark} {bs} {after} follows (f.wraps some number property) are = still_put mark (spans_open bs) (spans_open after) refl are
-  put_next {bs = whole} {after} follows (f.ends {held} {bs} (f.a_node {x})) are =
-      still_put End (spans_open whole) (spans_open after) (sym (append_assoc (spans_open bs) (spans_of held) (spans x))) are
+  put_next {m} {mark} {ts} {bs} {after} follows (f.opens at has number) are = still_put mark m ts (spans_open bs) (spans_open after) (append-nil (spans_open bs)) are
+  put_next {m} {mark} {ts} {bs} {after} follows (f.puts number) are = still_put mark m ts (spans_open bs) (spans_open after) refl are
+  put_next {m} {mark} {ts} {bs} {after} follows (f.shuts shut) are = still_put mark m ts (spans_open bs) (spans_open after) (same_shut shut) are
+  put_next {m} {mark} {ts} {bs} {after} follows (f.renames none number) are = still_put mark m ts (spans_open bs) (spans_open after) refl are
+  put_next {m} {mark} {ts} {bs} {after} follows (f.wraps some number property) are = still_put mark m ts (spans_open bs) (spans_open after) refl are
+  put_next {m} {ts} {bs = whole} {after} follows (f.ends {held} {bs} (f.a_node {x})) are =
+      still_put End m ts (spans_open whole) (spans_open after) (sym (append_assoc (spans_open bs) (spans_of held) (spans x))) are
   put_next {m} {ts} follows (f.ends {type} {from} {at} {held} {bs} (f.a_reference not by number looks)) are =
       subst (λ (ss : List Span). ArePut (m ++ End ∷ []) ts ss) (append_assoc (spans_open bs) (spans_of held) (span_of_tokens (drop at ts) ∷ []))
-      (put_by_end are (sym (count_open (InNode type from held ∷ bs))) (put_now (begun follows) (not, by_cross by)))
-  put_next {bs = whole} {after} follows (f.ends (f.plain is)) are = still_put End (spans_open whole) (spans_open after) refl are
+      (put_by_end m ts (spans_open bs ++ spans_of held) (span_of_tokens (drop at ts)) (points_open bs + points_of held) are
+      (sym (count_open (InNode type from held ∷ bs))) (put_now (begun follows) (not, by_cross by)))
+  put_next {m} {ts} {bs = whole} {after} follows (f.ends (f.plain is)) are = still_put End m ts (spans_open whole) (spans_open after) refl are
 
   all_put : {m : List Mark} {ts : List Token} {bs : List Bracket} → FollowsMarks g text m ts bs → ArePut m ts (spans_open bs)
   all_put f.nothing = λ i s at. absurd (none-some s at)

@@ -39,11 +39,11 @@ module _ (lexicon : Lexicon) (apart : AreKeywords lexicon.keywords) (text : List
     here : {at : ℕ} → at ≡ to → LeadsTo to at
     further : {at : ℕ} (next : Next) → IsNextToken lexicon (drop at text) (Some next) → LeadsTo to (at + next.bytes) → LeadsTo to at
 
-  leads_from_start : {at to : ℕ} {ts : List Token} → IsCutTo lexicon text at ts → LeadsTo to at → LeadsTo to 0
+  leads_from_start : {to at : ℕ} {ts : List Token} → IsCutTo lexicon text at ts → LeadsTo to at → LeadsTo to 0
   leads_from_start cut.start leads = leads
   leads_from_start (cut.then {next} before inside is) leads = leads_from_start before (further next is leads)
 
-  not_back : {at to : ℕ} → LeadsTo to at → at ≤ to
+  not_back : {to at : ℕ} → LeadsTo to at → at ≤ to
   not_back (here e) = omega (arith, e)
   not_back (further next is leads) = omega (arith, not_back leads)
 
@@ -51,12 +51,12 @@ module _ (lexicon : Lexicon) (apart : AreKeywords lexicon.keywords) (text : List
   abbrev NextUpTo : ℕ → ℕ → Type 0
   NextUpTo at to = (next : Next) × IsNextToken lexicon (drop at text) (Some next) × (at + next.bytes ≤ to)
 
-  next_of : {from at to : ℕ} → LeadsTo to from → LeadsTo at from → at < to → NextUpTo at to
+  next_of : {to at from : ℕ} → LeadsTo to from → LeadsTo at from → at < to → NextUpTo at to
   next_of (here e) (here f) before = absurd (omega (arith, e, f, before))
   next_of (here e) (further next is leads) before = absurd (omega (arith, e, not_back leads, before))
   next_of {from} (further next is leads) (here f) before =
       (next, subst (λ (k : ℕ). IsNextToken lexicon (drop k text) (Some next)) f is, omega (arith, f, not_back leads))
-  next_of {from} {at} (further next is leads) (further other was others) before =
+  next_of {at} {from} (further next is leads) (further other was others) before =
       let same : next ≡ other = same_Some next other (one_next lexicon apart (drop from text) (Some next) (Some other) is was) in
       next_of leads (subst (λ (n : Next). LeadsTo at (from + n.bytes)) (sym same) others) before
 
