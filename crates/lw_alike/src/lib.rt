@@ -36,6 +36,6 @@ mod laws;
 pub use laws::{
     a_blank_tree_answers_for_each_name, a_longer_name_is_the_only_difference,
     a_written_name_differs_in_the_reference, alike_trees_answer_alike, blank_references_have_trees,
-    each_reference_stands_where_marks_put_it, other_names_are_read_alike, references_before_give_the_place,
-    the_reference_stands_at_its_place, trees_differ_in_one_name,
+    each_reference_stands_where_marks_put_it, other_names_are_read_alike,
+    references_before_give_the_place, the_reference_stands_at_its_place, trees_differ_in_one_name,
 };
