@@ -1,12 +1,12 @@
 -- Where a token reaches over the end of a name, or none stands before it, no tree has a reference that ends there.
-use Rattle.std.proofs.Common.{◌≡◌, ◌+◌, ◌<◌, ℕ, List, [], ◌∷◌, ◌++◌, Option, IfSome, Contains, drop, length, not, refl, sym, ap, subst, ◌∙◌, arith}
+use Rattle.std.proofs.Common.{◌≡◌, ◌+◌, ◌<◌, ℕ, List, [], ◌∷◌, ◌++◌, Option, IfSome, Contains, drop, length, not, sym, ap, subst, ◌∙◌, arith}
 use Rattle.std.proofs.lemmas.List.{length-append}
 use Rattle.std.proofs.lemmas.List.Elements.{All-contains, All-filter, Contains-append_left, Contains-append_right}
 use Rattle.lw_base.specs.declared.token.Span.{Span}
 use Rattle.lw_base.specs.declared.token.Token.{Token}
 use Rattle.lw_grammar.specs.declared.grammar.Grammar.{Grammar}
 use Rattle.lw_grammar.specs.Kinds.{AreKinds, Kinds}
-use Rattle.lw_marks.specs.Brackets.{end_of, span_of_tokens}
+use Rattle.lw_marks.specs.Brackets.{span_of_tokens}
 use Rattle.lw_offers.specs.Offers.{HasReferenceAt}
 use Rattle.lw_tokens.specs.Cut.{IsCut, IsCutTo, visible}
 use Rattle.lw_tokens.specs.Keywords.{AreKeywords}

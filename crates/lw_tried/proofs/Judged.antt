@@ -1,6 +1,6 @@
 -- A name is judged by the tree of the text in which it is left blank.
-use Rattle.std.proofs.Common.{◌≡◌, ◌≢◌, ◌↔◌, ◌+◌, ◌≤◌, ℕ, List, [], ◌∷◌, ◌++◌, Option, Some, None, map, length, slice_get, refl, sym, ap, ap₂, subst, ◌∙◌, arith}
-use Rattle.std.proofs.lemmas.List.{append-nil, map-append, length-append}
+use Rattle.std.proofs.Common.{◌≡◌, ◌≢◌, ◌↔◌, ◌+◌, ◌≤◌, ℕ, List, [], ◌++◌, Option, Some, map, length, slice_get, sym, ap, subst, ◌∙◌, arith}
+use Rattle.std.proofs.lemmas.List.{append-nil, map-append}
 use Rattle.std.proofs.lemmas.Option.{none-some, same_Some}
 use Rattle.lw_base.specs.declared.limits.TheConstants.{LONGEST_DOCUMENT}
 use Rattle.lw_base.specs.declared.token.Span.{Span}
@@ -66,9 +66,9 @@ module _ (g : Grammar) where
   same_name : {held : Held} {p want : ℕ} {name other : List ℕ} {s : Span} → Points held p want name s ≡ Points held p want other s → name ≡ other
   same_name e = cc
 
-  one_name : (text : List ℕ) {op : Op} {c : Value0} {wanted rule by name other : List ℕ} {want : ℕ} {ts : List Token} → op ≢ Flag → RefersBy g c wanted rule →
+  one_name : (text : List ℕ) (want : ℕ) {op : Op} {c : Value0} {wanted rule by name other : List ℕ} {ts : List Token} → op ≢ Flag → RefersBy g c wanted rule →
       IsNumberOfType g wanted want → rule ≡ by → LooksUp g text rule ts name → LooksUp g text by ts other → name ≡ other
-  one_name text {op} {c} {rule} {other} {ts} flag refers number same looks looked =
+  one_name text want {op} {c} {rule} {other} {ts} flag refers number same looks looked =
       let too : LooksUp g text rule ts other = subst (λ (x : List ℕ). LooksUp g text x ts other) (sym same) looked in
       same_name
       (one_put g text {op = op} {c = c} {held = Nothing} {p = 0} (f.a_reference flag refers number looks) (f.a_reference flag refers number too))
@@ -156,7 +156,7 @@ module _ (g : Grammar) (of : Kinds) (lexicon : Lexicon) (apart : AreKeywords lex
 
     named_so : (found : Reference) → IsReferenceFrom g text next (visible added) found → found.name ≡ name
     named_so found from =
-        one_name g text comes.makes.0 from.refers from.want (one_rule g from.refers refers) from.means (same_looked (front ++ name) text g same_text looks)
+        one_name g text found.want.0 comes.makes.0 from.refers from.want (one_rule g from.refers refers) from.means (same_looked (front ++ name) text g same_text looks)
 
     answers : (found : Reference) × Answers found
     answers =

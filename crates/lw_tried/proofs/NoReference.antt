@@ -16,7 +16,7 @@ use Rattle.lw_tokens.specs.Lexicon.{IsLexicon, Lexicon}
 use Rattle.lw_tree.specs.declared.node.Reference.{Reference}
 use Rattle.lw_tree.specs.Parts.{Parts}
 use Rattle.lw_tried.specs.Around.{IsCutAround}
-use Rattle.lw_tried.proofs.Around.{IsPutForName, OfName, filled, moved_kinds, no_token, none_spans_nothing, parts_of_name, put_for_name}
+use Rattle.lw_tried.proofs.Around.{IsPutForName, filled, moved_kinds, no_token, none_spans_nothing, parts_of_name, put_for_name}
 use Rattle.lw_tried.proofs.OneBefore.{kinds_after}
 
 module _ (g : Grammar) (of : Kinds) (lexicon : Lexicon) (apart : AreKeywords lexicon.keywords) (are : AreKinds g of) (is_lexicon : IsLexicon g of lexicon)

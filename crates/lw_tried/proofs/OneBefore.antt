@@ -1,11 +1,11 @@
 -- The marks before a reference are told by what they are followed by and by the kinds that they read.
-use Rattle.std.proofs.Common.{◌≡◌, ◌≢◌, ◌+◌, ◌≤◌, ℕ, List, [], ◌∷◌, ◌++◌, length, refl, sym, ap, ap₂, subst, ◌∙◌, arith}
+use Rattle.std.proofs.Common.{◌≡◌, ◌≢◌, ℕ, List, [], ◌∷◌, ◌++◌, length, refl, sym, ap, ap₂, ◌∙◌, arith}
 use Rattle.std.proofs.lemmas.List.{append_assoc, append_cancel_left, length-append, map-append}
 use Rattle.lw_base.specs.declared.token.Token.{Token}
 use Rattle.lw_grammar.specs.declared.rule.Op.{Op}
 use Rattle.lw_grammar.specs.declared.rule.Value0.{Value0}
 use Rattle.lw_offers.specs.Starting.{ReferenceNext, marks_with, token_marks}
-use Rattle.lw_rooted.proofs.Listed.{no_end_is_empty, same_head, same_tail}
+use Rattle.lw_rooted.proofs.Listed.{same_head, same_tail}
 use Rattle.lw_sentences.specs.Marks.{Mark, Token as AToken, Put, End, kinds_of}
 use Rattle.lw_sentences.proofs.Joined.{kinds_join}
 use Rattle.lw_tokens.specs.Cut.{kinds}

@@ -1,5 +1,5 @@
 -- Tokens one behind the other between two places, and those of them that span a part of the text.
-use Rattle.std.proofs.Common.{◌≡◌, ◌≢◌, ◌+◌, ◌<◌, ◌≤◌, ℕ, Bool, true, false, List, [], ◌∷◌, ◌++◌, cond, not, length, refl, sym, ap, ap₂, subst, arith}
+use Rattle.std.proofs.Common.{◌≡◌, ◌≢◌, ◌<◌, ◌≤◌, ℕ, Bool, true, false, List, [], ◌∷◌, ◌++◌, cond, not, length, refl, sym, ap, ap₂, subst, arith}
 use Rattle.lw_base.specs.declared.token.Span.{Span}
 use Rattle.lw_base.specs.declared.token.Token.{Token}
 use Rattle.lw_marks.specs.Brackets.{end_of, span_of_tokens}
@@ -112,7 +112,7 @@ the_tokens_between start end to front mid rest ts (u ∷ us) vs before within be
     let (later, inside, row) = ends_in high u us middle.2 in
     let head_row : Between 0 start ts = between_later 0 low start ts (omega (arith, middle.0, starts)) head in
     let middle_row : Between start end (u ∷ us) =
-        (omega (arith, starts), middle.1, subst (λ (k : ℕ). Between u.span.end k us) ends row) in
+    (omega (arith, starts), middle.1, subst (λ (k : ℕ). Between u.span.end k us) ends row) in
     let last_row : Between end to vs = between_earlier end high to vs (omega (arith, inside, ends)) last in
     let outer =
     one_split 0 end to 0 to (ts ++ u ∷ us) vs (front ++ mid) rest (between_both 0 start end ts (u ∷ us) head_row middle_row) last_row up_to behind (sym same) in
