@@ -7,9 +7,9 @@
 //! ([`a_blank_tree_answers_for_each_name`]).
 //!
 //! `specs/Tokens.antt` says when tokens of two texts say the same. `specs/Places.antt` says when two texts differ in a
-//! reference, and which of all references that is: as many stand before it as its place says. `specs/Growth.antt` says
-//! when what grows from marks is the same but for where things stand and for the name at that place, and
-//! `specs/OneName.antt` says so of trees.
+//! reference, which of all references that is, as many stand before it as its place says, and when marks put one there.
+//! `specs/Growth.antt` says when what grows from marks is the same but for where things stand and for the name at that
+//! place, and `specs/OneName.antt` says so of trees.
 //!
 //! Where marks are followed over a reference, they are with any other tokens in its place, or with none, and leave
 //! brackets that are alike, which close to nodes that are ([`other_names_are_read_alike`]). So where one text has a

@@ -41,19 +41,19 @@ moved_kinds by (t ∷ ts) = either t.hidden (moved_kinds by ts)
 
 module _ (lexicon : Lexicon) (apart : AreKeywords lexicon.keywords) (front name rest : List ℕ) (tokens added others : List Token)
     (around : IsCutAround lexicon front name rest tokens added others) where
-  abbrev pub Text : List ℕ
-  Text = front ++ name ++ rest
+  abbrev pub whole_text : List ℕ
+  whole_text = front ++ name ++ rest
 
-  abbrev pub Moved : List Token
-  Moved = map (moved_by (length (front ++ name))) others
+  abbrev pub moved_tokens : List Token
+  moved_tokens = map (moved_by (length (front ++ name))) others
 
-  abbrev pub All : List Token
-  All = tokens ++ added ++ Moved
+  abbrev pub all_tokens : List Token
+  all_tokens = tokens ++ added ++ moved_tokens
 
-  pub seen_are : visible All ≡ visible tokens ++ visible added ++ visible Moved
+  pub seen_are : visible all_tokens ≡ visible tokens ++ visible added ++ visible moved_tokens
   seen_are =
-      filter-append (λ (t : Token). not t.hidden) (tokens ++ added) Moved
-      ∙ ap (λ (ts : List Token). ts ++ visible Moved) (filter-append (λ (t : Token). not t.hidden) tokens added)
+      filter-append (λ (t : Token). not t.hidden) (tokens ++ added) moved_tokens
+      ∙ ap (λ (ts : List Token). ts ++ visible moved_tokens) (filter-append (λ (t : Token). not t.hidden) tokens added)
 
   -- ---- where they stand
 
@@ -66,9 +66,9 @@ module _ (lexicon : Lexicon) (apart : AreKeywords lexicon.keywords) (front name 
   added_tiled : Tiled (length front) (length (front ++ name)) added
   added_tiled = tiled_behind 0 (length front) (length (front ++ name)) tokens added tokens_tiled named_tiled
 
-  moved_tiled : Tiled (length (front ++ name)) (length Text) Moved
+  moved_tiled : Tiled (length (front ++ name)) (length whole_text) moved_tokens
   moved_tiled =
-      tiled_behind 0 (length (front ++ name)) (length Text) (tokens ++ added) Moved named_tiled (cut_tiled lexicon apart Text around.whole)
+      tiled_behind 0 (length (front ++ name)) (length whole_text) (tokens ++ added) moved_tokens named_tiled (cut_tiled lexicon apart whole_text around.whole)
 
   pub tokens_row : Between 0 (length front) (visible tokens)
   tokens_row = between_visible 0 (length front) tokens (tiled_between 0 (length front) tokens tokens_tiled)
@@ -77,30 +77,30 @@ module _ (lexicon : Lexicon) (apart : AreKeywords lexicon.keywords) (front name 
   added_row =
       between_visible (length front) (length (front ++ name)) added (tiled_between (length front) (length (front ++ name)) added added_tiled)
 
-  moved_row : Between (length (front ++ name)) (length Text) (visible Moved)
+  moved_row : Between (length (front ++ name)) (length whole_text) (visible moved_tokens)
   moved_row =
-      between_visible (length (front ++ name)) (length Text) Moved (tiled_between (length (front ++ name)) (length Text) Moved moved_tiled)
+      between_visible (length (front ++ name)) (length whole_text) moved_tokens (tiled_between (length (front ++ name)) (length whole_text) moved_tokens moved_tiled)
 
   -- ---- a reference that spans the name
 
-  abbrev pub OfName : Span
-  OfName = record { start = length front; end = length front + length name }
+  abbrev pub name_span : Span
+  name_span = record { start = length front; end = length front + length name }
 
-  to_end : OfName ≡ record { start = length front; end = length (front ++ name) }
+  to_end : name_span ≡ record { start = length front; end = length (front ++ name) }
   to_end = ap (λ (n : ℕ). record { start = length front; end = n }) (sym (length-append front name))
 
-  pub spans_name : (s : Span) → s.start ≡ length front → s.end ≡ length front + length name → s ≡ OfName
+  spans_name : (s : Span) → s.start ≡ length front → s.end ≡ length front + length name → s ≡ name_span
   spans_name s starts ends = ap₂ (λ (a b : ℕ). record { start = a; end = b }) starts ends
 
   -- its tokens are those of the name
-  pub tokens_of_name : (ts us vs : List Token) → visible All ≡ ts ++ us ++ vs → us ≢ [] → span_of_tokens us ≡ OfName →
-      (ts ≡ visible tokens) × (us ≡ visible added) × (vs ≡ visible Moved)
+  tokens_of_name : (ts us vs : List Token) → visible all_tokens ≡ ts ++ us ++ vs → us ≢ [] → span_of_tokens us ≡ name_span →
+      (ts ≡ visible tokens) × (us ≡ visible added) × (vs ≡ visible moved_tokens)
   tokens_of_name ts us vs same some spans =
-      the_tokens_between (length front) (length (front ++ name)) (length Text) (visible tokens) (visible added) (visible Moved) ts us vs tokens_row added_row moved_row
+      the_tokens_between (length front) (length (front ++ name)) (length whole_text) (visible tokens) (visible added) (visible moved_tokens) ts us vs tokens_row added_row moved_row
       (sym seen_are ∙ same) some (spans ∙ to_end)
 
   -- and where it has none, there is no name, and no token of it
-  pub no_token : span_of_tokens [] ≡ OfName → visible added ≡ []
+  pub no_token : span_of_tokens [] ≡ name_span → visible added ≡ []
   no_token same =
       no_room (length front) (length (front ++ name)) (visible added)
       (omega (arith, length-append front name, ap (λ (s : Span). s.end) same)) added_row
@@ -112,20 +112,20 @@ module _ (lexicon : Lexicon) (apart : AreKeywords lexicon.keywords) (front name 
     pub record IsPutForName (tree : Parts) (r : Reference) : Type 0 where
       pub marks : List Mark
       pub sentence : IsSentence g of marks
-      pub kinds_are : kinds_of marks ≡ kinds (visible All)
-      pub is_tree : IsTree g Text marks (visible All) All tree
+      pub kinds_are : kinds_of marks ≡ kinds (visible all_tokens)
+      pub is_tree : IsTree g whole_text marks (visible all_tokens) all_tokens tree
       pub place : ℕ
       pub at : slice_get tree.refs place ≡ Some r
-      pub put : IsPutAt g Text marks (visible All) place r.span
-      pub spans : r.span ≡ OfName
+      pub put : IsPutAt g whole_text marks (visible all_tokens) place r.span
+      pub spans : r.span ≡ name_span
 
     pub put_for_name : (tree : Parts) (r : Reference) → AreKinds g of → IsLexicon g of lexicon →
-        HasReferenceAt g Text (length front) (length front + length name) tree r → IsPutForName tree r
+        HasReferenceAt g whole_text (length front) (length front + length name) tree r → IsPutForName tree r
     put_for_name tree r are is stands =
-        let so = read_so g of lexicon Text tree are is stands.reads in
-        let same : so.tokens ≡ All = one_cut lexicon apart Text All so.tokens around.whole so.cut in
-        let whole : IsTree g Text so.marks (visible All) All tree =
-        subst (λ (ts : List Token). IsTree g Text so.marks (visible ts) ts tree) same so.is_tree in
+        let so = read_so g of lexicon whole_text tree are is stands.reads in
+        let same : so.tokens ≡ all_tokens = one_cut lexicon apart whole_text all_tokens so.tokens around.whole so.cut in
+        let whole : IsTree g whole_text so.marks (visible all_tokens) all_tokens tree =
+        subst (λ (ts : List Token). IsTree g whole_text so.marks (visible ts) ts tree) same so.is_tree in
         let (place, at) = place_of tree.refs r stands.among in record {
           marks = so.marks;
           sentence = so.sentence;
@@ -133,13 +133,13 @@ module _ (lexicon : Lexicon) (apart : AreKeywords lexicon.keywords) (front name 
           is_tree = whole;
           place = place;
           at = at;
-          put = put_there g Text so.marks (visible All) All tree place r whole at;
+          put = put_there g whole_text so.marks (visible all_tokens) all_tokens tree place r whole at;
           spans = spans_name r.span stands.starts stands.ends;
         }
 
     module _ (tree : Parts) (r : Reference) (is : IsPutForName tree r) where
-      pub parts_of_name : is.put.mid ≢ [] → (is.put.front ≡ visible tokens) × (is.put.mid ≡ visible added) × (is.put.rest ≡ visible Moved)
+      pub parts_of_name : is.put.mid ≢ [] → (is.put.front ≡ visible tokens) × (is.put.mid ≡ visible added) × (is.put.rest ≡ visible moved_tokens)
       parts_of_name some = tokens_of_name is.put.front is.put.mid is.put.rest is.put.tokens_are some (sym is.put.spans ∙ is.spans)
 
-      pub none_spans_nothing : is.put.mid ≡ [] → span_of_tokens [] ≡ OfName
+      pub none_spans_nothing : is.put.mid ≡ [] → span_of_tokens [] ≡ name_span
       none_spans_nothing none = sym (ap span_of_tokens none) ∙ sym is.put.spans ∙ is.spans

@@ -34,7 +34,7 @@ module _ (lexicon : Lexicon) (apart : AreKeywords lexicon.keywords) (text : List
       (ts, subst (λ (k : ℕ). IsCutTo lexicon text k ts) (last ∙ ends) cut)
 
   module _ (g : Grammar) (of : Kinds) (are : AreKinds g of) (is_lexicon : IsLexicon g of lexicon) where
-    pub none_ends_there : (start at end : ℕ) (ts : List Token) (found : Option Next) → IsCutTo lexicon text at ts → at < end →
+    none_ends_there : (start at end : ℕ) (ts : List Token) (found : Option Next) → IsCutTo lexicon text at ts → at < end →
         IsNextToken lexicon (drop at text) found → IfSome found (λ next. end < at + next.bytes) → (tree : Parts) (r : Reference) →
         ¬ HasReferenceAt g text start end tree r
     none_ends_there start at end ts found first before is over tree r stands =

@@ -1,23 +1,14 @@
 -- A name is judged by the tree of the text in which it is left blank.
-use Rattle.std.proofs.Common.{◌≡◌, ◌≢◌, ◌↔◌, ◌+◌, ◌≤◌, ℕ, List, [], ◌++◌, Option, Some, map, length, slice_get, sym, ap, subst, ◌∙◌, arith}
+use Rattle.std.proofs.Common.{◌≡◌, ◌≢◌, ◌↔◌, ◌+◌, ◌≤◌, ℕ, List, [], ◌++◌, Some, map, length, slice_get, sym, ap, subst, ◌∙◌, arith}
 use Rattle.std.proofs.lemmas.List.{append-nil, map-append}
-use Rattle.std.proofs.lemmas.Option.{none-some, same_Some}
+use Rattle.std.proofs.lemmas.Option.{same_Some}
 use Rattle.lw_base.specs.declared.limits.TheConstants.{LONGEST_DOCUMENT}
 use Rattle.lw_base.specs.declared.token.Span.{Span}
 use Rattle.lw_base.specs.declared.token.Token.{Token}
 use Rattle.lw_grammar.specs.declared.grammar.Grammar.{Grammar}
-use Rattle.lw_grammar.specs.declared.rule.Op.{Op}
-use Rattle.lw_grammar.specs.declared.rule.Op.TheVariants.{Flag}
-use Rattle.lw_grammar.specs.declared.rule.Value0.{Value0}
-use Rattle.lw_grammar.specs.declared.rule.Value0.TheOpen.{Value0-F, Cross}
 use Rattle.lw_grammar.specs.Kinds.{AreKinds, Kinds}
-use Rattle.lw_grammar.specs.NameRules.{IsNameRule}
-use Rattle.lw_look.proofs.Naming.{one_name_rule}
 use Rattle.lw_marks.specs.Brackets.{span_of_tokens}
-use Rattle.lw_marks.specs.Follows.{LooksUp, MakesReference, RefersBy}
-use Rattle.lw_marks.specs.Follows as f
-use Rattle.lw_marks.specs.Grown.{Held, Nothing, Points}
-use Rattle.lw_marks.specs.Numbers.{IsNumberOfType}
+use Rattle.lw_marks.specs.Follows.{LooksUp, RefersBy}
 use Rattle.lw_marks.specs.Trees.{IsTree}
 use Rattle.lw_offers.specs.Offers.{HasReferenceAt}
 use Rattle.lw_offers.specs.Starting.{ComesNext, IsBlankTree, IsFrontTree, ReferenceNext, marks_with, moved_by}
@@ -27,7 +18,6 @@ use Rattle.lw_reading.specs.Reading as reading
 use Rattle.lw_reading.specs.declared.parsed.Parsed.TheVariants.{Whole}
 use Rattle.lw_rooted.specs.Within.{StandInRow}
 use Rattle.lw_rooted.proofs.OneTree.{one_follows}
-use Rattle.lw_rooted.proofs.OneValue.{one_put}
 use Rattle.lw_scopes.specs.Links.{IsNumberBelow}
 use Rattle.lw_scoping.specs.Links.{Trees}
 use Rattle.lw_sentences.specs.Marks.{Mark, kinds_of}
@@ -45,33 +35,11 @@ use Rattle.lw_alike.proofs.Answering.{named_answers, named_tree, place_there}
 use Rattle.lw_alike.proofs.SameSaid.{same_looked}
 use Rattle.lw_alike.proofs.Written.{front_kept}
 use Rattle.lw_tried.specs.Around.{IsCutAround}
-use Rattle.lw_tried.proofs.Around.{All, IsPutForName, Moved, OfName, Text, added_row, moved_kinds, none_spans_nothing, no_token, parts_of_name, put_for_name, seen_are, tokens_row}
+use Rattle.lw_tried.proofs.Around.{all_tokens, IsPutForName, moved_tokens, name_span, whole_text, added_row, moved_kinds, none_spans_nothing, no_token, parts_of_name, put_for_name, seen_are, tokens_row}
 use Rattle.lw_tried.proofs.OneBefore.{kinds_with, same_before}
+use Rattle.lw_tried.proofs.OneLook.{one_name, one_rule}
 use Rattle.lw_tried.proofs.ReadSo.{among}
 use Rattle.lw_tried.proofs.Rows.{row_of}
-
--- ---- what tokens look up is one name
-
-same_wanted : {wanted other : List ℕ} {rule by : Option (List ℕ)} {s t : Span} → ◌≡◌ {A = Value0-F Value0} (Cross wanted rule s) (Cross other by t) → (wanted ≡ other) × (rule ≡ by)
-same_wanted e = (cc, cc)
-
-module _ (g : Grammar) where
-  one_rule : {c : Value0} {wanted other rule by : List ℕ} → RefersBy g c wanted rule → RefersBy g c other by → rule ≡ by
-  one_rule (f.written is) (f.written was) = same_Some _ _ (same_wanted (sym is ∙ was)).1
-  one_rule (f.written is) (f.by_type was names) = absurd (none-some _ (sym (same_wanted (sym is ∙ was)).1))
-  one_rule (f.by_type is names) (f.written was) = absurd (none-some _ (same_wanted (sym is ∙ was)).1)
-  one_rule {rule} {by} (f.by_type {wanted} is names) (f.by_type was named) =
-      one_name_rule g wanted rule by names (subst (λ (w : List ℕ). IsNameRule g w by) (sym (same_wanted (sym is ∙ was)).0) named)
-
-  same_name : {held : Held} {p want : ℕ} {name other : List ℕ} {s : Span} → Points held p want name s ≡ Points held p want other s → name ≡ other
-  same_name e = cc
-
-  one_name : (text : List ℕ) (want : ℕ) {op : Op} {c : Value0} {wanted rule by name other : List ℕ} {ts : List Token} → op ≢ Flag → RefersBy g c wanted rule →
-      IsNumberOfType g wanted want → rule ≡ by → LooksUp g text rule ts name → LooksUp g text by ts other → name ≡ other
-  one_name text want {op} {c} {rule} {other} {ts} flag refers number same looks looked =
-      let too : LooksUp g text rule ts other = subst (λ (x : List ℕ). LooksUp g text x ts other) (sym same) looked in
-      same_name
-      (one_put g text {op = op} {c = c} {held = Nothing} {p = 0} (f.a_reference flag refers number looks) (f.a_reference flag refers number too))
 
 -- ---- the text with the name has a tree, and each tree of it answers alike
 
@@ -84,13 +52,13 @@ module _ (g : Grammar) (of : Kinds) (lexicon : Lexicon) (apart : AreKeywords lex
     (looks : LooksUp g (front ++ name) rule (visible added) name)
     (spans : span_of_tokens (visible added) ≡ record { start = length front; end = length front + length name }) (some : visible added ≢ []) where
   abbrev text : List ℕ
-  text = Text lexicon apart front name rest tokens added others around
+  text = whole_text lexicon apart front name rest tokens added others around
 
   abbrev all : List Token
-  all = All lexicon apart front name rest tokens added others around
+  all = all_tokens lexicon apart front name rest tokens added others around
 
   abbrev moved : List Token
-  moved = Moved lexicon apart front name rest tokens added others around
+  moved = moved_tokens lexicon apart front name rest tokens added others around
 
   abbrev marks : List Mark
   marks = marks_with next (kinds (visible added)) ++ is.after
@@ -125,19 +93,19 @@ module _ (g : Grammar) (of : Kinds) (lexicon : Lexicon) (apart : AreKeywords lex
 
   -- ---- what the blank tree tells of it
 
-  abbrev Seen : List Token → List Token
-  Seen ts = visible tokens ++ visible added ++ visible (map (moved_by (length (front ++ name))) ts)
+  abbrev seen_with : List Token → List Token
+  seen_with ts = visible tokens ++ visible added ++ visible (map (moved_by (length (front ++ name))) ts)
 
-  seen_by : Seen is.others ≡ visible all
-  seen_by = ap Seen others_are ∙ sym seen
+  seen_there : seen_with is.others ≡ visible all
+  seen_there = ap seen_with others_are ∙ sym seen
 
-  as_named : (tree : Parts) → ReadsMarks tree → IsTree g text marks (Seen is.others) all tree
-  as_named tree tree_is = subst (λ (ts : List Token). IsTree g text marks ts all tree) (sym seen_by) tree_is
+  as_named : (tree : Parts) → ReadsMarks tree → IsTree g text marks (seen_with is.others) all tree
+  as_named tree tree_is = subst (λ (ts : List Token). IsTree g text marks ts all tree) (sym seen_there) tree_is
 
   there : (tree : Parts) × ReadsMarks tree
   there =
       let (tree, tree_is) = named_tree g of lexicon front name rest tokens next front_tree blank s r comes.makes row opened is (visible added) all in
-      (tree, subst (λ (ts : List Token). IsTree g text marks ts all tree) seen_by tree_is)
+      (tree, subst (λ (ts : List Token). IsTree g text marks ts all tree) seen_there tree_is)
 
   same_text : AreSameTokens (front ++ name) text (visible added) (visible added)
   same_text =
@@ -162,7 +130,7 @@ module _ (g : Grammar) (of : Kinds) (lexicon : Lexicon) (apart : AreKeywords lex
     answers =
         let (found, at, from, led) =
         named_answers g of lexicon front name rest tokens next front_tree blank s r comes.makes row opened is (visible added) all tree (as_named tree tree_is) in
-        let here : found.span ≡ OfName lexicon apart front name rest tokens added others around = from.span ∙ spans in (
+        let here : found.span ≡ name_span lexicon apart front name rest tokens added others around = from.span ∙ spans in (
           found,
           (
             at,
@@ -184,10 +152,11 @@ module _ (g : Grammar) (of : Kinds) (lexicon : Lexicon) (apart : AreKeywords lex
     abbrev IsPut : Type 0
     IsPut = IsPutForName lexicon apart front name rest tokens added others around g of tree found
 
+    same_marks : (put : IsPut) → put.marks ≡ marks
+    same_marks put = one_sentence of put.marks marks are put.sentence sentence (put.kinds_are ∙ sym kinds_are)
+
     reads_marks : (put : IsPut) → ReadsMarks tree
-    reads_marks put =
-        subst (λ (m : List Mark). IsTree g text m (visible all) all tree) (one_sentence of put.marks marks are put.sentence sentence (put.kinds_are ∙ sym kinds_are))
-        put.is_tree
+    reads_marks put = subst (λ (m : List Mark). IsTree g text m (visible all) all tree) (same_marks put) put.is_tree
 
     some_token : (put : IsPut) → put.put.mid ≢ []
     some_token put none =
@@ -199,9 +168,8 @@ module _ (g : Grammar) (of : Kinds) (lexicon : Lexicon) (apart : AreKeywords lex
         let was = put.put in
         let tree_is = reads_marks put in
         let (before, within, behind) = parts_of_name lexicon apart front name rest tokens added others around g of tree found put (some_token put) in
-        let same_marks : put.marks ≡ marks = one_sentence of put.marks marks are put.sentence sentence (put.kinds_are ∙ sym kinds_are) in
         let marks_are : marks_with was.next (kinds (visible added)) ++ was.after ≡ marks =
-        ap (λ (ts : List Token). marks_with was.next (kinds ts) ++ was.after) (sym within) ∙ sym was.marks_are ∙ same_marks in
+        ap (λ (ts : List Token). marks_with was.next (kinds ts) ++ was.after) (sym within) ∙ sym was.marks_are ∙ same_marks put in
         let reads : kinds_of was.next.before ≡ kinds_of next.before = sym was.reads_front ∙ ap kinds before ∙ sym comes.kinds_are in
         let start : was.next.before ≡ next.before = same_before was.next next (visible added) was.after is.after some reads marks_are in
         let here : IsReferencePlace g text next (visible tokens) (length front_tree.refs) =

@@ -1,6 +1,7 @@
 pub mod Rows
 pub mod Cuts
 pub mod OneBefore
+pub mod OneLook
 pub mod ReadSo
 pub mod Around
 pub mod NoReference

@@ -34,7 +34,7 @@ tiled_between from to (t ∷ ts) is = (omega (arith, is.0), omega (arith, is.0, 
 
 -- ---- one behind the other
 
-pub between_low : (from to : ℕ) (ts : List Token) → Between from to ts → from ≤ to
+between_low : (from to : ℕ) (ts : List Token) → Between from to ts → from ≤ to
 between_low from to [] is = is
 between_low from to (t ∷ ts) is = omega (arith, is.0, is.1, between_low t.span.end to ts is.2)
 
