@@ -59,7 +59,7 @@ module _ (g : Grammar) (of : Kinds) (lexicon : Lexicon) (front name rest : List 
           (visible (map (moved_by (length front)) is.others)) (visible (map (moved_by (length (front ++ name))) is.others)) differs [] added is.after
           (tokens ++ map (moved_by (length front)) is.others) all blank tree blank_tree tree_is
 
-      place_there : IsReferencePlace g (front ++ name ++ rest) next (visible tokens) (length front_tree.refs)
+      pub place_there : IsReferencePlace g (front ++ name ++ rest) next (visible tokens) (length front_tree.refs)
       place_there = place_moves g (front ++ rest) (front ++ name ++ rest) next (visible tokens) (visible tokens) (length front_tree.refs) differs.same_front differs.place_of
 
       pub named_answers : (found : Reference) × (slice_get tree.refs (length front_tree.refs) ≡ Some found)

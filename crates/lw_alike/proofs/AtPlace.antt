@@ -18,7 +18,7 @@ use Rattle.lw_alike.proofs.Counting.{count_refs_of}
 use Rattle.lw_alike.proofs.Going.{Goes}
 use Rattle.lw_alike.proofs.Going as going
 
-by_cross : {g : Grammar} {c : Value0} {wanted name : List ℕ} → RefersBy g c wanted name → IsCross c
+pub by_cross : {g : Grammar} {c : Value0} {wanted name : List ℕ} → RefersBy g c wanted name → IsCross c
 by_cross {wanted} {name} (f.written {s} is) = (wanted, Some name, s, is)
 by_cross {wanted} (f.by_type {s} is names) = (wanted, None, s, is)
 

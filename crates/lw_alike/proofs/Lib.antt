@@ -14,6 +14,7 @@ pub mod Blank
 pub mod Targeted
 pub mod AtPlace
 pub mod Standing
+pub mod PutThere
 pub mod StatesAlike
 pub mod Written
 pub mod Answering

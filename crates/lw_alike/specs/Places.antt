@@ -1,14 +1,16 @@
 -- Texts that are the same but for the tokens of one reference, and which of all references that is.
 use Rattle.std.specs.Prelude.{ℕ, ◌≡◌, List, ◌++◌}
+use Rattle.lw_base.specs.declared.token.Span.{Span}
 use Rattle.lw_base.specs.declared.token.Token.{Token}
 use Rattle.lw_grammar.specs.declared.grammar.Grammar.{Grammar}
 use Rattle.lw_marks.specs.Brackets.{Bracket, span_of_tokens}
 use Rattle.lw_marks.specs.Follows.{FollowsMarks, LooksUp, MakesReference, RefersBy}
 use Rattle.lw_marks.specs.Numbers.{IsNumberOfProperty, IsNumberOfType}
-use Rattle.lw_rooted.specs.Growing.{GrowsRoot}
+use Rattle.lw_rooted.specs.Growing.{GrowsRoot, ReadMarks}
 use Rattle.lw_sentences.specs.Marks.{Mark}
+use Rattle.lw_tokens.specs.Cut.{kinds}
 use Rattle.lw_tree.specs.declared.node.Reference.{Reference}
-use Rattle.lw_offers.specs.Starting.{ReferenceNext}
+use Rattle.lw_offers.specs.Starting.{ReferenceNext, marks_with}
 use Rattle.lw_alike.specs.Growth.{points_open}
 use Rattle.lw_alike.specs.Tokens.{AreSameTokens}
 
@@ -41,3 +43,17 @@ module _ (g : Grammar) where
     pub want : IsNumberOfType g wanted r.want.0
     pub means : LooksUp g text rule ts r.name
     pub span : r.span ≡ span_of_tokens ts
+
+  -- these marks put a reference there, behind so many others, and its tokens stand in this span
+  pub record IsPutAt (text : List ℕ) (m : List Mark) (ts : List Token) (place : ℕ) (span : Span) : Type 0 where
+    pub next : ReferenceNext
+    pub after : List Mark
+    pub front : List Token
+    pub mid : List Token
+    pub rest : List Token
+    pub makes : MakesReference next.op next.value
+    pub marks_are : m ≡ marks_with next (kinds mid) ++ after
+    pub tokens_are : ts ≡ front ++ mid ++ rest
+    pub reads_front : ReadMarks front next.before
+    pub place_of : IsReferencePlace text next front place
+    pub spans : span ≡ span_of_tokens mid

@@ -26,7 +26,7 @@ ghost use Rattle.lw_offers.specs.Starting.{IsBlankTree, IsFrontTree, ReferenceNe
 ghost use Rattle.lw_offers.specs.Targets.{AreVisible, HasTarget, renamed_to};
 ghost use Rattle.lw_alike.specs.Growth.{AreAlikeGrown, AreAlikeOpen, StandInNodes};
 ghost use Rattle.lw_alike.specs.OneName.{AreAlikeTrees};
-ghost use Rattle.lw_alike.specs.Places.{DifferInReference, IsReferencePlace, IsReferenceFrom, LeadsToRoot};
+ghost use Rattle.lw_alike.specs.Places.{DifferInReference, IsPutAt, IsReferencePlace, IsReferenceFrom, LeadsToRoot};
 ghost use Rattle.lw_alike.specs.Tokens.{AreSameTokens};
 ghost use Rattle.lw_alike.specs.Worked.{front_tokens, end_token, moved_end_token, longer_text, longer_tree};
 
@@ -107,6 +107,13 @@ pub fn the_reference_stands_at_its_place()
         (r : Reference) → MakesReference next.op next.value → IsReferencePlace g text next front place →
         IsOpenedTree g text (marks_with next (kinds mid) ++ after) (front ++ mid ++ rest) tokens tree → slice_get tree.refs place ≡ Some r →
         IsReferenceFrom g text next mid r }
+{}
+
+/// Each reference of a tree was put where it stands by a mark of the sentence: its tokens were read behind that mark, and as many references were
+/// put before it as its place says.
+pub fn each_reference_stands_where_marks_put_it()
+    ensures { (g : Grammar) (text : List ℕ) (m : List Mark) (ts tokens : List Token) (tree : Parts) (place : ℕ) (r : Reference) →
+        IsTree g text m ts tokens tree → slice_get tree.refs place ≡ Some r → IsPutAt g text m ts place r.span }
 {}
 
 /// In a grammar without faults a sentence in which a reference is left blank has a tree, and so has what it begins with up to there.

@@ -7,9 +7,9 @@
 //! ([`a_blank_tree_answers_for_each_name`]).
 //!
 //! `specs/Tokens.antt` says when tokens of two texts say the same. `specs/Places.antt` says when two texts differ in a
-//! reference, and which of all references that is: as many stand before it as its place says. `specs/Growth.antt` says
-//! when what grows from marks is the same but for where things stand and for the name at that place, and
-//! `specs/OneName.antt` says so of trees.
+//! reference, which of all references that is, as many stand before it as its place says, and when marks put one there.
+//! `specs/Growth.antt` says when what grows from marks is the same but for where things stand and for the name at that
+//! place, and `specs/OneName.antt` says so of trees.
 //!
 //! Where marks are followed over a reference, they are with any other tokens in its place, or with none, and leave
 //! brackets that are alike, which close to nodes that are ([`other_names_are_read_alike`]). So where one text has a
@@ -18,9 +18,11 @@
 //! reference has such a tree, whatever sentence goes on so ([`blank_references_have_trees`]). The place is the number
 //! of references in the tree of what stands before ([`references_before_give_the_place`]), and there stands the
 //! reference that was read, with its type and the name that its tokens look up
-//! ([`the_reference_stands_at_its_place`]). A reference leads somewhere by a name in one of two trees that are alike
-//! just when it does in the other ([`alike_trees_answer_alike`]). [`a_longer_name_is_the_only_difference`] shows what
-//! this comes to over two texts that are written out (`specs/Worked.antt`).
+//! ([`the_reference_stands_at_its_place`]). The other way round, whatever reference a tree has was put there by a mark
+//! of the sentence, with its tokens behind that mark ([`each_reference_stands_where_marks_put_it`]). A reference leads
+//! somewhere by a name in one of two trees that are alike just when it does in the other
+//! ([`alike_trees_answer_alike`]). [`a_longer_name_is_the_only_difference`] shows what this comes to over two texts
+//! that are written out (`specs/Worked.antt`).
 //!
 //! A tree that is opened leaves out a reference that is not finished, with all that stands in it. Its laws ask that
 //! the marks go on to a root, as those of a sentence do: then each value stands in a node, and what is left out is
@@ -34,6 +36,6 @@ mod laws;
 pub use laws::{
     a_blank_tree_answers_for_each_name, a_longer_name_is_the_only_difference,
     a_written_name_differs_in_the_reference, alike_trees_answer_alike, blank_references_have_trees,
-    other_names_are_read_alike, references_before_give_the_place,
-    the_reference_stands_at_its_place, trees_differ_in_one_name,
+    each_reference_stands_where_marks_put_it, other_names_are_read_alike,
+    references_before_give_the_place, the_reference_stands_at_its_place, trees_differ_in_one_name,
 };

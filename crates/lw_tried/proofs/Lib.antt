@@ -1,0 +1,9 @@
+pub mod Rows
+pub mod Cuts
+pub mod OneBefore
+pub mod OneLook
+pub mod ReadSo
+pub mod Around
+pub mod NoReference
+pub mod Crossing
+pub mod Judged
