@@ -13,7 +13,7 @@ use Rattle.lw_base.specs.declared.token.Token.{Token}
 use Rattle.lw_tokens.specs.Cut.{IsCut}
 use Rattle.lw_tokens.specs.Lexicon.{Lexicon}
 use Rattle.lw_viable.specs.declared.reference_start.ReferenceStart.{ReferenceStart}
-use Rattle.lw_complete.specs.declared.names.Known.{Known}
+use Rattle.lw_complete.specs.declared.known.Known.{Known}
 use Rattle.lw_complete.specs.declared.starting.FrontNames.{FrontNames}
 use Rattle.lw_complete.specs.declared.typing.Typing.{Typing}
 use Rattle.lw_complete.specs.Starts.{AreFrontNames, ComesAt, IsBlankName, IsNameFoundAt, LeadsInFront}

@@ -23,7 +23,7 @@ use Rattle.lw_viable.specs.ReferenceStarts.{AreReferenceStarts}
 use Rattle.lw_viable.specs.declared.reference_start.ReferenceStart.{ReferenceStart}
 use Rattle.lw_viable.proofs.Exploring.{any_of, of_any}
 use Rattle.lw_viable.proofs.Handed.{any_of_mapped}
-use Rattle.lw_complete.specs.declared.names.Known.{Known}
+use Rattle.lw_complete.specs.declared.known.Known.{Known}
 use Rattle.lw_complete.specs.declared.typing.Typing.{Typing}
 use Rattle.lw_complete.specs.Judged.{LeadsWhole, StandsWhole}
 use Rattle.lw_complete.specs.Starts.{ComesAt, IsBlankName, IsNameFoundAt, IsKnownStart, IsOfferedBy, IsParsedBy, LeadsInFront}

@@ -12,7 +12,7 @@ use Rattle.lw_tree.specs.declared.node.Reference.{Reference}
 use Rattle.lw_tree.specs.Parts.{Parts}
 use Rattle.lw_offers.specs.Starting.{ReferenceNext}
 use Rattle.lw_offers.specs.Words.{BeginsBy}
-use Rattle.lw_complete.specs.declared.names.Known.{Known}
+use Rattle.lw_complete.specs.declared.known.Known.{Known}
 use Rattle.lw_complete.specs.declared.typing.Typing.{Typing}
 use Rattle.lw_complete.specs.Judged.{IsJudgement, LeadsWhole, StandsWhole}
 use Rattle.lw_complete.specs.Starts.{ComesAt, IsOfferedBy, IsReadAt, IsReadAsStart}

@@ -25,7 +25,7 @@ use Rattle.lw_tokens.specs.Lexicon.{Lexicon}
 use Rattle.lw_viable.specs.Aims.{EndsSome}
 use Rattle.lw_viable.specs.Visiting.{IsReferencePut}
 use Rattle.lw_viable.specs.declared.reference_start.ReferenceStart.{ReferenceStart}
-use Rattle.lw_complete.specs.declared.names.Written.{Written}
+use Rattle.lw_complete.specs.declared.written.Written.{Written}
 use Rattle.lw_complete.specs.declared.typing.Typing.{Typing}
 use Rattle.lw_complete.specs.Starts.{ComesAt, IsParsedBy, IsReadAsStart, IsSaidBy, IsStartNext, IsWritten}
 use Rattle.lw_complete.specs.Typing.{grammar_of}

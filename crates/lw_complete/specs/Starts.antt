@@ -1,10 +1,12 @@
 -- What is told of the cross-references that may come next, in words of the code.
-use Rattle.std.specs.Prelude.{ℕ, ◌≡◌, ◌≢◌, ◌≤◌, ◌⊎◌, ◌↔◌, ◌++◌, ◌∷◌, [], List, Bool, Option, All, Any, Contains, IsTrue, map, length, slice_get, Some, None}
+use Rattle.std.specs.Prelude.{ℕ, ◌≡◌, ◌≢◌, ◌≤◌, ◌+◌, ◌⊎◌, ◌↔◌, ◌++◌, ◌∷◌, [], List, Bool, Option, All, Any, Contains, IsTrue, map, length, slice_get, Some, None}
+use Rattle.lw_base.specs.declared.limits.TheConstants.{LONGEST_DOCUMENT}
 use Rattle.lw_base.specs.declared.token.Token.{Token}
 use Rattle.lw_begins.specs.Gives.{PlacesGive}
 use Rattle.lw_builder.specs.Built.{ArePartsOf}
 use Rattle.lw_grammar.specs.declared.grammar.Grammar.{Grammar}
 use Rattle.lw_grammar.specs.Kinds.{AreKinds, Kinds}
+use Rattle.lw_marks.specs.Brackets.{span_of_tokens}
 use Rattle.lw_marks.specs.Follows.{LooksUp, RefersBy}
 use Rattle.lw_offers.specs.Starting.{ComesNext, IsBlankTree, IsFrontTree, ReferenceNext, moved_by, marks_with}
 use Rattle.lw_offers.specs.Targets.{HasTarget, renamed_to}
@@ -21,7 +23,7 @@ use Rattle.lw_scopes.specs.Links.{IsNumberBelow}
 use Rattle.lw_scoping.specs.Links.{Trees}
 use Rattle.lw_sentences.specs.Marks.{Mark, Put, kinds_of}
 use Rattle.lw_sentences.specs.Sentences.{IsSentence}
-use Rattle.lw_tokens.specs.Cut.{IsCut, kinds, visible}
+use Rattle.lw_tokens.specs.Cut.{IsCut, IsCutTo, kinds, visible}
 use Rattle.lw_tokens.specs.Lexicon.{Lexicon}
 use Rattle.lw_tree.specs.declared.node.Reference.{Reference}
 use Rattle.lw_tree.specs.Parts.{Parts, Tile}
@@ -29,8 +31,8 @@ use Rattle.lw_viable.specs.Aims.{EndsSome}
 use Rattle.lw_viable.specs.Fronts.{IsProgramWith}
 use Rattle.lw_viable.specs.Readings.{HasTask}
 use Rattle.lw_viable.specs.declared.reference_start.ReferenceStart.{ReferenceStart}
-use Rattle.lw_complete.specs.declared.names.Known.{Known}
-use Rattle.lw_complete.specs.declared.names.Written.{Written}
+use Rattle.lw_complete.specs.declared.known.Known.{Known}
+use Rattle.lw_complete.specs.declared.written.Written.{Written}
 use Rattle.lw_complete.specs.declared.starting.Blank.{Blank}
 use Rattle.lw_complete.specs.declared.starting.FrontNames.{FrontNames}
 use Rattle.lw_complete.specs.declared.typing.Typing.{Typing}
@@ -135,6 +137,7 @@ pub record IsWritten (of : Kinds) (lexicon : Lexicon) (typing : Typing) (written
   pub head : List ℕ
   pub text : typing.front.now ++ written.name.now ≡ head ++ written.recut.now.text
   pub from : length head ≡ written.recut.now.from
+  pub within : written.recut.now.from ≤ length typing.front.now
   pub cut : IsCut lexicon (typing.front.now ++ written.name.now) (typing.tokens.now ++ added_behind written.recut.now)
   pub tail : written.recut.now.tail ≤ length written.recut.now.tokens.items
   pub parts : ArePartsOf written.recut.now.text (added written.recut.now)
@@ -150,6 +153,9 @@ pub record IsStartNext (of : Kinds) (tasks : List Task) (typing : Typing) (start
   pub next : ReferenceNext
   pub sound : IsSoundStart of tasks typing next start
   pub value : HasTask (grammar_of typing) of tasks start.value
+  -- and it goes on so whatever is read as the reference
+  pub joins : (read : List ℕ) (after : List Mark) → EndsSome (PlacesGive (grammar_of typing) of tasks (start.value ∷ [])) read →
+      PlacesGive (grammar_of typing) of tasks start.behind after → IsSentence (grammar_of typing) of (marks_with next read ++ after)
 
 -- the name is what the reference looks up by these tokens, which are those of the name behind the text before the word
 pub record IsSaidBy (typing : Typing) (next : ReferenceNext) (added : List Token) (name : List ℕ) : Type 0 where
@@ -171,11 +177,21 @@ pub record GoesOnBehind (of : Kinds) (lexicon : Lexicon) (tasks : List Task) (ty
   pub gives : PlacesGive (grammar_of typing) of tasks start.behind after
   pub kinds_are : kinds_of after ≡ kinds (visible others)
 
+-- a tree of the whole text with the reference left blank, whose marks behind it the places behind the start give
+pub record HasBlankTree (of : Kinds) (lexicon : Lexicon) (tasks : List Task) (typing : Typing) (next : ReferenceNext) (start : ReferenceStart) : Type 0 where
+  pub front_tree : Parts
+  pub front_r : Reference
+  pub is_front : IsFrontTree (grammar_of typing) of typing.front.now typing.tokens.now next front_tree front_r
+  pub tree : Parts
+  pub r : Reference
+  pub is_tree : IsBlankTree (grammar_of typing) of lexicon typing.front.now typing.rest.now typing.tokens.now next front_tree tree r
+  pub behind : PlacesGive (grammar_of typing) of tasks start.behind is_tree.after
+
 -- by which names a reference leads somewhere in the trees of the whole text with it left blank. None where what is behind the offset cannot stand behind it.
 abbrev pub AreBlankNames : Kinds → Lexicon → List Task → Typing → Trees → List ℕ → ReferenceNext → ReferenceStart → Option (List (List ℕ)) → Type 0
 AreBlankNames of lexicon tasks typing trees address next start None = (after : List Mark) → ¬ GoesOnBehind of lexicon tasks typing start after
 AreBlankNames of lexicon tasks typing trees address next start (Some names) =
-    ((after : List Mark) × GoesOnBehind of lexicon tasks typing start after)
+    HasBlankTree of lexicon tasks typing next start
     × ((name : List ℕ) → Contains names name ↔ IsBlankName of typing trees address lexicon tasks next start name)
 
 -- by which names the cross-reference of the start leads somewhere in the tree of what was read before
@@ -226,6 +242,18 @@ abbrev pub IsReadAt : Kinds → List Task → Typing → Bool → List Token →
 IsReadAt of tasks typing leads added name one =
     (next : ReferenceNext) × ComesAt of typing next one.start.now × IsReadAsStart of tasks typing next one.start.now added name
     × (IsTrue leads → Contains one.front.names name)
+
+-- the text with the name begins with the tokens up to the name's end, and is no longer than a document may be
+pub record MeetsRest (lexicon : Lexicon) (typing : Typing) (written : Written) : Type 0 where
+  pub cut : IsCutTo lexicon (typing.front.now ++ written.name.now ++ typing.rest.now) (length (typing.front.now ++ written.name.now))
+      (typing.tokens.now ++ added_behind written.recut.now)
+  pub short : length (typing.front.now ++ written.name.now ++ typing.rest.now) ≤ LONGEST_DOCUMENT
+
+-- the visible tokens of the name stand from its first byte to its last
+pub record TakesAll (typing : Typing) (written : Written) : Type 0 where
+  pub some : visible (added_behind written.recut.now) ≢ []
+  pub spans : span_of_tokens (visible (added_behind written.recut.now)) ≡
+      record { start = length typing.front.now; end = length typing.front.now + length written.name.now }
 
 -- the name, which comes to these tokens, is read as one of the starts and leads somewhere so
 pub record IsLedBy (of : Kinds) (tasks : List Task) (typing : Typing) (trees : Trees) (address : List ℕ) (known : List Known) (added : List Token)

@@ -1,5 +1,13 @@
 // Whether a name leads somewhere once it is written.
-ghost use Rattle.std.specs.Prelude.{ℕ, ◌≡◌, ◌↔◌, ◌++◌, ◌∷◌, [], List, IfOk, IsTrue, Contains};
+ghost use Rattle.std.specs.Prelude.{ℕ, ◌≡◌, ◌≤◌, ◌+◌, ◌↔◌, ◌++◌, ◌∷◌, [], List, Some, All, IfOk, IfSome, IsTrue, Contains, length};
+ghost use Rattle.lw_base.specs.declared.limits.TheConstants.{LONGEST_DOCUMENT};
+ghost use Rattle.lw_begins.specs.Gives.{PlacesGive};
+ghost use Rattle.lw_grammar.specs.Kinds.{Kinds};
+ghost use Rattle.lw_program.specs.Says.{Task};
+ghost use Rattle.lw_recut.specs.Recut.{IsRecut, added};
+ghost use Rattle.lw_tokens.specs.Cut.{kinds, visible};
+ghost use Rattle.lw_tokens.specs.Lexicon.{Lexicon};
+ghost use Rattle.lw_viable.specs.Aims.{EndsSome};
 ghost use Rattle.lw_link.specs.Indexed.{IsIndexOf};
 ghost use Rattle.lw_link.specs.Visible.{IsNumberAt};
 ghost use Rattle.lw_offers.specs.Targets.{HasTarget};
@@ -11,12 +19,19 @@ ghost use Rattle.lw_scoping.specs.Links.{Trees};
 ghost use Rattle.lw_symbols.specs.Locals.{AreLocalsOf};
 ghost use Rattle.lw_tree.specs.declared.node.Reference.{Reference as AReference};
 ghost use Rattle.lw_complete.specs.Judged.{IsJudgement, IsToldOf, StandsBetween};
-ghost use Rattle.lw_complete.specs.Typing.{grammar_of};
+ghost use Rattle.lw_complete.specs.Starts.{AreTried, IsBlankKnown, IsParsedBy, IsStartNext, IsWritten, MeetsRest, TakesAll};
+ghost use Rattle.lw_complete.specs.Typing.{CutsBehind, IsTypedBy, grammar_of};
+ghost use Rattle.lw_complete.specs.declared.typing.Typing.{Typing as ATyping};
 
+use crate::known::Known;
+use crate::sorted::SortedNames;
 use crate::typing::Typing;
-use lw_base::{Name, NoMemory};
+use crate::written::{Written, gives, says, shown};
+use lw_base::{LONGEST_DOCUMENT, Name, NoMemory};
 use lw_lang::Parsed;
 use lw_link::finds;
+use lw_parse::Parser;
+use lw_recut::{Recutter, Seam};
 use lw_symbols::Locals;
 use lw_tree::{Reference, Tree};
 use std::alloc::Global;
@@ -58,7 +73,9 @@ fn length_with(typing: &Typing<'_>, name: &Name) -> usize
 {
     let front = typing.front.bytes().len();
     let rest = typing.rest.bytes().len();
-    front.saturating_add(name.bytes().len()).saturating_add(rest)
+    front
+        .saturating_add(name.bytes().len())
+        .saturating_add(rest)
 }
 
 /// The same where the tokens of the text with the name begin with those up to the name's end.
@@ -77,7 +94,7 @@ fn judge_apart(
         IsReadOneWay (grammar_of typing.now) → IsIndexOf trees typing.now.index.now → IsNumberAt typing.now.index.now typing.now.doc.0 address →
         IfOk result (IsJudgement typing.now trees address written.now.name.now) }
 {
-    match by_blank(alloc, parser, known, written)? {
+    match by_blank(alloc, typing, parser, known, written)? {
         Some(judged) => Ok(judged),
         None => leads_in_whole(alloc, typing, written.name),
     }
@@ -86,10 +103,17 @@ fn judge_apart(
 /// What is told by the names of blank trees. None where they do not tell it: where a start reads these tokens as another name.
 fn by_blank(
     alloc: Global,
+    typing: &Typing<'_>,
     parser: &Parser,
     known: &[Known<'_>],
     written: &Written<'_>,
 ) -> Result<Option<Option<bool>>, NoMemory>
+    requires known { (of : Kinds) × (lexicon : Lexicon) × (tasks : List Task) × IsWritten of lexicon typing.now written.now × IsParsedBy of tasks typing.now parser.now
+        × All (λ one. IsStartNext of tasks typing.now one.start.now) known.now }
+    ensures { (of : Kinds) (lexicon : Lexicon) (tasks : List Task) (trees : Trees) (address : List ℕ) → IsTypedBy of lexicon typing.now →
+        IsWritten of lexicon typing.now written.now → IsParsedBy of tasks typing.now parser.now → MeetsRest lexicon typing.now written.now →
+        AreTried of lexicon tasks typing.now trees address known.now → IsReadOneWay (grammar_of typing.now) →
+        IfOk result (λ told. IfSome told (IsJudgement typing.now trees address written.now.name.now)) }
 {
     let added = written.recut.added();
     if !takes_all(alloc, written)? {
@@ -98,7 +122,7 @@ fn by_blank(
     'known: for one in known {
         if let Some(names) = &one.blank {
             if gives(alloc, parser, one.start, added)? {
-                return told_by(alloc, parser, one, names, written);
+                return told_by(alloc, typing, parser, one, names, written);
             }
         }
     }
@@ -108,11 +132,20 @@ fn by_blank(
 /// What is told by the names of the blank trees of this start.
 fn told_by(
     alloc: Global,
+    typing: &Typing<'_>,
     parser: &Parser,
     one: &Known<'_>,
     names: &SortedNames,
     written: &Written<'_>,
 ) -> Result<Option<Option<bool>>, NoMemory>
+    requires known { (of : Kinds) × (lexicon : Lexicon) × (tasks : List Task) × IsWritten of lexicon typing.now written.now × IsParsedBy of tasks typing.now parser.now
+        × IsStartNext of tasks typing.now one.now.start.now }
+    ensures { (of : Kinds) (lexicon : Lexicon) (tasks : List Task) (trees : Trees) (address : List ℕ) → IsTypedBy of lexicon typing.now →
+        IsWritten of lexicon typing.now written.now → IsParsedBy of tasks typing.now parser.now → MeetsRest lexicon typing.now written.now →
+        IsStartNext of tasks typing.now one.now.start.now → IsBlankKnown of lexicon tasks typing.now trees address one.now → one.now.blank ≡ Some names.now →
+        IsReadOneWay (grammar_of typing.now) → TakesAll typing.now written.now →
+        EndsSome (PlacesGive (grammar_of typing.now) of tasks (one.now.start.now.value ∷ [])) (kinds (visible (added written.now.recut.now))) →
+        IfOk result (λ told. IfSome told (IsJudgement typing.now trees address written.now.name.now)) }
 {
     if !says(alloc, parser, one.start, written)? {
         return Ok(None);
@@ -122,6 +155,9 @@ fn told_by(
 
 /// Whether the tokens of the name that are not hidden stand from its first byte to its last.
 fn takes_all(alloc: Global, written: &Written<'_>) -> Result<bool, NoMemory>
+    requires tail { written.now.recut.now.tail ≤ length written.now.recut.now.tokens.items }
+    requires ends { length written.now.name.now ≤ length written.now.recut.now.text }
+    ensures { (of : Kinds) (lexicon : Lexicon) (typing : ATyping) → IsWritten of lexicon typing written.now → IfOk result (λ takes. IsTrue takes ↔ TakesAll typing written.now) }
 {
     let tokens = shown(alloc, written.recut.added())?;
     let end = written.recut.text.bytes().len();
@@ -135,11 +171,7 @@ fn takes_all(alloc: Global, written: &Written<'_>) -> Result<bool, NoMemory>
 }
 
 /// Whether the reference that the name is in the text with it leads somewhere. None where that text has no tree with such a reference.
-fn leads_in_whole(
-    alloc: Global,
-    typing: &Typing<'_>,
-    name: &Name,
-) -> Result<Option<bool>, NoMemory>
+fn leads_in_whole(alloc: Global, typing: &Typing<'_>, name: &Name) -> Result<Option<bool>, NoMemory>
     ensures { (trees : Trees) (address : List ℕ) → IsReadOneWay (grammar_of typing.now) → IsIndexOf trees typing.now.index.now →
         IsNumberAt typing.now.index.now typing.now.doc.0 address → IfOk result (IsJudgement typing.now trees address name.now) }
 {

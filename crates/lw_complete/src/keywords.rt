@@ -92,7 +92,9 @@ fn is_alone(recut: &Recut, kind: KindId, keyword: &Name) -> bool
     let end = recut.text.bytes().len();
     let start = end - keyword.bytes().len();
     match recut.added() {
-        [one] => is_visible(*one, kind) && one.span.start as usize == start && one.span.end as usize == end,
+        [one] => is_visible(*one, kind)
+            && one.span.start as usize == start
+            && one.span.end as usize == end,
         _ => false,
     }
 }

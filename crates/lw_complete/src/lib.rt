@@ -21,12 +21,14 @@ mod completion;
 mod item;
 mod judging;
 mod keywords;
+mod known;
 mod names;
 mod reading;
 mod sorted;
 mod starting;
 mod typing;
 mod words;
+mod written;
 
 pub use completion::complete;
 pub use item::{Item, KEYWORD_ITEM, REFERENCE_ITEM};

@@ -3,7 +3,7 @@ use Rattle.std.proofs.lemmas.Result.{IfOk-weaker}
 use Rattle.std.proofs.lemmas.Str.Pattern.{starts_text}
 use Rattle.lw_base.specs.declared.token.Token.{Token}
 use Rattle.lw_tokens.specs.Cut.{IsCut}
-use Rattle.lw_complete.specs.declared.names.Known.{Known}
+use Rattle.lw_complete.specs.declared.known.Known.{Known}
 use Rattle.lw_complete.specs.Judged.{IsJudgement}
 use Rattle.lw_complete.specs.Starts.{IsOfferedBy, IsReadAt}
 use Rattle.lw_complete.proofs.NamedTried.{by_front, by_whole, not_led_whole}

@@ -11,7 +11,7 @@ use Rattle.lw_offers.specs.Offers.{IsNameNext}
 use Rattle.lw_offers.specs.Words.{BeginsBy}
 use Rattle.lw_recipes.specs.Making.{AreRecipesOf}
 use Rattle.lw_viable.specs.Aims.{Sentence}
-use Rattle.lw_complete.specs.declared.names.Known.{Known}
+use Rattle.lw_complete.specs.declared.known.Known.{Known}
 use Rattle.lw_complete.specs.Starts.{IsNameFoundAt, IsKnownStart, IsOfferedBy, IsStartNext}
 use Rattle.lw_complete.specs.Typing.{grammar_of, kinds_before}
 use Rattle.lw_complete.proofs.NamedKnown.{known_all}

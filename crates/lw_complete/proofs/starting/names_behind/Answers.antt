@@ -15,7 +15,7 @@ use Rattle.lw_viable.specs.Fronts.{HoldReadings, IsProgramWith}
 use Rattle.lw_viable.specs.Readings.{HasTask}
 use Rattle.lw_complete.specs.Typing.{grammar_of}
 use Rattle.lw_complete.proofs.BlankFound.{IsAfter, IsFoundBy, IsReady, after_all, found_more, marks_meant, names_of_sentences, reference_grows}
-use Rattle.lw_complete.proofs.starting.put_blank_names.Goals as goal
+use Rattle.lw_complete.proofs.starting.names_behind.Goals as goal
 
 pub over-requires : goal.over-requires
 over-requires c =

@@ -1,7 +1,7 @@
 use Rattle.std.proofs.Common.{◌++◌, ◌∙◌, ap}
 use Rattle.lw_complete.proofs.NamedKnown.{start_found}
 use Rattle.lw_complete.proofs.NamedWritten.{comes_at}
-use Rattle.lw_complete.proofs.names.known_start.Goals as goal
+use Rattle.lw_complete.proofs.known.known_start.Goals as goal
 
 pub front_names-requires : goal.front_names-requires
 front_names-requires c =

@@ -4,7 +4,7 @@ use Rattle.lw_link.specs.Indexed.{IsIndexOf}
 use Rattle.lw_link.specs.Visible.{IsNumberAt}
 use Rattle.lw_scoping.specs.Links.{Trees}
 use Rattle.lw_complete.proofs.BlankFound.{IsFoundBy, IsReady}
-use Rattle.lw_complete.proofs.starting.put_blank_names.Given as goal
+use Rattle.lw_complete.proofs.starting.names_behind.Given as goal
 
 -- those of the sentences so far
 abbrev pub invariant-sentences : goal.invariant-sentences

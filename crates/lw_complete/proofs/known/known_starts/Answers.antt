@@ -2,10 +2,10 @@ use Rattle.std.proofs.Common.{◌≡◌, ◌<◌, ◌≤◌, ◌+◌, List, All,
 use Rattle.std.proofs.lemmas.List.{take_all}
 use Rattle.std.proofs.lemmas.List.Elements.{All-contains, All-nil, All-push}
 use Rattle.lw_findings.proofs.Joining.{Finds-all, Finds-begin, Finds-more}
-use Rattle.lw_complete.specs.declared.names.Known.{Known}
+use Rattle.lw_complete.specs.declared.known.Known.{Known}
 use Rattle.lw_complete.specs.Starts.{IsNameFoundAt, IsKnownStart, IsStartNext}
 use Rattle.lw_complete.proofs.NamedKnown.{starts_more}
-use Rattle.lw_complete.proofs.names.known_starts.Goals as goal
+use Rattle.lw_complete.proofs.known.known_starts.Goals as goal
 
 pub known_start-requires : goal.known_start-requires
 known_start-requires c =

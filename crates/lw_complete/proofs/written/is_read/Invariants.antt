@@ -2,9 +2,9 @@ use Rattle.std.proofs.Common.{List, All, Contains, take}
 use Rattle.lw_grammar.specs.Kinds.{Kinds}
 use Rattle.lw_program.specs.Says.{Task}
 use Rattle.lw_tokens.specs.Lexicon.{Lexicon}
-use Rattle.lw_complete.specs.declared.names.Known.{Known}
+use Rattle.lw_complete.specs.declared.known.Known.{Known}
 use Rattle.lw_complete.specs.Starts.{IsParsedBy, IsReadAt, IsStartNext, IsWritten}
-use Rattle.lw_complete.proofs.names.is_read.Given as goal
+use Rattle.lw_complete.proofs.written.is_read.Given as goal
 
 -- the name is read as none of the starts so far
 abbrev pub invariant-known : goal.invariant-known

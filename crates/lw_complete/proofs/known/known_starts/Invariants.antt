@@ -8,7 +8,7 @@ use Rattle.lw_scoping.specs.Links.{Trees}
 use Rattle.lw_tokens.specs.Lexicon.{Lexicon}
 use Rattle.lw_complete.specs.Starts.{IsNameFoundAt, IsKnownStart, IsParsedBy, IsStartNext}
 use Rattle.lw_complete.specs.Typing.{IsTypedBy}
-use Rattle.lw_complete.proofs.names.known_starts.Given as goal
+use Rattle.lw_complete.proofs.known.known_starts.Given as goal
 
 -- what is known of the starts so far, and the names that are found at them
 abbrev pub invariant-starts : goal.invariant-starts

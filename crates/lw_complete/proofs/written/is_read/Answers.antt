@@ -1,10 +1,10 @@
 use Rattle.std.proofs.Common.{◌<◌, ◌≤◌, true≢false, length, refl, sym, ◌∙◌, arith}
 use Rattle.std.proofs.lemmas.List.Elements.{All-contains}
-use Rattle.lw_complete.specs.declared.names.Known.{Known}
+use Rattle.lw_complete.specs.declared.known.Known.{Known}
 use Rattle.lw_complete.specs.Starts.{IsReadAt, IsStartNext}
 use Rattle.lw_complete.proofs.NamedTried.{none_all, none_first, none_more}
 use Rattle.lw_complete.proofs.NamedWritten.{never}
-use Rattle.lw_complete.proofs.names.is_read.Goals as goal
+use Rattle.lw_complete.proofs.written.is_read.Goals as goal
 
 pub is_read_at-requires : goal.is_read_at-requires
 is_read_at-requires c =

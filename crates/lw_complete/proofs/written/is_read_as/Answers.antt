@@ -7,7 +7,7 @@ use Rattle.lw_viable.specs.Aims.{EndsSome}
 use Rattle.lw_complete.specs.Starts.{ComesAt, IsReadAsStart}
 use Rattle.lw_complete.specs.Typing.{grammar_of}
 use Rattle.lw_complete.proofs.NamedWritten.{comes_at, given, is_empty_there, never, none_read, not_empty_there, reference_put, unsaid}
-use Rattle.lw_complete.proofs.names.is_read_as.Goals as goal
+use Rattle.lw_complete.proofs.written.is_read_as.Goals as goal
 
 pub says-requires-clause-parts : goal.says-requires-clause-parts
 says-requires-clause-parts c = let (of, lexicon, tasks, written, parsed, is) = c.requires.known in written.parts

@@ -1,5 +1,5 @@
 use Rattle.std.proofs.Common.{◌≡◌, ◌++◌, take}
-use Rattle.lw_complete.proofs.names.put_copies.Given as goal
+use Rattle.lw_complete.proofs.known.put_copies.Given as goal
 
 -- those so far stand behind the others
 abbrev pub invariant-loop-name : goal.invariant-loop-name

@@ -4,7 +4,7 @@ use Rattle.lw_base.specs.declared.token.Token.{Token}
 use Rattle.lw_tokens.specs.Cut.{IsCut}
 use Rattle.lw_complete.specs.Starts.{IsBlank}
 use Rattle.lw_complete.proofs.NamedKnown.{none_blank}
-use Rattle.lw_complete.proofs.names.put_unnamed.Goals as goal
+use Rattle.lw_complete.proofs.known.names_left_blank.Goals as goal
 
 pub put_blank_names-requires : goal.put_blank_names-requires
 put_blank_names-requires c =

@@ -4,7 +4,7 @@ use Rattle.lw_offers.specs.Starting.{ReferenceNext}
 use Rattle.lw_complete.specs.Starts.{ComesAt, IsReadAt, IsReadAsStart}
 use Rattle.lw_complete.proofs.NamedTried.{not_led, read_at}
 use Rattle.lw_complete.proofs.NamedWritten.{comes_at, never}
-use Rattle.lw_complete.proofs.names.is_read_at.Goals as goal
+use Rattle.lw_complete.proofs.written.is_read_at.Goals as goal
 
 pub is_read_as-requires : goal.is_read_as-requires
 is_read_as-requires c = record { known = c.requires.known }

@@ -5,7 +5,7 @@ use Rattle.lw_scopes.specs.Links.{IsNumberBelow}
 use Rattle.lw_complete.specs.Starts.{LeadsInBlank}
 use Rattle.lw_complete.specs.Typing.{grammar_of}
 use Rattle.lw_complete.proofs.BlankNamed.{known, leads_there, outwards, root, there_leads}
-use Rattle.lw_complete.proofs.starting.blank_names.Goals as goal
+use Rattle.lw_complete.proofs.starting.names_of_blank.Goals as goal
 
 pub names_in-requires-clause-outwards : goal.names_in-requires-clause-outwards
 names_in-requires-clause-outwards c =

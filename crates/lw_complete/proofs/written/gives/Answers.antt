@@ -9,7 +9,7 @@ use Rattle.lw_tokens.specs.Cut.{kinds, visible}
 use Rattle.lw_viable.specs.Aims.{Places}
 use Rattle.lw_viable.specs.Fronts.{IsProgramWith}
 use Rattle.lw_viable.specs.Readings.{HasTask}
-use Rattle.lw_complete.proofs.names.gives.Goals as goal
+use Rattle.lw_complete.proofs.written.gives.Goals as goal
 
 -- a program that is lent
 lent : (g : Grammar) (of : Kinds) (tasks : List Task) (program own : ProgramParts) (begins owned : BeginsParts) → own ≡ program → owned ≡ begins →

@@ -1,0 +1,168 @@
+// What a name is read as where it is written.
+ghost use Rattle.std.specs.Prelude.{◌≡◌, ◌≤◌, ◌↔◌, ◌∷◌, List, [], Some, slice_get, All, Contains, IfOk, IsTrue, length};
+ghost use Rattle.lw_base.specs.declared.numbers.TypeId.{TypeId};
+ghost use Rattle.lw_begins.specs.Gives.{PlacesGive};
+ghost use Rattle.lw_builder.specs.Built.{ArePartsOf};
+ghost use Rattle.lw_builder.specs.Contents.{said_in};
+ghost use Rattle.lw_grammar.specs.declared.grammar.Grammar.{Grammar};
+ghost use Rattle.lw_grammar.specs.Kinds.{Kinds};
+ghost use Rattle.lw_marks.specs.Brackets.{joined_texts};
+ghost use Rattle.lw_offers.specs.Starting.{ReferenceNext};
+ghost use Rattle.lw_parse.specs.Parsers.{AreOfKinds};
+ghost use Rattle.lw_program.specs.Says.{Task};
+ghost use Rattle.lw_recipes.specs.declared.recipe.TextForm.{TextForm};
+ghost use Rattle.lw_recipes.specs.declared.recipe.ValueRecipe.{ValueRecipe};
+ghost use Rattle.lw_recut.specs.Recut.{added, added_behind};
+ghost use Rattle.lw_tokens.specs.Cut.{kinds, visible};
+ghost use Rattle.lw_tokens.specs.Lexicon.{Lexicon};
+ghost use Rattle.lw_viable.specs.Aims.{EndsSome};
+ghost use Rattle.lw_viable.specs.Fronts.{IsProgramWith};
+ghost use Rattle.lw_viable.specs.Readings.{HasTask};
+ghost use Rattle.lw_viable.specs.Visiting.{IsReferencePut};
+ghost use Rattle.lw_complete.specs.Starts.{ComesAt, IsParsedBy, IsReadAt, IsReadAsStart, IsStartNext, IsWritten};
+
+use crate::known::Known;
+use crate::reading::read_over;
+use crate::typing::Typing;
+use lw_base::{Name, NoMemory, Token};
+use lw_builder::said_by;
+use lw_parse::Parser;
+use lw_recipes::Content;
+use lw_recut::Recut;
+use lw_viable::ReferenceStart;
+use std::alloc::Global;
+
+/// A name, and the end of the text before the word with it behind.
+#[derive(Clone, Copy)]
+pub(crate) struct Written<'w> {
+    pub(crate) name: &'w Name,
+    pub(crate) recut: &'w Recut,
+}
+
+/// Whether the name is read as one of these starts; where `leads`, as one by which it leads somewhere in the tree of what was read before.
+pub(crate) fn is_read(
+    alloc: Global,
+    typing: &Typing<'_>,
+    parser: &Parser,
+    known: &[Known<'_>],
+    written: &Written<'_>,
+    leads: bool,
+) -> Result<bool, NoMemory>
+    requires known { (of : Kinds) × (lexicon : Lexicon) × (tasks : List Task) × IsWritten of lexicon typing.now written.now × IsParsedBy of tasks typing.now parser.now
+        × All (λ one. IsStartNext of tasks typing.now one.start.now) known.now }
+    ensures { (of : Kinds) (lexicon : Lexicon) (tasks : List Task) → IsWritten of lexicon typing.now written.now → IsParsedBy of tasks typing.now parser.now →
+        All (λ one. IsStartNext of tasks typing.now one.start.now) known.now →
+        IfOk result (λ read. IsTrue read ↔ ((one : Known) × Contains known.now one
+        × IsReadAt of tasks typing.now leads (added_behind written.now.recut.now) written.now.name.now one)) }
+{
+    'known: for one in known {
+        if is_read_at(alloc, typing, parser, one, written, leads)? {
+            return Ok(true);
+        }
+    }
+    Ok(false)
+}
+
+/// Whether the name is read as this start; where `leads`, as one by which it leads somewhere in the tree of what was read before.
+fn is_read_at(
+    alloc: Global,
+    typing: &Typing<'_>,
+    parser: &Parser,
+    one: &Known<'_>,
+    written: &Written<'_>,
+    leads: bool,
+) -> Result<bool, NoMemory>
+    requires known { (of : Kinds) × (lexicon : Lexicon) × (tasks : List Task) × IsWritten of lexicon typing.now written.now × IsParsedBy of tasks typing.now parser.now
+        × IsStartNext of tasks typing.now one.now.start.now }
+    ensures { (of : Kinds) (lexicon : Lexicon) (tasks : List Task) → IsWritten of lexicon typing.now written.now → IsParsedBy of tasks typing.now parser.now →
+        IsStartNext of tasks typing.now one.now.start.now →
+        IfOk result (λ read. IsTrue read ↔ IsReadAt of tasks typing.now leads (added_behind written.now.recut.now) written.now.name.now one.now) }
+{
+    if !may_lead(one, written.name, leads) {
+        return Ok(false);
+    }
+    is_read_as(alloc, typing, parser, one.start, written)
+}
+
+/// Whether the name is one by which the start leads somewhere in the tree of what was read before, where `leads`.
+fn may_lead(one: &Known<'_>, name: &Name, leads: bool) -> bool
+    ensures { IsTrue result ↔ (IsTrue leads → Contains one.now.front.names name.now) }
+{
+    !leads || one.front.names.has(name)
+}
+
+/// Whether the tokens are what the value of this start may read, and say the name.
+fn is_read_as(
+    alloc: Global,
+    typing: &Typing<'_>,
+    parser: &Parser,
+    start: &ReferenceStart,
+    written: &Written<'_>,
+) -> Result<bool, NoMemory>
+    requires known { (of : Kinds) × (lexicon : Lexicon) × (tasks : List Task) × IsWritten of lexicon typing.now written.now × IsParsedBy of tasks typing.now parser.now
+        × IsStartNext of tasks typing.now start.now }
+    ensures { (of : Kinds) (lexicon : Lexicon) (tasks : List Task) → IsWritten of lexicon typing.now written.now →
+        IsParsedBy of tasks typing.now parser.now → IsStartNext of tasks typing.now start.now →
+        IfOk result (λ read. (next : ReferenceNext) → ComesAt of typing.now next start.now →
+        IsTrue read ↔ IsReadAsStart of tasks typing.now next start.now (added_behind written.now.recut.now) written.now.name.now) }
+{
+    let added = written.recut.added();
+    if added.is_empty() {
+        return Ok(false);
+    }
+    if !says(alloc, parser, start, written)? {
+        return Ok(false);
+    }
+    gives(alloc, parser, start, added)
+}
+
+/// Whether the tokens are what the value of this start may read.
+pub(crate) fn gives(
+    alloc: Global,
+    parser: &Parser,
+    start: &ReferenceStart,
+    added: &[Token],
+) -> Result<bool, NoMemory>
+    requires known { (g : Grammar) × (of : Kinds) × (tasks : List Task) × IsProgramWith g of tasks parser.now.program parser.now.begins
+        × HasTask g of tasks start.now.value × AreOfKinds of added.now }
+    ensures { (g : Grammar) (of : Kinds) (tasks : List Task) → IsProgramWith g of tasks parser.now.program parser.now.begins →
+        HasTask g of tasks start.now.value → AreOfKinds of added.now →
+        IfOk result (λ given. IsTrue given ↔ EndsSome (PlacesGive g of tasks (start.now.value ∷ [])) (kinds (visible added.now))) }
+{
+    let fronts = read_over(alloc, parser, &[start.value], added)?;
+    Ok(fronts.complete())
+}
+
+/// Whether the visible ones of the tokens say the name, in the form in which the start's value is looked up.
+pub(crate) fn says(
+    alloc: Global,
+    parser: &Parser,
+    start: &ReferenceStart,
+    written: &Written<'_>,
+) -> Result<bool, NoMemory>
+    requires tail { written.now.recut.now.tail ≤ length written.now.recut.now.tokens.items }
+    requires parts { ArePartsOf written.now.recut.now.text (added written.now.recut.now) }
+    requires recipe { IsReferencePut parser.now.recipes start.now.put }
+    ensures { (recipe : ValueRecipe) (want : TypeId) (form : TextForm) → slice_get parser.now.recipes.made start.now.put ≡ Some recipe →
+        recipe.content ≡ Content.Reference want form →
+        IfOk result (λ says. IsTrue says ↔ (said_in form (joined_texts written.now.recut.now.text (visible (added written.now.recut.now))) ≡ written.now.name.now)) }
+{
+    let Content::Reference(_, form) = &parser.recipes().value(start.put).content else {
+        unreachable!()
+    };
+    let tokens = shown(alloc, written.recut.added())?;
+    let said = said_by(alloc, *form, &written.recut.text, tokens.as_slice())?;
+    Ok(said == *written.name)
+}
+
+/// The tokens that are not hidden.
+pub(crate) fn shown(alloc: Global, tokens: &[Token]) -> Result<Vec<Token>, NoMemory>
+    ensures { IfOk result (λ found. found.items ≡ visible tokens.now) }
+{
+    let found = tokens
+        .iter()
+        .filter(|token| !token.hidden)
+        .copied()
+        .collect(alloc)?;
+    Ok(found)
+}
