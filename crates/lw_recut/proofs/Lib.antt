@@ -1,3 +1,4 @@
-mod Behind
-mod Small
+pub mod Behind
+mod SameTokens
 mod Seaming
+pub mod Small

@@ -3,7 +3,7 @@
 use Rattle.std.specs.Prelude.{ℕ, ◌≡◌, ◌<◌, ◌≤◌, ◌+◌, ◌⊎◌, List, ◌++◌, Option, Some, None, All, IfSome, Vec, drop, length, map}
 use Rattle.lw_base.specs.declared.token.Token.{Token}
 use Rattle.regex_nfa.specs.declared.nfa.Nfa.{Nfa}
-use Rattle.std.specs.declared.alloc.global.Global.{Global}
+use Rattle.std.specs.declared.alloc.Global.{Global}
 use Rattle.lw_foresee.specs.Nfas.{AreNfas}
 use Rattle.lw_lexer.specs.TokenPlaces.{IsTokenPlace}
 use Rattle.lw_sure.specs.Parted.{moved}

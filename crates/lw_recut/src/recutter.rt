@@ -131,21 +131,50 @@ impl<'a> Recutter<'a> {
         };
         let text = with_behind(alloc, &it.text, beginning(rest))?;
         let mut walker = Walker::new(alloc, LEAST_STEPS);
-        'tokens: for token in &it.tokens {
-            let start = token.span.start as usize;
-            let behind = &text.text()[start..];
-            let found = self.lexer.next(behind);
-            if !stays(self.keywords, nfas.as_slice(), behind, &found, &mut walker) {
-                return Ok(Seam::Unknown);
-            }
-            match compare(&found, *token, it.text.bytes().len() - start) {
-                Meeting::Same => {}
-                Meeting::Across => return Ok(Seam::Crossed),
-                Meeting::Other => return Ok(Seam::Unknown),
-            }
-        }
-        Ok(Seam::Meets)
+        Ok(seam_of(
+            &mut self.lexer,
+            self.keywords,
+            nfas.as_slice(),
+            it,
+            text.text(),
+            &mut walker,
+        ))
     }
+}
+
+/// What is known of the cut of a text that begins with this one, whatever follows, at the end of what was put behind the end of a text.
+fn seam_of(
+    lexer: &mut Lexer<'_>,
+    keywords: &[Name],
+    nfas: &[Nfa],
+    it: &Recut,
+    text: &str,
+    walker: &mut Walker,
+) -> Seam
+    requires cut { IsCut lexer.old.lexicon it.now.text it.now.tokens.items }
+    requires places { All (IsTokenPlace it.now.text) it.now.tokens.items }
+    requires begins { (behind : List ℕ) × (text.now ≡ it.now.text ++ behind) }
+    ensures meets { (more : List ℕ) → result ≡ Meets → keywords.now ≡ lexer.old.lexicon.keywords → AreNfas lexer.old.lexicon.terminals nfas.now →
+        All (λ b. b < 256) (text.now ++ more) → IsCutTo lexer.old.lexicon (text.now ++ more) (length it.now.text) it.now.tokens.items }
+    ensures crossed { (more : List ℕ) → result ≡ Crossed → keywords.now ≡ lexer.old.lexicon.keywords → AreNfas lexer.old.lexicon.terminals nfas.now →
+        All (λ b. b < 256) (text.now ++ more) → IsCrossed lexer.old.lexicon (text.now ++ more) (length it.now.text) }
+    ensures same { lexer.new ≡ lexer.old }
+{
+    let end = it.text.bytes().len();
+    'tokens: for token in &it.tokens {
+        let start = token.span.start as usize;
+        let behind = &text[start..];
+        let found = lexer.next(behind);
+        if !stays(keywords, nfas, behind, &found, walker) {
+            return Seam::Unknown;
+        }
+        match compare(&found, *token, end - start) {
+            Meeting::Same => {}
+            Meeting::Across => return Seam::Crossed,
+            Meeting::Other => return Seam::Unknown,
+        }
+    }
+    Seam::Meets
 }
 
 /// The automata of the terminals' patterns, where each has one.
@@ -181,11 +210,12 @@ fn sure_place(
     ensures sure { (lexicon : Lexicon) → lexicon.keywords ≡ keywords.now → IfSome nfas.now (λ nfas. AreNfas lexicon.terminals nfas.items) →
         IsCut lexicon front.now tokens.now → IsSurePlace lexicon front.now tokens.now result }
 {
+    let text = front.text();
     let Some(nfas) = nfas else {
         return 0;
     };
-    let mut walker = Walker::new(alloc, steps_for(front.bytes().len()));
-    let count = sure_tokens(keywords, nfas.as_slice(), front.text(), tokens, &mut walker);
+    let mut walker = Walker::new(alloc, steps_for(text.len()));
+    let count = sure_tokens(keywords, nfas.as_slice(), text, tokens, &mut walker);
     end_of(tokens, count)
 }
 

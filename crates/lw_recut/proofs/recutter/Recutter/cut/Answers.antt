@@ -1,0 +1,80 @@
+use Rattle.std.proofs.Common.{ℕ, ◌≡◌, ◌<◌, ◌++◌, List, Bool, true, false, Err, All, drop, length, map, refl, sym, ap, ◌∙◌, subst, true≢false}
+use Rattle.std.proofs.lemmas.List.{drop-append-le}
+use Rattle.lw_base.specs.declared.token.Token.{Token}
+use Rattle.lw_lexer.specs.TokenPlaces.{IsTokenPlace}
+use Rattle.lw_sure.specs.Parted.{moved}
+use Rattle.lw_tokens.specs.Cut.{IsCut}
+use Rattle.lw_recut.specs.Recut.{IsEndOf, IsRecut, RecutterParts}
+use Rattle.lw_recut.proofs.Behind.{cut_whole, none_other, none_uncut, one_other}
+use Rattle.lw_recut.proofs.SameTokens.{begins, told_begins}
+use Rattle.lw_recut.proofs.Small.{utf8_small}
+use Rattle.lw_recut.proofs.recutter.Recutter.cut.Goals as goal
+
+pub returns-in-Err-NoToken-clause-added : goal.returns-in-Err-NoToken-clause-added
+returns-in-Err-NoToken-clause-added c front tokens end =
+    let inside = c.self.inside in
+    let more = c.args.more.now in
+    let parts : RecutterParts = record { lexicon = inside.lexer.lexicon; text = inside.text; tokens = inside.tokens.items; from = inside.from } in
+    subst (λ (p : RecutterParts). IsEndOf p front tokens → (others : List Token) → ¬ IsCut p.lexicon (front ++ more) (tokens ++ others)) c.self.view_is
+    (λ end. none_uncut parts front more tokens end (utf8_small more c.utf8.more) c.self.invariant.apart c.in_ok-text.text c.in_ok-text.ensures
+    (λ all. c.cut.ensures.no_cut c.in-Err-NoToken.field-0-0 (c.in-Err-NoToken.is ∙ ap Err c.in-Err-NoToken.field-0-is) all)) end
+
+pub returns-then-not-starts_with-clause-added : goal.returns-then-not-starts_with-clause-added
+returns-then-not-starts_with-clause-added c front tokens end =
+    let inside = c.self.inside in
+    let more = c.args.more.now in
+    let parts : RecutterParts = record { lexicon = inside.lexer.lexicon; text = inside.text; tokens = inside.tokens.items; from = inside.from } in
+    let all = c.in-Ok.tokens.items in
+    let first : c.as_slice.result.now ≡ parts.tokens = c.as_slice.ensures.value in
+    let lent : c.deref.result.now ≡ all = c.deref.ensures.value in
+    let not : (rest : List Token) → ¬ (all ≡ parts.tokens ++ rest) =
+    λ rest is. true≢false (sym ((begins c.deref.result.now c.as_slice.result.now c.starts_with.result c.starts_with.ensures.value).1 rest
+    (lent ∙ is ∙ ap (λ (ts : List Token). ts ++ rest) (sym first))) ∙ c.if-not-starts_with.true) in
+    subst (λ (p : RecutterParts). IsEndOf p front tokens → (others : List Token) → ¬ IsCut p.lexicon (front ++ more) (tokens ++ others)) c.self.view_is
+    (λ end. none_other parts front more tokens end (utf8_small more c.utf8.more) c.self.invariant.apart c.in_ok-text.text c.in_ok-text.ensures all
+    c.in-Ok.ensures.cut not) end
+
+pub returns-clause-added : goal.returns-clause-added
+returns-clause-added c front tokens end =
+    let inside = c.self.inside in
+    let more = c.args.more.now in
+    let parts : RecutterParts = record { lexicon = inside.lexer.lexicon; text = inside.text; tokens = inside.tokens.items; from = inside.from } in
+    let all = c.in-Ok.tokens.items in
+    let first : c.as_slice.result.now ≡ parts.tokens = c.as_slice.ensures.value in
+    let lent : c.deref.result.now ≡ all = c.deref.ensures.value in
+    let are : all ≡ parts.tokens ++ drop (length parts.tokens) all =
+    told_begins parts.tokens all c.as_slice.result.now c.deref.result.now first lent c.starts_with.result c.starts_with.ensures.value c.if-not-starts_with.false in
+    let tail : c.len.result ≡ length parts.tokens = c.len.ensures ∙ sym inside.tokens.ok in
+    let rest : drop (length parts.tokens) all ≡ drop c.len.result all = ap (λ (n : ℕ). drop n all) (sym tail) in
+    let behind : map (moved parts.from) (drop (length parts.tokens) all) ≡ map (moved parts.from) (drop c.len.result all) = ap (map (moved parts.from)) rest in
+    subst (λ (p : RecutterParts). IsEndOf p front tokens → IsCut p.lexicon (front ++ more) (tokens ++ map (moved inside.from) (drop c.len.result all))
+    × ((others : List Token) → IsCut p.lexicon (front ++ more) (tokens ++ others) → others ≡ map (moved inside.from) (drop c.len.result all))) c.self.view_is
+    (λ end. (
+      subst (λ (ts : List Token). IsCut parts.lexicon (front ++ more) (tokens ++ ts)) behind
+          (cut_whole parts front more tokens end (utf8_small more c.utf8.more) c.in_ok-text.text all (drop (length parts.tokens) all) c.in_ok-text.ensures are
+          c.in-Ok.ensures.cut),
+      λ others other.
+          one_other parts front more tokens end (utf8_small more c.utf8.more) c.self.invariant.apart c.in_ok-text.text c.in_ok-text.ensures all c.in-Ok.ensures.cut
+          (drop (length parts.tokens) all) are others other ∙ behind,
+    )) end
+
+pub returns-clause-recut : goal.returns-clause-recut
+returns-clause-recut c =
+    let inside = c.self.inside in
+    let more = c.args.more.now in
+    let parts : RecutterParts = record { lexicon = inside.lexer.lexicon; text = inside.text; tokens = inside.tokens.items; from = inside.from } in
+    let all = c.in-Ok.tokens.items in
+    let first : c.as_slice.result.now ≡ parts.tokens = c.as_slice.ensures.value in
+    let lent : c.deref.result.now ≡ all = c.deref.ensures.value in
+    let are : all ≡ parts.tokens ++ drop (length parts.tokens) all =
+    told_begins parts.tokens all c.as_slice.result.now c.deref.result.now first lent c.starts_with.result c.starts_with.ensures.value c.if-not-starts_with.false in
+    let tail : c.len.result ≡ length parts.tokens = c.len.ensures ∙ sym inside.tokens.ok in
+    subst (λ (p : RecutterParts). IsRecut p more (record { text = c.in_ok-text.text; tokens = c.in-Ok.tokens; tail = c.len.result; from = inside.from })) c.self.view_is
+    (record {
+      from = refl;
+      text = c.in_ok-text.ensures;
+      tail = tail;
+      are = are ∙ ap (λ (n : ℕ). parts.tokens ++ drop n all) (sym tail);
+      cut = c.in-Ok.ensures.cut;
+      places = c.in-Ok.ensures.places;
+    })

@@ -1,0 +1,12 @@
+use Rattle.std.proofs.Common.{ℕ, ◌≡◌, ◌++◌, ◌<◌, List, All, take}
+use Rattle.lw_foresee.specs.Nfas.{AreNfas}
+use Rattle.lw_sure.specs.Front.{end_from}
+use Rattle.lw_tokens.specs.Cut.{IsCutTo}
+use Rattle.lw_recut.proofs.recutter.seam_of.Given as goal
+
+abbrev pub invariant-tokens : goal.invariant-tokens
+invariant-tokens l = record {
+  kept : l.lexer ≡ l.initial.lexer;
+  cut : (more : List ℕ) → l.keywords ≡ l.lexer.lexicon.keywords → AreNfas l.lexer.lexicon.terminals l.nfas → All (λ b. b < 256) (l.text ++ more) →
+      IsCutTo l.lexer.lexicon (l.text ++ more) (end_from 0 (take l.token-index l.it.tokens.items)) (take l.token-index l.it.tokens.items);
+}
