@@ -16,21 +16,6 @@ use Rattle.lw_foresee.proofs.TextLemmas.{slice_get-append}
 abbrev pub MadeFrom : List (List ℕ) → List Nfa → Type 0
 MadeFrom patterns nfas = (j : ℕ) (pattern : List ℕ) (nfa : Nfa) → slice_get patterns j ≡ Some pattern → slice_get nfas j ≡ Some nfa → IsNfaOf pattern nfa
 
-pub made-none : (patterns : List (List ℕ)) → MadeFrom patterns []
-made-none patterns j pattern nfa there made = absurd (let within = slice_get_within {A = Nfa} [] j nfa made in omega (arith, within))
-
-pub made-more : (patterns : List (List ℕ)) (nfas : List Nfa) (pattern : List ℕ) (nfa : Nfa) → MadeFrom patterns nfas →
-    slice_get patterns (length nfas) ≡ Some pattern → IsNfaOf pattern nfa → MadeFrom patterns (nfas ++ nfa ∷ [])
-made-more patterns nfas pattern nfa all at is j other last there made = elim (cases_lt j (length nfas)) [
-  | inl before ↦ all j other last there (sym (slice_get-append nfas (nfa ∷ []) j before) ∙ made)
-  | inr past ↦
-      let within = slice_get_within (nfas ++ nfa ∷ []) j last made in
-      let here : length nfas ≡ j = omega (arith, past, within, length_push nfas nfa) in
-      let same : Some pattern ≡ Some other = sym at ∙ ap (slice_get patterns) here ∙ there in
-      let made_is : nfa ≡ last = sym (get_or-append_seam nfas nfa [] nfa) ∙ ap (λ k. get_or (nfas ++ nfa ∷ []) k nfa) here ∙ get_or_from_slice_get (nfas ++ nfa ∷ []) j last nfa made in
-      rw (let it : pattern ≡ other = cc in it, made_is) at is
-]
-
 pub made-are : (patterns : List (List ℕ)) (nfas : List Nfa) → length nfas ≡ length patterns → MadeFrom patterns nfas →
     (terminals : List TerminalForm) → map (λ form. form.pattern) terminals ≡ patterns → AreNfas terminals nfas
 made-are patterns nfas count all terminals same = record {

@@ -1,6 +1,6 @@
 use Rattle.std.proofs.Common.{arith}
 use Rattle.lw_foresee.proofs.WalkLemmas.{tracking-both, tracking-back}
-use Rattle.lw_foresee.proofs.walk.Walker.settled_end.Goals as goal
+use Rattle.lw_foresee.proofs.walk.Walker.foreseen_end.Goals as goal
 
 pub walk-preserved-in-Ok : goal.walk-preserved-in-Ok
 walk-preserved-in-Ok c = record {
