@@ -1,16 +1,10 @@
 -- The NFAs that are made, and the texts that have none.
-use Rattle.std.proofs.Common.{◌≡◌, ◌≢◌, ℕ, ◌<◌, ◌≤◌, List, [], ◌∷◌, ◌++◌, length, map, slice_get, get_or, Option, Some, None, option_map, inl, inr, refl, sym, ap, subst, ◌∙◌, arith}
-use Rattle.std.proofs.lemmas.Bool.{cases_lt}
-use Rattle.std.proofs.Math.Seq.{get_or-append_seam}
-use Rattle.std.proofs.lemmas.List.{length-map, length_push}
-use Rattle.std.proofs.lemmas.Option.{slice_get-map, slice_get_within, get_or_from_slice_get}
-use Rattle.regex_hir.specs.declared.hir.Hir.{Hir}
-use Rattle.regex_syntax.specs.Grammar.{Names}
-use Rattle.regex_syntax.specs.Verdict.{Reads, Refuses, default_config}
+use Rattle.std.proofs.Common.{◌≡◌, ℕ, List, length, map, slice_get, Some, option_map, sym, ap, subst, ◌∙◌}
+use Rattle.std.proofs.lemmas.List.{length-map}
+use Rattle.std.proofs.lemmas.Option.{slice_get-map}
 use Rattle.regex_nfa.specs.declared.nfa.Nfa.{Nfa}
 use Rattle.lw_tokens.specs.Lexicon.{TerminalForm}
 use Rattle.lw_foresee.specs.Nfas.{IsNfaOf, AreNfas}
-use Rattle.lw_foresee.proofs.TextLemmas.{slice_get-append}
 
 -- each of the NFAs is that of the pattern at its place
 abbrev pub MadeFrom : List (List ℕ) → List Nfa → Type 0

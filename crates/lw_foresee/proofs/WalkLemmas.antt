@@ -4,7 +4,7 @@ use Rattle.std.specs.Option.{option_or}
 use Rattle.std.proofs.lemmas.List.Elements.{All-push, All-pop}
 use Rattle.regex_hir.specs.Re.{Re, accept, attempt}
 use Rattle.regex_hir.specs.Text.{is_boundary}
-use Rattle.regex_hir.proofs.OptionLemmas.{option_or_assoc, option_or_first, option_or_second}
+use Rattle.regex_hir.proofs.OptionLemmas.{option_or_assoc, option_or_second}
 use Rattle.regex_nfa.specs.declared.nfa.Nfa.{Nfa}
 use Rattle.regex_compile.specs.Implements.{Implements}
 use Rattle.lw_foresee.proofs.StartLemmas.{match_at_start-attempt, boundary-append}

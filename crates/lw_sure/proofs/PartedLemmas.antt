@@ -1,7 +1,7 @@
 -- A cut ends in its text, is made of the cuts of two parts of the text, and is parted at each of its places.
-use Rattle.std.proofs.Common.{◌≡◌, ℕ, ◌+◌, ◌-◌, ◌<◌, ◌≤◌, ◌==◌, Bool, true, false, List, [], ◌∷◌, ◌++◌, length, take, drop, map, Option, Some, None, IfSome, option_and_then, option_map, slice_get, if◌then◌else◌, ◌⊎◌, inl, inr, refl, sym, ap, ap₂, ◌∙◌, subst, arith, length-append, length-drop, drop-drop, append-nil, append_assoc}
+use Rattle.std.proofs.Common.{◌≡◌, ℕ, ◌+◌, ◌<◌, ◌≤◌, ◌==◌, Bool, true, false, List, [], ◌∷◌, ◌++◌, length, drop, map, Option, Some, None, IfSome, option_and_then, option_map, slice_get, if◌then◌else◌, ◌⊎◌, inl, inr, refl, sym, ap, ap₂, ◌∙◌, subst, arith, length-append, length-drop, drop-drop, append-nil, append_assoc}
 use Rattle.std.proofs.lemmas.Bool.Decides.{Decides-eqb}
-use Rattle.std.proofs.lemmas.List.{length-map, map-append}
+use Rattle.std.proofs.lemmas.List.{map-append}
 use Rattle.std.proofs.lemmas.Option.{same_Some, slice_get-map}
 use Rattle.std.proofs.lemmas.Slice.Eq.{starts_is}
 use Rattle.regex.specs.Patterns.{Re, Match, find_str}
@@ -9,7 +9,7 @@ use Rattle.regex.proofs.SearchLemmas.{leftmost_within}
 use Rattle.lw_base.specs.declared.token.Token.{Token}
 use Rattle.lw_tokens.specs.Keywords.{AreKeywords}
 use Rattle.lw_tokens.specs.Lexicon.{Lexicon, TerminalForm}
-use Rattle.lw_tokens.specs.Matching.{match_length, match_at_start, length_at_start, pattern_of}
+use Rattle.lw_tokens.specs.Matching.{match_length, match_at_start, length_at_start}
 use Rattle.lw_tokens.specs.NextToken.{Next, IsNextToken, Begins, IsFirstOver, lengths}
 use Rattle.lw_tokens.specs.NextToken as next
 use Rattle.lw_tokens.specs.Cut as cut

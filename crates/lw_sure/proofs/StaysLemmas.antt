@@ -1,7 +1,7 @@
 -- A token stays where no keyword goes on behind the text and the terminals that are asked match the same.
-use Rattle.std.proofs.Common.{◌≡◌, ℕ, ◌+◌, ◌-◌, ◌<◌, ◌≤◌, Bool, true, false, List, [], ◌∷◌, ◌++◌, length, drop, map, Option, Some, None, option_map, slice_get, nat_eq, nat_lt, refl, sym, ap, ◌∙◌, subst, arith, length-append, length-drop, drop-drop, append-nil, append_assoc, true≢false, le-ltb, lt-ltb}
+use Rattle.std.proofs.Common.{◌≡◌, ℕ, ◌+◌, ◌-◌, ◌<◌, Bool, true, false, List, ◌++◌, length, Option, Some, None, option_map, slice_get, nat_eq, nat_lt, refl, sym, ap, ◌∙◌, subst, arith, length-append, true≢false, le-ltb, lt-ltb}
 use Rattle.std.proofs.lemmas.Bool.{cond-true, cond-false, and_from, not_from_false}
-use Rattle.std.proofs.lemmas.List.{drop-append-le, length-map, map-append}
+use Rattle.std.proofs.lemmas.List.{drop-append-le, length-map}
 use Rattle.std.proofs.lemmas.Option.{slice_get-map, slice_get_within}
 use Rattle.std.specs.List.{starts_with}
 use Rattle.regex_hir.specs.Text.{has_bytes_at}

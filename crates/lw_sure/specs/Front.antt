@@ -1,6 +1,6 @@
 -- How many tokens of a text's cut stand, whatever bytes follow the text.
 -- Held against Langium's lexer: it cuts a text from its start on, so that a change touches no token which is foreseen before it.
-use Rattle.std.specs.Prelude.{◌≡◌, ℕ, ◌+◌, ◌-◌, ◌<◌, List, [], ◌∷◌, ◌++◌, length, take, min, All, Some, slice_get, if◌then◌else◌, nat_lt}
+use Rattle.std.specs.Prelude.{◌≡◌, ℕ, ◌+◌, ◌-◌, ◌<◌, List, [], ◌∷◌, ◌++◌, take, min, All, Some, slice_get, if◌then◌else◌, nat_lt}
 use Rattle.regex_nfa.specs.declared.nfa.Nfa.{Nfa}
 use Rattle.lw_base.specs.declared.token.Token.{Token}
 use Rattle.lw_foresee.specs.Nfas.{AreNfas}

@@ -1,5 +1,4 @@
-use Rattle.std.proofs.Common.{◌≡◌, ◌≢◌, ◌∙◌, subst}
-use Rattle.regex_syntax.specs.declared.error.ErrorKind.TheVariants.{OutOfMemory}
+use Rattle.std.proofs.Common.{◌≡◌, ◌∙◌, subst}
 use Rattle.lw_io.specs.Patterns.{anchored, RegexRefuses}
 use Rattle.lw_io.specs.Patterns as patterns
 use Rattle.lw_foresee.proofs.nfa.nfa_of.Goals as goal
