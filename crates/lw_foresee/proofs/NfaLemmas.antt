@@ -8,12 +8,14 @@ use Rattle.lw_foresee.specs.Nfas.{IsNfaOf, AreNfas}
 
 -- each of the NFAs is that of the pattern at its place
 abbrev pub MadeFrom : List (List ℕ) → List Nfa → Type 0
-MadeFrom patterns nfas = (j : ℕ) (pattern : List ℕ) (nfa : Nfa) → slice_get patterns j ≡ Some pattern → slice_get nfas j ≡ Some nfa → IsNfaOf pattern nfa
+MadeFrom patterns nfas =
+    (j : ℕ) (pattern : List ℕ) (nfa : Nfa) → slice_get patterns j ≡ Some pattern → slice_get nfas j ≡ Some nfa → IsNfaOf pattern nfa
 
 pub made-are : (patterns : List (List ℕ)) (nfas : List Nfa) → length nfas ≡ length patterns → MadeFrom patterns nfas →
     (terminals : List TerminalForm) → map (λ form. form.pattern) terminals ≡ patterns → AreNfas terminals nfas
 made-are patterns nfas count all terminals same = record {
   count = count ∙ sym (ap length same) ∙ length-map terminals (λ (form : TerminalForm). form.pattern);
-  each = λ j form nfa there made. all j form.pattern nfa
-      (subst (λ ps. slice_get ps j ≡ Some form.pattern) same (slice_get-map (λ (form : TerminalForm). form.pattern) terminals j ∙ ap (option_map (λ form. form.pattern)) there)) made;
+  each = λ j form nfa there made.
+      let here = slice_get-map (λ (form : TerminalForm). form.pattern) terminals j ∙ ap (option_map (λ form. form.pattern)) there in
+      all j form.pattern nfa (subst (λ ps. slice_get ps j ≡ Some form.pattern) same here) made;
 }

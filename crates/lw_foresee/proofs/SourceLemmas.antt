@@ -15,7 +15,8 @@ use Rattle.lw_tokens.specs.Matching.{length_at_start, match_at_start, match_leng
 use Rattle.lw_foresee.specs.Walk.{MatchStays}
 use Rattle.lw_foresee.specs.Nfas.{IsNfaOf, IsForeseen}
 
-length_of_spans : (o p : Option Match) → option_map spans o ≡ option_map spans p → option_and_then length_at_start o ≡ option_and_then length_at_start p
+length_of_spans : (o p : Option Match) → option_map spans o ≡ option_map spans p →
+    option_and_then length_at_start o ≡ option_and_then length_at_start p
 length_of_spans None None e = refl
 length_of_spans None (Some n) e = absurd cc
 length_of_spans (Some m) None e = absurd cc
@@ -34,5 +35,6 @@ module _ (pattern : List ℕ) (nfa : Nfa) (is : IsNfaOf pattern nfa) where
       by_cases (Some found) e =
           sym (length_of_spans _ _ (find_str_as_read _ _ _ _ found.0.value is.reads (rw e (same_refl found.0.value)) text bytes 0))
 
-  pub foreseen-source : (text : List ℕ) (bytes : Option ℕ) → ((re : Re) → Implements nfa re → MatchStays re text bytes) → IsForeseen pattern text bytes
+  pub foreseen-source : (text : List ℕ) (bytes : Option ℕ) → ((re : Re) → Implements nfa re → MatchStays re text bytes) →
+      IsForeseen pattern text bytes
   foreseen-source text bytes foreseen more small = matched_as (text ++ more) small ∙ foreseen (meaning is.tree) is.implements more

@@ -25,10 +25,12 @@ pub record IsPair (nfa : Nfa) (text : List ℕ) (q i : ℕ) : Type 0 where
 module _ (nfa : Nfa) (text : List ℕ) (q i : ℕ) where
   -- where the state q at i leads to, whatever follows the text
   abbrev pub LeadsOn : Onward → Type 0
-  LeadsOn (Onward.Go r j) = IsPair nfa text r j × ((more : List ℕ) → match_end (gives_over nfa text more q i) ≡ match_end (gives_over nfa text more r j))
+  LeadsOn (Onward.Go r j) =
+      IsPair nfa text r j × ((more : List ℕ) → match_end (gives_over nfa text more q i) ≡ match_end (gives_over nfa text more r j))
   LeadsOn (Onward.Both r s) =
       IsPair nfa text r i × IsPair nfa text s i
-      × ((more : List ℕ) → match_end (gives_over nfa text more q i) ≡ option_or (match_end (gives_over nfa text more r i)) (match_end (gives_over nfa text more s i)))
+      × ((more : List ℕ) → match_end (gives_over nfa text more q i)
+      ≡ option_or (match_end (gives_over nfa text more r i)) (match_end (gives_over nfa text more s i)))
   LeadsOn Onward.Back = (more : List ℕ) → match_end (gives_over nfa text more q i) ≡ None
   LeadsOn Onward.Ends = (more : List ℕ) → match_end (gives_over nfa text more q i) ≡ Some i
   LeadsOn Onward.Unknown = ⊤

@@ -1,5 +1,6 @@
 -- What a walk over the front of a text comes to.
--- Held against the documentation of the crate `regex`, leftmost-first matching: the ways of a pattern are tried in order, and the first that works is the match.
+-- Held against the documentation of the crate `regex`, leftmost-first matching: the ways of a pattern are tried in order,
+-- and the first that works is the match.
 use Rattle.std.specs.Prelude.{◌≡◌, ℕ, List, [], ◌∷◌, ◌++◌, Option, None, All}
 use Rattle.std.specs.Option.{option_or}
 use Rattle.regex_hir.specs.Re.{Re, Rest}

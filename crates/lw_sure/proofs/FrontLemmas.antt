@@ -54,9 +54,11 @@ record Nth (lexicon : Lexicon) (text : List ℕ) (tokens : List Token) (n : ℕ)
 
 pub cut_ends : (lexicon : Lexicon) (text : List ℕ) (to : ℕ) (tokens : List Token) → IsCutTo lexicon text to tokens → end_from 0 tokens ≡ to
 cut_ends lexicon text to tokens cut.start = refl
-cut_ends lexicon text to tokens (cut.then {at = at} {tokens = before} {next = following} front inside found) = end_from-push 0 before (token_at at following)
+cut_ends lexicon text to tokens (cut.then {at = at} {tokens = before} {next = following} front inside found) =
+    end_from-push 0 before (token_at at following)
 
-nth : (lexicon : Lexicon) (text : List ℕ) (to : ℕ) (tokens : List Token) → IsCutTo lexicon text to tokens → (n : ℕ) → n < length tokens → Nth lexicon text tokens n
+nth : (lexicon : Lexicon) (text : List ℕ) (to : ℕ) (tokens : List Token) → IsCutTo lexicon text to tokens → (n : ℕ) → n < length tokens →
+    Nth lexicon text tokens n
 nth lexicon text to tokens cut.start n h = absurd (omega arith)
 nth lexicon text to tokens (cut.then {at = at} {tokens = before} {next = following} front inside found) n h = ⊎_elim
     (λ (within : n < length before).

@@ -11,6 +11,7 @@ walk-preserved-in-Ok c = record {
 
 pub walk-preserved : goal.walk-preserved
 walk-preserved c = record {
-  tracking = tracking-back c.args.nfa.now c.args.text.now c.walk.state c.walk.at _ c.in-Some.way (rw c.in-Some.ensures.items at c.walk.invariant.tracking) c.in-Back.ensures;
+  tracking = tracking-back c.args.nfa.now c.args.text.now c.walk.state c.walk.at _ c.in-Some.way
+      (rw c.in-Some.ensures.items at c.walk.invariant.tracking) c.in-Back.ensures;
   left = omega arith;
 }
