@@ -16,7 +16,7 @@
 //! walk stops with nothing told as soon as a way asks for what is behind the text: a byte there, or an assertion whose place has no whole
 //! character behind it (`specs/Steps.antt`).
 //!
-//! What it costs: a step for each state that is visited, and eight to sixteen bytes for each way that is kept. A pattern that goes back
+//! What it costs: a step for each state that is visited, and sixteen bytes for each way that is kept. A pattern that goes back
 //! much may visit a state at one place many times, so the steps of a walker bound all its walks together.
 #![tactic(auto)]
 
