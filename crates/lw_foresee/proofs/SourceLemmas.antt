@@ -1,4 +1,4 @@
--- What is settled of every pattern that an NFA implements is settled of the pattern whose text it was made from.
+-- What is foreseen of every pattern that an NFA implements is foreseen of the pattern whose text it was made from.
 use Rattle.std.proofs.Common.{◌≡◌, ℕ, ◌<◌, ◌==◌, if◌then◌else◌, List, ◌++◌, Option, Some, None, All, option_map, option_and_then, chars, refl, ap, sym, ◌∙◌}
 use Rattle.regex_hir.specs.Find.{Match}
 use Rattle.regex_hir.specs.Re.{Re}
@@ -13,9 +13,10 @@ use Rattle.regex_compile.specs.Implements.{Implements}
 use Rattle.lw_io.specs.Patterns.{anchored}
 use Rattle.lw_tokens.specs.Matching.{length_at_start, match_at_start, match_length}
 use Rattle.lw_foresee.specs.Walk.{MatchStays}
-use Rattle.lw_foresee.specs.Nfas.{IsNfaOf, IsSettled}
+use Rattle.lw_foresee.specs.Nfas.{IsNfaOf, IsForeseen}
 
-length_of_spans : (o p : Option Match) → option_map spans o ≡ option_map spans p → option_and_then length_at_start o ≡ option_and_then length_at_start p
+length_of_spans : (o p : Option Match) → option_map spans o ≡ option_map spans p →
+    option_and_then length_at_start o ≡ option_and_then length_at_start p
 length_of_spans None None e = refl
 length_of_spans None (Some n) e = absurd cc
 length_of_spans (Some m) None e = absurd cc
@@ -34,5 +35,6 @@ module _ (pattern : List ℕ) (nfa : Nfa) (is : IsNfaOf pattern nfa) where
       by_cases (Some found) e =
           sym (length_of_spans _ _ (find_str_as_read _ _ _ _ found.0.value is.reads (rw e (same_refl found.0.value)) text bytes 0))
 
-  pub settled-source : (text : List ℕ) (bytes : Option ℕ) → ((re : Re) → Implements nfa re → MatchStays re text bytes) → IsSettled pattern text bytes
-  settled-source text bytes settled more small = matched_as (text ++ more) small ∙ settled (meaning is.tree) is.implements more
+  pub foreseen-source : (text : List ℕ) (bytes : Option ℕ) → ((re : Re) → Implements nfa re → MatchStays re text bytes) →
+      IsForeseen pattern text bytes
+  foreseen-source text bytes foreseen more small = matched_as (text ++ more) small ∙ foreseen (meaning is.tree) is.implements more

@@ -21,8 +21,9 @@ pub record IsNfaOf (pattern : List ℕ) (nfa : Nfa) : Type 0 where
 -- the NFAs are those of the terminals, in order
 pub record AreNfas (terminals : List TerminalForm) (nfas : List Nfa) : Type 0 where
   pub count : length nfas ≡ length terminals
-  pub each : (j : ℕ) (form : TerminalForm) (nfa : Nfa) → slice_get terminals j ≡ Some form → slice_get nfas j ≡ Some nfa → IsNfaOf form.pattern nfa
+  pub each : (j : ℕ) (form : TerminalForm) (nfa : Nfa) → slice_get terminals j ≡ Some form → slice_get nfas j ≡ Some nfa →
+      IsNfaOf form.pattern nfa
 
 -- how many bytes the pattern matches at the start of the text, or that it does not match there, whatever bytes follow the text
-abbrev pub IsSettled : List ℕ → List ℕ → Option ℕ → Type 0
-IsSettled pattern text bytes = (more : List ℕ) → All (λ b. b < 256) (text ++ more) → match_length pattern (text ++ more) ≡ bytes
+abbrev pub IsForeseen : List ℕ → List ℕ → Option ℕ → Type 0
+IsForeseen pattern text bytes = (more : List ℕ) → All (λ b. b < 256) (text ++ more) → match_length pattern (text ++ more) ≡ bytes

@@ -3,7 +3,7 @@ ghost use Rattle.std.specs.Prelude.{◌≡◌, ◌≤◌, ◌++◌, ℕ, List, v
 ghost use Rattle.regex_hir.specs.Looks as looks;
 ghost use Rattle.regex_nfa.specs.Run.{state_of};
 ghost use Rattle.regex_nfa.specs.States.{IsReadable};
-ghost use Rattle.lw_foresee.specs.Steps.{IsPair, Leads, ReadsByte};
+ghost use Rattle.lw_foresee.specs.Steps.{IsPair, LeadsOn, ReadsByte};
 
 use regex_hir::Look;
 use regex_nfa::{Nfa, State, StateId, char_at, holds};
@@ -26,7 +26,7 @@ pub(crate) enum Onward {
 /// One step from the state at the position.
 pub(crate) fn step(nfa: &Nfa, text: &[u8], id: StateId, at: usize) -> Onward
     requires { IsPair nfa.now text.now id at }
-    ensures { Leads nfa.now text.now id at result }
+    ensures { LeadsOn nfa.now text.now id at result }
 {
     let state = nfa.state(id);
     match state {
@@ -34,7 +34,7 @@ pub(crate) fn step(nfa: &Nfa, text: &[u8], id: StateId, at: usize) -> Onward
         State::Sparse { from: _, to: _ } => read(nfa, text, id, state, at),
         State::Split { first, second } => Onward::Both(first, second),
         State::Save { slot: _, next } => Onward::Go(next, at),
-        State::Look { look, next } => match settled_look(look, text, at) {
+        State::Look { look, next } => match foreseen_look(look, text, at) {
             Some(true) => Onward::Go(next, at),
             Some(false) => Onward::Back,
             None => Onward::Unknown,
@@ -50,7 +50,7 @@ fn read(nfa: &Nfa, text: &[u8], id: StateId, state: State, at: usize) -> Onward
     requires state { state ≡ state_of nfa.now id }
     requires reads { ReadsByte state }
     requires readable { IsReadable nfa.now.transitions.items (vec_len nfa.now.states) state }
-    ensures { Leads nfa.now text.now id at result }
+    ensures { LeadsOn nfa.now text.now id at result }
 {
     if at < text.len() {
         match nfa.next_on(state, text[at]) {
@@ -63,7 +63,7 @@ fn read(nfa: &Nfa, text: &[u8], id: StateId, state: State, at: usize) -> Onward
 }
 
 // Whether the assertion holds at the position, where that does not hang on what follows the text.
-fn settled_look(look: Look, text: &[u8], at: usize) -> Option<bool>
+fn foreseen_look(look: Look, text: &[u8], at: usize) -> Option<bool>
     ensures { IfSome result (λ it_holds. (more : List ℕ) → looks.holds look (text.now ++ more) at ≡ it_holds) }
 {
     match look {

@@ -2,7 +2,7 @@
 ghost use Rattle.std.specs.Prelude.{◌≡◌, ◌≤◌, List, ℕ, IfSome};
 ghost use Rattle.regex_hir.specs.Re.{Re};
 ghost use Rattle.regex_compile.specs.Implements.{Implements};
-ghost use Rattle.lw_foresee.specs.Nfas.{IsNfaOf, IsSettled};
+ghost use Rattle.lw_foresee.specs.Nfas.{IsNfaOf, IsForeseen};
 ghost use Rattle.lw_foresee.specs.Walk.{EndStays, MatchStays};
 
 use crate::step::{Onward, step};
@@ -45,27 +45,27 @@ impl Walker {
 
     /// How many bytes the pattern of the NFA matches at the start of the text, or that it matches none, if that is so
     /// whatever follows the text. Nothing is told where what follows may decide, and where steps or memory do not suffice.
-    pub fn settled_length(&mut self, nfa: &Nfa, text: &str) -> Option<Option<usize>>
-        ensures settled { IfSome result (λ bytes. (pattern : List ℕ) → IsNfaOf pattern nfa.now → IsSettled pattern text.now bytes) }
+    pub fn foreseen_length(&mut self, nfa: &Nfa, text: &str) -> Option<Option<usize>>
+        ensures foreseen { IfSome result (λ bytes. (pattern : List ℕ) → IsNfaOf pattern nfa.now → IsForeseen pattern text.now bytes) }
         ensures left { self.new ≤ self.old }
     {
-        self.settled_match(nfa, text)
+        self.foreseen_match(nfa, text)
     }
 
     // The same of every pattern that the NFA implements.
-    fn settled_match(&mut self, nfa: &Nfa, text: &str) -> Option<Option<usize>>
-        ensures settled { IfSome result (λ bytes. (re : Re) → Implements nfa.now re → MatchStays re text.now bytes) }
+    fn foreseen_match(&mut self, nfa: &Nfa, text: &str) -> Option<Option<usize>>
+        ensures foreseen { IfSome result (λ bytes. (re : Re) → Implements nfa.now re → MatchStays re text.now bytes) }
         ensures left { self.new ≤ self.old }
     {
         if text.is_empty() {
             return None;
         }
-        self.settled_end(nfa, text.as_bytes())
+        self.foreseen_end(nfa, text.as_bytes())
     }
 
     // Where the NFA's match at the start of the text ends, or that there is none, if that is so whatever follows the text.
-    fn settled_end(&mut self, nfa: &Nfa, text: &[u8]) -> Option<Option<usize>>
-        ensures settled { IfSome result (EndStays nfa.now text.now) }
+    fn foreseen_end(&mut self, nfa: &Nfa, text: &[u8]) -> Option<Option<usize>>
+        ensures foreseen { IfSome result (EndStays nfa.now text.now) }
         ensures left { self.new ≤ self.old }
     {
         self.ways.clear();

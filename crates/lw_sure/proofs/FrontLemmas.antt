@@ -11,7 +11,7 @@ use Rattle.lw_tokens.specs.Matching.{match_length}
 use Rattle.lw_tokens.specs.NextToken.{Next, IsNextToken}
 use Rattle.lw_tokens.specs.Cut as cut
 use Rattle.lw_tokens.specs.Cut.{IsCut, IsCutTo, token_at}
-use Rattle.lw_foresee.specs.Nfas.{IsNfaOf, IsSettled, AreNfas}
+use Rattle.lw_foresee.specs.Nfas.{IsNfaOf, IsForeseen, AreNfas}
 use Rattle.lw_sure.specs.Stays.{NoneBegun, FirstStay, asked}
 use Rattle.lw_sure.proofs.StaysLemmas.{next_stays}
 use Rattle.lw_sure.specs.Front.{end_from, TerminalsStay, counted, FrontStays}
@@ -22,22 +22,19 @@ front_is_small text more small =
     (take-append-le (length text) text more (omega arith) ∙ take_all (length text) text (omega arith) ∙ sym (append-nil text))
     (All-take (λ b. b < 256) (length text) (text ++ more) small)
 
-as_settled : (pattern text : List ℕ) (bytes : Option ℕ) → IsSettled pattern text bytes → (more : List ℕ) → All (λ b. b < 256) (text ++ more) →
+as_foreseen : (pattern text : List ℕ) (bytes : Option ℕ) → IsForeseen pattern text bytes → (more : List ℕ) → All (λ b. b < 256) (text ++ more) →
     match_length pattern (text ++ more) ≡ match_length pattern text
-as_settled pattern text bytes settled more small =
-    settled more small ∙ sym (settled [] (front_is_small text more small)) ∙ ap (match_length pattern) (append-nil text)
-
-pub terminals_none : (nfas : List Nfa) (text : List ℕ) → TerminalsStay nfas text 0
-terminals_none nfas text = record { stay = λ terminals are more small j form lt there. absurd (omega arith) }
+as_foreseen pattern text bytes foreseen more small =
+    foreseen more small ∙ sym (foreseen [] (front_is_small text more small)) ∙ ap (match_length pattern) (append-nil text)
 
 pub terminals_more : (nfas : List Nfa) (text : List ℕ) (n : ℕ) (nfa : Nfa) (bytes : Option ℕ) → TerminalsStay nfas text n → n < length nfas →
-    nfa ≡ get_or nfas n nfa → ((pattern : List ℕ) → IsNfaOf pattern nfa → IsSettled pattern text bytes) → TerminalsStay nfas text (n + 1)
-terminals_more nfas text n nfa bytes h within is settled = record {
+    nfa ≡ get_or nfas n nfa → ((pattern : List ℕ) → IsNfaOf pattern nfa → IsForeseen pattern text bytes) → TerminalsStay nfas text (n + 1)
+terminals_more nfas text n nfa bytes h within is foreseen = record {
   stay = λ terminals are more small j form lt there. ⊎_elim
       (λ (before : j < n). h.stay terminals are more small j form before there)
       (λ (here : n ≤ j). let same : n ≡ j = omega arith in
-      as_settled form.pattern text bytes
-      (settled form.pattern (are.each j form nfa there (subst (λ x. slice_get nfas x ≡ Some nfa) same (slice_get_read nfas (length nfas) n nfa refl within is))))
+      as_foreseen form.pattern text bytes
+      (foreseen form.pattern (are.each j form nfa there (subst (λ x. slice_get nfas x ≡ Some nfa) same (slice_get_read nfas (length nfas) n nfa refl within is))))
       more small)
       (cases_lt j n);
 }
@@ -57,9 +54,11 @@ pub record Nth (lexicon : Lexicon) (text : List ℕ) (tokens : List Token) (n : 
 
 pub cut_ends : (lexicon : Lexicon) (text : List ℕ) (to : ℕ) (tokens : List Token) → IsCutTo lexicon text to tokens → end_from 0 tokens ≡ to
 cut_ends lexicon text to tokens cut.start = refl
-cut_ends lexicon text to tokens (cut.then {at = at} {tokens = before} {next = following} front inside found) = end_from-push 0 before (token_at at following)
+cut_ends lexicon text to tokens (cut.then {at = at} {tokens = before} {next = following} front inside found) =
+    end_from-push 0 before (token_at at following)
 
-pub nth : (lexicon : Lexicon) (text : List ℕ) (to : ℕ) (tokens : List Token) → IsCutTo lexicon text to tokens → (n : ℕ) → n < length tokens → Nth lexicon text tokens n
+pub nth : (lexicon : Lexicon) (text : List ℕ) (to : ℕ) (tokens : List Token) → IsCutTo lexicon text to tokens → (n : ℕ) → n < length tokens →
+    Nth lexicon text tokens n
 nth lexicon text to tokens cut.start n h = absurd (omega arith)
 nth lexicon text to tokens (cut.then {at = at} {tokens = before} {next = following} front inside found) n h = ⊎_elim
     (λ (within : n < length before).

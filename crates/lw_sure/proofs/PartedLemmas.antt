@@ -1,7 +1,7 @@
 -- A cut ends in its text, is made of the cuts of two parts of the text, and is parted at each of its places.
-use Rattle.std.proofs.Common.{◌≡◌, ℕ, ◌+◌, ◌-◌, ◌<◌, ◌≤◌, ◌==◌, Bool, true, false, List, [], ◌∷◌, ◌++◌, length, take, drop, map, Option, Some, None, IfSome, option_and_then, option_map, slice_get, if◌then◌else◌, ◌⊎◌, inl, inr, refl, sym, ap, ap₂, ◌∙◌, subst, arith, length-append, length-drop, drop-drop, append-nil, append_assoc}
+use Rattle.std.proofs.Common.{◌≡◌, ℕ, ◌+◌, ◌<◌, ◌≤◌, ◌==◌, Bool, true, false, List, [], ◌∷◌, ◌++◌, length, drop, map, Option, Some, None, IfSome, option_and_then, option_map, slice_get, if◌then◌else◌, ◌⊎◌, inl, inr, refl, sym, ap, ap₂, ◌∙◌, subst, arith, length-append, length-drop, drop-drop, append-nil, append_assoc}
 use Rattle.std.proofs.lemmas.Bool.Decides.{Decides-eqb}
-use Rattle.std.proofs.lemmas.List.{length-map, map-append}
+use Rattle.std.proofs.lemmas.List.{map-append}
 use Rattle.std.proofs.lemmas.Option.{same_Some, slice_get-map}
 use Rattle.std.proofs.lemmas.Slice.Eq.{starts_is}
 use Rattle.regex.specs.Patterns.{Re, Match, find_str}
@@ -9,7 +9,7 @@ use Rattle.regex.proofs.SearchLemmas.{leftmost_within}
 use Rattle.lw_base.specs.declared.token.Token.{Token}
 use Rattle.lw_tokens.specs.Keywords.{AreKeywords}
 use Rattle.lw_tokens.specs.Lexicon.{Lexicon, TerminalForm}
-use Rattle.lw_tokens.specs.Matching.{match_length, match_at_start, length_at_start, pattern_of}
+use Rattle.lw_tokens.specs.Matching.{match_length, match_at_start, length_at_start}
 use Rattle.lw_tokens.specs.NextToken.{Next, IsNextToken, Begins, IsFirstOver, lengths}
 use Rattle.lw_tokens.specs.NextToken as next
 use Rattle.lw_tokens.specs.Cut as cut
@@ -26,8 +26,8 @@ start_within text m n fits e = by_cases (m.start == 0) e
     by_cases true is = subst (λ x. x ≤ length text) (same_Some m.trace.end n is) fits
     by_cases false is = absurd cc
 
-matched_within : (o : Option Match) (text : List ℕ) (n : ℕ) → ((m : Match) → o ≡ Some m → m.trace.end ≤ length text) → option_and_then length_at_start o ≡ Some n →
-    n ≤ length text
+matched_within : (o : Option Match) (text : List ℕ) (n : ℕ) → ((m : Match) → o ≡ Some m → m.trace.end ≤ length text) →
+    option_and_then length_at_start o ≡ Some n → n ≤ length text
 matched_within None text n fits e = absurd cc
 matched_within (Some m) text n fits e = start_within text m n (fits m refl) e
 
@@ -44,7 +44,8 @@ keyword_within text keyword h =
     let parts : text ≡ keyword ++ drop (length keyword) text = (starts_is Decides-eqb text keyword _ refl).0 h in
     omega (arith, ap length parts, length-append keyword (drop (length keyword) text))
 
-terminal_within : (text : List ℕ) (o : Option TerminalForm) (m : ℕ) → option_map (λ t. match_length t.pattern text) o ≡ Some (Some m) → m ≤ length text
+terminal_within : (text : List ℕ) (o : Option TerminalForm) (m : ℕ) → option_map (λ t. match_length t.pattern text) o ≡ Some (Some m) →
+    m ≤ length text
 terminal_within text None m e = absurd cc
 terminal_within text (Some form) m e = length_within form.pattern text m (same_Some (match_length form.pattern text) (Some m) e)
 
@@ -52,7 +53,8 @@ first_within : (terminals : List TerminalForm) (text : List ℕ) (n i m : ℕ) �
 first_within terminals text n i m first =
     terminal_within text (slice_get terminals i) m (sym (slice_get-map (λ t. match_length t.pattern text) terminals i) ∙ first.there)
 
-next_within : (lexicon : Lexicon) (text : List ℕ) (found : Option Next) → IsNextToken lexicon text found → IfSome found (λ next. next.bytes ≤ length text)
+next_within : (lexicon : Lexicon) (text : List ℕ) (found : Option Next) → IsNextToken lexicon text found →
+    IfSome found (λ next. next.bytes ≤ length text)
 next_within lexicon text found (next.longer_terminal {n = n} {i = i} {m = m} longest first there) = first_within lexicon.terminals text n i m first
 next_within lexicon text found (next.keyword longest none) = omega (arith, longest.bytes, keyword_within text longest.keyword longest.begins)
 next_within lexicon text found (next.terminal {i = i} {m = m} no_keyword first there) = first_within lexicon.terminals text 0 i m first
@@ -99,15 +101,17 @@ moved_more by at following ts =
 -- ---- the cuts of two parts make one
 
 module _ (lexicon : Lexicon) (text : List ℕ) (to : ℕ) (tokens : List Token) (front : IsCutTo lexicon text to tokens) where
-  pub cut_joins : (n : ℕ) (others : List Token) → IsCutTo lexicon (drop to text) n others → IsCutTo lexicon text (to + n) (tokens ++ map (moved to) others)
+  pub cut_joins : (n : ℕ) (others : List Token) → IsCutTo lexicon (drop to text) n others →
+      IsCutTo lexicon text (to + n) (tokens ++ map (moved to) others)
   cut_joins n others cut.start =
       let same : to ≡ to + 0 = omega arith in
       subst (λ x. IsCutTo lexicon text x (tokens ++ [])) same (subst (IsCutTo lexicon text to) (sym (append-nil tokens)) front)
   cut_joins n others (cut.then {at = at} {tokens = before} {next = following} later inside found) =
-      let further = cut.then (cut_joins at before later) (omega (arith, length-drop to text)) (subst (λ l. IsNextToken lexicon l (Some following)) (drop-drop at to text) found) in
+      let next_there = subst (λ l. IsNextToken lexicon l (Some following)) (drop-drop at to text) found in
+      let further = cut.then (cut_joins at before later) (omega (arith, length-drop to text)) next_there in
       let ends : to + at + following.bytes ≡ to + (at + following.bytes) = omega arith in
-      let list : (tokens ++ map (moved to) before) ++ token_at (to + at) following ∷ [] ≡ tokens ++ map (moved to) (before ++ token_at at following ∷ []) =
-      append_assoc tokens (map (moved to) before) (token_at (to + at) following ∷ []) ∙ ap (λ l. tokens ++ l) (moved_more to at following before) in
+      let list = append_assoc tokens (map (moved to) before) (token_at (to + at) following ∷ [])
+      ∙ ap (λ l. tokens ++ l) (moved_more to at following before) in
       subst (λ l. IsCutTo lexicon text (to + (at + following.bytes)) l) list
       (subst (λ x. IsCutTo lexicon text x ((tokens ++ map (moved to) before) ++ token_at (to + at) following ∷ [])) ends further)
 
@@ -129,15 +133,17 @@ record FirstParted (lexicon : Lexicon) (text : List ℕ) (n : ℕ) (tokens : Lis
   ends : n ≡ next.bytes + rest
   are : tokens ≡ token_at 0 next ∷ map (moved next.bytes) others
 
-first_more : (lexicon : Lexicon) (text : List ℕ) (at : ℕ) (before : List Token) (following : Next) → FirstParted lexicon text at before → at < length text →
-    IsNextToken lexicon (drop at text) (Some following) → FirstParted lexicon text (at + following.bytes) (before ++ token_at at following ∷ [])
+first_more : (lexicon : Lexicon) (text : List ℕ) (at : ℕ) (before : List Token) (following : Next) →
+    FirstParted lexicon text at before → at < length text → IsNextToken lexicon (drop at text) (Some following) →
+    FirstParted lexicon text (at + following.bytes) (before ++ token_at at following ∷ [])
 first_more lexicon text at before following first inside found = record {
   next = first.next;
   rest = first.rest + following.bytes;
   others = first.others ++ token_at first.rest following ∷ [];
   found = first.found;
   cut = cut.then first.cut (omega (arith, inside, first.ends, length-drop first.next.bytes text))
-      (subst (λ l. IsNextToken lexicon l (Some following)) (ap (λ k. drop k text) first.ends ∙ sym (drop-drop first.rest first.next.bytes text)) found);
+      (subst (λ l. IsNextToken lexicon l (Some following))
+      (ap (λ k. drop k text) first.ends ∙ sym (drop-drop first.rest first.next.bytes text)) found);
   ends = omega (arith, first.ends);
   are = ap (λ l. l ++ token_at at following ∷ []) first.are
       ∙ ap (λ l. token_at 0 first.next ∷ l) (ap (λ k. map (moved first.next.bytes) first.others ++ token_at k following ∷ []) first.ends
@@ -162,12 +168,14 @@ first_parted lexicon text n tokens (cut.then {at = at} {tokens = before} {next =
     ])
 
 parted_more : (lexicon : Lexicon) (text : List ℕ) (at : ℕ) (before all : List Token) (following : Next) → at < length text →
-    (behind : IsParted lexicon text at before all) → (first : FirstParted lexicon (drop at text) (length (drop at text)) behind.others) → first.next ≡ following →
+    (behind : IsParted lexicon text at before all) → (first : FirstParted lexicon (drop at text) (length (drop at text)) behind.others) →
+    first.next ≡ following →
     IsParted lexicon text (at + following.bytes) (before ++ token_at at following ∷ []) all
 parted_more lexicon text at before all following inside behind first same =
     let bytes : first.next.bytes ≡ following.bytes = ap (λ (x : Next). x.bytes) same in
-    let left : drop first.next.bytes (drop at text) ≡ drop (at + following.bytes) text = drop-drop first.next.bytes at text ∙ ap (λ k. drop (at + k) text) bytes in
-    let ends : first.rest ≡ length (drop (at + following.bytes) text) = omega (arith, first.ends, bytes, length-drop at text, length-drop (at + following.bytes) text) in
+    let left = drop-drop first.next.bytes at text ∙ ap (λ k. drop (at + k) text) bytes in
+    let ends : first.rest ≡ length (drop (at + following.bytes) text) =
+    omega (arith, first.ends, bytes, length-drop at text, length-drop (at + following.bytes) text) in
     record {
       others = first.others;
       cut = subst (λ k. IsCutTo lexicon (drop (at + following.bytes) text) k first.others) ends
@@ -178,8 +186,8 @@ parted_more lexicon text at before all following inside behind first same =
           ∙ sym (append_assoc before (token_at at following ∷ []) (map (moved (at + following.bytes)) first.others));
     }
 
-pub cut_parted : (lexicon : Lexicon) → AreKeywords lexicon.keywords → (text : List ℕ) (to : ℕ) (tokens all : List Token) → IsCutTo lexicon text to tokens →
-    IsCut lexicon text all → IsParted lexicon text to tokens all
+pub cut_parted : (lexicon : Lexicon) → AreKeywords lexicon.keywords → (text : List ℕ) (to : ℕ) (tokens all : List Token) →
+    IsCutTo lexicon text to tokens → IsCut lexicon text all → IsParted lexicon text to tokens all
 cut_parted lexicon apart text to tokens all cut.start is = record { others = all; cut = is; all_are = sym (not_moved all) }
 cut_parted lexicon apart text to tokens all (cut.then {at = at} {tokens = before} {next = following} front inside found) is =
     let behind = cut_parted lexicon apart text at before all front is in

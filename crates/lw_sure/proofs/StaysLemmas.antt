@@ -1,7 +1,7 @@
 -- A token stays where no keyword goes on behind the text and the terminals that are asked match the same.
-use Rattle.std.proofs.Common.{◌≡◌, ℕ, ◌+◌, ◌-◌, ◌<◌, ◌≤◌, Bool, true, false, List, [], ◌∷◌, ◌++◌, length, drop, map, Option, Some, None, option_map, slice_get, nat_eq, nat_lt, refl, sym, ap, ◌∙◌, subst, arith, length-append, length-drop, drop-drop, append-nil, append_assoc, true≢false, le-ltb, lt-ltb}
+use Rattle.std.proofs.Common.{◌≡◌, ℕ, ◌+◌, ◌-◌, ◌<◌, Bool, true, false, List, ◌++◌, length, Option, Some, None, option_map, slice_get, nat_eq, nat_lt, refl, sym, ap, ◌∙◌, subst, arith, length-append, true≢false, le-ltb, lt-ltb}
 use Rattle.std.proofs.lemmas.Bool.{cond-true, cond-false, and_from, not_from_false}
-use Rattle.std.proofs.lemmas.List.{drop-append-le, length-map, map-append}
+use Rattle.std.proofs.lemmas.List.{drop-append-le, length-map}
 use Rattle.std.proofs.lemmas.Option.{slice_get-map, slice_get_within}
 use Rattle.std.specs.List.{starts_with}
 use Rattle.regex_hir.specs.Text.{has_bytes_at}
@@ -72,7 +72,8 @@ module _ (lexicon : Lexicon) (text more : List ℕ) where
   asked_terminal : (i m : ℕ) (form : TerminalForm) → asked lexicon text more (Some (terminal_token lexicon text i m form)) ≡ i + 1
   asked_terminal i m form =
       let count : length lexicon.keywords + i - length lexicon.keywords + 1 ≡ i + 1 = omega arith in
-      cond-false (nat_lt (length lexicon.keywords + i) (length lexicon.keywords)) _ _ (le-ltb (length lexicon.keywords + i) (length lexicon.keywords) (omega arith)) ∙ count
+      cond-false (nat_lt (length lexicon.keywords + i) (length lexicon.keywords)) _ _
+      (le-ltb (length lexicon.keywords + i) (length lexicon.keywords) (omega arith)) ∙ count
 
   asked_keyword : (k n : ℕ) → k < length lexicon.keywords → asked lexicon text more (Some (keyword_token lexicon text k n)) ≡ length lexicon.terminals
   asked_keyword k n h = cond-true (nat_lt k (length lexicon.keywords)) _ _ (lt-ltb k (length lexicon.keywords) h)
@@ -92,7 +93,8 @@ module _ (lexicon : Lexicon) (text more : List ℕ) where
   next_stays whole found stay (next.no_token no_keyword none) =
       next.no_token (none_stays lexicon.keywords text more whole no_keyword) (none_over_stays 0 stay none)
 
-  pub cut_stays : (to : ℕ) (tokens : List Token) → TokensStay lexicon text more to → IsCutTo lexicon text to tokens → IsCutTo lexicon (text ++ more) to tokens
+  pub cut_stays : (to : ℕ) (tokens : List Token) → TokensStay lexicon text more to → IsCutTo lexicon text to tokens →
+      IsCutTo lexicon (text ++ more) to tokens
   cut_stays to tokens stay cut.start = cut.start
   cut_stays to tokens stay (cut.then {at = at} {tokens = before} {next = following} front inside found) =
       cut.then (cut_stays at before (λ a n le. stay a n (omega arith)) front)

@@ -1,4 +1,4 @@
--- A cut that is parted at one of its places: the tokens before it, and those of the text behind it, which are cut as they are by themselves.
+-- A cut that is parted at one of its places: the tokens before it, and those of the text behind it, cut by itself.
 -- Held against the rule of the cut: at each place the next token is that of the text from there on.
 use Rattle.std.specs.Prelude.{◌≡◌, ℕ, ◌+◌, List, ◌++◌, drop, map}
 use Rattle.lw_base.specs.declared.token.Token.{Token}

@@ -1,5 +1,6 @@
 -- When a token stays the next where more follows the text, and when the tokens of a cut do.
--- Held against the rules of the next token: it hangs on the keywords that the text begins with, and on what the terminals match there, in order.
+-- Held against the five rules of the next token: it hangs on the keywords that the text begins with, and on what the terminals match there,
+-- in order.
 use Rattle.std.specs.Prelude.{◌≡◌, ℕ, ◌+◌, ◌-◌, ◌<◌, ◌≤◌, ◌++◌, List, length, drop, Option, Some, None, Bool, false, not, ◌&&◌, if◌then◌else◌, nat_eq, nat_lt, slice_get}
 use Rattle.std.specs.List.{starts_with}
 use Rattle.lw_tokens.specs.Lexicon.{Lexicon, TerminalForm}
@@ -28,5 +29,5 @@ module _ (lexicon : Lexicon) (text more : List ℕ) where
 
 -- each token that ends by this place stays where more follows the text
 abbrev pub TokensStay : Lexicon → List ℕ → List ℕ → ℕ → Type 0
-TokensStay lexicon text more to = (at : ℕ) (next : Next) → at + next.bytes ≤ to → at < length text → IsNextToken lexicon (drop at text) (Some next) →
-    IsNextToken lexicon (drop at text ++ more) (Some next)
+TokensStay lexicon text more to = (at : ℕ) (next : Next) → at + next.bytes ≤ to → at < length text →
+    IsNextToken lexicon (drop at text) (Some next) → IsNextToken lexicon (drop at text ++ more) (Some next)

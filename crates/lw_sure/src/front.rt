@@ -88,7 +88,7 @@ pub(crate) fn terminals_stay(nfas: &[Nfa], text: &str, count: usize, walker: &mu
     ensures left { walker.new ≤ walker.old }
 {
     for j in 0..count {
-        match walker.settled_length(&nfas[j], text) {
+        match walker.foreseen_length(&nfas[j], text) {
             Some(_) => {}
             None => return false,
         }

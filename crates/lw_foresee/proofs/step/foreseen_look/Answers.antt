@@ -1,7 +1,7 @@
 use Rattle.std.proofs.Common.{◌∙◌, sym, ◌++◌}
 use Rattle.lw_foresee.proofs.TextLemmas.{holds-append}
 use Rattle.lw_foresee.proofs.StepLemmas.{holds_Start}
-use Rattle.lw_foresee.proofs.step.settled_look.Goals as goal
+use Rattle.lw_foresee.proofs.step.foreseen_look.Goals as goal
 
 pub returns-in-Start : goal.returns-in-Start
 returns-in-Start c more = holds_Start c.args.look (c.args.text.now ++ more) c.args.at c.in-Start.is c.if-at-eq0.true

@@ -1,6 +1,6 @@
 use Rattle.std.proofs.Common.{arith}
 use Rattle.lw_foresee.proofs.WalkLemmas.{tracking-both, tracking-back}
-use Rattle.lw_foresee.proofs.walk.Walker.settled_end.Goals as goal
+use Rattle.lw_foresee.proofs.walk.Walker.foreseen_end.Goals as goal
 
 pub walk-preserved-in-Ok : goal.walk-preserved-in-Ok
 walk-preserved-in-Ok c = record {
@@ -11,6 +11,7 @@ walk-preserved-in-Ok c = record {
 
 pub walk-preserved : goal.walk-preserved
 walk-preserved c = record {
-  tracking = tracking-back c.args.nfa.now c.args.text.now c.walk.state c.walk.at _ c.in-Some.way (rw c.in-Some.ensures.items at c.walk.invariant.tracking) c.in-Back.ensures;
+  tracking = tracking-back c.args.nfa.now c.args.text.now c.walk.state c.walk.at _ c.in-Some.way
+      (rw c.in-Some.ensures.items at c.walk.invariant.tracking) c.in-Back.ensures;
   left = omega arith;
 }

@@ -1,6 +1,6 @@
 use Rattle.std.proofs.Common.{◌≤◌}
 use Rattle.lw_foresee.specs.Walk.{Tracking}
-use Rattle.lw_foresee.proofs.walk.Walker.settled_end.Given as goal
+use Rattle.lw_foresee.proofs.walk.Walker.foreseen_end.Given as goal
 
 abbrev pub invariant-walk : goal.invariant-walk
 invariant-walk l = record {
