@@ -275,7 +275,9 @@ fn stays(
     text: &str,
     found: &Option<Next>,
     walker: &mut Walker,
-) -> bool {
+) -> bool
+    ensures { IsTrue result → StaysNext keywords.now nfas.now text.now (option_map next_of found.now) }
+{
     let kind = match found {
         Some(next) => Some(next.kind),
         None => None,

@@ -44,7 +44,7 @@ returns-clause-added c front tokens end =
     let lent : c.deref.result.now ≡ all = c.deref.ensures.value in
     let are : all ≡ parts.tokens ++ drop (length parts.tokens) all =
     told_begins parts.tokens all c.as_slice.result.now c.deref.result.now first lent c.starts_with.result c.starts_with.ensures.value c.if-not-starts_with.false in
-    let tail : c.len.result ≡ length parts.tokens = c.len.ensures ∙ sym inside.tokens.ok in
+    let tail : c.len.result ≡ length parts.tokens = c.len.ensures ∙ inside.tokens.ok.0 in
     let rest : drop (length parts.tokens) all ≡ drop c.len.result all = ap (λ (n : ℕ). drop n all) (sym tail) in
     let behind : map (moved parts.from) (drop (length parts.tokens) all) ≡ map (moved parts.from) (drop c.len.result all) = ap (map (moved parts.from)) rest in
     subst (λ (p : RecutterParts). IsEndOf p front tokens → IsCut p.lexicon (front ++ more) (tokens ++ map (moved inside.from) (drop c.len.result all))
@@ -68,7 +68,7 @@ returns-clause-recut c =
     let lent : c.deref.result.now ≡ all = c.deref.ensures.value in
     let are : all ≡ parts.tokens ++ drop (length parts.tokens) all =
     told_begins parts.tokens all c.as_slice.result.now c.deref.result.now first lent c.starts_with.result c.starts_with.ensures.value c.if-not-starts_with.false in
-    let tail : c.len.result ≡ length parts.tokens = c.len.ensures ∙ sym inside.tokens.ok in
+    let tail : c.len.result ≡ length parts.tokens = c.len.ensures ∙ inside.tokens.ok.0 in
     subst (λ (p : RecutterParts). IsRecut p more (record { text = c.in_ok-text.text; tokens = c.in-Ok.tokens; tail = c.len.result; from = inside.from })) c.self.view_is
     (record {
       from = refl;
