@@ -1,15 +1,17 @@
 -- The end of a text with more behind it, and the whole text with that.
-use Rattle.std.proofs.Common.{ℕ, ◌≡◌, ◌+◌, ◌<◌, ◌≤◌, List, [], ◌∷◌, ◌++◌, All, map, length, drop, refl, sym, ap, ap₂, ◌∙◌, subst, arith, append-nil, length-append, length-drop, append_assoc}
+use Rattle.std.proofs.Common.{ℕ, ◌≡◌, ◌+◌, ◌<◌, ◌≤◌, ◌⊎◌, inl, inr, List, [], ◌∷◌, ◌++◌, Some, None, All, map, length, drop, refl, sym, ap, ap₂, ◌∙◌, subst, arith, append-nil, drop-drop, length-append, length-drop, append_assoc}
 use Rattle.std.proofs.lemmas.List.{append_cancel_left, drop-append-le, map-append}
-use Rattle.std.proofs.lemmas.List.Elements.{All-append}
+use Rattle.std.proofs.lemmas.List.Elements.{All-append, All-drop}
 use Rattle.lw_base.specs.declared.token.Token.{Token}
 use Rattle.lw_sure.specs.Parted.{IsParted, moved}
 use Rattle.lw_sure.proofs.PartedLemmas.{cut_joins, cut_parted, cut_within, whole_cut}
 use Rattle.lw_tokens.specs.Cut.{IsCut, IsCutTo}
 use Rattle.lw_tokens.specs.Keywords.{AreKeywords}
 use Rattle.lw_tokens.specs.Lexicon.{Lexicon}
+use Rattle.lw_tokens.specs.NextToken.{Next, IsNextToken}
 use Rattle.lw_tokens.proofs.OneCut.{one_cut}
-use Rattle.lw_recut.specs.Recut.{IsEndOf, IsSurePlace, RecutterParts}
+use Rattle.lw_recut.specs.declared.recut.Recut.{Recut}
+use Rattle.lw_recut.specs.Recut.{IsCrossed, IsEndOf, IsRecut, IsSurePlace, RecutterParts, added, added_behind}
 
 -- ---- tokens that are moved are told apart
 
@@ -154,3 +156,63 @@ module _ (lexicon : Lexicon) (front : List ℕ) (tokens : List Token) (place : �
         (subst (λ (n : ℕ). IsCutTo lexicon (front ++ more) n sure.first) (sym from)
         (sure.stand more (All-append (λ b. b < 256) front more small more_small)));
   }
+
+-- ---- what follows behind that
+
+module _ (parts : RecutterParts) (front more rest : List ℕ) (tokens : List Token) (end : IsEndOf parts front tokens) (small : All (λ b. b < 256) more)
+    (rest_small : All (λ b. b < 256) rest) (it : Recut) (recut : IsRecut parts more it) where
+  abbrev all_bytes : All (λ b. b < 256) (more ++ rest)
+  all_bytes = All-append (λ b. b < 256) more rest small rest_small
+
+  grouped : front ++ (more ++ rest) ≡ front ++ more ++ rest
+  grouped = sym (append_assoc front more rest)
+
+  behind_from : drop parts.from (front ++ more ++ rest) ≡ it.text ++ rest
+  behind_from =
+      ap (drop parts.from) (sym grouped) ∙ left parts front (more ++ rest) tokens end all_bytes ∙ sym (append_assoc parts.text more rest)
+      ∙ ap (λ (xs : List ℕ). xs ++ rest) (sym recut.text)
+
+  first_of_all : IsCutTo parts.lexicon (front ++ more ++ rest) parts.from end.first
+  first_of_all = subst (λ (text : List ℕ). IsCutTo parts.lexicon text parts.from end.first) grouped (first_cut parts front (more ++ rest) tokens end all_bytes)
+
+  ends : parts.from + length it.text ≡ length (front ++ more)
+  ends = ap (λ (xs : List ℕ). parts.from + length xs) recut.text ∙ lengths parts front more tokens end small
+
+  tokens_are : end.first ++ map (moved parts.from) it.tokens.items ≡ tokens ++ added_behind it
+  tokens_are =
+      ap (λ (ts : List Token). end.first ++ map (moved parts.from) ts) recut.are ∙ all_are parts front more tokens end small (added it)
+      ∙ ap (λ (n : ℕ). tokens ++ map (moved n) (added it)) (sym recut.from)
+
+  pub small_there : All (λ b. b < 256) (it.text ++ rest)
+  small_there =
+      All-append (λ b. b < 256) it.text rest
+      (subst (All (λ b. b < 256)) (ap (λ (xs : List ℕ). xs ++ more) end.text ∙ sym recut.text)
+      (All-append (λ b. b < 256) (drop parts.from front) more (All-drop (λ b. b < 256) parts.from front end.bytes) small)) rest_small
+
+  -- the cut goes on with the tokens of the end
+  pub meets : IsCutTo parts.lexicon (it.text ++ rest) (length it.text) it.tokens.items →
+      IsCutTo parts.lexicon (front ++ more ++ rest) (length (front ++ more)) (tokens ++ added_behind it)
+  meets cut =
+      subst (λ (n : ℕ). IsCutTo parts.lexicon (front ++ more ++ rest) n (tokens ++ added_behind it)) ends
+      (subst (IsCutTo parts.lexicon (front ++ more ++ rest) (parts.from + length it.text)) tokens_are
+      (cut_joins parts.lexicon (front ++ more ++ rest) parts.from end.first first_of_all (length it.text) it.tokens.items
+      (subst (λ (text : List ℕ). IsCutTo parts.lexicon text (length it.text) it.tokens.items) (sym behind_from) cut)))
+
+  -- or it does not
+  pub is_crossed : IsCrossed parts.lexicon (it.text ++ rest) (length it.text) → IsCrossed parts.lexicon (front ++ more ++ rest) (length (front ++ more))
+  is_crossed crossed = record {
+    at = parts.from + crossed.at;
+    tokens = end.first ++ map (moved parts.from) crossed.tokens;
+    cut = cut_joins parts.lexicon (front ++ more ++ rest) parts.from end.first first_of_all crossed.at crossed.tokens
+        (subst (λ (text : List ℕ). IsCutTo parts.lexicon text crossed.at crossed.tokens) (sym behind_from) crossed.cut);
+    before = omega (arith, crossed.before, ends);
+    found = crossed.found;
+    is_next = subst (λ (text : List ℕ). IsNextToken parts.lexicon text crossed.found)
+        (ap (drop crossed.at) (sym behind_from) ∙ drop-drop crossed.at parts.from (front ++ more ++ rest)) crossed.is_next;
+    crosses = by crossed.crosses;
+  }
+    where
+      by : (crossed.found ≡ None) ⊎ ((next : Next) × (crossed.found ≡ Some next) × (length it.text < crossed.at + next.bytes)) →
+          (crossed.found ≡ None) ⊎ ((next : Next) × (crossed.found ≡ Some next) × (length (front ++ more) < parts.from + crossed.at + next.bytes))
+      by (inl none) = inl none
+      by (inr (next, same, over)) = inr (next, same, omega (arith, over, ends))

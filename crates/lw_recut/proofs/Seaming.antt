@@ -1,8 +1,7 @@
 -- How the cut of a text goes on where more follows.
-use Rattle.std.proofs.Common.{ℕ, ◌≡◌, ◌+◌, ◌-◌, ◌<◌, ◌≤◌, ◌⊎◌, inl, inr, List, [], ◌∷◌, ◌++◌, Option, Some, None, All, IsCharBoundary, length, take, drop, get_or, refl, sym, ap, ◌∙◌, subst, arith, length-append}
-use Rattle.std.proofs.lemmas.List.{drop-append-le, get_or_append_left, take_all, take_more}
+use Rattle.std.proofs.Common.{ℕ, ◌≡◌, ◌+◌, ◌-◌, ◌<◌, ◌≤◌, ◌⊎◌, inl, inr, List, [], ◌∷◌, ◌++◌, Option, Some, None, IsCharBoundary, length, take, drop, get_or, sym, ap, ◌∙◌, subst, arith, length-append}
+use Rattle.std.proofs.lemmas.List.{get_or_append_left, take_all, take_more}
 use Rattle.lw_base.specs.declared.token.Token.{Token}
-use Rattle.lw_lexer.specs.TokenPlaces.{IsTokenPlace}
 use Rattle.lw_sure.specs.Front.{end_from}
 use Rattle.lw_sure.proofs.FrontLemmas.{Nth, cut_ends, end_from-push, nth}
 use Rattle.lw_tokens.specs.Cut as cut

@@ -1,8 +1,9 @@
 -- The bytes of a text are below 256, and where its first tokens end.
-use Rattle.std.proofs.Common.{ℕ, ◌≡◌, ◌+◌, ◌-◌, ◌/◌, ◌%◌, ◌<◌, ◌≤◌, ◌⊎◌, List, [], ◌∷◌, ◌++◌, ◌&&◌, Bool, true, false, cond, All, IsCharBoundary, length, take, get_or, slice_range, refl, sym, ap, ◌∙◌, subst, ⊎_elim, true≢false, arith}
+use Rattle.std.proofs.Common.{ℕ, ◌≡◌, ◌+◌, ◌-◌, ◌/◌, ◌<◌, ◌≤◌, ◌==◌, ◌&&◌, List, [], ◌∷◌, Bool, true, false, cond, All, IsCharBoundary, length, take, get_or, slice_range, refl, sym, ap, ◌∙◌, subst, ⊎_elim, true≢false, arith}
 use Rattle.std.proofs.Math.Dec.{ltb}
 use Rattle.std.proofs.Math.Utf8.{encode, encodes, next, scalar, scalars, scalar_cases}
 use Rattle.std.proofs.lemmas.Bool.{ltb-true}
+use Rattle.std.proofs.lemmas.Bool.Decides.{Decides-eqb}
 use Rattle.std.proofs.lemmas.List.{take_more}
 use Rattle.std.proofs.lemmas.List.Elements.{All-append, All-cons, All-head, All-nil, All-tail}
 use Rattle.std.specs.Str.{IsUtf8}
@@ -67,3 +68,11 @@ pub boundary_from : (front : List ℕ) (at : ℕ) (ts : List Token) → IsCharBo
 boundary_from front at [] here all = here
 boundary_from front at (t ∷ ts) here all =
     boundary_from front t.span.end ts (All-head (IsTokenPlace front) t ts all).ends (All-tail (IsTokenPlace front) t ts all)
+
+-- a list that is told to be empty
+pub emptied : (xs : List ℕ) → (r : Bool) → r ≡ (length xs == 0) → r ≡ true → xs ≡ []
+emptied xs r told is = none xs ((Decides-eqb (length xs) 0).0 (sym told ∙ is))
+  where
+    none : (ys : List ℕ) → length ys ≡ 0 → ys ≡ []
+    none [] e = refl
+    none (y ∷ ys) e = absurd (omega (arith, e))

@@ -1,4 +1,4 @@
-use Rattle.std.proofs.Common.{◌≡◌, List, map, take}
+use Rattle.std.proofs.Common.{◌≡◌, map, take}
 use Rattle.lw_tokens.specs.Lexicon.{TerminalForm}
 use Rattle.lw_recut.proofs.recutter.patterns_in.Given as goal
 

@@ -1,4 +1,4 @@
-use Rattle.std.proofs.Common.{ℕ, ◌≡◌, ◌+◌, ◌-◌, ◌<◌, ◌≤◌, ◌++◌, List, Option, All, IsCharBoundary, false, length, take, drop, get_or, refl, sym, ap, ◌∙◌, subst, arith, length-append}
+use Rattle.std.proofs.Common.{ℕ, ◌≡◌, ◌+◌, ◌-◌, ◌<◌, ◌≤◌, ◌++◌, List, All, IsCharBoundary, false, length, take, drop, get_or, refl, sym, ap, ◌∙◌, subst, arith, length-append}
 use Rattle.std.proofs.lemmas.List.{drop-append-le}
 use Rattle.std.proofs.lemmas.List.Elements.{All-drop, All-get_or}
 use Rattle.std.specs.Option.{option_map}
@@ -11,9 +11,8 @@ use Rattle.lw_terminals.specs.TokenKinds.{TokenKinds}
 use Rattle.lw_tokens.specs.Cut as cut
 use Rattle.lw_tokens.specs.Cut.{IsCut, IsCutTo}
 use Rattle.lw_tokens.specs.NextToken.{IsNextToken}
-use Rattle.lw_recut.specs.Recut.{IsCrossed}
 use Rattle.lw_recut.specs.Seams.{IsMeeting}
-use Rattle.lw_recut.specs.declared.seam.Meeting.TheVariants.{Across, Same}
+use Rattle.lw_recut.specs.declared.seam.Meeting.TheVariants.{Across}
 use Rattle.lw_recut.proofs.Seaming.{all_meet, crossed, one_more, starts_inside, starts_longer}
 use Rattle.lw_recut.proofs.recutter.seam_of.Goals as goal
 

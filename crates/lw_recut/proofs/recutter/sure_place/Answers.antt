@@ -1,11 +1,11 @@
-use Rattle.std.proofs.Common.{ℕ, ◌≡◌, ◌<◌, ◌++◌, [], List, All, IfSome, IsCharBoundary, length, take, drop, refl, sym, ap, ◌∙◌, subst}
+use Rattle.std.proofs.Common.{ℕ, ◌++◌, [], List, All, IfSome, IsCharBoundary, length, take, drop, refl, sym, subst}
 use Rattle.std.proofs.lemmas.List.{take-append-drop}
 use Rattle.std.proofs.lemmas.List.Elements.{All-take, All-weaker}
 use Rattle.std.proofs.lemmas.Str.{IsCharBoundary-start}
 use Rattle.lw_base.specs.declared.token.Token.{Token}
 use Rattle.lw_foresee.specs.Nfas.{AreNfas}
 use Rattle.lw_lexer.specs.TokenPlaces.{IsTokenPlace}
-use Rattle.lw_sure.specs.Front.{FrontStays, end_from}
+use Rattle.lw_sure.specs.Front.{FrontStays}
 use Rattle.lw_tokens.specs.Cut as cut
 use Rattle.lw_tokens.specs.Cut.{IsCutTo}
 use Rattle.lw_recut.proofs.Small.{boundary_from}

@@ -1,4 +1,4 @@
-use Rattle.std.proofs.Common.{◌≡◌, Some, ap, ◌∙◌}
+use Rattle.std.proofs.Common.{ap}
 use Rattle.std.specs.Option.{option_map}
 use Rattle.lw_lexer.specs.Place.{next_of}
 use Rattle.lw_recut.proofs.seam.compare.Goals as goal

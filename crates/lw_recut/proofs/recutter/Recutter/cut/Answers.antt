@@ -1,7 +1,5 @@
-use Rattle.std.proofs.Common.{ℕ, ◌≡◌, ◌<◌, ◌++◌, List, Bool, true, false, Err, All, drop, length, map, refl, sym, ap, ◌∙◌, subst, true≢false}
-use Rattle.std.proofs.lemmas.List.{drop-append-le}
+use Rattle.std.proofs.Common.{ℕ, ◌≡◌, ◌++◌, List, Err, drop, length, map, refl, sym, ap, ◌∙◌, subst, true≢false}
 use Rattle.lw_base.specs.declared.token.Token.{Token}
-use Rattle.lw_lexer.specs.TokenPlaces.{IsTokenPlace}
 use Rattle.lw_sure.specs.Parted.{moved}
 use Rattle.lw_tokens.specs.Cut.{IsCut}
 use Rattle.lw_recut.specs.Recut.{IsEndOf, IsRecut, RecutterParts}

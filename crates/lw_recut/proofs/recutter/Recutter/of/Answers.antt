@@ -1,12 +1,6 @@
-use Rattle.std.proofs.Common.{ℕ, ◌≡◌, ◌≤◌, ◌<◌, ◌++◌, [], List, All, IfSome, IsCharBoundary, drop, length, map, refl, sym, ap, ◌∙◌, subst, arith, append-nil, length-drop}
-use Rattle.std.proofs.lemmas.List.Elements.{All-append, All-nil}
-use Rattle.lw_base.specs.declared.token.Token.{Token}
-use Rattle.lw_sure.specs.Parted.{IsParted, moved}
-use Rattle.lw_sure.proofs.PartedLemmas.{cut_parted, cut_within}
-use Rattle.lw_tokens.specs.Cut.{IsCut, IsCutTo}
-use Rattle.lw_tokens.specs.Lexicon.{Lexicon}
-use Rattle.lw_tokens.proofs.OneCut.{one_cut}
-use Rattle.lw_recut.specs.Recut.{IsEndOf, IsSurePlace}
+use Rattle.std.proofs.Common.{ℕ, ◌≡◌, List, IsCharBoundary, drop, length, refl, sym, ap, ◌∙◌, subst, arith, length-drop}
+use Rattle.lw_tokens.specs.Cut.{IsCut}
+use Rattle.lw_recut.specs.Recut.{IsSurePlace}
 use Rattle.lw_recut.proofs.Behind.{end_made, sure_parted}
 use Rattle.lw_recut.proofs.Small.{utf8_small}
 use Rattle.lw_recut.proofs.recutter.Recutter.of.Goals as goal
