@@ -1,9 +1,13 @@
 -- All that is offered at an offset, from what is offered in place of the word that is typed there.
-use Rattle.std.proofs.Common.{◌≡◌, ◌↔◌, ◌⊎◌, inl, inr, ◌<◌, ◌≤◌, ℕ, List, [], AllPairs, Contains, length, map, slice_range, take, ap, Result, Ok, Err, IfOk, sym, subst, arith}
+use Rattle.std.proofs.Common.{◌≡◌, ◌↔◌, ◌⊎◌, inl, inr, ◌<◌, ◌≤◌, ℕ, List, [], All, AllPairs, Contains, length, map, slice_range, take, ap, Result, Ok, Err, IfOk, sym, subst, arith}
 use Rattle.lw_base.specs.declared.limits.TheConstants.{LONGEST_DOCUMENT}
 use Rattle.lw_base.specs.declared.token.Token.{Token}
+use Rattle.std.proofs.lemmas.List.Elements.{All-weaker}
+use Rattle.lw_gramread.specs.Places.{IsPlace}
 use Rattle.lw_grammar.specs.declared.grammar.Grammar.{Grammar}
 use Rattle.lw_grammar.specs.Kinds.{AreKinds, Kinds}
+use Rattle.lw_grammar.proofs.KindLemmas.{one_kinds}
+use Rattle.lw_lexer.specs.TokenPlaces.{IsTokenPlace}
 use Rattle.lw_offers.specs.Offers.{AreOffers, IsKeywordNext, IsNameNext, IsOffer, IsOffered, Offer, OfferPrecedes, keyword_offer, name_offer}
 use Rattle.lw_offers.specs.Offers as offer
 use Rattle.lw_offers.specs.Words.{BeginsBy, IsTypedAt}
@@ -12,7 +16,11 @@ use Rattle.lw_rooted.proofs.Listed.{mapped}
 use Rattle.lw_scopes.specs.Links.{AreTreesOfTexts, Texts}
 use Rattle.lw_scoping.specs.Links.{Trees}
 use Rattle.lw_tokens.specs.Cut.{IsCut}
+use Rattle.lw_recut.specs.Recut.{IsEndOf, RecutterParts}
 use Rattle.lw_tokens.specs.Lexicon.{IsLexicon, Lexicon}
+use Rattle.lw_tokens.proofs.OnePattern.{one_lexicon}
+use Rattle.lw_complete.specs.declared.typing.Typing.{Typing}
+use Rattle.lw_complete.specs.Typing.{CutsBehind, IsTypedBy, grammar_of}
 use Rattle.lw_complete.proofs.ItemsOrdered.{of_mapped}
 
 module _ (g : Grammar) (texts : Texts) (trees : Trees) (are_trees : AreTreesOfTexts g texts trees) (address text : List ℕ) (offset : ℕ) (of : Kinds)
@@ -109,3 +117,29 @@ module _ (g : Grammar) (of : Kinds) (lexicon : Lexicon) (trees : Trees) (address
   pub among : (x : Offer) → Offers x → Contains (map keyword_offer keywords) x ⊎ Contains (map name_offer names) x
   among x (offer.keyword {text} begins next) = inl (mapped keyword_offer keywords text ((keywords_are text).1 (begins, next)))
   among x (offer.name {n} begins next) = inr (mapped name_offer names n ((names_are n).1 (begins, next)))
+
+-- ---- what cuts texts that begin with the text before the word
+
+module _ {of : Kinds} {lexicon : Lexicon} (typing : Typing) (typed : IsTypedBy of lexicon typing) where
+  -- the language's own lexicon is this one
+  pub own_lexicon : (own : Lexicon) → (kinds : Kinds) × AreKinds (grammar_of typing) kinds × IsLexicon (grammar_of typing) kinds own → lexicon ≡ own
+  own_lexicon own (kinds, are, is) =
+      one_lexicon (grammar_of typing) kinds lexicon own
+      (subst (λ (k : Kinds). IsLexicon (grammar_of typing) k lexicon) (one_kinds (grammar_of typing) of kinds typed.are_kinds are) typed.is_lexicon) is
+
+  pub places_there : All (IsTokenPlace typing.front.now) typing.tokens.now
+  places_there = All-weaker (λ (t : Token). IsPlace typing.front.now t.span) (IsTokenPlace typing.front.now) (λ t place. record {
+    not_empty = place.not_empty;
+    within = place.within;
+    starts = place.starts;
+    ends = place.ends;
+  }) typing.tokens.now typed.parts
+
+  pub cut_there : (own : Lexicon) → (kinds : Kinds) × AreKinds (grammar_of typing) kinds × IsLexicon (grammar_of typing) kinds own →
+      IsCut own typing.front.now typing.tokens.now
+  cut_there own told = subst (λ (l : Lexicon). IsCut l typing.front.now typing.tokens.now) (own_lexicon own told) typed.cut
+
+  pub cuts_made : (own : Lexicon) → (kinds : Kinds) × AreKinds (grammar_of typing) kinds × IsLexicon (grammar_of typing) kinds own → (recutter : RecutterParts) →
+      recutter.lexicon ≡ own → IsEndOf recutter typing.front.now typing.tokens.now → IsCut recutter.lexicon recutter.text recutter.tokens →
+      CutsBehind lexicon typing recutter
+  cuts_made own told recutter same end cut = record { lexicon_is = same ∙ sym (own_lexicon own told); end = end; own = cut }

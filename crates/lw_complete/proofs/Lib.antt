@@ -14,6 +14,7 @@ mod JoinedTokens
 mod JudgedRead
 mod JudgedSteps
 mod JudgedTrees
+mod KeywordsCut
 mod KeywordsNext
 mod KindNumbers
 mod NamedFront
@@ -28,5 +29,5 @@ mod NamedTried
 mod NamedWritten
 mod ParserKnown
 mod ReadKinds
-mod TypedTokens
 mod TypedWords
+mod WrittenThere

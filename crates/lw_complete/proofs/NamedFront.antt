@@ -52,7 +52,7 @@ one_front g of front tokens next a b r s is was =
 
 -- by a name by which it leads somewhere in a tree of what was read before, it leads somewhere in each
 pub leads_by : (of : Kinds) (typing : Typing) (trees : Trees) (address : List ℕ) (next : ReferenceNext) (found : FrontNames) →
-    AreFrontNames of typing trees address next found → (name : List ℕ) → LeadsInFront of typing trees address next name → Contains found.names.items name
+    AreFrontNames of typing trees address next found → (name : List ℕ) → LeadsInFront of typing trees address next name → Contains found.names name
 leads_by of typing trees address next found are name (tree, r, is, target) =
     let g = grammar_of typing in
     let (same, reference) = one_front g of typing.front.now typing.tokens.now next tree are.tree r are.r is are.is_tree in

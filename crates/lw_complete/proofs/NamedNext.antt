@@ -73,6 +73,16 @@ module _ (typing : Typing) (of : Kinds) (tasks : List Task) (parser : ParserPart
       makes_reference g of parser.program known parser.recipes parsed.faultless.parser.recipes start.value is.numbers
       (subst (λ (ts : List Task). slice_get ts start.value ≡ Some (Reads is.site)) (sym parsed.program.tasks_are) is.reads) is.puts is.refers
 
+  -- whatever the place of the value gives and those behind it do
+  joined : (start : ReferenceStart) (is : IsStart start) (read : List ℕ) (after : List Mark) → EndsSome (PlacesGive g of tasks (start.value ∷ [])) read →
+      PlacesGive g of tasks start.behind after → IsSentence g of (marks_with (next_of start is) read ++ after)
+  joined start is read after (m, give, has) behind =
+      let (ks, are) = value_tokens g of tasks parsed.faultless.checks is.numbers is.reads is.puts (makes start is).1 give in
+      let read_are : ks ≡ read = sym (kinds_of_tokens ks) ∙ sym (ap kinds_of are) ∙ has in
+      subst (λ (l : List ℕ). IsSentence g of (marks_with (next_of start is) l ++ after)) read_are
+      (subst (IsSentence g of) (ap (λ (l : List Mark). is.before ++ Put is.p is.op is.c ∷ l ++ End ∷ after) are ∙ with_tokens (next_of start is) ks after)
+      (is.whole m after give behind))
+
   pub start_next : (start : ReferenceStart) → IsStart start → IsStartNext of tasks typing start
   start_next start is = record {
     next = next_of start is;
@@ -80,6 +90,7 @@ module _ (typing : Typing) (of : Kinds) (tasks : List Task) (parser : ParserPart
         sound_start typing of tasks parsed.faultless.checks (next_of start is) start is.site (start_of start is) (makes start is) is.numbers is.reads is.value is.behind
         is.whole parsed.faultless.supplied is.kinds_are;
     value = is.value;
+    joins = joined start is;
   }
 
   -- the starts that were found by these recipes, as they are lent
@@ -98,18 +109,10 @@ module _ (typing : Typing) (of : Kinds) (tasks : List Task) (parser : ParserPart
   -- whatever the place of the value gives is read as the reference of the start
   pub reads_so : (start : ReferenceStart) → IsStart start → (next : ReferenceNext) → ComesAt of typing next start → (read : List ℕ) →
       EndsSome (PlacesGive g of tasks (start.value ∷ [])) read → (after : List Mark) × IsSentence g of (marks_with next read ++ after)
-  reads_so start is next at read (m, give, has) =
-      let (ks, are) = value_tokens g of tasks parsed.faultless.checks is.numbers is.reads is.puts (makes start is).1 give in
+  reads_so start is next at read ends =
       let (n, behind) = places_give g of tasks parsed.faultless.supplied start.behind is.behind in
       let same : next_of start is ≡ next = one_start g (next_of start is) next start (start_of start is) at.is_start in
-      let read_are : ks ≡ read = sym (kinds_of_tokens ks) ∙ sym (ap kinds_of are) ∙ has in
-      let sentence : IsSentence g of (marks_with (next_of start is) ks ++ n) =
-      subst (IsSentence g of)
-      (ap (λ (l : List Mark). is.before ++ Put is.p is.op is.c ∷ l ++ End ∷ n) are ∙ with_tokens (next_of start is) ks n) (is.whole m n give behind) in (
-        n,
-        subst (λ (x : ReferenceNext). IsSentence g of (marks_with x read ++ n)) same
-            (subst (λ (l : List ℕ). IsSentence g of (marks_with (next_of start is) l ++ n)) read_are sentence),
-      )
+      (n, subst (λ (x : ReferenceNext). IsSentence g of (marks_with x read ++ n)) same (joined start is read n ends behind))
 
   -- a start from which a sentence goes on that reads these kinds as a reference and has these marks behind it
   pub record Begins (starts : List ReferenceStart) (next : ReferenceNext) (read : List ℕ) (after : List Mark) : Type 0 where

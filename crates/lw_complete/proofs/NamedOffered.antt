@@ -1,5 +1,5 @@
 -- The names that are offered are those that may come next.
-use Rattle.std.proofs.Common.{◌≡◌, ◌⊎◌, inl, inr, ◌↔◌, ◌∷◌, [], ℕ, List, Bool, true, false, IsTrue, All, Contains, map, refl, sym, subst, true≢false, arith}
+use Rattle.std.proofs.Common.{◌≡◌, ◌++◌, ◌⊎◌, inl, inr, ◌↔◌, ◌∷◌, [], ℕ, List, Bool, true, false, IsTrue, All, Contains, map, refl, sym, subst, true≢false, arith}
 use Rattle.std.proofs.lemmas.List.Elements.{All-contains}
 use Rattle.lw_begins.specs.Gives.{PlacesGive}
 use Rattle.lw_findings.specs.Finding.{Finds, OfSome}
@@ -8,11 +8,12 @@ use Rattle.lw_parse.specs.Parsers.{ParserParts}
 use Rattle.lw_program.specs.Says.{Task}
 use Rattle.lw_rooted.proofs.Listed.{mapped}
 use Rattle.lw_scoping.specs.Links.{Trees}
+use Rattle.lw_sentences.specs.Marks.{Mark}
 use Rattle.lw_sentences.specs.Sentences.{IsSentence}
 use Rattle.lw_tokens.specs.Lexicon.{Lexicon}
 use Rattle.lw_offers.specs.Offers.{IsFoundNext, IsNameNext, LeadsSomewhere}
 use Rattle.lw_offers.specs.Offers as offer
-use Rattle.lw_offers.specs.Starting.{ComesNext, IsFindable, ReferenceNext}
+use Rattle.lw_offers.specs.Starting.{ComesNext, IsFindable, ReferenceNext, marks_with}
 use Rattle.lw_offers.specs.Starting as find
 use Rattle.lw_offers.specs.Words.{BeginsBy}
 use Rattle.lw_tokens.specs.Cut.{kinds, visible}
@@ -26,7 +27,7 @@ use Rattle.lw_viable.proofs.Handed.{any_of_mapped}
 use Rattle.lw_complete.specs.declared.known.Known.{Known}
 use Rattle.lw_complete.specs.declared.typing.Typing.{Typing}
 use Rattle.lw_complete.specs.Judged.{LeadsWhole, StandsWhole}
-use Rattle.lw_complete.specs.Starts.{ComesAt, IsBlankName, IsNameFoundAt, IsKnownStart, IsOfferedBy, IsParsedBy, LeadsInFront}
+use Rattle.lw_complete.specs.Starts.{BeginsAt, ComesAt, IsBlankName, IsNameFoundAt, IsKnownStart, IsOfferedBy, IsParsedBy, IsStartOf, LeadsInFront}
 use Rattle.lw_complete.specs.Typing.{grammar_of, kinds_before}
 use Rattle.lw_complete.proofs.NamedFront.{leads_by}
 use Rattle.lw_complete.proofs.NamedNext.{IsStart, begins, reads_so}
@@ -102,7 +103,7 @@ module _ (typing : Typing) (of : Kinds) (lexicon : Lexicon) (tasks : List Task) 
         (subst (λ (xs : List ReferenceStart). Contains xs one.start.now) are_starts (mapped (λ (one : Known). one.start.now) known one among))
 
     leads_there : (name : List ℕ) (next : ReferenceNext) (one : Known) → Contains known one → ComesAt of typing next one.start.now → (judged : Bool) →
-        (IsTrue judged → Contains one.front.names.items name) →
+        (IsTrue judged → Contains one.front.names name) →
         LeadsWhole typing trees address name ⊎ (IsTrue judged × ((tree : Parts) (r : Reference) → ¬ StandsWhole typing trees address name tree r)) →
         LeadsSomewhere (grammar_of typing) of lexicon trees address typing.front.now typing.rest.now typing.tokens.now next name
     leads_there name next one among at judged leads (inl (tree, r, stands, target)) = offer.in_whole stands target
@@ -112,9 +113,10 @@ module _ (typing : Typing) (of : Kinds) (lexicon : Lexicon) (tasks : List Task) 
 
     pub offered_next : (name : List ℕ) → IsFound name → IsOffered name → IsNext name
     offered_next name found is =
-        let (next, at, read, leads) = is.reads in
+        let led = is.led in
+        let (next, at, read, leads) = led.reads in
         let (after, sentence) =
-        reads_so typing of tasks parser parsed is.one.start.now (is_start is.one is.among) next at (kinds (visible is.added)) read.gives in
+        reads_so typing of tasks parser parsed led.one.start.now (is_start led.one led.among) next at (kinds (visible is.added)) read.gives in
         record {
           found = found;
           next = next;
@@ -130,12 +132,12 @@ module _ (typing : Typing) (of : Kinds) (lexicon : Lexicon) (tasks : List Task) 
             after = after;
             sentence = sentence;
           };
-          leads = leads_there name next is.one is.among at is.judged leads is.whole;
+          leads = leads_there name next led.one led.among at led.judged leads led.whole;
         }
 
     record Judgement (name : List ℕ) (next : ReferenceNext) (one : Known) : Type 0 where
       judged : Bool
-      leads : IsTrue judged → Contains one.front.names.items name
+      leads : IsTrue judged → Contains one.front.names name
       whole : LeadsWhole typing trees address name ⊎ (IsTrue judged × ((tree : Parts) (r : Reference) → ¬ StandsWhole typing trees address name tree r))
 
     judge : (name : List ℕ) (next : ReferenceNext) (one : Known) → Contains known one → ComesAt of typing next one.start.now →
@@ -158,20 +160,38 @@ module _ (typing : Typing) (of : Kinds) (lexicon : Lexicon) (tasks : List Task) 
           begins = word;
           added = is.read.added;
           cut = is.read.cut;
+          led = record {
+            one = one;
+            among = among;
+            judged = j.judged;
+            reads = (
+              is.next,
+              there,
+              record {
+                some = is.read.some;
+                gives = subst (λ (s : ReferenceStart). EndsSome (PlacesGive (grammar_of typing) of tasks (s.value ∷ [])) (kinds (visible is.read.added))) (sym same)
+                    b.gives;
+                says = record { wanted = is.read.wanted; rule = is.read.rule; refers = is.read.refers; means = is.read.means };
+              },
+              j.leads,
+            );
+            whole = j.whole;
+          };
+        }
+
+    -- all starts are known
+    pub all_begin : (next : ReferenceNext) → ComesNext (grammar_of typing) of typing.tokens.now next → (read : List ℕ) (after : List Mark) →
+        IsSentence (grammar_of typing) of (marks_with next read ++ after) → BeginsAt of tasks typing known next read after
+    all_begin next comes read after sentence =
+        let b = begins typing of tasks parser parsed starts all next comes read after sentence in
+        let (one, among, same) =
+        unmapped (λ (one : Known). one.start.now) known b.start (subst (λ (xs : List ReferenceStart). Contains xs b.start) (sym are_starts) b.among) in
+        record {
           one = one;
           among = among;
-          judged = j.judged;
-          reads = (
-            is.next,
-            there,
-            record {
-              some = is.read.some;
-              gives = subst (λ (s : ReferenceStart). EndsSome (PlacesGive (grammar_of typing) of tasks (s.value ∷ [])) (kinds (visible is.read.added))) (sym same) b.gives;
-              says = record { wanted = is.read.wanted; rule = is.read.rule; refers = is.read.refers; means = is.read.means };
-            },
-            j.leads,
-          );
-          whole = j.whole;
+          is_start = subst (IsStartOf (grammar_of typing) next) (sym same) b.is_start;
+          gives = subst (λ (s : ReferenceStart). EndsSome (PlacesGive (grammar_of typing) of tasks (s.value ∷ [])) read) (sym same) b.gives;
+          behind = subst (λ (s : ReferenceStart). PlacesGive (grammar_of typing) of tasks s.behind after) (sym same) b.behind;
         }
 
     pub all_offered : (names : List (List ℕ)) → ((name : List ℕ) → Contains names name ↔ IsFound name) → (found : List (List ℕ)) →

@@ -15,7 +15,7 @@ use Rattle.lw_offers.specs.Words.{BeginsBy}
 use Rattle.lw_complete.specs.declared.known.Known.{Known}
 use Rattle.lw_complete.specs.declared.typing.Typing.{Typing}
 use Rattle.lw_complete.specs.Judged.{IsJudgement, LeadsWhole, StandsWhole}
-use Rattle.lw_complete.specs.Starts.{ComesAt, IsOfferedBy, IsReadAt, IsReadAsStart}
+use Rattle.lw_complete.specs.Starts.{ComesAt, IsLedBy, IsOfferedBy, IsReadAt, IsReadAsStart}
 
 -- ---- the starts one after the other
 
@@ -39,10 +39,10 @@ module _ {X : Type 0} (P : X → Type 0) (xs : List X) where
 -- ---- one start
 
 module _ (of : Kinds) (tasks : List Task) (typing : Typing) (leads : Bool) (added : List Token) (name : List ℕ) (one : Known) where
-  pub not_led : ¬ (IsTrue leads → Contains one.front.names.items name) → ¬ IsReadAt of tasks typing leads added name one
+  pub not_led : ¬ (IsTrue leads → Contains one.front.names name) → ¬ IsReadAt of tasks typing leads added name one
   not_led not (next, at, read, has) = not has
 
-  pub read_at : (r : Bool) → (IsTrue leads → Contains one.front.names.items name) → (next : ReferenceNext) × ComesAt of typing next one.start.now →
+  pub read_at : (r : Bool) → (IsTrue leads → Contains one.front.names name) → (next : ReferenceNext) × ComesAt of typing next one.start.now →
       ((next : ReferenceNext) → ComesAt of typing next one.start.now → IsTrue r ↔ IsReadAsStart of tasks typing next one.start.now added name) →
       IsTrue r ↔ IsReadAt of tasks typing leads added name one
   read_at r has (next, at) told = (
@@ -50,58 +50,56 @@ module _ (of : Kinds) (tasks : List Task) (typing : Typing) (leads : Bool) (adde
     λ (other, there, read, also). (told other there).1 read,
   )
 
--- ---- whether a name is offered
+-- ---- whether a name leads somewhere
 
-module _ (of : Kinds) (lexicon : Lexicon) (tasks : List Task) (typing : Typing) (trees : Trees) (address : List ℕ) (known : List Known) (name : List ℕ) where
-  abbrev pub IsOffered : Type 0
-  IsOffered = IsOfferedBy of lexicon tasks typing trees address known name
+module _ (of : Kinds) (tasks : List Task) (typing : Typing) (trees : Trees) (address : List ℕ) (known : List Known) (added : List Token) (name : List ℕ) where
+  abbrev pub IsLed : Type 0
+  IsLed = IsLedBy of tasks typing trees address known added name
 
-  pub not_led_whole : IsJudgement typing trees address name (Some false) → ¬ IsOffered
+  abbrev pub SomeRead : Bool → Type 0
+  SomeRead leads = (one : Known) × Contains known one × IsReadAt of tasks typing leads added name one
+
+  pub not_led_whole : IsJudgement typing trees address name (Some false) → ¬ IsLed
   not_led_whole ((tree, r, stands), leads) is = by is.whole
     where
       by : LeadsWhole typing trees address name ⊎ (IsTrue is.judged × ((tree : Parts) (r : Reference) → ¬ StandsWhole typing trees address name tree r)) → ⊥
       by (inl led) = true≢false (sym (leads.1 led))
       by (inr (judged, none)) = none tree r stands
 
-  module _ (text : List ℕ) (same : text ≡ typing.front.now ++ name) (begins : BeginsBy typing.word.now name) (added : List Token)
-      (cut : IsCut lexicon text (typing.tokens.now ++ added)) (only : (others : List Token) → IsCut lexicon text (typing.tokens.now ++ others) → others ≡ added) where
-    abbrev pub SomeRead : Bool → Type 0
-    SomeRead leads = (one : Known) × Contains known one × IsReadAt of tasks typing leads added name one
+  pub by_whole : IsJudgement typing trees address name (Some true) → (r : Bool) → IsTrue r ↔ SomeRead false → IsTrue r ↔ IsLed
+  by_whole (some, leads) r read = (
+    λ yes. let (one, among, reads) = read.0 yes in record { one = one; among = among; judged = false; reads = reads; whole = inl (leads.0 refl) },
+    λ (is : IsLed). (
+        let (next, at, read_by, has) = is.reads in
+        read.1 (is.one, is.among, (next, at, read_by, λ no. absurd (true≢false (sym no))))
+        ),
+  )
 
-    cut_there : IsCut lexicon (typing.front.now ++ name) (typing.tokens.now ++ added)
-    cut_there = subst (λ (t : List ℕ). IsCut lexicon t (typing.tokens.now ++ added)) same cut
+  pub by_front : IsJudgement typing trees address name None → (r : Bool) → IsTrue r ↔ SomeRead true → IsTrue r ↔ IsLed
+  by_front none r read = (
+    λ yes. let (one, among, reads) = read.0 yes in record { one = one; among = among; judged = true; reads = reads; whole = inr (refl, none) },
+    λ (is : IsLed). (
+        let (next, at, read_by, has) = is.reads in
+        read.1 (is.one, is.among, (next, at, read_by, λ yes. has (judged_front is.judged is.whole)))
+        ),
+  )
+    where
+      judged_front : (judged : Bool) → LeadsWhole typing trees address name ⊎ (IsTrue judged × ((tree : Parts) (r : Reference) → ¬ StandsWhole typing trees address name tree r)) →
+          IsTrue judged
+      judged_front judged (inl (tree, r, stands, target)) = absurd (none tree r stands)
+      judged_front judged (inr (is, others)) = is
 
-    added_are : (is : IsOffered) → is.added ≡ added
-    added_are is = only is.added (subst (λ (t : List ℕ). IsCut lexicon t (typing.tokens.now ++ is.added)) (sym same) is.cut)
+-- ---- whether it is offered
 
-    reads_here : (is : IsOffered) → IsReadAt of tasks typing is.judged added name is.one
-    reads_here is = subst (λ (ts : List Token). IsReadAt of tasks typing is.judged ts name is.one) (added_are is) is.reads
+module _ (of : Kinds) (lexicon : Lexicon) (tasks : List Task) (typing : Typing) (trees : Trees) (address : List ℕ) (known : List Known) (name : List ℕ) where
+  abbrev pub IsOffered : Type 0
+  IsOffered = IsOfferedBy of lexicon tasks typing trees address known name
 
-    pub by_whole : IsJudgement typing trees address name (Some true) → (r : Bool) → IsTrue r ↔ SomeRead false → IsTrue r ↔ IsOffered
-    by_whole (some, leads) r read = (
-      λ yes. (
-          let (one, among, reads) = read.0 yes in
-          record { begins = begins; added = added; cut = cut_there; one = one; among = among; judged = false; reads = reads; whole = inl (leads.0 refl) }
-          ),
-      λ (is : IsOffered). (
-          let (next, at, read_by, has) = reads_here is in
-          read.1 (is.one, is.among, (next, at, read_by, λ no. absurd (true≢false (sym no))))
-          ),
-    )
-
-    pub by_front : IsJudgement typing trees address name None → (r : Bool) → IsTrue r ↔ SomeRead true → IsTrue r ↔ IsOffered
-    by_front none r read = (
-      λ yes. (
-          let (one, among, reads) = read.0 yes in
-          record { begins = begins; added = added; cut = cut_there; one = one; among = among; judged = true; reads = reads; whole = inr (refl, none) }
-          ),
-      λ (is : IsOffered). (
-          let (next, at, read_by, has) = reads_here is in
-          read.1 (is.one, is.among, (next, at, read_by, λ yes. has (judged_front is.judged is.whole)))
-          ),
-    )
-      where
-        judged_front : (judged : Bool) → LeadsWhole typing trees address name ⊎ (IsTrue judged × ((tree : Parts) (r : Reference) → ¬ StandsWhole typing trees address name tree r)) →
-            IsTrue judged
-        judged_front judged (inl (tree, r, stands, target)) = absurd (none tree r stands)
-        judged_front judged (inr (is, others)) = is
+  -- it comes to these tokens behind the text before the word, and to no others
+  pub offered_by : BeginsBy typing.word.now name → (added : List Token) → IsCut lexicon (typing.front.now ++ name) (typing.tokens.now ++ added) →
+      ((others : List Token) → IsCut lexicon (typing.front.now ++ name) (typing.tokens.now ++ others) → others ≡ added) → (r : Bool) →
+      IsTrue r ↔ IsLedBy of tasks typing trees address known added name → IsTrue r ↔ IsOffered
+  offered_by begins added cut only r led = (
+    λ yes. record { begins = begins; added = added; cut = cut; led = led.0 yes },
+    λ (is : IsOffered). led.1 (subst (λ (ts : List Token). IsLedBy of tasks typing trees address known ts name) (only is.added is.cut) is.led),
+  )

@@ -1,7 +1,9 @@
 -- A name that is written is read as a reference, or it is not.
-use Rattle.std.proofs.Common.{◌≡◌, ◌≢◌, ◌==◌, ◌↔◌, ◌∙◌, ℕ, List, [], ◌∷◌, ◌++◌, Bool, true, false, Some, IsTrue, drop, eqb, length, slice_get, refl, sym, ap, subst, true≢false, arith}
+use Rattle.std.proofs.Common.{◌≡◌, ◌≢◌, ◌==◌, ◌↔◌, ◌∙◌, ℕ, List, [], ◌∷◌, ◌++◌, Bool, true, false, Some, IsTrue, ◌+◌, ◌<◌, ◌≤◌, All, map, take, drop, eqb, length, append_assoc, length-append, slice_get, refl, sym, ap, subst, true≢false, arith}
 use Rattle.std.specs.List.{starts_with}
 use Rattle.std.proofs.lemmas.Bool.Decides.{Decides-eqb}
+use Rattle.std.proofs.lemmas.List.{length-take-le, take-append-drop}
+use Rattle.std.proofs.lemmas.List.Elements.{All-drop}
 use Rattle.std.proofs.lemmas.Slice.Eq.{starts_is}
 use Rattle.lw_base.specs.declared.numbers.TypeId.{TypeId}
 use Rattle.lw_base.specs.declared.token.Token.{Token}
@@ -10,6 +12,9 @@ use Rattle.lw_builder.specs.Built.{ArePartsOf}
 use Rattle.lw_builder.specs.Contents.{said_in}
 use Rattle.lw_grammar.specs.declared.grammar.Grammar.{Grammar}
 use Rattle.lw_grammar.specs.Kinds.{Kinds}
+use Rattle.lw_lang.proofs.CutPlaces.{all_known, are_parts}
+use Rattle.lw_lang.proofs.ParsedLemmas.{counted}
+use Rattle.lw_lexer.specs.TokenPlaces.{IsTokenPlace}
 use Rattle.lw_marks.specs.Brackets.{joined_texts}
 use Rattle.lw_marks.specs.Follows.{LooksUp}
 use Rattle.lw_offers.specs.Starting.{ReferenceNext}
@@ -19,7 +24,9 @@ use Rattle.lw_program.specs.Says.{Task}
 use Rattle.lw_recipes.specs.declared.recipe.Content.TheVariants.{Reference}
 use Rattle.lw_recipes.specs.declared.recipe.TextForm.{TextForm}
 use Rattle.lw_recipes.specs.declared.recipe.ValueRecipe.{ValueRecipe}
+use Rattle.lw_recut.specs.Recut.{IsRecut, RecutterParts, added, added_behind}
 use Rattle.lw_rooted.proofs.Meant.{IsReadAs}
+use Rattle.lw_sure.specs.Parted.{moved}
 use Rattle.lw_tokens.specs.Cut.{IsCut, kinds, visible}
 use Rattle.lw_tokens.specs.Lexicon.{Lexicon}
 use Rattle.lw_viable.specs.Aims.{EndsSome}
@@ -28,9 +35,10 @@ use Rattle.lw_viable.specs.declared.reference_start.ReferenceStart.{ReferenceSta
 use Rattle.lw_complete.specs.declared.written.Written.{Written}
 use Rattle.lw_complete.specs.declared.typing.Typing.{Typing}
 use Rattle.lw_complete.specs.Starts.{ComesAt, IsParsedBy, IsReadAsStart, IsSaidBy, IsStartNext, IsWritten}
-use Rattle.lw_complete.specs.Typing.{grammar_of}
+use Rattle.lw_complete.specs.Typing.{CutsBehind, IsTypedBy, grammar_of}
 use Rattle.lw_complete.proofs.NamedReads.{next_read}
 use Rattle.lw_complete.proofs.NamedSays.{HasRecipe, IsReferenceBy, recipe_of, reference_by, says_name}
+use Rattle.lw_complete.proofs.WrittenThere.{joined_there, kinds_there}
 
 emptied : {X : Type 0} (xs : List X) → length xs ≡ 0 → xs ≡ []
 emptied [] is = refl
@@ -52,16 +60,32 @@ pub begun : (word name lent : List ℕ) (r : Bool) → lent ≡ name → r ≡ s
 begun word name lent r same told so =
     (drop (length word) name, subst (λ (t : List ℕ). t ≡ word ++ drop (length word) t) same ((starts_is Decides-eqb lent word r told).0 so))
 
--- what a name comes to behind the text before the word
-pub written_there : (of : Kinds) (lexicon : Lexicon) (typing : Typing) (written : Written) (added : List Token) →
-    written.text.now ≡ typing.front.now ++ written.name.now → written.added.now ≡ added → IsCut lexicon written.text.now (typing.tokens.now ++ added) →
-    ArePartsOf written.text.now added → AreOfKinds of added → IsWritten of lexicon typing written
-written_there of lexicon typing written added text same cut parts kinds = record {
-  text = text;
-  cut = subst (λ (ts : List Token). IsCut lexicon written.text.now (typing.tokens.now ++ ts)) (sym same) cut;
-  parts = subst (λ (ts : List Token). ArePartsOf written.text.now ts) (sym same) parts;
-  of_kinds = subst (λ (ts : List Token). AreOfKinds of ts) (sym same) kinds;
-}
+-- what a name comes to behind the text before the word, by what cuts it there
+pub written_there : (of : Kinds) (lexicon : Lexicon) (typing : Typing) (recutter : RecutterParts) (written : Written) → IsTypedBy of lexicon typing →
+    CutsBehind lexicon typing recutter → IsRecut recutter written.name.now written.recut.now →
+    IsCut lexicon (typing.front.now ++ written.name.now) (typing.tokens.now ++ added_behind written.recut.now) → IsWritten of lexicon typing written
+written_there of lexicon typing recutter written typed cuts recut cut =
+    let it = written.recut.now in
+    let end = cuts.end in
+    let tail : it.tail ≤ length it.tokens.items =
+    omega (arith, recut.tail, ap length recut.are, length-append recutter.tokens (added it)) in
+    record {
+      head = take recutter.from typing.front.now;
+      text = ap (λ (t : List ℕ). t ++ written.name.now) (sym (take-append-drop recutter.from typing.front.now)
+          ∙ ap (λ (t : List ℕ). take recutter.from typing.front.now ++ t) end.text)
+          ∙ append_assoc (take recutter.from typing.front.now) recutter.text written.name.now
+          ∙ ap (λ (t : List ℕ). take recutter.from typing.front.now ++ t) (sym recut.text);
+      from = length-take-le recutter.from typing.front.now end.within ∙ sym recut.from;
+      within = subst (λ (n : ℕ). n ≤ length typing.front.now) (sym recut.from) end.within;
+      cut = cut;
+      tail = tail;
+      parts = are_parts recutter.lexicon it.text (added it) (All-drop (IsTokenPlace it.text) it.tail it.tokens.items recut.places);
+      of_kinds = let P : ℕ → Type 0 = λ n. All (λ (t : Token). t.kind.0 < n) (added it) in
+          subst P (counted (grammar_of typing) of lexicon typed.is_lexicon)
+          (subst (λ (l : Lexicon). P (length l.keywords + length l.terminals)) cuts.lexicon_is
+          (All-drop (λ (t : Token). t.kind.0 < length recutter.lexicon.keywords + length recutter.lexicon.terminals) it.tail it.tokens.items
+          (all_known recutter.lexicon it.text recut.cut)));
+    }
 
 pub comes_at : (of : Kinds) (tasks : List Task) (typing : Typing) (start : ReferenceStart) (is : IsStartNext of tasks typing start) → ComesAt of typing is.next start
 comes_at of tasks typing start is = record { is_start = is.sound.is_start; comes = is.sound.comes }
@@ -78,52 +102,53 @@ module _ (typing : Typing) (of : Kinds) (tasks : List Task) (parser : ParserPart
   reference_put = record { recipe = recipe.recipe; made = recipe.made; refers = recipe.reference }
 
   module _ (lexicon : Lexicon) (written : Written) (is : IsWritten of lexicon typing written) where
-    reads : IsReadAs g written.text.now next.value
-    reads =
-        next_read g of parsed.faultless.types parsed.faultless.checks next typing.tokens.now at.comes parser.recipes.naming parsed.faultless.parser.recipes.name
-        written.text.now
+    abbrev there : List Token
+    there = added_behind written.recut.now
+
+    abbrev whole : List ℕ
+    whole = typing.front.now ++ written.name.now
+
+    reads : IsReadAs g whole next.value
+    reads = next_read g of parsed.faultless.types parsed.faultless.checks next typing.tokens.now at.comes parser.recipes.naming parsed.faultless.parser.recipes.name whole
 
     -- what the recipe says is told
     abbrev pub TellsSaid : Bool → Type 0
     TellsSaid b =
         (recipe : ValueRecipe) (want : TypeId) (form : TextForm) → slice_get parser.recipes.made start.put ≡ Some recipe → recipe.content ≡ Reference want form →
-        IsTrue b ↔ (said_in form (joined_texts written.text.now (visible written.added.now)) ≡ written.name.now)
+        IsTrue b ↔ (said_in form (joined_texts written.recut.now.text (visible (added written.recut.now))) ≡ written.name.now)
 
-    pub said : (b : Bool) → TellsSaid b → IsTrue b ↔ IsSaidBy typing next written.added.now written.name.now
+    pub said : (b : Bool) → TellsSaid b → IsTrue b ↔ IsSaidBy typing next there written.name.now
     said b told =
         let by : IsReferenceBy recipe.recipe.content = reference_by recipe.recipe.content recipe.reference in
         let tells = told recipe.recipe by.want by.form recipe.made by.is in
-        let names = says_name g written.text.now at.comes.makes reads recipe by.want by.form by.is (visible written.added.now) written.name.now in (
-          λ yes.
-              let (wanted, rule, refers, means) = names.0 (tells.0 yes) in
-              record {
-                wanted = wanted;
-                rule = rule;
-                refers = refers;
-                means = subst (λ (text : List ℕ). LooksUp g text rule (visible written.added.now) written.name.now) is.text means;
-              },
-          λ says.
-              tells.1
-              (names.1 (
-                says.wanted,
-                says.rule,
-                says.refers,
-                subst (λ (text : List ℕ). LooksUp g text says.rule (visible written.added.now) written.name.now) (sym is.text) says.means,
-              )),
+        let names = says_name g whole at.comes.makes reads recipe by.want by.form by.is (visible there) written.name.now in
+        let same : said_in by.form (joined_texts whole (visible there)) ≡ said_in by.form (joined_texts written.recut.now.text (visible (added written.recut.now))) =
+        ap (said_in by.form) (joined_there of lexicon typing written is) in (
+          λ yes. let (wanted, rule, refers, means) = names.0 (same ∙ tells.0 yes) in record { wanted = wanted; rule = rule; refers = refers; means = means },
+          λ says. tells.1 (sym same ∙ names.1 (says.wanted, says.rule, says.refers, says.means)),
         )
 
     abbrev pub IsRead : Type 0
-    IsRead = IsReadAsStart of tasks typing next start written.added.now written.name.now
+    IsRead = IsReadAsStart of tasks typing next start there written.name.now
 
-    pub none_read : written.added.now ≡ [] → ¬ IsRead
-    none_read none read = read.some none
+    pub none_read : added written.recut.now ≡ [] → ¬ IsRead
+    none_read none read = read.some (ap (map (moved written.recut.now.from)) none)
+
+    some_there : (ts : List Token) (n : ℕ) → ts ≢ [] → map (moved n) ts ≢ []
+    some_there [] n some = absurd (some refl)
+    some_there (t ∷ ts) n some none = cc
 
     pub unsaid : (b : Bool) → TellsSaid b → b ≡ false → ¬ IsRead
     unsaid b told not_so read = true≢false (sym ((said b told).1 read.says) ∙ not_so)
 
-    pub given : (b : Bool) → TellsSaid b → b ≡ true → written.added.now ≢ [] → (r : Bool) →
-        IsTrue r ↔ EndsSome (PlacesGive g of tasks (start.value ∷ [])) (kinds (visible written.added.now)) → IsTrue r ↔ IsRead
-    given b told so some r gives = (
-      λ ends. record { some = some; gives = gives.0 ends; says = (said b told).0 so },
-      λ (read : IsRead). gives.1 read.gives,
-    )
+    pub given : (b : Bool) → TellsSaid b → b ≡ true → added written.recut.now ≢ [] → (r : Bool) →
+        IsTrue r ↔ EndsSome (PlacesGive g of tasks (start.value ∷ [])) (kinds (visible (added written.recut.now))) → IsTrue r ↔ IsRead
+    given b told so some r gives =
+        let same = kinds_there of lexicon typing written is in (
+          λ ends. record {
+            some = some_there (added written.recut.now) written.recut.now.from some;
+            gives = subst (EndsSome (PlacesGive g of tasks (start.value ∷ []))) (sym same) (gives.0 ends);
+            says = (said b told).0 so;
+          },
+          λ (read : IsRead). gives.1 (subst (EndsSome (PlacesGive g of tasks (start.value ∷ []))) same read.gives),
+        )

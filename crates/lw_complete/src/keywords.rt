@@ -27,7 +27,7 @@ pub(crate) fn keywords(
     requires known { (of : Kinds) × (lexicon : Lexicon) × (tasks : List Task) × IsTypedBy of lexicon typing.now × AreReadings of tasks typing.now fronts.old
         × IsSupplied (grammar_of typing.now) of × CutsBehind lexicon typing.now recutter.old }
     ensures keywords { (of : Kinds) (lexicon : Lexicon) (tasks : List Task) → IsTypedBy of lexicon typing.now → AreReadings of tasks typing.now fronts.old →
-        IsSupplied (grammar_of typing.now) of → CutsBehind lexicon typing.now recutter.old →
+        IsSupplied (grammar_of typing.now) of →
         IfOk result (λ found. (text : List ℕ) → Contains found.items text ↔
         (BeginsBy typing.now.word.now text × IsKeywordNext (grammar_of typing.now) of lexicon typing.now.front.now typing.now.tokens.now text)) }
     ensures apart { IfOk result (λ found. AllPairs (λ one other. one ≢ other) found.items) }
@@ -68,8 +68,8 @@ fn is_next(
     kind: KindId,
     keyword: &Name,
 ) -> Result<bool, NoMemory>
-    requires known { (lexicon : Lexicon) × CutsBehind lexicon typing.now recutter.old }
-    ensures next { (of : Kinds) (lexicon : Lexicon) → IsTypedBy of lexicon typing.now → CutsBehind lexicon typing.now recutter.old →
+    requires known { (of : Kinds) × (lexicon : Lexicon) × IsTypedBy of lexicon typing.now × CutsBehind lexicon typing.now recutter.old }
+    ensures next { (of : Kinds) (lexicon : Lexicon) → IsTypedBy of lexicon typing.now →
         IfOk result (λ is. IsTrue is ↔ (BeginsBy typing.now.word.now keyword.now × IsCut lexicon (typing.now.front.now ++ keyword.now)
         (typing.now.tokens.now ++ visible_token kind.0 (length typing.now.front.now) (length keyword.now) ∷ []))) }
     ensures kept { recutter.new ≡ recutter.old }

@@ -18,7 +18,7 @@ use Rattle.lw_recut.specs.Recut.{IsCrossed, IsEndOf, IsRecut, IsSurePlace, Recut
 less : (n a b : ℕ) → n + a ≡ n + b → a ≡ b
 less n a b same = omega (arith, same)
 
-same_moved : (n : ℕ) (t u : Token) → moved n t ≡ moved n u → t ≡ u
+pub same_moved : (n : ℕ) (t u : Token) → moved n t ≡ moved n u → t ≡ u
 same_moved n t u same =
     let kind = ap (λ (x : Token). x.kind) same in
     let start : t.span.start ≡ u.span.start = less n t.span.start u.span.start (ap (λ (x : Token). x.span.start) same) in

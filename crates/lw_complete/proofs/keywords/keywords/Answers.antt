@@ -1,9 +1,9 @@
-use Rattle.std.proofs.Common.{◌≡◌, ◌↔◌, ◌+◌, ◌≤◌, Contains, length, ℕ, List, [], ◌∷◌, ◌++◌, Some, get_or, slice_get, map, sym, ap, ◌∙◌, subst, arith, true≢false}
+use Rattle.std.proofs.Common.{◌≡◌, ◌↔◌, ◌+◌, ◌≤◌, Contains, length, ℕ, List, [], ◌∷◌, ◌++◌, Some, get_or, slice_get, map, refl, sym, ap, ◌∙◌, subst, arith, true≢false}
 use Rattle.std.specs.List.Sorted.{IsStrictlyIncreasing}
 use Rattle.std.proofs.lemmas.Option.{slice_get-get_or}
 use Rattle.lw_base.specs.declared.numbers.KindId.{KindId}
 use Rattle.lw_complete.proofs.KindNumbers.{counted, keywords_are}
-use Rattle.lw_complete.specs.Typing.{grammar_of}
+use Rattle.lw_complete.specs.Typing.{CutsBehind, grammar_of}
 use Rattle.lw_sentences.specs.Sentences.{Starts}
 use Rattle.lw_viable.specs.Aims.{Sentence}
 use Rattle.lw_complete.specs.Typing.{kinds_before}
@@ -18,7 +18,7 @@ expected-requires-clause-few c = omega (arith, c.kind_count.ensures.few)
 -- src/keywords.rt:36:20
 pub expected-requires-clause-known : goal.expected-requires-clause-known
 expected-requires-clause-known c =
-    let (of, lexicon, tasks, typed, readings, supplied) = c.requires.known in (
+    let (of, lexicon, tasks, typed, readings, supplied, cuts) = c.requires.known in (
       grammar_of c.args.typing.now,
       of,
       tasks,
@@ -28,8 +28,16 @@ expected-requires-clause-known c =
       c.kind_count.ensures.count ∙ counted (grammar_of c.args.typing.now) of c.tokens-set.result.now.texts typed.are_kinds c.tokens-set.ensures.named,
     )
 
+pub is_next-requires : goal.is_next-requires
+is_next-requires c =
+    let (of, lexicon, tasks, typed, readings, supplied, cuts) = c.requires.known in
+    record { known = (of, lexicon, typed, subst (CutsBehind lexicon c.args.typing.now) (sym c.kinds.invariant.kept) cuts) }
+
 pub kinds-init : goal.kinds-init
-kinds-init c = so_far_start c.args.typing.now c.tokens-set.result.now.lexicon.keywords c.deref-kind-items.result.now c.new-found.result.items c.new-found.ensures.items
+kinds-init c = record {
+  so_far = so_far_start c.args.typing.now c.tokens-set.result.now.lexicon.keywords c.deref-kind-items.result.now c.new-found.result.items c.new-found.ensures.items;
+  kept = refl;
+}
 
 pub kinds-preserved : goal.kinds-preserved
 kinds-preserved c =
@@ -51,8 +59,8 @@ kinds-preserved c =
           let items : c.match-get.found.items ≡ found ++ keyword ∷ [] =
           ap (λ v. v.items) w.found-is ∙ w.in_ok-push.ensures.items ∙ ap (λ copy. found ++ copy ∷ []) w.in_ok-copy.ensures in
           subst (AreSoFar typing keywords expected (i + 1)) (sym items)
-          (so_far_push typing keywords expected i found keyword distinct rising c.kinds-test.true c.kinds.invariant (record { kind = kind; expects = expects; at = at })
-          (λ of lexicon typed. (w.in_ok-is_next.ensures of lexicon typed).0 w.if-branch.true))
+          (so_far_push typing keywords expected i found keyword distinct rising c.kinds-test.true c.kinds.invariant.so_far (record { kind = kind; expects = expects; at = at })
+          (λ of lexicon typed. (w.in_ok-is_next.ensures.next of lexicon typed).0 w.if-branch.true))
       | in-Some+in_ok-is_next+else-branch w ↦
           let keyword = w.in-Some.keyword.now in
           let (flag, same, inner, (inside, read), other) = w.in-Some.ensures.lookup in
@@ -60,7 +68,7 @@ kinds-preserved c =
           subst (AreSoFar typing keywords expected (i + 1)) (sym (ap (λ v. v.items) w.found-is))
           (so_far_pass typing keywords expected i found c.kinds.invariant
           (not_next typing keywords expected i kind keyword expects at
-          (λ of lexicon typed is. true≢false (sym ((w.in_ok-is_next.ensures of lexicon typed).1 is) ∙ w.if-branch.false))))
+          (λ of lexicon typed is. true≢false (sym ((w.in_ok-is_next.ensures.next of lexicon typed).1 is) ∙ w.if-branch.false))))
       | in_default w ↦
           let (flag, none, inner, past, other) = w.in_default.ensures.lookup in
           subst (AreSoFar typing keywords expected (i + 1)) (sym (ap (λ v. v.items) w.found-is))
@@ -81,4 +89,4 @@ returns-clause-keywords c of lexicon tasks typed readings supplied =
     (omega (arith, c.kinds-test.false)) (keywords_are g of others c.tokens-set.result.now.lexicon typed.are_kinds were is) told lexicon typed
 
 pub returns-clause-apart : goal.returns-clause-apart
-returns-clause-apart c = c.kinds.invariant.apart
+returns-clause-apart c = c.kinds.invariant.so_far.apart

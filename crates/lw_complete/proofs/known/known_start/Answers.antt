@@ -1,37 +1,37 @@
-use Rattle.std.proofs.Common.{◌++◌, ◌∙◌, ap}
-use Rattle.lw_complete.proofs.NamedKnown.{start_found}
-use Rattle.lw_complete.proofs.NamedWritten.{comes_at}
+use Rattle.std.proofs.Common.{sym, subst}
+use Rattle.lw_offers.specs.Starting.{ReferenceNext}
+use Rattle.lw_complete.specs.Starts.{AreBlankNames}
+use Rattle.lw_complete.proofs.NamedOnce.{one_start}
+use Rattle.lw_complete.specs.Typing.{grammar_of}
 use Rattle.lw_complete.proofs.known.known_start.Goals as goal
 
 pub front_names-requires : goal.front_names-requires
 front_names-requires c =
     let (of, lexicon, tasks, typed, parsed, is, blank) = c.requires.known in (of, lexicon, is.next, typed, is.sound.is_start, is.sound.comes)
 
-pub put_unnamed-requires : goal.put_unnamed-requires
-put_unnamed-requires c =
-    let (of, lexicon, tasks, typed, parsed, is, blank) = c.requires.known in record {
-      known = (
-        of,
-        lexicon,
-        tasks,
-        is.next,
-        typed,
-        blank,
-        parsed,
-        is.sound,
-        c.in_ok-front.ensures.stands of lexicon is.next typed is.sound.is_start is.sound.comes,
-      );
-    }
+pub names_left_blank-requires : goal.names_left_blank-requires
+names_left_blank-requires c =
+    let (of, lexicon, tasks, typed, parsed, is, blank) = c.requires.known in (
+      of,
+      lexicon,
+      tasks,
+      is.next,
+      typed,
+      blank,
+      parsed,
+      is.sound,
+      c.in_ok-front.ensures.stands of lexicon is.next typed is.sound.is_start is.sound.comes,
+    )
 
 pub returns-clause-known : goal.returns-clause-known
 returns-clause-known c of lexicon trees address typed index number =
     record { told = λ next at. c.in_ok-front.ensures.names of lexicon next trees address typed at.is_start at.comes index number }
 
-pub returns-clause-found : goal.returns-clause-found
-returns-clause-found c of lexicon tasks trees address typed parsed is blank index number =
-    start_found of lexicon tasks c.args.typing.now trees address c.args.start.now is.next (comes_at of tasks c.args.typing.now c.args.start.now is)
-    c.in_ok-front.front (c.in_ok-front.ensures.names of lexicon is.next trees address typed is.sound.is_start is.sound.comes index number)
-    c.args.found.now.items c.put_unnamed.new.found.items c.put_copies.new.names.items
-    (c.in_ok-put_unnamed.ensures of lexicon tasks is.next trees address typed blank parsed is.sound
-    (c.in_ok-front.ensures.stands of lexicon is.next typed is.sound.is_start is.sound.comes) index number)
-    (c.in_ok-put_copies.ensures ∙ ap (λ (names : _). c.put_unnamed.new.found.items ++ names) c.as_slice.ensures.value)
+pub returns-clause-blank : goal.returns-clause-blank
+returns-clause-blank c of lexicon tasks trees address typed parsed is blank index number = record {
+  told = λ next at.
+      subst (λ (x : ReferenceNext). AreBlankNames of lexicon tasks c.args.typing.now trees address x c.args.start.now c.in_ok-blank.blank)
+      (one_start (grammar_of c.args.typing.now) is.next next c.args.start.now is.sound.is_start at.is_start)
+      (c.in_ok-blank.ensures of lexicon tasks is.next trees address typed blank parsed is.sound
+      (c.in_ok-front.ensures.stands of lexicon is.next typed is.sound.is_start is.sound.comes) index number);
+}

@@ -1,10 +1,13 @@
 use Rattle.std.proofs.Common.{◌≡◌, ◌<◌, ◌≤◌, ◌+◌, List, All, length, map, take, sym, ap, ◌∙◌, subst, arith}
 use Rattle.std.proofs.lemmas.List.{take_all}
 use Rattle.std.proofs.lemmas.List.Elements.{All-contains, All-nil, All-push}
+use Rattle.lw_findings.specs.Finding.{Finds}
 use Rattle.lw_findings.proofs.Joining.{Finds-all, Finds-begin, Finds-more}
+use Rattle.lw_viable.specs.declared.reference_start.ReferenceStart.{ReferenceStart}
 use Rattle.lw_complete.specs.declared.known.Known.{Known}
-use Rattle.lw_complete.specs.Starts.{IsNameFoundAt, IsKnownStart, IsStartNext}
-use Rattle.lw_complete.proofs.NamedKnown.{starts_more}
+use Rattle.lw_complete.specs.Starts.{ComesAt, IsBlankKnown, IsNameFoundAt, IsKnownStart, IsStartNext}
+use Rattle.lw_complete.proofs.NamedKnown.{start_found, starts_more}
+use Rattle.lw_complete.proofs.NamedWritten.{comes_at}
 use Rattle.lw_complete.proofs.known.known_starts.Goals as goal
 
 pub known_start-requires : goal.known_start-requires
@@ -30,6 +33,9 @@ starts-init c = record {
   starts = ap (map (λ (one : Known). one.start.now)) c.new-known.ensures.items;
   known = λ of lexicon trees address typed index number.
       subst (All (IsKnownStart of c.args.typing.now trees address)) (sym c.new-known.ensures.items) (All-nil (IsKnownStart of c.args.typing.now trees address));
+  blank = λ of lexicon tasks trees address typed parsed all index number.
+      subst (All (IsBlankKnown of lexicon tasks c.args.typing.now trees address)) (sym c.new-known.ensures.items)
+      (All-nil (IsBlankKnown of lexicon tasks c.args.typing.now trees address));
   found = λ of lexicon tasks trees address typed parsed all index number.
       Finds-begin (IsNameFoundAt of lexicon tasks c.args.typing.now trees address) c.args.found.now.items c.args.starts.now;
 }
@@ -41,18 +47,31 @@ starts-preserved c =
     let inv = c.starts.invariant in
     let i = c.starts.start-index in
     let x = c.start-item.result in
+    let one = c.in_ok-one.one in
     let inside : i < length starts = omega arith in record {
       starts =
           subst (λ (known : List Known). map (λ (one : Known). one.start.now) known ≡ take (i + 1) starts) (sym c.in_ok-push.ensures.items)
-          (starts_more c.starts.known.items starts i _ inside c.start-item.is inv.starts);
+          (starts_more c.starts.known.items starts i one inside (c.in_ok-one.ensures.start ∙ c.start-item.is) inv.starts);
       known = λ of lexicon trees address typed index number.
           subst (All (IsKnownStart of typing trees address)) (sym c.in_ok-push.ensures.items)
-          (All-push (IsKnownStart of typing trees address) c.starts.known.items _ (inv.known of lexicon trees address typed index number)
-          (c.in_ok-front.ensures.known of lexicon trees address typed index number));
+          (All-push (IsKnownStart of typing trees address) c.starts.known.items one (inv.known of lexicon trees address typed index number)
+          (c.in_ok-one.ensures.known of lexicon trees address typed index number));
+      blank = λ of lexicon tasks trees address typed parsed all index number.
+          subst (All (IsBlankKnown of lexicon tasks typing trees address)) (sym c.in_ok-push.ensures.items)
+          (All-push (IsBlankKnown of lexicon tasks typing trees address) c.starts.known.items one
+          (inv.blank of lexicon tasks trees address typed parsed all index number)
+          (c.in_ok-one.ensures.blank of lexicon tasks trees address typed parsed
+          (All-contains (IsStartNext of tasks typing) starts x all (i, inside, sym c.start-item.is)) (c.in_ok-made.ensures of lexicon typed) index number));
       found = λ of lexicon tasks trees address typed parsed all index number.
+          let next = All-contains (IsStartNext of tasks typing) starts x all (i, inside, sym c.start-item.is) in
+          let at : ComesAt of typing next.next one.start.now =
+          subst (λ (s : ReferenceStart). ComesAt of typing next.next s) (sym c.in_ok-one.ensures.start) (comes_at of tasks typing x next) in
+          let names = (c.in_ok-one.ensures.known of lexicon trees address typed index number).told next.next at in
+          let blanks = (c.in_ok-one.ensures.blank of lexicon tasks trees address typed parsed next (c.in_ok-made.ensures of lexicon typed) index number).told next.next at in
           Finds-more (IsNameFoundAt of lexicon tasks typing trees address) starts i x inside c.start-item.is (inv.found of lexicon tasks trees address typed parsed all index number)
-          (c.in_ok-front.ensures.found of lexicon tasks trees address typed parsed
-          (All-contains (IsStartNext of tasks typing) starts x all (i, inside, sym c.start-item.is)) (c.in_ok-made.ensures of lexicon typed) index number);
+          (subst (λ (s : ReferenceStart). Finds (IsNameFoundAt of lexicon tasks typing trees address s) c.starts.found.items c.put_names.new.found.items)
+          c.in_ok-one.ensures.start
+          (start_found of lexicon tasks typing trees address one next.next at names blanks c.starts.found.items c.put_names.new.found.items c.in_ok-put_names.ensures));
     }
 
 pub returns-clause-starts : goal.returns-clause-starts
@@ -62,6 +81,10 @@ returns-clause-starts c =
 
 pub returns-clause-known : goal.returns-clause-known
 returns-clause-known c of lexicon trees address typed index number = c.starts.invariant.known of lexicon trees address typed index number
+
+pub returns-clause-blank : goal.returns-clause-blank
+returns-clause-blank c of lexicon tasks trees address typed parsed all index number =
+    c.starts.invariant.blank of lexicon tasks trees address typed parsed all index number
 
 pub returns-clause-found : goal.returns-clause-found
 returns-clause-found c of lexicon tasks trees address typed parsed all index number =

@@ -3,13 +3,12 @@ use Rattle.std.proofs.lemmas.Option.{MatchOption-at_none, MatchOption-at_some}
 use Rattle.lw_base.specs.declared.token.Token.{Token}
 use Rattle.lw_tokens.specs.Cut.{IsCut}
 use Rattle.lw_complete.specs.Starts.{IsBlank}
-use Rattle.lw_complete.proofs.NamedKnown.{none_blank}
 use Rattle.lw_complete.proofs.known.names_left_blank.Goals as goal
 
-pub put_blank_names-requires : goal.put_blank_names-requires
-put_blank_names-requires c =
+pub blank_names-requires : goal.blank_names-requires
+blank_names-requires c =
     let typing = c.args.typing.now in
-    let (of, lexicon, tasks, next, typed, blank, parsed, sound, (tree, r, front, counted)) = c.requires.known in (
+    let (of, lexicon, tasks, next, typed, blank, parsed, sound, (tree, r, front, counted)) = c.requires in (
       of,
       lexicon,
       tasks,
@@ -25,14 +24,13 @@ put_blank_names-requires c =
     )
 
 pub returns-in-None : goal.returns-in-None
-returns-in-None c of lexicon tasks next trees address typed blank parsed sound stands index number =
+returns-in-None c of lexicon tasks next trees address typed blank parsed sound stands index number after goes =
     let typing = c.args.typing.now in
-    none_blank of lexicon tasks typing trees address c.args.start.now next
-    (MatchOption-at_none ((others : List Token) → ¬ IsCut lexicon typing.rest.now others) (IsBlank typing lexicon) c.in-None.is blank) c.args.found.now.items
+    MatchOption-at_none ((others : List Token) → ¬ IsCut lexicon typing.rest.now others) (IsBlank typing lexicon) c.in-None.is blank goes.others goes.cut
 
 pub returns-in-Some : goal.returns-in-Some
 returns-in-Some c of lexicon tasks next trees address typed blank parsed sound (tree, r, front, counted) index number =
     let typing = c.args.typing.now in
-    c.put_blank_names.ensures of lexicon tasks next tree r trees address typed
+    c.blank_names.ensures of lexicon tasks next tree r trees address typed
     (MatchOption-at_some ((others : List Token) → ¬ IsCut lexicon typing.rest.now others) (IsBlank typing lexicon) c.in-Some.blank c.in-Some.is blank) parsed sound front counted
     index number

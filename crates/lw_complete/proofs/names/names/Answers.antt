@@ -12,17 +12,17 @@ use Rattle.lw_offers.specs.Words.{BeginsBy}
 use Rattle.lw_recipes.specs.Making.{AreRecipesOf}
 use Rattle.lw_viable.specs.Aims.{Sentence}
 use Rattle.lw_complete.specs.declared.known.Known.{Known}
-use Rattle.lw_complete.specs.Starts.{IsNameFoundAt, IsKnownStart, IsOfferedBy, IsStartNext}
+use Rattle.lw_complete.specs.Starts.{AreTried, IsBlankKnown, IsNameFoundAt, IsKnownStart, IsOfferedBy, IsStartNext}
 use Rattle.lw_complete.specs.Typing.{grammar_of, kinds_before}
 use Rattle.lw_complete.proofs.NamedKnown.{known_all}
 use Rattle.lw_complete.proofs.NamedNext.{all_next, all_starts}
-use Rattle.lw_complete.proofs.NamedOffered.{all_offered, names_found}
+use Rattle.lw_complete.proofs.NamedOffered.{all_begin, all_offered, names_found}
 use Rattle.lw_complete.proofs.names.names.Goals as goal
 
 pub references-requires : goal.references-requires
 references-requires c =
     let g = grammar_of c.args.typing.now in
-    let (of, lexicon, tasks, typed, readings, parsed) = c.requires.known in record {
+    let (of, lexicon, tasks, typed, readings, parsed, cuts) = c.requires.known in record {
       known = (
         g,
         of,
@@ -37,7 +37,7 @@ references-requires c =
 pub known_starts-requires-clause-known : goal.known_starts-requires-clause-known
 known_starts-requires-clause-known c =
     let g = grammar_of c.args.typing.now in
-    let (of, lexicon, tasks, typed, readings, parsed) = c.requires.known in
+    let (of, lexicon, tasks, typed, readings, parsed, cuts) = c.requires.known in
     let all =
     all_starts c.args.typing.now of tasks c.args.parser.now parsed c.recipes.result.now c.in_ok-starts.starts.items c.as_slice.result.now c.recipes.ensures
     c.as_slice.ensures.value (λ are. c.in_ok-starts.ensures.starts g of tasks Sentence (kinds_before c.args.typing.now) readings are) in
@@ -46,7 +46,7 @@ known_starts-requires-clause-known c =
 pub offered-requires : goal.offered-requires
 offered-requires c =
     let g = grammar_of c.args.typing.now in
-    let (of, lexicon, tasks, typed, readings, parsed) = c.requires.known in
+    let (of, lexicon, tasks, typed, readings, parsed, cuts) = c.requires.known in
     let all =
     all_starts c.args.typing.now of tasks c.args.parser.now parsed c.recipes.result.now c.in_ok-starts.starts.items c.as_slice.result.now c.recipes.ensures
     c.as_slice.ensures.value (λ are. c.in_ok-starts.ensures.starts g of tasks Sentence (kinds_before c.args.typing.now) readings are) in record {
@@ -56,6 +56,7 @@ offered-requires c =
         tasks,
         typed,
         parsed,
+        cuts,
         subst (All (λ (one : Known). IsStartNext of tasks c.args.typing.now one.start.now)) (sym c.as_slice-2.ensures.value)
             (known_all (IsStartNext of tasks c.args.typing.now) c.in_ok-known.known.items c.as_slice.result.now c.in_ok-known.ensures.starts
             (all_next c.args.typing.now of tasks c.args.parser.now parsed c.as_slice.result.now all)),
@@ -63,7 +64,7 @@ offered-requires c =
     }
 
 pub returns-clause-names : goal.returns-clause-names
-returns-clause-names c of lexicon tasks trees address typed readings parsed one_way index number =
+returns-clause-names c of lexicon tasks trees address typed cuts readings parsed one_way index number =
     let typing = c.args.typing.now in
     let parser = c.args.parser.now in
     let g = grammar_of typing in
@@ -77,6 +78,14 @@ returns-clause-names c of lexicon tasks trees address typed readings parsed one_
     ap (map (λ (one : Known). one.start.now)) c.as_slice-2.ensures.value ∙ c.in_ok-known.ensures.starts in
     let are_known : All (IsKnownStart of typing trees address) known =
     subst (All (IsKnownStart of typing trees address)) (sym c.as_slice-2.ensures.value) (c.in_ok-known.ensures.known of lexicon trees address typed index number) in
+    let are_blank : All (IsBlankKnown of lexicon tasks typing trees address) known =
+    subst (All (IsBlankKnown of lexicon tasks typing trees address)) (sym c.as_slice-2.ensures.value)
+    (c.in_ok-known.ensures.blank of lexicon tasks trees address typed parsed next index number) in
+    let tried : AreTried of lexicon tasks typing trees address known = record {
+      next = known_all (IsStartNext of tasks typing) known starts are_starts next;
+      blank = are_blank;
+      all = all_begin typing of lexicon tasks parser parsed starts all trees address known are_starts are_known;
+    } in
     let gathered = c.known_starts.new.found.items in
     let finds : Finds (OfSome (IsNameFoundAt of lexicon tasks typing trees address) starts) [] gathered =
     subst (λ (old : List (List ℕ)). Finds (OfSome (IsNameFoundAt of lexicon tasks typing trees address) starts) old gathered) c.new-found.ensures.items
@@ -94,7 +103,7 @@ returns-clause-names c of lexicon tasks trees address typed readings parsed one_
     (λ found exact.
     all_offered typing of lexicon tasks parser parsed starts all trees address known are_starts are_known c.dedup.new.self.items
     (λ name. (λ has. (found_are name).0 ((same name).0 has), λ is. (same name).1 ((found_are name).1 is))) found.items exact)
-    (c.offered.ensures.offered of lexicon tasks trees address typed parsed (known_all (IsStartNext of tasks typing) known starts are_starts next) one_way index number)
+    (c.offered.ensures.offered of lexicon tasks trees address typed parsed cuts tried one_way index number)
 
 pub returns-clause-ordered : goal.returns-clause-ordered
 returns-clause-ordered c =

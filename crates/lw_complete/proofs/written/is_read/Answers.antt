@@ -1,5 +1,6 @@
 use Rattle.std.proofs.Common.{◌<◌, ◌≤◌, true≢false, length, refl, sym, ◌∙◌, arith}
 use Rattle.std.proofs.lemmas.List.Elements.{All-contains}
+use Rattle.lw_recut.specs.Recut.{added_behind}
 use Rattle.lw_complete.specs.declared.known.Known.{Known}
 use Rattle.lw_complete.specs.Starts.{IsReadAt, IsStartNext}
 use Rattle.lw_complete.proofs.NamedTried.{none_all, none_first, none_more}
@@ -24,7 +25,7 @@ is_read_at-requires c =
 
 pub known-init : goal.known-init
 known-init c of lexicon tasks written parsed all =
-    none_first (IsReadAt of tasks c.args.typing.now c.args.leads c.args.written.now.added.now c.args.written.now.name.now) c.args.known.now
+    none_first (IsReadAt of tasks c.args.typing.now c.args.leads (added_behind c.args.written.now.recut.now) c.args.written.now.name.now) c.args.known.now
 
 pub known-preserved : goal.known-preserved
 known-preserved c of lexicon tasks written parsed all =
@@ -33,7 +34,7 @@ known-preserved c of lexicon tasks written parsed all =
     let inside : i < length known = omega arith in
     let next =
     All-contains (λ (one : Known). IsStartNext of tasks c.args.typing.now one.start.now) known c.one-item.result all (i, inside, sym c.one-item.is) in
-    none_more (IsReadAt of tasks c.args.typing.now c.args.leads c.args.written.now.added.now c.args.written.now.name.now) known i c.one-item.result inside c.one-item.is
+    none_more (IsReadAt of tasks c.args.typing.now c.args.leads (added_behind c.args.written.now.recut.now) c.args.written.now.name.now) known i c.one-item.result inside c.one-item.is
     (λ is. true≢false (sym ((c.in_ok-is_read_at.ensures of lexicon tasks written parsed next).1 is) ∙ c.if-branch.false))
     (c.known.invariant of lexicon tasks written parsed all)
 
@@ -52,5 +53,5 @@ pub returns : goal.returns
 returns c of lexicon tasks written parsed all =
     let past : length c.args.known.now ≤ c.known.one-index = omega arith in
     never
-    (none_all (IsReadAt of tasks c.args.typing.now c.args.leads c.args.written.now.added.now c.args.written.now.name.now) c.args.known.now c.known.one-index past
+    (none_all (IsReadAt of tasks c.args.typing.now c.args.leads (added_behind c.args.written.now.recut.now) c.args.written.now.name.now) c.args.known.now c.known.one-index past
     (c.known.invariant of lexicon tasks written parsed all))

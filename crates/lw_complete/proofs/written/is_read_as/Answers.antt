@@ -4,6 +4,7 @@ use Rattle.lw_begins.specs.Gives.{PlacesGive}
 use Rattle.lw_offers.specs.Starting.{ReferenceNext}
 use Rattle.lw_tokens.specs.Cut.{kinds, visible}
 use Rattle.lw_viable.specs.Aims.{EndsSome}
+use Rattle.lw_recut.specs.Recut.{added_behind}
 use Rattle.lw_complete.specs.Starts.{ComesAt, IsReadAsStart}
 use Rattle.lw_complete.specs.Typing.{grammar_of}
 use Rattle.lw_complete.proofs.NamedWritten.{comes_at, given, is_empty_there, never, none_read, not_empty_there, reference_put, unsaid}
@@ -26,7 +27,7 @@ pub returns-then-is_empty : goal.returns-then-is_empty
 returns-then-is_empty c of lexicon tasks written parsed is next at =
     never
     (none_read c.args.typing.now of tasks c.args.parser.now parsed c.args.start.now next at lexicon c.args.written.now written
-    (is_empty_there c.args.written.now.added.now c.is_empty.result c.is_empty.ensures c.if-is_empty.true))
+    (is_empty_there (added_behind c.args.written.now.recut.now) c.is_empty.result c.is_empty.ensures c.if-is_empty.true))
 
 pub returns-then-not-branch : goal.returns-then-not-branch
 returns-then-not-branch c of lexicon tasks written parsed is next at =
@@ -38,7 +39,7 @@ pub returns : goal.returns
 returns c of lexicon tasks written parsed is =
     let typing = c.args.typing.now in
     let start = c.args.start.now in
-    let added = c.args.written.now.added.now in
+    let added = added_behind c.args.written.now.recut.now in
     IfOk-weaker c.gives.result (λ r. IsTrue r ↔ EndsSome (PlacesGive (grammar_of typing) of tasks (start.value ∷ [])) (kinds (visible added)))
     (λ r. (next : ReferenceNext) → ComesAt of typing next start → IsTrue r ↔ IsReadAsStart of tasks typing next start added c.args.written.now.name.now)
     (λ r told next at.

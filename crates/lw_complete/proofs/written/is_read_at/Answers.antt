@@ -1,6 +1,7 @@
 use Rattle.std.proofs.Common.{◌∙◌, ◌↔◌, IsTrue, true≢false, sym}
 use Rattle.std.proofs.lemmas.Result.{IfOk-weaker}
 use Rattle.lw_offers.specs.Starting.{ReferenceNext}
+use Rattle.lw_recut.specs.Recut.{added_behind}
 use Rattle.lw_complete.specs.Starts.{ComesAt, IsReadAt, IsReadAsStart}
 use Rattle.lw_complete.proofs.NamedTried.{not_led, read_at}
 use Rattle.lw_complete.proofs.NamedWritten.{comes_at, never}
@@ -11,13 +12,13 @@ is_read_as-requires c = record { known = c.requires.known }
 
 pub returns-then-not-may_lead : goal.returns-then-not-may_lead
 returns-then-not-may_lead c of lexicon tasks written parsed next =
-    never (not_led of tasks c.args.typing.now c.args.leads c.args.written.now.added.now c.args.written.now.name.now c.args.one.now
+    never (not_led of tasks c.args.typing.now c.args.leads (added_behind c.args.written.now.recut.now) c.args.written.now.name.now c.args.one.now
     (λ has. true≢false (sym (c.may_lead.ensures.1 has) ∙ c.if-not-may_lead.true)))
 
 pub returns : goal.returns
 returns c of lexicon tasks written parsed is =
     let one = c.args.one.now in
-    let added = c.args.written.now.added.now in
+    let added = added_behind c.args.written.now.recut.now in
     let name = c.args.written.now.name.now in
     IfOk-weaker c.is_read_as.result
     (λ r. (next : ReferenceNext) → ComesAt of c.args.typing.now next one.start.now → IsTrue r ↔ IsReadAsStart of tasks c.args.typing.now next one.start.now added name)
