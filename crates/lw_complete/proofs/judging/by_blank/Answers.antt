@@ -1,4 +1,4 @@
-use Rattle.std.proofs.Common.{◌↔◌, ◌≡◌, ◌∙◌, ◌<◌, ◌≤◌, ◌∷◌, [], IsTrue, List, length, sym, subst, true≢false, arith}
+use Rattle.std.proofs.Common.{◌↔◌, ◌∙◌, ◌<◌, ◌≤◌, ◌∷◌, [], IsTrue, List, length, sym, subst, true≢false, arith}
 use Rattle.std.proofs.lemmas.List.Elements.{All-contains}
 use Rattle.lw_base.specs.declared.token.Token.{Token}
 use Rattle.lw_begins.specs.Gives.{PlacesGive}
@@ -84,8 +84,8 @@ known-preserved c of lexicon tasks written parsed all =
           none_more (MayRead of tasks typing c.args.written.now) known i one inside c.one-item.is (none_blank of tasks typing c.args.written.now one w.in_default.is) before
     ]
 
-pub returns-in-Some : goal.returns-in-Some
-returns-in-Some c of lexicon tasks trees address typed written parsed meets tried one_way =
+pub returns-then-branch : goal.returns-then-branch
+returns-then-branch c of lexicon tasks trees address typed written parsed meets tried one_way =
     let typing = c.args.typing.now in
     let known = c.args.known.now in
     let i = c.known.one-index in

@@ -1,4 +1,4 @@
-use Rattle.std.proofs.Common.{◌≡◌, ◌∙◌, ◌+◌, ◌≤◌, ◌<◌, ◌++◌, ℕ, List, All, Ok, length, sym, ap, subst, length-append, arith}
+use Rattle.std.proofs.Common.{◌∙◌, ◌+◌, ◌≤◌, ◌++◌, ℕ, List, Ok, length, sym, ap, subst, length-append, arith}
 use Rattle.lw_base.specs.declared.limits.TheConstants.{LONGEST_DOCUMENT}
 use Rattle.lw_recut.specs.Recut.{IsCrossed, added_behind}
 use Rattle.lw_recut.proofs.Small.{utf8_small}

@@ -1,4 +1,4 @@
-use Rattle.std.proofs.Common.{◌↔◌, ◌≡◌, ◌≤◌, ◌∙◌, ◌-◌, IfOk, IsTrue, List, Some, length, slice_get, sym, ap, subst, arith}
+use Rattle.std.proofs.Common.{◌↔◌, ◌≡◌, ◌∙◌, ◌-◌, IfOk, IsTrue, List, Some, length, slice_get, sym, ap, subst, arith}
 use Rattle.lw_base.specs.declared.token.Token.{Token}
 use Rattle.lw_recut.specs.Recut.{added}
 use Rattle.lw_tokens.specs.Cut.{visible}

@@ -1,4 +1,4 @@
-use Rattle.std.proofs.Common.{Some, subst}
+use Rattle.std.proofs.Common.{subst}
 use Rattle.lw_complete.specs.Starts.{AreBlankNames}
 use Rattle.lw_complete.proofs.JudgedBlank.{told_so}
 use Rattle.lw_complete.proofs.NamedWritten.{comes_at, reference_put, said}
