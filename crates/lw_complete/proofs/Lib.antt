@@ -11,6 +11,7 @@ mod FrontStarts
 mod FrontTrees
 mod ItemsOrdered
 mod JoinedTokens
+mod JudgedBlank
 mod JudgedRead
 mod JudgedSteps
 mod JudgedTrees
@@ -27,6 +28,7 @@ mod NamedReads
 mod NamedSays
 mod NamedTried
 mod NamedWritten
+mod NoneSoFar
 mod ParserKnown
 mod ReadKinds
 mod TypedWords

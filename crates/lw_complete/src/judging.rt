@@ -27,7 +27,7 @@ use crate::known::Known;
 use crate::sorted::SortedNames;
 use crate::typing::Typing;
 use crate::written::{Written, gives, says, shown};
-use lw_base::{LONGEST_DOCUMENT, Name, NoMemory};
+use lw_base::{LONGEST_DOCUMENT, Name, NoMemory, Token};
 use lw_lang::Parsed;
 use lw_link::finds;
 use lw_parse::Parser;
@@ -57,7 +57,7 @@ pub(crate) fn judge(
         IfOk result (IsJudgement typing.now trees address written.now.name.now) }
     ensures same { recutter.new ≡ recutter.old }
 {
-    if LONGEST_DOCUMENT < length_with(typing, written.name) {
+    if LONGEST_DOCUMENT < length_with(typing, written.name.bytes()) {
         return Ok(None);
     }
     match recutter.seam(alloc, written.recut, typing.rest.text())? {
@@ -68,14 +68,12 @@ pub(crate) fn judge(
 }
 
 /// How long the text with the name is.
-fn length_with(typing: &Typing<'_>, name: &Name) -> usize
+fn length_with(typing: &Typing<'_>, name: &[u8]) -> usize
     ensures { length typing.now.front.now + length name.now + length typing.now.rest.now ≤ LONGEST_DOCUMENT ↔ result ≤ LONGEST_DOCUMENT }
 {
     let front = typing.front.bytes().len();
     let rest = typing.rest.bytes().len();
-    front
-        .saturating_add(name.bytes().len())
-        .saturating_add(rest)
+    front.saturating_add(name.len()).saturating_add(rest)
 }
 
 /// The same where the tokens of the text with the name begin with those up to the name's end.
@@ -100,7 +98,8 @@ fn judge_apart(
     }
 }
 
-/// What is told by the names of blank trees. None where they do not tell it: where a start reads these tokens as another name.
+/// What is told by the names of blank trees. None where they do not tell it: where a start reads these tokens as another name, or the name is
+/// empty.
 fn by_blank(
     alloc: Global,
     typing: &Typing<'_>,
@@ -115,10 +114,13 @@ fn by_blank(
         AreTried of lexicon tasks typing.now trees address known.now → IsReadOneWay (grammar_of typing.now) →
         IfOk result (λ told. IfSome told (IsJudgement typing.now trees address written.now.name.now)) }
 {
-    let added = written.recut.added();
+    if written.name.bytes().is_empty() {
+        return Ok(None);
+    }
     if !takes_all(alloc, written)? {
         return Ok(Some(None));
     }
+    let added = written.recut.added();
     'known: for one in known {
         if let Some(names) = &one.blank {
             if gives(alloc, parser, one.start, added)? {
@@ -163,11 +165,16 @@ fn takes_all(alloc: Global, written: &Written<'_>) -> Result<bool, NoMemory>
     let end = written.recut.text.bytes().len();
     let start = end - written.name.bytes().len();
     match (tokens.first(), tokens.last()) {
-        (Some(first), Some(last)) => {
-            Ok(first.span.start as usize == start && last.span.end as usize == end)
-        }
+        (Some(first), Some(last)) => Ok(stand_between(first, last, start, end)),
         _ => Ok(false),
     }
+}
+
+/// Whether the one token begins at the one place, and the other ends at the other.
+fn stand_between(first: &Token, last: &Token, start: usize, end: usize) -> bool
+    ensures { IsTrue result ↔ ((first.now.span.start ≡ start) × (last.now.span.end ≡ end)) }
+{
+    first.span.start as usize == start && last.span.end as usize == end
 }
 
 /// Whether the reference that the name is in the text with it leads somewhere. None where that text has no tree with such a reference.
