@@ -26,6 +26,7 @@ mod NamedReads
 mod NamedSays
 mod NamedTried
 mod NamedWritten
+mod NamesFound
 mod ParserKnown
 mod ReadKinds
 mod TypedTokens
