@@ -87,25 +87,25 @@ module _ {typing : Typing} {parser : ParserParts} {start : ReferenceStart} {befo
     pub of_kinds : AreOfKinds ready.of ts
     of_kinds = subst (AreOfKinds ready.of) (sym tokens) (ready.is_blank.of_kinds ready.of ready.typed.are_kinds)
 
-    module _ (fronts : FrontsParts) (read : (g : Grammar) (of : Kinds) (tasks : List Task) → IsProgramWith g of tasks parser.program parser.begins →
-        All (HasTask g of tasks) places → AreOfKinds of ts → HoldReadings g of tasks (Places places) (kinds (visible ts)) fronts) where
+    all_after : (sentences : List (List TreeMark)) →
+        ((n : List Mark) → (PlacesGive g ready.of ready.tasks places n × (kinds_of n ≡ kinds (visible ts))) ↔ Any (λ (marks : List TreeMark). AreMeant g marks n) sentences) →
+        (n : List Mark) → IsAfter n ↔ Any (λ (marks : List TreeMark). AreMeant g marks n) sentences
+    all_after sentences all =
+        subst (λ (us : List Token). (n : List Mark) → (PlacesGive g ready.of ready.tasks start.behind n × (kinds_of n ≡ kinds (visible us))) ↔
+        Any (λ (marks : List TreeMark). AreMeant g marks n) sentences) tokens
+        (subst (λ (ps : List ℕ). (n : List Mark) → (PlacesGive g ready.of ready.tasks ps n × (kinds_of n ≡ kinds (visible ts))) ↔
+        Any (λ (marks : List TreeMark). AreMeant g marks n) sentences) same all)
+
+    module _ (fronts : FrontsParts) (read : (grammar : Grammar) (of : Kinds) (tasks : List Task) → IsProgramWith grammar of tasks parser.program parser.begins →
+        All (HasTask grammar of tasks) places → AreOfKinds of ts → HoldReadings grammar of tasks (Places places) (kinds (visible ts)) fronts) where
       pub hold : HoldReadings g ready.of ready.tasks (Places places) (kinds (visible ts)) fronts
       hold = read g ready.of ready.tasks ready.parsed.program placed of_kinds
 
-      all_after : (sentences : List (List TreeMark)) →
-          ((n : List Mark) → (PlacesGive g ready.of ready.tasks places n × (kinds_of n ≡ kinds (visible ts))) ↔ Any (λ (marks : List TreeMark). AreMeant g marks n) sentences) →
-          (n : List Mark) → IsAfter n ↔ Any (λ (marks : List TreeMark). AreMeant g marks n) sentences
-      all_after sentences all =
-          subst (λ (us : List Token). (n : List Mark) → (PlacesGive g ready.of ready.tasks start.behind n × (kinds_of n ≡ kinds (visible us))) ↔
-          Any (λ (marks : List TreeMark). AreMeant g marks n) sentences) tokens
-          (subst (λ (ps : List ℕ). (n : List Mark) → (PlacesGive g ready.of ready.tasks ps n × (kinds_of n ≡ kinds (visible ts))) ↔
-          Any (λ (marks : List TreeMark). AreMeant g marks n) sentences) same all)
-
       pub are_behind : (sentences : List (List TreeMark)) →
-          ((g : Grammar) (of : Kinds) (tasks : List Task) (aim : Aim) (ks : List ℕ) → HoldReadings g of tasks aim ks fronts →
-          (m : List Mark) → (Fulfils g of tasks aim m × (kinds_of m ≡ ks)) ↔ Any (λ (marks : List TreeMark). AreMeant g marks m) sentences) →
-          ((g : Grammar) (of : Kinds) (tasks : List Task) (aim : Aim) (ks : List ℕ) → HoldReadings g of tasks aim ks fronts →
-          All (λ (marks : List TreeMark). (m : List Mark) × AreMeant g marks m) sentences) → AreBehind ready sentences
+          ((grammar : Grammar) (of : Kinds) (tasks : List Task) (aim : Aim) (ks : List ℕ) → HoldReadings grammar of tasks aim ks fronts →
+          (m : List Mark) → (Fulfils grammar of tasks aim m × (kinds_of m ≡ ks)) ↔ Any (λ (marks : List TreeMark). AreMeant grammar marks m) sentences) →
+          ((grammar : Grammar) (of : Kinds) (tasks : List Task) (aim : Aim) (ks : List ℕ) → HoldReadings grammar of tasks aim ks fronts →
+          All (λ (marks : List TreeMark). (m : List Mark) × AreMeant grammar marks m) sentences) → AreBehind ready sentences
       are_behind sentences all each = record {
         all = all_after sentences (all g ready.of ready.tasks (Places places) (kinds (visible ts)) hold);
         each = each g ready.of ready.tasks (Places places) (kinds (visible ts)) hold;
