@@ -10,10 +10,10 @@ pub names_of_blank-requires : goal.names_of_blank-requires
 names_of_blank-requires c =
     let (parser, ready, behind) = c.requires in
     let are =
-    c.as_slice-2.ensures.value ∙ c.in_ok-marks.ensures
+    c.as_slice-in-sentences.ensures.value ∙ c.in_ok-marks.ensures
     ∙ ap (λ (ms : List TreeMark). c.args.start.now.marks ++ (mark.Put c.args.start.now.put ∷ mark.End ∷ ms)) c.as_slice.ensures in
     let (m, means, grows) =
-    one_grows ready c.args.sentences.now behind c.sentences.after-index c.after-item.result c.sentences-test.true c.after-item.is c.as_slice-2.result.now are in
+    one_grows ready c.args.sentences.now behind c.sentences.after-index c.after-item.result c.sentences-test.true c.after-item.is c.as_slice-in-sentences.result.now are in
     (ready.lexicon, m, ready.is_blank, means, grows)
 
 pub sentences-init : goal.sentences-init
@@ -28,12 +28,12 @@ sentences-preserved c parser ready trees address behind index number =
     let x = c.after-item.result in
     let old = c.sentences.names.items in
     let are =
-    c.as_slice-2.ensures.value ∙ c.in_ok-marks.ensures
+    c.as_slice-in-sentences.ensures.value ∙ c.in_ok-marks.ensures
     ∙ ap (λ (ms : List TreeMark). c.args.start.now.marks ++ (mark.Put c.args.start.now.put ∷ mark.End ∷ ms)) c.as_slice.ensures in
     Finds-more (IsFoundBy ready trees address) sentences i x c.sentences-test.true c.after-item.is
     (c.sentences.invariant parser ready trees address behind index number)
     (subst (Finds (IsFoundBy ready trees address x) old) (sym c.in_ok-put_all.ensures)
-    (found_more ready sentences behind i x c.sentences-test.true c.after-item.is c.as_slice-2.result.now are trees address old c.in_ok-found.found.items
+    (found_more ready sentences behind i x c.sentences-test.true c.after-item.is c.as_slice-in-sentences.result.now are trees address old c.in_ok-found.found.items
     (λ m means grows. c.in_ok-found.ensures m trees address means grows index number)))
 
 pub returns : goal.returns
