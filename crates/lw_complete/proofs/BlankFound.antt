@@ -1,14 +1,16 @@
--- The names that are found in blank trees of one start.
-use Rattle.std.proofs.Common.{◌≡◌, ◌↔◌, ◌⊎◌, inl, inr, ℕ, List, [], ◌∷◌, ◌++◌, Any, Contains, map, length, slice_get, sym, ap, subst, ◌∙◌}
-use Rattle.std.proofs.lemmas.List.Elements.{Contains-append_cases, Contains-append_left, Contains-append_right}
+-- The names that are found in blank trees of one start, and what is known where these are made.
+use Rattle.std.proofs.Common.{◌≡◌, ◌≢◌, ◌↔◌, ◌<◌, ◌⊎◌, inl, inr, ℕ, List, [], ◌∷◌, ◌++◌, Option, Some, All, Any, Contains, get_or, map, length, slice_get, refl, sym, ap, subst, ◌∙◌, arith}
+use Rattle.std.proofs.lemmas.List.Elements.{All-contains, All-head, Contains-append_cases, Contains-append_left, Contains-append_right}
+use Rattle.lw_base.specs.declared.numbers.PropId.{PropId}
 use Rattle.lw_base.specs.declared.token.Token.{Token}
 use Rattle.lw_begins.specs.Gives.{PlacesGive}
 use Rattle.lw_findings.specs.Finding.{Finds, OfSome}
 use Rattle.lw_grammar.specs.declared.grammar.Grammar.{Grammar}
 use Rattle.lw_grammar.specs.Kinds.{Kinds}
-use Rattle.lw_marks.specs.Trees.{IsTree}
-use Rattle.lw_offers.specs.Starting.{IsFrontTree, ReferenceNext, marks_with, moved_by}
-use Rattle.lw_parse.specs.Parsers.{ParserParts}
+use Rattle.lw_marks.specs.Numbers.{IsNamingProperty}
+use Rattle.lw_marks.specs.Trees.{IsTree, parts_of_tree}
+use Rattle.lw_offers.specs.Starting.{IsBlankTree, IsFrontTree, ReferenceNext, marks_with, moved_by}
+use Rattle.lw_parse.specs.Parsers.{AreOfKinds, ParserParts}
 use Rattle.lw_program.specs.Says.{Task}
 use Rattle.lw_recipes.specs.declared.mark.TreeMark.{TreeMark}
 use Rattle.lw_recipes.specs.declared.mark.TreeMark.TheVariants as numbered
@@ -23,31 +25,49 @@ use Rattle.lw_tokens.specs.Cut.{kinds, visible}
 use Rattle.lw_tokens.specs.Lexicon.{Lexicon}
 use Rattle.lw_tree.specs.declared.node.Reference.{Reference}
 use Rattle.lw_tree.specs.Parts.{Parts}
+use Rattle.lw_viable.specs.Aims.{Aim, Fulfils, Places}
+use Rattle.lw_viable.specs.Fronts.{FrontsParts, HoldReadings, IsProgramWith}
+use Rattle.lw_viable.specs.Readings.{HasTask}
 use Rattle.lw_viable.specs.declared.reference_start.ReferenceStart.{ReferenceStart}
 use Rattle.lw_viable.proofs.Meaning.{meant_joined}
+use Rattle.lw_alike.proofs.Differing.{tables_of}
 use Rattle.lw_alike.proofs.Placed.{front_counts, one_place}
 use Rattle.lw_complete.specs.declared.starting.Blank.{Blank}
 use Rattle.lw_complete.specs.declared.typing.Typing.{Typing}
-use Rattle.lw_complete.specs.Starts.{GrowsReference, IsBlank, IsBlankName, IsParsedBy, IsSoundStart, LeadsInBlank}
+use Rattle.lw_complete.specs.Starts.{AreBehind, GoesOnBehind, GrowsReference, HasBlankTree, IsBlank, IsBlankName, IsParsedBy, IsReady, IsSoundStart, IsTreeOfBlank, LeadsInBlank}
 use Rattle.lw_complete.specs.Typing.{IsTypedBy, grammar_of}
 use Rattle.lw_complete.proofs.BlankTrees.{blank_grows, blank_reference, marks_are, stand_in_row}
 
--- what is known where the blank trees of a start are made
-pub record IsReady (typing : Typing) (parser : ParserParts) (start : ReferenceStart) (before : ℕ) (blank : Blank) : Type 0 where
-  pub of : Kinds
-  pub lexicon : Lexicon
-  pub tasks : List Task
-  pub next : ReferenceNext
-  pub front_tree : Parts
-  pub r : Reference
-  pub typed : IsTypedBy of lexicon typing
-  pub is_blank : IsBlank typing lexicon blank
-  pub parsed : IsParsedBy of tasks typing parser
-  pub sound : IsSoundStart of tasks typing next start
-  pub front : IsFrontTree (grammar_of typing) of typing.front.now typing.tokens.now next front_tree r
-  pub counted : before ≡ length front_tree.refs
+-- what is known where the blank trees of a start are made, of its parts
+abbrev pub ready_for : (typing : Typing) (parser : ParserParts) (start : ReferenceStart) (before : ℕ) (blank : Blank) →
+    ((of : Kinds) × (lexicon : Lexicon) × (tasks : List Task) × (next : ReferenceNext) × (front_tree : Parts) × (r : Reference) × IsTypedBy of lexicon typing
+    × IsBlank typing lexicon blank × IsParsedBy of tasks typing parser × IsSoundStart of tasks typing next start
+    × IsFrontTree (grammar_of typing) of typing.front.now typing.tokens.now next front_tree r × (before ≡ length front_tree.refs)) →
+    IsReady typing parser start before blank
+ready_for typing parser start before blank (of, lexicon, tasks, next, front_tree, r, typed, is_blank, parsed, sound, front, counted) = record {
+  of = of;
+  lexicon = lexicon;
+  tasks = tasks;
+  next = next;
+  front_tree = front_tree;
+  r = r;
+  typed = typed;
+  is_blank = is_blank;
+  parsed = parsed;
+  sound = sound;
+  front = front;
+  counted = counted;
+}
 
-module _ (typing : Typing) (parser : ParserParts) (start : ReferenceStart) (before : ℕ) (blank : Blank) (ready : IsReady typing parser start before blank) where
+-- all that is found besides nothing
+pub only_found : {X : Type 0} (P : X → Type 0) (xs : List X) → Finds P [] xs → (x : X) → Contains xs x ↔ P x
+only_found P xs finds x = (λ has. found ((finds.exact x).0 has), λ is. (finds.exact x).1 (inr is))
+  where
+    found : Contains [] x ⊎ P x → P x
+    found (inl (k, inside, is)) = absurd (omega (arith, inside))
+    found (inr is) = is
+
+module _ {typing : Typing} {parser : ParserParts} {start : ReferenceStart} {before : ℕ} {blank : Blank} (ready : IsReady typing parser start before blank) where
   abbrev g : Grammar
   g = grammar_of typing
 
@@ -57,6 +77,41 @@ module _ (typing : Typing) (parser : ParserParts) (start : ReferenceStart) (befo
   -- behind the reference these marks come, of which the tokens behind the offset have the kinds
   abbrev pub IsAfter : List Mark → Type 0
   IsAfter n = PlacesGive g ready.of ready.tasks start.behind n × (kinds_of n ≡ kinds (visible blank.others.items))
+
+  -- ---- the marks that may come there, all of them, as the readings of the tokens behind the offset have them
+
+  module _ (places : List ℕ) (ts : List Token) (same : places ≡ start.behind) (tokens : ts ≡ blank.others.items) where
+    pub placed : All (HasTask g ready.of ready.tasks) places
+    placed = subst (All (HasTask g ready.of ready.tasks)) (sym same) ready.sound.behind
+
+    pub of_kinds : AreOfKinds ready.of ts
+    of_kinds = subst (AreOfKinds ready.of) (sym tokens) (ready.is_blank.of_kinds ready.of ready.typed.are_kinds)
+
+    all_after : (sentences : List (List TreeMark)) →
+        ((n : List Mark) → (PlacesGive g ready.of ready.tasks places n × (kinds_of n ≡ kinds (visible ts))) ↔ Any (λ (marks : List TreeMark). AreMeant g marks n) sentences) →
+        (n : List Mark) → IsAfter n ↔ Any (λ (marks : List TreeMark). AreMeant g marks n) sentences
+    all_after sentences all =
+        subst (λ (us : List Token). (n : List Mark) → (PlacesGive g ready.of ready.tasks start.behind n × (kinds_of n ≡ kinds (visible us))) ↔
+        Any (λ (marks : List TreeMark). AreMeant g marks n) sentences) tokens
+        (subst (λ (ps : List ℕ). (n : List Mark) → (PlacesGive g ready.of ready.tasks ps n × (kinds_of n ≡ kinds (visible ts))) ↔
+        Any (λ (marks : List TreeMark). AreMeant g marks n) sentences) same all)
+
+    module _ (fronts : FrontsParts) (read : (grammar : Grammar) (of : Kinds) (tasks : List Task) → IsProgramWith grammar of tasks parser.program parser.begins →
+        All (HasTask grammar of tasks) places → AreOfKinds of ts → HoldReadings grammar of tasks (Places places) (kinds (visible ts)) fronts) where
+      pub hold : HoldReadings g ready.of ready.tasks (Places places) (kinds (visible ts)) fronts
+      hold = read g ready.of ready.tasks ready.parsed.program placed of_kinds
+
+      pub are_behind : (sentences : List (List TreeMark)) →
+          ((grammar : Grammar) (of : Kinds) (tasks : List Task) (aim : Aim) (ks : List ℕ) → HoldReadings grammar of tasks aim ks fronts →
+          (m : List Mark) → (Fulfils grammar of tasks aim m × (kinds_of m ≡ ks)) ↔ Any (λ (marks : List TreeMark). AreMeant grammar marks m) sentences) →
+          ((grammar : Grammar) (of : Kinds) (tasks : List Task) (aim : Aim) (ks : List ℕ) → HoldReadings grammar of tasks aim ks fronts →
+          All (λ (marks : List TreeMark). (m : List Mark) × AreMeant grammar marks m) sentences) → AreBehind ready sentences
+      are_behind sentences all each = record {
+        all = all_after sentences (all g ready.of ready.tasks (Places places) (kinds (visible ts)) hold);
+        each = each g ready.of ready.tasks (Places places) (kinds (visible ts)) hold;
+      }
+
+  -- ---- blank trees
 
   row : StandInRow typing.front.now 0 (visible typing.tokens.now)
   row = stand_in_row typing.front.now typing.tokens.now ready.typed.tile ready.typed.parts
@@ -73,7 +128,7 @@ module _ (typing : Typing) (parser : ParserParts) (start : ReferenceStart) (befo
       (subst (λ (ts : List Token). P (typing.front.now ++ typing.rest.now) ts) (sym ready.is_blank.tokens) is)
 
   -- a tree of a sentence goes on so
-  pub reference_grows : (n : List Mark) → IsAfter n → GrowsReference typing blank before (marks_with ready.next [] ++ n)
+  reference_grows : (n : List Mark) → IsAfter n → GrowsReference typing blank before (marks_with ready.next [] ++ n)
   reference_grows n after =
       let (ks, sentence) = ready.sound.whole n after.0 in
       let comes = ready.sound.comes in
@@ -91,7 +146,7 @@ module _ (typing : Typing) (parser : ParserParts) (start : ReferenceStart) (befo
       }
 
   -- the marks with numbers of a blank tree
-  pub marks_meant : (marks all : List TreeMark) (n : List Mark) → AreMeant g marks n → all ≡ start.marks ++ (numbered.Put start.put ∷ numbered.End ∷ marks) →
+  marks_meant : (marks all : List TreeMark) (n : List Mark) → AreMeant g marks n → all ≡ start.marks ++ (numbered.Put start.put ∷ numbered.End ∷ marks) →
       AreMeant g all (marks_with ready.next [] ++ n)
   marks_meant marks all n is are =
       let is_start = ready.sound.is_start in
@@ -99,14 +154,57 @@ module _ (typing : Typing) (parser : ParserParts) (start : ReferenceStart) (befo
       (subst (AreMeant g (start.marks ++ (numbered.Put start.put ∷ numbered.End ∷ marks))) (marks_are ready.next n)
       (meant_joined g is_start.meant (meant.more is_start.puts (meant.more meant.ends is))))
 
-  pub after_all : (sentences : List (List TreeMark)) (places : List ℕ) (ts : List Token) → places ≡ start.behind → ts ≡ blank.others.items →
-      ((n : List Mark) → (PlacesGive g ready.of ready.tasks places n × (kinds_of n ≡ kinds (visible ts))) ↔ Any (λ (marks : List TreeMark). AreMeant g marks n) sentences) →
-      (n : List Mark) → IsAfter n ↔ Any (λ (marks : List TreeMark). AreMeant g marks n) sentences
-  after_all sentences places ts same tokens all =
-      subst (λ (us : List Token). (n : List Mark) → (PlacesGive g ready.of ready.tasks start.behind n × (kinds_of n ≡ kinds (visible us))) ↔
-      Any (λ (marks : List TreeMark). AreMeant g marks n) sentences) tokens
-      (subst (λ (ps : List ℕ). (n : List Mark) → (PlacesGive g ready.of ready.tasks ps n × (kinds_of n ≡ kinds (visible ts))) ↔
-      Any (λ (marks : List TreeMark). AreMeant g marks n) sentences) same all)
+  abbrev blank_tree : (n : List Mark) → IsAfter n → (tree : Parts) (r : Reference) → IsTreeOfBlank typing blank (marks_with ready.next [] ++ n) tree →
+      slice_get tree.refs before ≡ Some r →
+      IsBlankTree g ready.of ready.lexicon typing.front.now typing.rest.now typing.tokens.now ready.next ready.front_tree tree r
+  blank_tree n after tree r is at = record {
+    others = blank.others.items;
+    cut = ready.is_blank.cut;
+    some_kinds = (ready.sound.whole n after.0).0;
+    after = n;
+    sentence = (ready.sound.whole n after.0).1;
+    kinds_are = after.1;
+    is_tree = apart (λ (text : List ℕ) (ts : List Token). IsTree g text (marks_with ready.next [] ++ n) (visible ts) ts tree) is;
+    reference = ap (λ (i : ℕ). slice_get tree.refs i) (sym ready.counted) ∙ at;
+  }
+
+  some_tree : (m : List Mark) (name : Option PropId) → IsNamingProperty g name → GrowsRoot g blank.text m (visible blank.tokens.items) →
+      (tree : Parts) × IsTreeOfBlank typing blank m tree
+  some_tree m name named (x, follows) = (
+    parts_of_tree x blank.tokens.items name,
+    record { grown = x; follows = follows; named = named; parts = tables_of x blank.tokens.items name },
+  )
+
+  has_tree_after : (n : List Mark) → IsAfter n → HasBlankTree ready.of ready.lexicon ready.tasks typing ready.next start
+  has_tree_after n after =
+      let grows = reference_grows n after in
+      let (tree, is) = some_tree (marks_with ready.next [] ++ n) _ ready.parsed.faultless.parser.recipes.name grows.grows in
+      let (r, at) = grows.reference tree is in record {
+        front_tree = ready.front_tree;
+        front_r = ready.r;
+        is_front = ready.front;
+        tree = tree;
+        r = r;
+        is_tree = blank_tree n after tree r is at;
+        behind = after.0;
+      }
+
+  pub has_blank_tree : (sentences : List (List TreeMark)) → AreBehind ready sentences → length sentences ≢ 0 →
+      HasBlankTree ready.of ready.lexicon ready.tasks typing ready.next start
+  has_blank_tree [] behind some = absurd (some refl)
+  has_blank_tree (x ∷ xs) behind some =
+      let (n, is) = All-head (λ (marks : List TreeMark). (m : List Mark) × AreMeant g marks m) x xs behind.each in
+      has_tree_after n ((behind.all n).1 (0, x, omega arith, refl, is))
+
+  -- where there are no such marks, nothing goes on behind the start
+  pub goes_on_none : (sentences : List (List TreeMark)) → AreBehind ready sentences → length sentences ≡ 0 → (after : List Mark) →
+      ¬ GoesOnBehind ready.of ready.lexicon ready.tasks typing start after
+  goes_on_none sentences behind none after on =
+      let same : on.others ≡ blank.others.items = ready.is_blank.only on.others on.cut in
+      let (i, marks, inside, at, is) = (behind.all after).0 (on.gives, on.kinds_are ∙ ap (λ (ts : List Token). kinds (visible ts)) same) in
+      omega (arith, inside, none)
+
+  -- ---- names by which it leads somewhere
 
   module _ (trees : Trees) (address : List ℕ) where
     abbrev pub IsName : List ℕ → Type 0
@@ -117,26 +215,16 @@ module _ (typing : Typing) (parser : ParserParts) (start : ReferenceStart) (befo
     IsFoundBy marks name = (n : List Mark) × AreMeant g marks n × LeadsInBlank typing trees address blank before (marks_with ready.next [] ++ n) name
 
     blank_name : (n : List Mark) (name : List ℕ) → IsAfter n → LeadsInBlank typing trees address blank before (marks_with ready.next [] ++ n) name → IsName name
-    blank_name n name after leads =
-        let (ks, sentence) = ready.sound.whole n after.0 in record {
-          front_tree = ready.front_tree;
-          front_r = ready.r;
-          is_front = ready.front;
-          tree = leads.tree;
-          r = leads.r;
-          is_tree = record {
-            others = blank.others.items;
-            cut = ready.is_blank.cut;
-            some_kinds = ks;
-            after = n;
-            sentence = sentence;
-            kinds_are = after.1;
-            is_tree = apart (λ (text : List ℕ) (ts : List Token). IsTree g text (marks_with ready.next [] ++ n) (visible ts) ts leads.tree) leads.is_tree;
-            reference = ap (λ (i : ℕ). slice_get leads.tree.refs i) (sym ready.counted) ∙ leads.reference;
-          };
-          behind = after.0;
-          target = leads.target;
-        }
+    blank_name n name after leads = record {
+      front_tree = ready.front_tree;
+      front_r = ready.r;
+      is_front = ready.front;
+      tree = leads.tree;
+      r = leads.r;
+      is_tree = blank_tree n after leads.tree leads.r leads.is_tree leads.reference;
+      behind = after.0;
+      target = leads.target;
+    }
 
     -- one number of references before it
     one_count : (tree : Parts) (s : Reference) → IsFrontTree g ready.of typing.front.now typing.tokens.now ready.next tree s → before ≡ length tree.refs
@@ -166,39 +254,54 @@ module _ (typing : Typing) (parser : ParserParts) (start : ReferenceStart) (befo
           },
         )
 
-    -- ---- those of all sentences
+  -- ---- those of all sentences
 
-    module _ (sentences : List (List TreeMark)) (all : (n : List Mark) → IsAfter n ↔ Any (λ (marks : List TreeMark). AreMeant g marks n) sentences) where
-      found_name : (name : List ℕ) → OfSome IsFoundBy sentences name → IsName name
-      found_name name (marks, (i, inside, at), (n, is, leads)) = blank_name n name ((all n).1 (i, marks, inside, at, is)) leads
+  module _ (sentences : List (List TreeMark)) (behind : AreBehind ready sentences) where
+    meant_after : (marks : List TreeMark) (n : List Mark) → Contains sentences marks → AreMeant g marks n → IsAfter n
+    meant_after marks n (i, inside, at) means = (behind.all n).1 (i, marks, inside, at, means)
 
-      name_found : (name : List ℕ) → IsName name → OfSome IsFoundBy sentences name
-      name_found name is =
-          let (n, after, leads) = name_after name is in
-          let (i, marks, inside, at, means) = (all n).0 after in
-          (marks, (i, inside, at), (n, means, leads))
+    pub names_of_sentences : (trees : Trees) (address name : List ℕ) → OfSome (IsFoundBy trees address) sentences name ↔ IsName trees address name
+    names_of_sentences trees address name = (to, from)
+      where
+        to : OfSome (IsFoundBy trees address) sentences name → IsName trees address name
+        to (marks, has, (n, is, leads)) = blank_name trees address n name (meant_after marks n has is) leads
 
-      meant_after : (marks : List TreeMark) (n : List Mark) → Contains sentences marks → AreMeant g marks n → IsAfter n
-      meant_after marks n (i, inside, at) means = (all n).1 (i, marks, inside, at, means)
+        from : IsName trees address name → OfSome (IsFoundBy trees address) sentences name
+        from is =
+            let (n, after, leads) = name_after trees address name is in
+            let (i, marks, inside, at, means) = (behind.all n).0 after in
+            (marks, (i, inside, at), (n, means, leads))
 
-      -- those of one more
-      pub found_more : (marks : List TreeMark) → Contains sentences marks → (n : List Mark) → AreMeant g marks n → (old found : List (List ℕ)) →
-          ((n : List Mark) → AreMeant g marks n → GrowsReference typing blank before (marks_with ready.next [] ++ n) → (name : List ℕ) →
-          Contains found name ↔ LeadsInBlank typing trees address blank before (marks_with ready.next [] ++ n) name) → Finds (IsFoundBy marks) old (old ++ found)
-      found_more marks has n means old found told = record { exact = λ name. (to name, from name) }
+    -- one of them, and the marks with numbers of its tree
+    module _ (i : ℕ) (x : List TreeMark) (inside : i < length sentences) (at : x ≡ get_or sentences i x) (all : List TreeMark)
+        (are : all ≡ start.marks ++ (numbered.Put start.put ∷ numbered.End ∷ x)) where
+      grows_there : (n : List Mark) → AreMeant g x n → AreMeant g all (marks_with ready.next [] ++ n) × GrowsReference typing blank before (marks_with ready.next [] ++ n)
+      grows_there n is = (marks_meant x all n is are, reference_grows n (meant_after x n (i, inside, sym at) is))
+
+      meant_there : (n : List Mark) × AreMeant g x n
+      meant_there = All-contains (λ (marks : List TreeMark). (m : List Mark) × AreMeant g marks m) sentences x behind.each (i, inside, sym at)
+
+      pub one_grows : (m : List Mark) × AreMeant g all m × GrowsReference typing blank before m
+      one_grows =
+          let (n, is) = meant_there in
+          let (means, grows) = grows_there n is in
+          (marks_with ready.next [] ++ n, means, grows)
+
+      -- the names of one more
+      pub found_more : (trees : Trees) (address : List ℕ) (old found : List (List ℕ)) →
+          ((m : List Mark) → AreMeant g all m → GrowsReference typing blank before m → (name : List ℕ) →
+          Contains found name ↔ LeadsInBlank typing trees address blank before m name) → Finds (IsFoundBy trees address x) old (old ++ found)
+      found_more trees address old found told = record { exact = λ name. (to name, from name) }
         where
-          grows : (m : List Mark) → AreMeant g marks m → GrowsReference typing blank before (marks_with ready.next [] ++ m)
-          grows m is = reference_grows m (meant_after marks m has is)
+          exact : (n : List Mark) → AreMeant g x n → (name : List ℕ) → Contains found name ↔ LeadsInBlank typing trees address blank before (marks_with ready.next [] ++ n) name
+          exact n is = let (means, grows) = grows_there n is in told (marks_with ready.next [] ++ n) means grows
 
-          to : (name : List ℕ) → Contains (old ++ found) name → Contains old name ⊎ IsFoundBy marks name
+          to : (name : List ℕ) → Contains (old ++ found) name → Contains old name ⊎ IsFoundBy trees address x name
           to name there = elim (Contains-append_cases old found name there) [
-            | inl before ↦ inl before
-            | inr here ↦ inr (n, means, (told n means (grows n means) name).0 here)
+            | inl was ↦ inl was
+            | inr here ↦ let (n, is) = meant_there in inr (n, is, (exact n is name).0 here)
           ]
 
-          from : (name : List ℕ) → Contains old name ⊎ IsFoundBy marks name → Contains (old ++ found) name
-          from name (inl before) = Contains-append_left old found name before
-          from name (inr (m, is, leads)) = Contains-append_right old found name ((told m is (grows m is) name).1 leads)
-
-      pub names_of_sentences : (name : List ℕ) → OfSome IsFoundBy sentences name ↔ IsName name
-      names_of_sentences name = (found_name name, name_found name)
+          from : (name : List ℕ) → Contains old name ⊎ IsFoundBy trees address x name → Contains (old ++ found) name
+          from name (inl was) = Contains-append_left old found name was
+          from name (inr (n, is, leads)) = Contains-append_right old found name ((exact n is name).1 leads)

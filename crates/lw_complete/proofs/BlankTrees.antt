@@ -41,6 +41,7 @@ use Rattle.lw_alike.proofs.Standing.{stands_whole}
 use Rattle.lw_alike.proofs.Tabled.{trees_alike}
 use Rattle.lw_alike.proofs.Targeted.{target_both}
 use Rattle.lw_alike.proofs.Written.{front_kept}
+use Rattle.lw_tried.proofs.Around.{moved_kinds}
 
 -- ---- one tree of the same marks
 
@@ -116,15 +117,6 @@ stand_in_row text {from} (t ∷ ts) (parts.more start not_empty tiles) are = by 
     by : (b : Bool) → StandInRow text t.span.end (visible ts) → StandInRow text from (cond (not b) (t ∷ visible ts) (visible ts))
     by true rest = row_earlier (omega (arith, not_empty)) rest
     by false rest = within.more (omega (arith, start)) (omega (arith, place.not_empty), place.within) rest
-
-pub moved_kinds : (by : ℕ) (ts : List Token) → kinds (visible (map (moved_by by) ts)) ≡ kinds (visible ts)
-moved_kinds by [] = refl
-moved_kinds by (t ∷ ts) = either t.hidden (moved_kinds by ts)
-  where
-    either : (b : Bool) → kinds (visible (map (moved_by by) ts)) ≡ kinds (visible ts) →
-        kinds (cond (not b) (moved_by by t ∷ visible (map (moved_by by) ts)) (visible (map (moved_by by) ts))) ≡ kinds (cond (not b) (t ∷ visible ts) (visible ts))
-    either true same = same
-    either false same = ap (λ (ks : List ℕ). t.kind.0 ∷ ks) same
 
 -- ---- a reference that is left blank
 

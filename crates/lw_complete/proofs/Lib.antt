@@ -28,6 +28,7 @@ mod NamedReads
 mod NamedSays
 mod NamedTried
 mod NamedWritten
+mod NamesFound
 mod NoneSoFar
 mod ParserKnown
 mod ReadKinds

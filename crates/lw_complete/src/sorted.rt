@@ -26,7 +26,7 @@ impl Model for SortedNames {
 impl SortedNames {
     /// These, put in order.
     pub(crate) fn of(mut names: Vec<Name>) -> SortedNames
-        ensures { (name : List ℕ) → Contains result name ↔ Contains names.entry.items name }
+        ensures { (name : List ℕ) → Contains result name ↔ Contains names.items name }
     {
         names.sort_unstable();
         names.dedup();

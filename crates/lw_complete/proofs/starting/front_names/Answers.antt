@@ -75,6 +75,7 @@ names_in-requires-clause-known c =
 pub returns-clause-names : goal.returns-clause-names
 returns-clause-names c of lexicon next trees address typed is_start comes index number =
     let (kinds, are, k, faultless) = c.parser.ensures in
+    let told = c.in_ok-names.ensures trees address index number in
     let r = c.index-refs-before.result in
     let at : r ≡ get_or c.in_ok-behind.behind.refs (length c.in_ok-tree.tree.refs) r =
     c.index-refs-before.is ∙ ap (λ (rs : List Reference). get_or rs (length c.refs-before.result.now) r) c.refs.ensures
@@ -86,7 +87,7 @@ returns-clause-names c of lexicon next trees address typed is_start comes index 
           front_is c.args.typing.now c.args.start.now of next is_start comes faultless.types faultless.checks _ faultless.parser.recipes.name c.as_slice.result.now
           c.as_slice-2.result.now c.as_slice.ensures (c.as_slice-2.ensures.value ∙ c.in_ok-marks.ensures) c.in_ok-tree.tree c.in_ok-behind.behind c.in_ok-tree.ensures
           c.in_ok-behind.ensures r at;
-      exact = c.in_ok-names_in.ensures trees address index number;
+      exact = λ name. (λ has. (told name).0 ((c.of.ensures name).0 has), λ target. (c.of.ensures name).1 ((told name).1 target));
       before = ap length c.refs-before.ensures;
     }
 
