@@ -17,25 +17,6 @@ use Rattle.lw_complete.specs.declared.typing.Typing.{Typing}
 use Rattle.lw_complete.specs.Judged.{IsJudgement, LeadsWhole, StandsWhole}
 use Rattle.lw_complete.specs.Starts.{ComesAt, IsLedBy, IsOfferedBy, IsReadAt, IsReadAsStart}
 
--- ---- the starts one after the other
-
-module _ {X : Type 0} (P : X → Type 0) (xs : List X) where
-  pub none_first : (x : X) → Contains (take 0 xs) x → ¬ P x
-  none_first x (k, inside, is) = absurd (omega (arith, inside))
-
-  pub none_more : (i : ℕ) (x : X) → i < length xs → x ≡ get_or xs i x → ¬ P x → ((y : X) → Contains (take i xs) y → ¬ P y) → (y : X) → Contains (take (i + 1) xs) y → ¬ P y
-  none_more i x inside is not before y has = by (Contains-push_cases (take i xs) x y (subst (λ (ys : List X). Contains ys y) more has))
-    where
-      more : take (i + 1) xs ≡ take i xs ++ x ∷ []
-      more = take_more xs i x inside ∙ ap (λ (z : X). take i xs ++ z ∷ []) (sym is)
-
-      by : Contains (take i xs) y ⊎ (x ≡ y) → ¬ P y
-      by (inl there) = before y there
-      by (inr same) = subst (λ (z : X). ¬ P z) same not
-
-  pub none_all : (i : ℕ) → length xs ≤ i → ((y : X) → Contains (take i xs) y → ¬ P y) → ¬ ((y : X) × Contains xs y × P y)
-  none_all i past none (y, has, is) = none y (subst (λ (ys : List X). Contains ys y) (sym (take_all i xs past)) has) is
-
 -- ---- one start
 
 module _ (of : Kinds) (tasks : List Task) (typing : Typing) (leads : Bool) (added : List Token) (name : List ℕ) (one : Known) where

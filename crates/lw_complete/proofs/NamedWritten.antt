@@ -134,9 +134,12 @@ module _ (typing : Typing) (of : Kinds) (tasks : List Task) (parser : ParserPart
     pub none_read : added written.recut.now ≡ [] → ¬ IsRead
     none_read none read = read.some (ap (map (moved written.recut.now.from)) none)
 
+    something : {t : Token} {ts : List Token} → ◌≢◌ {A = List Token} (t ∷ ts) []
+    something none = cc
+
     some_there : (ts : List Token) (n : ℕ) → ts ≢ [] → map (moved n) ts ≢ []
     some_there [] n some = absurd (some refl)
-    some_there (t ∷ ts) n some none = cc
+    some_there (t ∷ ts) n some = something
 
     pub unsaid : (b : Bool) → TellsSaid b → b ≡ false → ¬ IsRead
     unsaid b told not_so read = true≢false (sym ((said b told).1 read.says) ∙ not_so)

@@ -31,8 +31,8 @@ returns-in-Some-true-clause-led c of lexicon tasks trees address typed written p
     (λ r read. by_whole of tasks typing trees address known added name judged r read)
     (c.is_read.ensures of lexicon tasks written parsed tried.next)
 
-pub returns-clause-led : goal.returns-clause-led
-returns-clause-led c of lexicon tasks trees address typed written parsed cuts recut tried one_way index number =
+pub returns-in-None-clause-led : goal.returns-in-None-clause-led
+returns-in-None-clause-led c of lexicon tasks trees address typed written parsed cuts recut tried one_way index number =
     let typing = c.args.typing.now in
     let known = c.args.known.now in
     let name = c.args.written.now.name.now in

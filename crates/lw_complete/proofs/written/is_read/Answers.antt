@@ -3,7 +3,7 @@ use Rattle.std.proofs.lemmas.List.Elements.{All-contains}
 use Rattle.lw_recut.specs.Recut.{added_behind}
 use Rattle.lw_complete.specs.declared.known.Known.{Known}
 use Rattle.lw_complete.specs.Starts.{IsReadAt, IsStartNext}
-use Rattle.lw_complete.proofs.NamedTried.{none_all, none_first, none_more}
+use Rattle.lw_complete.proofs.NoneSoFar.{none_all, none_first, none_more}
 use Rattle.lw_complete.proofs.NamedWritten.{never}
 use Rattle.lw_complete.proofs.written.is_read.Goals as goal
 
@@ -52,6 +52,7 @@ returns-then-branch c of lexicon tasks written parsed all =
 pub returns : goal.returns
 returns c of lexicon tasks written parsed all =
     let past : length c.args.known.now ≤ c.known.one-index = omega arith in
-    never
-    (none_all (IsReadAt of tasks c.args.typing.now c.args.leads (added_behind c.args.written.now.recut.now) c.args.written.now.name.now) c.args.known.now c.known.one-index past
-    (c.known.invariant of lexicon tasks written parsed all))
+    let none =
+    none_all (IsReadAt of tasks c.args.typing.now c.args.leads (added_behind c.args.written.now.recut.now) c.args.written.now.name.now) c.args.known.now c.known.one-index
+    past (c.known.invariant of lexicon tasks written parsed all) in
+    never (λ (one, among, read). none one among read)

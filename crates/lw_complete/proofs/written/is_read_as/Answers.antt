@@ -1,14 +1,22 @@
-use Rattle.std.proofs.Common.{◌↔◌, ◌∷◌, [], IsTrue}
+use Rattle.std.proofs.Common.{◌≡◌, ◌≢◌, ◌↔◌, ◌∷◌, [], List, IsTrue, sym, ◌∙◌, subst}
 use Rattle.std.proofs.lemmas.Result.{IfOk-weaker}
+use Rattle.lw_base.specs.declared.token.Token.{Token}
 use Rattle.lw_begins.specs.Gives.{PlacesGive}
 use Rattle.lw_offers.specs.Starting.{ReferenceNext}
+use Rattle.lw_parse.specs.Parsers.{AreOfKinds}
 use Rattle.lw_tokens.specs.Cut.{kinds, visible}
 use Rattle.lw_viable.specs.Aims.{EndsSome}
-use Rattle.lw_recut.specs.Recut.{added_behind}
+use Rattle.lw_recut.specs.Recut.{added, added_behind}
 use Rattle.lw_complete.specs.Starts.{ComesAt, IsReadAsStart}
 use Rattle.lw_complete.specs.Typing.{grammar_of}
 use Rattle.lw_complete.proofs.NamedWritten.{comes_at, given, is_empty_there, never, none_read, not_empty_there, reference_put, unsaid}
 use Rattle.lw_complete.proofs.written.is_read_as.Goals as goal
+
+pub added-added-requires : goal.added-added-requires
+added-added-requires c = let (of, lexicon, tasks, written, parsed, is) = c.requires.known in written.tail
+
+pub says-requires-clause-tail : goal.says-requires-clause-tail
+says-requires-clause-tail c = let (of, lexicon, tasks, written, parsed, is) = c.requires.known in written.tail
 
 pub says-requires-clause-parts : goal.says-requires-clause-parts
 says-requires-clause-parts c = let (of, lexicon, tasks, written, parsed, is) = c.requires.known in written.parts
@@ -21,13 +29,13 @@ says-requires-clause-recipe c =
 pub gives-requires : goal.gives-requires
 gives-requires c =
     let (of, lexicon, tasks, written, parsed, is) = c.requires.known in
-    record { known = (grammar_of c.args.typing.now, of, tasks, parsed.program, is.value, written.of_kinds) }
+    record { known = (grammar_of c.args.typing.now, of, tasks, parsed.program, is.value, subst (AreOfKinds of) (sym c.added-added.ensures) written.of_kinds) }
 
 pub returns-then-is_empty : goal.returns-then-is_empty
 returns-then-is_empty c of lexicon tasks written parsed is next at =
     never
     (none_read c.args.typing.now of tasks c.args.parser.now parsed c.args.start.now next at lexicon c.args.written.now written
-    (is_empty_there (added_behind c.args.written.now.recut.now) c.is_empty.result c.is_empty.ensures c.if-is_empty.true))
+    (sym c.added-added.ensures ∙ is_empty_there c.added-added.result.now c.is_empty.result c.is_empty.ensures c.if-is_empty.true))
 
 pub returns-then-not-branch : goal.returns-then-not-branch
 returns-then-not-branch c of lexicon tasks written parsed is next at =
@@ -39,10 +47,14 @@ pub returns : goal.returns
 returns c of lexicon tasks written parsed is =
     let typing = c.args.typing.now in
     let start = c.args.start.now in
-    let added = added_behind c.args.written.now.recut.now in
-    IfOk-weaker c.gives.result (λ r. IsTrue r ↔ EndsSome (PlacesGive (grammar_of typing) of tasks (start.value ∷ [])) (kinds (visible added)))
-    (λ r. (next : ReferenceNext) → ComesAt of typing next start → IsTrue r ↔ IsReadAsStart of tasks typing next start added c.args.written.now.name.now)
+    let here = added c.args.written.now.recut.now in
+    let there = added_behind c.args.written.now.recut.now in
+    let same : c.added-added.result.now ≡ here = c.added-added.ensures in
+    IfOk-weaker c.gives.result
+    (λ r. IsTrue r ↔ EndsSome (PlacesGive (grammar_of typing) of tasks (start.value ∷ [])) (kinds (visible c.added-added.result.now)))
+    (λ r. (next : ReferenceNext) → ComesAt of typing next start → IsTrue r ↔ IsReadAsStart of tasks typing next start there c.args.written.now.name.now)
     (λ r told next at.
     given typing of tasks c.args.parser.now parsed start next at lexicon c.args.written.now written c.in_ok-says.field-0 c.in_ok-says.ensures c.if-not-branch.false
-    (not_empty_there added c.is_empty.result c.is_empty.ensures c.if-is_empty.false) r told)
-    (c.gives.ensures (grammar_of typing) of tasks parsed.program is.value written.of_kinds)
+    (subst (λ (ts : List Token). ts ≢ []) same (not_empty_there c.added-added.result.now c.is_empty.result c.is_empty.ensures c.if-is_empty.false)) r
+    (subst (λ (ts : List Token). IsTrue r ↔ EndsSome (PlacesGive (grammar_of typing) of tasks (start.value ∷ [])) (kinds (visible ts))) same told))
+    (c.gives.ensures (grammar_of typing) of tasks parsed.program is.value (subst (AreOfKinds of) (sym same) written.of_kinds))
