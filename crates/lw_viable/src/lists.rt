@@ -4,6 +4,7 @@ ghost use Rattle.std.specs.List.{AllByRecursion};
 ghost use Rattle.lw_viable.specs.Growing.{ArePut, GrowsLists, IsMadeFront, HasLists, changed, cells_of, read};
 ghost use Rattle.lw_viable.specs.Moves.{left, side_by_side};
 ghost use Rattle.lw_viable.specs.Turning.{MayBePassed, way_change};
+ghost use Rattle.lw_viable.specs.Visiting.{AreEnded, EndsWithToken};
 
 use crate::front::Front;
 use crate::listed::listed;
@@ -214,6 +215,32 @@ impl Lists {
         let mut all = Vec::new(alloc);
         for front in fronts {
             all.push(self.marks_of(alloc, *front)?)?;
+        }
+        Ok(all)
+    }
+
+    /// Whether the latest mark of a reading is a token.
+    fn ends_with_token(&self, front: Front) -> bool
+        ensures { IsTrue result ↔ EndsWithToken (read self.now front).marks }
+    {
+        matches!(self.marks.first(front.marks), Some((TreeMark::Token(..), ..)))
+    }
+
+    /// The marks of each of these whose latest is a token, in order, with the end of a value behind.
+    pub(crate) fn ended_marks(
+        &self,
+        alloc: Global,
+        fronts: &[Front],
+    ) -> Result<Vec<Items<TreeMark>>, NoMemory>
+        ensures { IfOk result (λ all. AreEnded (map (λ front. (read self.now front).marks) fronts.now) all.items) }
+    {
+        let mut all = Vec::new(alloc);
+        for front in fronts {
+            if self.ends_with_token(*front) {
+                let mut marks = self.marks_of(alloc, *front)?;
+                marks.push(TreeMark::End)?;
+                all.push(marks)?;
+            }
         }
         Ok(all)
     }
