@@ -70,10 +70,15 @@ marks_read : (lists : Lists) (fronts : List Front) → map (λ front. (read list
 marks_read lists [] = refl
 marks_read lists (front ∷ fronts) = ap (λ all. (read lists front).marks ∷ all) (marks_read lists fronts)
 
--- what holds of the marks of readings holds of the marks that are handed out
+-- the marks of the readings that were found
+pub marks_found : (lists : Lists) {fronts found : List Front} → fronts ≡ found →
+    map (λ front. (read lists front).marks) fronts ≡ map (λ r. r.marks) (map (read lists) found)
+marks_found lists {found} same = ap (map (λ front. (read lists front).marks)) same ∙ marks_read lists found
+
+-- what holds of them holds of the marks that are handed out
 pub by_marks : (P : List (List TreeMark) → Type 0) (lists : Lists) {fronts found : List Front} {all : List (List TreeMark)} →
     all ≡ map (λ front. (read lists front).marks) fronts → fronts ≡ found → P (map (λ r. r.marks) (map (read lists) found)) → P all
-by_marks P lists {found} are same holds = subst P (sym (are ∙ ap (map (λ front. (read lists front).marks)) same ∙ marks_read lists found)) holds
+by_marks P lists are same holds = subst P (sym (are ∙ marks_found lists same)) holds
 
 -- one value is put at a first place
 one_first : {program : ProgramParts} {rest behind beyond : List ℕ} {put value other there : ℕ} → PutsFirst program rest put value behind →

@@ -16,20 +16,25 @@ use Rattle.lw_recipes.specs.Meant as meant
 use Rattle.lw_begins.specs.Gives.{PlacesGive}
 use Rattle.lw_begins.specs.Told.{BeginsParts}
 use Rattle.lw_viable.specs.Fronts.{IsKnownProgram}
+use Rattle.lw_viable.specs.Growing.{HasLists, GrowsLists}
+use Rattle.lw_viable.specs.Growing.{read as front_read}
 use Rattle.lw_viable.specs.Moves as move
 use Rattle.lw_viable.specs.Readings.{KeptReading, GoesOnFrom, IsCutReading, HasTask, IsAhead, IsKeptReading, Keeps}
 use Rattle.lw_viable.specs.Readings as keep
 use Rattle.lw_viable.specs.ReadSoFar.{EndsRead, IsReadSoFar}
 use Rattle.lw_viable.specs.ReadSoFar as read
-use Rattle.lw_viable.specs.Visiting.{AreEnded, Arrives, EndsWithToken, IsEnded, IsFound, FindsDue}
+use Rattle.lw_viable.specs.Visiting.{AreEnded, AreWithEnded, Arrives, EndsWithToken, IsEnded, IsFound, FindsDue}
 use Rattle.lw_viable.specs.declared.due.Due.TheVariants.{End}
+use Rattle.lw_viable.specs.declared.front.Front.{Front}
+use Rattle.lw_viable.specs.declared.lists.Lists.{Lists}
 use Rattle.lw_viable.proofs.Cutting.{cut_twice, quiet_end, same_kinds}
 use Rattle.lw_viable.proofs.Exploring.{any_of, of_any, any_mapped, any_cases, any_left, any_right}
-use Rattle.lw_viable.proofs.Handed.{any_of_mapped, each_ahead}
+use Rattle.lw_viable.proofs.Handed.{any_of_mapped, each_ahead, marks_found}
 use Rattle.lw_viable.proofs.Meaning.{meant_joined, meant_cut, one_kinds}
 use Rattle.lw_viable.proofs.Moves.Finishing.{places_give}
 use Rattle.lw_viable.proofs.Moves.Marking.{token_meant, end_meant}
 use Rattle.lw_viable.proofs.Moves.Moving.{moves_give}
+use Rattle.lw_viable.proofs.Putting.{all_read_same}
 
 -- ---- marks that end with a token
 
@@ -51,14 +56,14 @@ same_beginning a b c d is a_kinds c_kinds (before, j, a_is) (front, k, c_is) = b
 module _ (g : Grammar) where
   -- what marks mean ends with a token where they do
   token_last : {xs : List TreeMark} {m : List Mark} → EndsWithToken xs → AreMeant g xs m → TokenLast m
-  token_last (before, kind, is) means =
-      let cut = meant_cut g before (numbered.Token kind ∷ []) (subst (λ xs. AreMeant g xs _) is means) in
+  token_last {m} (before, kind, is) means =
+      let cut = meant_cut g before (numbered.Token kind ∷ []) (subst (λ xs. AreMeant g xs m) is means) in
       (cut.front, kind.0, cut.are ∙ ap (λ back. cut.front ++ back) (token_meant g cut.behind))
 
-  of_token_last : (before : List Mark) {k : ℕ} {xs : List TreeMark} → AreMeant g xs (before ++ mark.Token k ∷ []) → EndsWithToken xs
-  of_token_last [] (meant.more (meant.token kind) meant.none) = ([], kind, refl)
-  of_token_last (m ∷ before) (meant.more {x} is means) =
-      let (others, kind, are) = of_token_last before means in (x ∷ others, kind, ap (λ xs. x ∷ xs) are)
+  of_token_last : (before : List Mark) (k : ℕ) {xs : List TreeMark} → AreMeant g xs (before ++ mark.Token k ∷ []) → EndsWithToken xs
+  of_token_last [] k (meant.more (meant.token kind) meant.none) = ([], kind, refl)
+  of_token_last (m ∷ before) k (meant.more {x} is means) =
+      let (others, kind, are) = of_token_last before k means in (x ∷ others, kind, ap (λ xs. x ∷ xs) are)
 
   -- with the end of a value behind
   end_last : {xs : List TreeMark} {m : List Mark} → AreMeant g xs m → AreMeant g (xs ++ numbered.End ∷ []) (m ++ mark.End ∷ [])
@@ -69,6 +74,16 @@ ends_token : {g : Grammar} {kinds : Kinds} {tasks : List Task} {ks : List ℕ} {
 ends_token some keep.unmarked = absurd (some refl)
 ends_token some (keep.opened r) = absurd (some refl)
 ends_token some (keep.token marks kind) = (marks, kind, refl)
+
+-- the marks that are handed out, of the readings that are kept and of those that were found
+pub handed_are : {old new : Lists} {kept slice ends found : List Front} {all : List (List TreeMark)} → GrowsLists old new → All (HasLists old) kept → slice ≡ kept → ends ≡ found →
+    AreWithEnded (map (λ front. (front_read new front).marks) slice) (map (λ front. (front_read new front).marks) ends) all →
+    AreWithEnded (map (λ r. r.marks) (map (front_read old) kept)) (map (λ r. r.marks) (map (front_read new) found)) all
+handed_are {new} {kept} grows within same same_ends (ended, are, is) = (
+  ended,
+  subst (λ marks. AreEnded marks ended) (marks_found new same_ends) are,
+  is ∙ ap (λ marks. marks ++ ended) (marks_found new same ∙ ap (map (λ r. r.marks)) (all_read_same grows kept within)),
+)
 
 -- ---- what was read, and the readings
 
@@ -102,10 +117,10 @@ module _ (g : Grammar) (kinds : Kinds) {program : ProgramParts} {told : BeginsPa
   -- each means some marks
   pub each_read : All (λ marks. (m : List Mark) × AreMeant g marks m) handed
   each_read =
-      let Some : List TreeMark → Type 0 = λ marks. (m : List Mark) × AreMeant g marks m in
-      All-append Some (map (λ r. r.marks) kept) ended
+      let Mean : List TreeMark → Type 0 = λ marks. (m : List Mark) × AreMeant g marks m in
+      All-append Mean (map (λ r. r.marks) kept) ended
       (each_ahead g kinds known Whole ks kept (All-weaker Kept (λ r. IsAhead g kinds known.program.tasks Whole ks r) (λ r one. one.ahead) kept keeps.each))
-      (All-weaker (Contains ended) Some (λ marks has.
+      (All-weaker (Contains ended) Mean (λ marks has.
       let (r, is_found, ends) = ended_found marks has in
       (is_found.0.front ++ mark.End ∷ [], subst (Means (is_found.0.front ++ mark.End ∷ [])) (sym ends.1) (end_last g is_found.0.meant))) ended (All-contains_itself ended))
 
@@ -128,7 +143,7 @@ module _ (g : Grammar) (kinds : Kinds) {program : ProgramParts} {told : BeginsPa
         let m = before ++ mark.Token k ∷ [] in
         let (r, has, there) = of_any (Arrives g kinds known.program.tasks m (mark.End ∷ others)) found (finds.all m (mark.End ∷ others) whole kinds_are (others, refl)) in
         let marks = r.marks ++ numbered.End ∷ [] in
-        let is_ended = (are marks).1 (any_mapped (λ before. IsEnded before marks) (λ r. r.marks) found r has (of_token_last g before there.meant, refl)) in
+        let is_ended = (are marks).1 (any_mapped (λ before. IsEnded before marks) (λ r. r.marks) found r has (of_token_last g before k there.meant, refl)) in
         any_right (map (λ r. r.marks) kept) ended (any_of (Means (m ++ mark.End ∷ [])) ended marks is_ended (end_last g there.meant))
 
     read_handed : (m others : List Mark) → Whole (m ++ others) → kinds_of m ≡ ks → EndsRead m → Any (Means m) handed

@@ -105,3 +105,7 @@ IsEnded marks ended = EndsWithToken marks × (ended ≡ marks ++ numbered.End �
 -- what is so made of these, and nothing else
 abbrev pub AreEnded : List (List TreeMark) → List (List TreeMark) → Type 0
 AreEnded all made = (ended : List TreeMark) → Contains made ended ↔ Any (λ marks. IsEnded marks ended) all
+
+-- these, and behind them what is so made of the others
+abbrev pub AreWithEnded : List (List TreeMark) → List (List TreeMark) → List (List TreeMark) → Type 0
+AreWithEnded kept others all = (ended : List (List TreeMark)) × AreEnded others ended × (all ≡ kept ++ ended)

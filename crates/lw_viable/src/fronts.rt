@@ -240,10 +240,8 @@ impl<'p> Fronts<'p> {
             kind: None,
         };
         let ends = sought.visit(alloc, &mut self.lists, self.kept.as_slice(), Due::End)?;
-        let mut ended = self.lists.ended_marks(alloc, ends.as_slice())?;
-        let mut found = self.lists.all_marks(alloc, self.kept.as_slice())?;
-        found.append(&mut ended)?;
-        Ok(found)
+        self.lists
+            .marks_with_ends(alloc, self.kept.as_slice(), ends.as_slice())
     }
 }
 
