@@ -451,6 +451,7 @@ fn next_of(
 /// What was read.
 fn read_of(alloc: Global, fronts: &mut Fronts<'_>) -> Result<String, NoMemory>
     requires { (g : Grammar) × (kinds : Kinds) × (tasks : List Task) × (aim : Aim) × (ks : List ℕ) × HoldReadings g kinds tasks aim ks fronts.old }
+    ensures { fronts.new ≡ fronts.old }
 {
     let readings = fronts.readings(alloc)?;
     shown_wholes(alloc, readings.as_slice())
@@ -478,8 +479,8 @@ fn shown_from(
     let recipes = Recipes::of(alloc, lexicon)?;
     let mut fronts = Fronts::start(alloc, program, begins, RuleId(0))?;
     let counts = shown(alloc, lexicon, &mut fronts, words)?;
-    let next = next_of(alloc, kinds_in(lexicon), &recipes, &mut fronts)?;
     let read = read_of(alloc, &mut fronts)?;
+    let next = next_of(alloc, kinds_in(lexicon), &recipes, &mut fronts)?;
     Ok(Account { counts, read, next })
 }
 
