@@ -1,5 +1,5 @@
 -- The readings stay, and with those at which a value ends they tell what was read.
-use Rattle.std.proofs.Common.{◌≡◌, ◌↔◌, List, All, Any, map, sym, ◌∙◌, subst}
+use Rattle.std.proofs.Common.{◌↔◌, List, All, Any, map, sym, ◌∙◌, subst}
 use Rattle.std.proofs.lemmas.Result.{IfOk-weaker}
 use Rattle.lw_sentences.specs.Marks.{Mark}
 use Rattle.lw_program.specs.Says.{Task}
