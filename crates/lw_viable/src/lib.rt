@@ -20,8 +20,8 @@
 //! no whole with a cross-reference there is left out. [`Fronts::sentences`] gives exactly the lists of marks that are wholes of these
 //! tokens.
 //!
-//! Of what was read it tells the marks, and the readings stay then too: [`Fronts::readings`] gives exactly those with which some whole
-//! begins, up to the last token, or up to the end of a value directly behind it (`specs/ReadSoFar.antt`).
+//! Of what was read it tells the marks, and the readings stay then too: once there is a token, [`Fronts::readings`] gives exactly the marks
+//! with which some whole begins, up to the last token, or up to the end of a value directly behind it (`specs/ReadSoFar.antt`).
 //!
 //! How a step is made. From each reading all moves are made that read no token (`specs/Moves.antt`), one way after the other of each
 //! choice, until it stands before a token: of the kind that was read it is kept, of another it is dropped. A call is passed over where the
