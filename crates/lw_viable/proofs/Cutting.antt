@@ -15,12 +15,12 @@ use Rattle.lw_viable.specs.Readings.{IsCutReading}
 use Rattle.lw_viable.specs.Readings as keep
 use Rattle.lw_viable.specs.Visiting.{BeginsDue}
 use Rattle.lw_viable.specs.declared.due.Due.{Due}
-use Rattle.lw_viable.specs.declared.due.Due.TheVariants.{Nothing, Reference}
-use Rattle.lw_viable.proofs.Meaning.{meant_cut, quiet_parts}
+use Rattle.lw_viable.specs.declared.due.Due.TheVariants.{Nothing, End, Reference}
+use Rattle.lw_viable.proofs.Meaning.{meant_cut, none_left, quiet_parts}
 use Rattle.lw_viable.proofs.Moves.Marking.{token_meant}
 
 -- of one list that is cut at two places, the one cut comes before the other
-cut_twice : {X : Type 0} (a b c d : List X) → a ++ b ≡ c ++ d →
+pub cut_twice : {X : Type 0} (a b c d : List X) → a ++ b ≡ c ++ d →
     ((e : List X) × (c ≡ a ++ e) × (b ≡ e ++ d)) ⊎ ((e : List X) × (a ≡ c ++ e) × (d ≡ e ++ b))
 cut_twice [] b c d is = inl (c, refl, is)
 cut_twice (x ∷ a) b [] d is = inr (x ∷ a, refl, sym is)
@@ -40,8 +40,27 @@ no_more (x ∷ xs) y ys is = cc
 no_quiet_token : (m : List Mark) (k : ℕ) → kinds_of (m ++ mark.Token k ∷ []) ≡ [] → ⊥
 no_quiet_token m k quiet = let (own, token) = quiet_parts m (mark.Token k ∷ []) quiet in cc
 
+-- behind the last of marks that end with a token there is nothing without a token
+pub quiet_end : (front : List Mark) (k : ℕ) (a e : List Mark) → front ++ mark.Token k ∷ [] ≡ a ++ e → kinds_of e ≡ [] → e ≡ []
+quiet_end front k a e is quiet = by (cut_twice front (mark.Token k ∷ []) a e is)
+  where
+    token_there : (x : List Mark) → mark.Token k ∷ [] ≡ x ++ e → e ≡ []
+    token_there [] is = absurd (no_quiet_token [] k (ap kinds_of is ∙ quiet))
+    token_there (x ∷ xs) is = let rest : [] ≡ xs ++ e = cc in (none_left xs e (sym rest)).1
+
+    by : ((x : List Mark) × (a ≡ front ++ x) × (mark.Token k ∷ [] ≡ x ++ e)) ⊎ ((x : List Mark) × (front ≡ a ++ x) × (e ≡ x ++ mark.Token k ∷ [])) → e ≡ []
+    by (inl (x, a_is, is)) = token_there x is
+    by (inr (x, front_is, is)) = absurd (no_quiet_token x k (sym (ap kinds_of is) ∙ quiet))
+
+-- what comes behind marks that have all kinds has none
+pub same_kinds : {ks : List ℕ} (m n : List Mark) → kinds_of m ≡ ks → kinds_of (m ++ n) ≡ ks → kinds_of n ≡ []
+same_kinds {ks} m n first both =
+    append_cancel_left ks (kinds_of n) []
+    (ap (λ ks. ks ++ kinds_of n) (sym first) ∙ sym (kinds_join m n) ∙ both ∙ sym (append-nil ks))
+
 no_open_due : (due : Due) {r : ℕ} {m n : List Mark} → BeginsDue due m → m ≡ mark.Open r ∷ n → ⊥
 no_open_due Nothing begins is = cc
+no_open_due End (x, begins) is = cc
 no_open_due (Reference recipes) (p, op, c, x, begins, makes) is = cc
 
 module _ (g : Grammar) (kinds : Kinds) (tasks : List Task) where
@@ -56,16 +75,11 @@ module _ (g : Grammar) (kinds : Kinds) (tasks : List Task) where
       by (x ∷ a) is = let rest : [] ≡ a ++ m ∷ e = cc in no_more a m e rest
   cut_apart due (keep.token marks kind) means a m e others is quiet b_is begins =
       let cut = meant_cut g marks (numbered.Token kind ∷ []) means in
-      by (cut_twice cut.front (mark.Token kind.0 ∷ []) a (m ∷ e) (ap (λ back. cut.front ++ back) (sym (token_meant g cut.behind)) ∙ sym cut.are ∙ is))
+      let ends = ap (λ back. cut.front ++ back) (sym (token_meant g cut.behind)) ∙ sym cut.are ∙ is in
+      no_first (quiet_end cut.front kind.0 a (m ∷ e) ends quiet)
     where
-      token_there : (x : List Mark) → mark.Token kind.0 ∷ [] ≡ x ++ m ∷ e → ⊥
-      token_there [] is = no_quiet_token [] kind.0 (ap kinds_of is ∙ quiet)
-      token_there (x ∷ xs) is = let rest : [] ≡ xs ++ m ∷ e = cc in no_more xs m e rest
-
-      by : {front : List Mark} → ((x : List Mark) × (a ≡ front ++ x) × (mark.Token kind.0 ∷ [] ≡ x ++ m ∷ e)) ⊎
-          ((x : List Mark) × (front ≡ a ++ x) × (m ∷ e ≡ x ++ mark.Token kind.0 ∷ [])) → ⊥
-      by (inl (x, a_is, is)) = token_there x is
-      by (inr (x, front_is, is)) = no_quiet_token x kind.0 (sym (ap kinds_of is) ∙ quiet)
+      no_first : m ∷ e ≡ [] → ⊥
+      no_first is = cc
 
   -- what was read comes first
   pub record CutFirst (front a b others : List Mark) : Type 0 where
@@ -73,11 +87,6 @@ module _ (g : Grammar) (kinds : Kinds) (tasks : List Task) where
     pub quiet : kinds_of mid ≡ []
     pub are : a ≡ front ++ mid
     pub left : others ≡ mid ++ b
-
-  same_kinds : {ks : List ℕ} (m n : List Mark) → kinds_of m ≡ ks → kinds_of (m ++ n) ≡ ks → kinds_of n ≡ []
-  same_kinds {ks} m n first both =
-      append_cancel_left ks (kinds_of n) []
-      (ap (λ ks. ks ++ kinds_of n) (sym first) ∙ sym (kinds_join m n) ∙ both ∙ sym (append-nil ks))
 
   pub front_first : (due : Due) {ks : List ℕ} {marks : List TreeMark} (front a b others : List Mark) → IsCutReading g kinds tasks ks marks → AreMeant g marks front →
       kinds_of front ≡ ks → a ++ b ≡ front ++ others → kinds_of a ≡ ks → BeginsDue due b → CutFirst front a b others

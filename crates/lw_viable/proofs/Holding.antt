@@ -12,6 +12,8 @@ use Rattle.lw_viable.specs.Fronts.{FrontsParts, IsKnownProgram, HoldReadings}
 use Rattle.lw_viable.specs.Growing.{HasLists, read, GrowsLists}
 use Rattle.lw_viable.specs.Readings.{KeptReading, Keeps}
 use Rattle.lw_viable.specs.Turning.{MayBePassed}
+use Rattle.lw_viable.specs.Visiting.{FindsDue, IsToldDue}
+use Rattle.lw_viable.specs.declared.due.Due.{Due}
 use Rattle.lw_viable.specs.declared.front.Front.{Front}
 use Rattle.lw_viable.specs.declared.lists.Lists.{Lists}
 use Rattle.lw_viable.proofs.Ending.{whole_ends, ends_whole, begins_told}
@@ -50,3 +52,39 @@ module _ {g : Grammar} {kinds : Kinds} {tasks : List Task} {aim : Aim} {ks : Lis
     by_known (λ tasks. EndsSome (Fulfils g kinds tasks aim) ks → Any (λ r. AllByRecursion (MayBePassed fronts.begins) r.rest) fronts.kept)
         (λ known keeps whole. whole_ends g kinds known (Fulfils g kinds known.program.tasks aim) fronts.kept keeps whole),
   )
+
+-- ---- what is found of them without a token
+
+module _ {program : ProgramParts} {begins : BeginsParts} {kept slice : List Front} {fronts : FrontsParts} (due : Due) (lists : Lists)
+    (are : parts program begins (map (read lists) kept) ≡ fronts) (same : slice ≡ kept) where
+  -- all is known by which they are visited
+  pub can_visit : {g : Grammar} {kinds : Kinds} {tasks : List Task} {aim : Aim} {ks : List ℕ} → HoldReadings g kinds tasks aim ks fronts → IsToldDue g due →
+      (g : Grammar) × (kinds : Kinds) × (aim : Aim) × (ks : List ℕ) × (known : IsKnownProgram g kinds program begins)
+      × Keeps g kinds known.program.tasks (Fulfils g kinds known.program.tasks aim) ks (map (read lists) slice) × IsToldDue g due
+  can_visit {g} {kinds} {tasks} {aim} {ks} hold told =
+      let here = subst (HoldReadings g kinds tasks aim ks) (sym are) hold in
+      let known = here.by.known in (
+        g,
+        kinds,
+        aim,
+        ks,
+        known,
+        subst (λ kept. Keeps g kinds known.program.tasks (Fulfils g kinds known.program.tasks aim) ks (map (read lists) kept)) (sym same) (held_keeps _ here),
+        told,
+      )
+
+  -- and what follows from what is kept and what was found follows over these tasks
+  pub by_found : {g : Grammar} {kinds : Kinds} {tasks : List Task} {aim : Aim} {ks : List ℕ} {found : List KeptReading} → HoldReadings g kinds tasks aim ks fronts →
+      IsToldDue g due →
+      ((g : Grammar) (kinds : Kinds) (aim : Aim) (ks : List ℕ) (known : IsKnownProgram g kinds program begins) →
+      Keeps g kinds known.program.tasks (Fulfils g kinds known.program.tasks aim) ks (map (read lists) slice) → IsToldDue g due →
+      FindsDue g kinds known.program.tasks (Fulfils g kinds known.program.tasks aim) program due ks found) →
+      (P : List Task → Type 0) →
+      ((known : IsKnownProgram g kinds program begins) → Keeps g kinds known.program.tasks (Fulfils g kinds known.program.tasks aim) ks (map (read lists) kept) →
+      FindsDue g kinds known.program.tasks (Fulfils g kinds known.program.tasks aim) program due ks found → P known.program.tasks) → P tasks
+  by_found {g} {kinds} {tasks} {aim} {ks} hold told finds P from =
+      by_known _ (subst (HoldReadings g kinds tasks aim ks) (sym are) hold) P
+      (λ known keeps.
+      from known keeps
+      (finds g kinds aim ks known
+      (subst (λ kept. Keeps g kinds known.program.tasks (Fulfils g kinds known.program.tasks aim) ks (map (read lists) kept)) (sym same) keeps) told))

@@ -14,5 +14,7 @@ pub mod Puts
 pub mod Visited
 pub mod Holding
 pub mod Handed
+pub mod ReadSoFar
+pub mod EndsNext
 pub mod KindsBelow
 pub mod ComingNext

@@ -13,6 +13,7 @@ use Rattle.lw_sentences.specs.Marks as mark
 use Rattle.lw_sentences.proofs.Joined.{kinds_join}
 use Rattle.lw_marks.specs.Follows.{MakesReference}
 use Rattle.lw_program.specs.declared.instr.Instr.TheVariants.{Put}
+use Rattle.lw_program.specs.declared.instr.Instr.TheVariants as instr
 use Rattle.lw_program.specs.ProgramOf.{ProgramParts}
 use Rattle.lw_recipes.specs.declared.mark.TreeMark.{TreeMark}
 use Rattle.lw_recipes.specs.declared.mark.TreeMark.TheVariants as numbered
@@ -27,10 +28,10 @@ use Rattle.lw_viable.specs.Moves as move
 use Rattle.lw_viable.specs.Fronts.{IsKnownProgram}
 use Rattle.lw_viable.specs.Growing.{HasLists, read, Change, changed}
 use Rattle.lw_viable.specs.Turning.{AreQuiet, AreRead}
-use Rattle.lw_viable.specs.Visiting.{IsReferencePut, PutsFirst, StandsFirst, AreNumbered, IsNoted, BeginsDue, IsToldDue, Arrives, IsFound, FindsDue}
+use Rattle.lw_viable.specs.Visiting.{EndsFirst, IsReferencePut, PutsFirst, StandsFirst, AreNumbered, IsNoted, BeginsDue, IsToldDue, Arrives, IsFound, FindsDue}
 use Rattle.lw_viable.specs.Visiting as visit
 use Rattle.lw_viable.specs.declared.due.Due.{Due}
-use Rattle.lw_viable.specs.declared.due.Due.TheVariants.{Nothing, Reference}
+use Rattle.lw_viable.specs.declared.due.Due.TheVariants.{Nothing, End, Reference}
 use Rattle.lw_viable.specs.declared.front.Front.{Front}
 use Rattle.lw_viable.specs.declared.lists.Lists.{Lists}
 use Rattle.lw_viable.proofs.Cutting.{front_first}
@@ -50,10 +51,18 @@ use Rattle.lw_viable.proofs.ReadingTurns as turn
 no_some : {X : Type 0} {x : X} → None ≡ Some x → ⊥
 no_some is = cc
 
+no_mark : {m : Mark} {others : List Mark} → [] ≡ m ∷ others → ⊥
+no_mark is = cc
+
 -- the move that leaves the mark of a put
 put_move : {program : ProgramParts} {nodes : List Bool} {p n : ℕ} {ps : List ℕ} → MovesBy program nodes p (Some (numbered.Put n)) ps →
     (first : ℕ) × (slice_get program.code p ≡ Some (Put n first))
 put_move (move.puts {first} at) = (first, at)
+
+-- and the one that leaves the mark of an end
+end_move : {program : ProgramParts} {nodes : List Bool} {p : ℕ} {ps : List ℕ} → MovesBy program nodes p (Some numbered.End) ps →
+    slice_get program.code p ≡ Some instr.End
+end_move (move.ends at) = at
 
 -- what stands first in a reading, and what is noted of it
 pub data IsSeen (program : ProgramParts) (due : Due) (r : KeptReading) (found seen : List KeptReading) : Type 0 where
@@ -77,6 +86,7 @@ module _ (g : Grammar) (kinds : Kinds) {program : ProgramParts} {told : BeginsPa
   pub numbered_first : {Whole : List Mark → Type 0} {ks : List ℕ} (due : Due) → IsToldDue g due → (r : KeptReading) →
       IsAhead g kinds known.program.tasks Whole ks r → AreNumbered program due r.rest
   numbered_first Nothing is_told r ahead = tt
+  numbered_first End is_told r ahead = tt
   numbered_first (Reference recipes) is_told r ahead = λ put value behind puts.
       let placed = subst (All (HasTask g kinds known.program.tasks)) puts.are ahead.placed in
       let said = put_said g kinds known.are program known.program puts.place (All-head (HasTask g kinds known.program.tasks) puts.place behind placed) puts.at in
@@ -97,12 +107,15 @@ module _ (g : Grammar) (kinds : Kinds) {program : ProgramParts} {told : BeginsPa
         record { recipe = recipe; made = made; refers = is_told.references n s q op c numbers assigned there makes recipe made },
       )
 
+  -- a move that leaves the mark of an end is made where a value ends
+  ends : {p : ℕ} {x : TreeMark} {ps : List ℕ} (rest : List ℕ) → MovesBy program told.nodes p (Some x) ps → MeansMark g x mark.End → EndsFirst program (p ∷ rest)
+  ends {p} rest step meant.ends = record { place = p; behind = rest; are = refl; at = end_move step }
+
   stands_there : (due : Due) {p : ℕ} {x : TreeMark} {m : Mark} {ps : List ℕ} (rest : List ℕ) {b others : List Mark} → IsToldDue g due → BeginsDue due b → b ≡ m ∷ others →
       MovesBy program told.nodes p (Some x) ps → MeansMark g x m → StandsFirst program due (p ∷ rest)
-  stands_there Nothing rest is_told begins is step means = absurd (none_first (sym begins ∙ is))
-    where
-      none_first : {m : Mark} {others : List Mark} → [] ≡ m ∷ others → ⊥
-      none_first is = cc
+  stands_there Nothing rest is_told begins is step means = absurd (no_mark (sym begins ∙ is))
+  stands_there End {x} {m} rest is_told (n, b_is) is step means =
+      let same : m ≡ mark.End = cc in ends rest step (subst (MeansMark g x) same means)
   stands_there (Reference recipes) {x} {m} rest is_told (q, op, c, y, b_is, makes) is step means =
       let same : m ≡ mark.Put q op c = cc in refers rest is_told makes step (subst (MeansMark g x) same means)
 
@@ -197,10 +210,8 @@ module _ (g : Grammar) (kinds : Kinds) {program : ProgramParts} {told : BeginsPa
       where
         stands : (due : Due) → BeginsDue due b → b ≡ [] → StandsFirst program due []
         stands Nothing begins is = refl
-        stands (Reference recipes) (p, op, c, x, b_is, makes) is = absurd (none_put (sym is ∙ b_is))
-          where
-            none_put : {m : Mark} {others : List Mark} → [] ≡ m ∷ others → ⊥
-            none_put is = cc
+        stands End (n, b_is) is = absurd (no_mark (sym is ∙ b_is))
+        stands (Reference recipes) (p, op, c, x, b_is, makes) is = absurd (no_mark (sym is ∙ b_is))
 
     module _ (is_told : IsToldDue g due) (p : ℕ) (marks : List TreeMark) (rest : List ℕ) (quiet tokens : List Change)
         (are_quiet : AreQuiet program told None p (slice_get program.code p) quiet) (are_read : AreRead None (slice_get program.code p) tokens) where

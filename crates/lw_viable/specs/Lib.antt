@@ -1,4 +1,5 @@
 pub mod Readings
+pub mod ReadSoFar
 pub mod Aims
 pub mod Moves
 pub mod Fronts

@@ -1,7 +1,7 @@
 // What is looked for where no token is read.
 ghost use Rattle.std.specs.Prelude.{ℕ, ◌≡◌, ◌↔◌, ◌<◌, ◌∷◌, List, IsTrue, MatchOption, length};
 ghost use Rattle.lw_viable.specs.Growing.{HasLists, read};
-ghost use Rattle.lw_viable.specs.Visiting.{AreNumbered, IsReferencePut, PutsFirst, StandsFirst};
+ghost use Rattle.lw_viable.specs.Visiting.{AreNumbered, EndsFirst, IsReferencePut, PutsFirst, StandsFirst};
 
 use crate::front::Front;
 use crate::lists::Lists;
@@ -14,6 +14,8 @@ use lw_recipes::{Content, Recipes};
 pub(crate) enum Due<'r> {
     /// Nothing: all is done.
     Nothing,
+    /// The end of a value.
+    End,
     /// A value that is put and makes a reference, by these recipes.
     Reference(&'r Recipes),
 }
@@ -27,11 +29,23 @@ impl Due<'_> {
     {
         match self {
             Due::Nothing => lists.first(front).is_none(),
+            Due::End => ends_first(program, lists, front),
             Due::Reference(recipes) => match first_put(program, lists, front) {
                 None => false,
                 Some((put, ..)) => is_reference(recipes, put),
             },
         }
+    }
+}
+
+/// Whether a value ends at the first place of a reading.
+fn ends_first(program: &Program, lists: &Lists, front: Front) -> bool
+    requires { HasLists lists.now front }
+    ensures { IsTrue result ↔ EndsFirst program.now (read lists.now front).rest }
+{
+    match lists.first(front) {
+        None => false,
+        Some((place, ..)) => matches!(instr_at(program, place), Some(Instr::End)),
     }
 }
 

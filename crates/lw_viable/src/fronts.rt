@@ -1,5 +1,5 @@
 // The readings of the tokens so far.
-ghost use Rattle.std.specs.Prelude.{ℕ, ◌≡◌, ◌↔◌, ◌<◌, ◌≤◌, ◌++◌, List, [], ◌∷◌, All, Any, Contains, map, IsTrue, IfOk, IfErr};
+ghost use Rattle.std.specs.Prelude.{ℕ, ◌≡◌, ◌≢◌, ◌↔◌, ◌<◌, ◌≤◌, ◌++◌, List, [], ◌∷◌, All, Any, Contains, map, IsTrue, IfOk, IfErr};
 ghost use Rattle.std.specs.List.Sorted.{IsStrictlyIncreasing};
 ghost use Rattle.lw_base.specs.declared.numbers.KindId.{KindId};
 ghost use Rattle.lw_grammar.specs.declared.grammar.Grammar.{Grammar};
@@ -15,6 +15,7 @@ ghost use Rattle.lw_viable.specs.Aims.{Aim, BeginsSome, EndsSome, Fulfils};
 ghost use Rattle.lw_viable.specs.Aims.{Sentence, Places};
 ghost use Rattle.lw_viable.specs.Fronts.{HoldReadings, IsProgramWith, seen};
 ghost use Rattle.lw_viable.specs.Readings.{HasTask};
+ghost use Rattle.lw_viable.specs.ReadSoFar.{IsReadSoFar};
 ghost use Rattle.lw_viable.specs.ReferenceStarts.{AreReferenceStarts};
 
 use crate::due::Due;
@@ -219,6 +220,28 @@ impl<'p> Fronts<'p> {
         };
         let found = sought.visit(alloc, &mut self.lists, self.kept.as_slice(), Due::Nothing)?;
         self.lists.all_marks(alloc, found.as_slice())
+    }
+
+    /// The marks of each reading of the tokens so far: up to the last token, and where a value may end directly behind it, also up to that
+    /// end. Where memory is wanting, too, the readings stay as they are. It is linear in what the moves come to that read no token, and in
+    /// the marks that are handed out.
+    pub fn readings(&mut self, alloc: Global) -> Result<Vec<Items<TreeMark>>, NoMemory>
+        requires known { (g : Grammar) × (kinds : Kinds) × (tasks : List Task) × (aim : Aim) × (ks : List ℕ) × HoldReadings g kinds tasks aim ks self.old }
+        ensures all { (g : Grammar) (kinds : Kinds) (tasks : List Task) (aim : Aim) (ks : List ℕ) → HoldReadings g kinds tasks aim ks self.old →
+            ks ≢ [] → IsSupplied g kinds →
+            IfOk result (λ found. (m : List Mark) → IsReadSoFar (Fulfils g kinds tasks aim) ks m ↔ Any (λ marks. AreMeant g marks m) found.items) }
+        ensures each { (g : Grammar) (kinds : Kinds) (tasks : List Task) (aim : Aim) (ks : List ℕ) → HoldReadings g kinds tasks aim ks self.old →
+            IfOk result (λ found. All (λ marks. (m : List Mark) × AreMeant g marks m) found.items) }
+        ensures same { self.new ≡ self.old }
+    {
+        let sought = Sought {
+            program: self.program,
+            begins: self.begins,
+            kind: None,
+        };
+        let ends = sought.visit(alloc, &mut self.lists, self.kept.as_slice(), Due::End)?;
+        self.lists
+            .marks_with_ends(alloc, self.kept.as_slice(), ends.as_slice())
     }
 }
 

@@ -20,16 +20,19 @@
 //! no whole with a cross-reference there is left out. [`Fronts::sentences`] gives exactly the lists of marks that are wholes of these
 //! tokens.
 //!
+//! Of what was read it tells the marks, and the readings stay then too: once there is a token, [`Fronts::readings`] gives exactly the marks
+//! with which some whole begins, up to the last token, or up to the end of a value directly behind it (`specs/ReadSoFar.antt`).
+//!
 //! How a step is made. From each reading all moves are made that read no token (`specs/Moves.antt`), one way after the other of each
 //! choice, until it stands before a token: of the kind that was read it is kept, of another it is dropped. A call is passed over where the
-//! kind can neither begin it nor come behind it. Where a reference is looked for, or the end, no kind is sought: no call is passed over,
-//! and a reading is found wherever what is looked for stands first (`specs/Visiting.antt`). Nothing recurses, and that it ends is shown by
-//! the cells of the lists, of which there are fewer than 2^32.
+//! kind can neither begin it nor come behind it. Where a reference is looked for, or the end of a value or of all, no kind is sought: no
+//! call is passed over, and a reading is found wherever what is looked for stands first (`specs/Visiting.antt`). Nothing recurses, and that
+//! it ends is shown by the cells of the lists, of which there are fewer than 2^32.
 //!
-//! What it costs. A step is linear in what these moves come to; so are `references` and `sentences`, and in what they hand out; `expected`
-//! takes a step for each kind; `complete` is linear in what is still to be done. Marks and places are lists that share their ends, twelve
-//! bytes a cell at most, and are given back with the whole. What is asked puts cells on these lists too, so for many questions at one place
-//! ask each once.
+//! What it costs. A step is linear in what these moves come to; so are `references`, `sentences` and `readings`, and in what they hand out;
+//! `expected` takes a step for each kind; `complete` is linear in what is still to be done. Marks and places are lists that share their
+//! ends, twelve bytes a cell at most, and are given back with the whole. What is asked puts cells on these lists too, so for many questions
+//! at one place ask each once.
 #![tactic(auto)]
 
 mod due;

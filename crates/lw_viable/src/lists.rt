@@ -4,6 +4,7 @@ ghost use Rattle.std.specs.List.{AllByRecursion};
 ghost use Rattle.lw_viable.specs.Growing.{ArePut, GrowsLists, IsMadeFront, HasLists, changed, cells_of, read};
 ghost use Rattle.lw_viable.specs.Moves.{left, side_by_side};
 ghost use Rattle.lw_viable.specs.Turning.{MayBePassed, way_change};
+ghost use Rattle.lw_viable.specs.Visiting.{AreEnded, AreWithEnded, EndsWithToken};
 
 use crate::front::Front;
 use crate::listed::listed;
@@ -215,6 +216,53 @@ impl Lists {
         for front in fronts {
             all.push(self.marks_of(alloc, *front)?)?;
         }
+        Ok(all)
+    }
+
+    /// Whether the latest mark of a reading is a token.
+    fn ends_with_token(&self, front: Front) -> bool
+        ensures { IsTrue result ↔ EndsWithToken (read self.now front).marks }
+    {
+        matches!(
+            self.marks.first(front.marks),
+            Some((TreeMark::Token(..), ..))
+        )
+    }
+
+    /// The marks of a reading, in order, with the end of a value behind.
+    fn ended(&self, alloc: Global, front: Front) -> Result<Items<TreeMark>, NoMemory>
+        ensures { IfOk result (λ marks. marks ≡ (read self.now front).marks ++ TreeMark.End ∷ []) }
+    {
+        let mut marks = self.marks_of(alloc, front)?;
+        marks.push(TreeMark::End)?;
+        Ok(marks)
+    }
+
+    /// The marks of each of these whose latest is a token, in order, with the end of a value behind.
+    fn all_ended(&self, alloc: Global, fronts: &[Front]) -> Result<Vec<Items<TreeMark>>, NoMemory>
+        ensures { IfOk result (λ all. AreEnded (map (λ front. (read self.now front).marks) fronts.now) all.items) }
+    {
+        let mut all = Vec::new(alloc);
+        for front in fronts {
+            if self.ends_with_token(*front) {
+                all.push(self.ended(alloc, *front)?)?;
+            }
+        }
+        Ok(all)
+    }
+
+    /// The marks of each of the kept ones, and behind them those of each at which a value ends directly behind a token, with that end.
+    pub(crate) fn marks_with_ends(
+        &self,
+        alloc: Global,
+        kept: &[Front],
+        ends: &[Front],
+    ) -> Result<Vec<Items<TreeMark>>, NoMemory>
+        ensures { IfOk result (λ all. AreWithEnded (map (λ front. (read self.now front).marks) kept.now) (map (λ front. (read self.now front).marks) ends.now) all.items) }
+    {
+        let mut all = self.all_marks(alloc, kept)?;
+        let mut ended = self.all_ended(alloc, ends)?;
+        all.append(&mut ended)?;
         Ok(all)
     }
 

@@ -82,6 +82,38 @@ const NEXT: [(&[&str], &str); 5] = [
     ),
 ];
 
+/// Words, and the marks of what was read then, by their signs: up to the last word, and where a value ends directly behind it also up to
+/// that end. Before the first word the one rule has opened.
+///
+/// Two ways of grammar E begin with the same marks, and so do the x and the y of the other grammar, and its z: each is told by itself.
+/// Behind `to`, `end` and the words that go into no property no value ends.
+const READ: [(Asked, &[&str], &str); 12] = [
+    (Asked::States, &[], "o"),
+    (Asked::States, &["model"], "ot"),
+    (Asked::States, &["model", "m"], "otpt otpte"),
+    (
+        Asked::States,
+        &["model", "m", "state", "a", "to"],
+        "otptetptet",
+    ),
+    (
+        Asked::States,
+        &["model", "m", "state", "a", "to", "b"],
+        "otptetptetpt otptetptetpte",
+    ),
+    (
+        Asked::States,
+        &["model", "m", "state", "a", "to", "b", "end"],
+        "otptetptetptet",
+    ),
+    (Asked::Alike, &["a"], "ot ot"),
+    (Asked::Alike, &["a", "b"], "otpt otpte"),
+    (Asked::Alike, &["a", "c"], ""),
+    (Asked::Many, &["b"], ""),
+    (Asked::Many, &["a"], "opt opt opt opte opte opte"),
+    (Asked::Many, &["a", "a", "b"], "opteptet opteptet"),
+];
+
 /// A keyword.
 fn word(alloc: Global, text: &str) -> Result<Element, NoMemory>
     ensures { IfOk result (λ e. e ≡ word_of text.now) }
@@ -416,10 +448,20 @@ fn next_of(
     Ok(format!(in alloc; "{kinds}| {starts}| {wholes}")?)
 }
 
-/// How many readings are kept at first and after each of these words, and what may come next then.
+/// What was read.
+fn read_of(alloc: Global, fronts: &mut Fronts<'_>) -> Result<String, NoMemory>
+    requires { (g : Grammar) × (kinds : Kinds) × (tasks : List Task) × (aim : Aim) × (ks : List ℕ) × HoldReadings g kinds tasks aim ks fronts.old }
+    ensures { fronts.new ≡ fronts.old }
+{
+    let readings = fronts.readings(alloc)?;
+    shown_wholes(alloc, readings.as_slice())
+}
+
+/// How many readings are kept at first and after each of these words, and what was read and may come next then.
 #[derive(Drop)]
 struct Account {
     counts: String,
+    read: String,
     next: String,
 }
 
@@ -437,8 +479,9 @@ fn shown_from(
     let recipes = Recipes::of(alloc, lexicon)?;
     let mut fronts = Fronts::start(alloc, program, begins, RuleId(0))?;
     let counts = shown(alloc, lexicon, &mut fronts, words)?;
+    let read = read_of(alloc, &mut fronts)?;
     let next = next_of(alloc, kinds_in(lexicon), &recipes, &mut fronts)?;
-    Ok(Account { counts, next })
+    Ok(Account { counts, read, next })
 }
 
 /// The program of the lexicon's grammar.
@@ -484,6 +527,15 @@ fn all_readings_are_kept(rt: HostRuntime) -> Result<(), Fail> {
     for (asked, words, wanted) in ROWS {
         let found = shown_for(rt.alloc(), asked, words)?;
         assert_eq!(rt; found.counts.trim_end(), wanted);
+    }
+    Ok(())
+}
+
+#[test]
+fn what_was_read_is_told(rt: HostRuntime) -> Result<(), Fail> {
+    for (asked, words, wanted) in READ {
+        let found = shown_for(rt.alloc(), asked, words)?;
+        assert_eq!(rt; found.read.trim_end(), wanted);
     }
     Ok(())
 }

@@ -1,6 +1,7 @@
 -- At first the readings of no tokens are kept.
-use Rattle.std.proofs.Common.{[], refl}
+use Rattle.std.proofs.Common.{[], refl, sym, subst}
 use Rattle.lw_viable.specs.Aims.{Sentence}
+use Rattle.lw_viable.specs.Fronts.{HoldReadings}
 use Rattle.lw_viable.proofs.fronts.tests.shown_from.Goals as goal
 
 pub start-requires : goal.start-requires
@@ -23,11 +24,23 @@ shown-requires c =
       );
     }
 
+pub read_of-requires : goal.read_of-requires
+read_of-requires c = let (kinds, tasks, aim, ks, hold) = c.in_ok-counts.ensures in (c.args.lexicon.g.now, kinds, tasks, aim, ks, hold)
+
 pub next_of-requires : goal.next_of-requires
 next_of-requires c =
     let g = c.args.lexicon.g.now in
     let (kinds, tasks, aim, ks, hold) = c.in_ok-counts.ensures in
     record {
       few = c.kinds_in.ensures.few;
-      known = (g, kinds, tasks, aim, ks, hold, c.kinds_in.ensures.all kinds hold.by.known.are, c.in_ok-recipes.ensures);
+      known = (
+        g,
+        kinds,
+        tasks,
+        aim,
+        ks,
+        subst (HoldReadings g kinds tasks aim ks) (sym c.read_of.ensures) hold,
+        c.kinds_in.ensures.all kinds hold.by.known.are,
+        c.in_ok-recipes.ensures,
+      );
     }
