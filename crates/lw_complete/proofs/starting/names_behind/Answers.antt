@@ -1,4 +1,4 @@
-use Rattle.std.proofs.Common.{◌≡◌, ◌≤◌, ◌++◌, ◌∷◌, [], ℕ, List, take, length, sym, ap, subst, ◌∙◌, arith}
+use Rattle.std.proofs.Common.{◌≤◌, ◌++◌, ◌∷◌, [], List, take, length, sym, ap, subst, ◌∙◌, arith}
 use Rattle.lw_findings.specs.Finding.{Finds, OfSome}
 use Rattle.lw_findings.proofs.Joining.{Finds-all, Finds-begin, Finds-iff, Finds-more}
 use Rattle.lw_recipes.specs.declared.mark.TreeMark.{TreeMark}

@@ -24,4 +24,4 @@ complete-requires c =
 pub returns : goal.returns
 returns c g of tasks program value are =
     let p = c.args.start.now.value in
-    c.complete-2.ensures g of tasks (Places (p ∷ [])) (kinds (visible c.args.added.now)) (c.in_ok-fronts.ensures g of tasks program (alone g of tasks p value) are)
+    c.complete.ensures g of tasks (Places (p ∷ [])) (kinds (visible c.args.added.now)) (c.in_ok-fronts.ensures g of tasks program (alone g of tasks p value) are)
