@@ -60,6 +60,9 @@ pub begun : (word name lent : List ℕ) (r : Bool) → lent ≡ name → r ≡ s
 begun word name lent r same told so =
     (drop (length word) name, subst (λ (t : List ℕ). t ≡ word ++ drop (length word) t) same ((starts_is Decides-eqb lent word r told).0 so))
 
+pub begun_not : (word name lent : List ℕ) (r : Bool) → lent ≡ name → r ≡ starts_with eqb lent word → r ≡ false → ¬ BeginsBy word name
+begun_not word name lent r same told not (rest, is) = true≢false (sym ((starts_is Decides-eqb lent word r told).1 rest (same ∙ is)) ∙ not)
+
 -- what a name comes to behind the text before the word, by what cuts it there
 pub written_there : (of : Kinds) (lexicon : Lexicon) (typing : Typing) (recutter : RecutterParts) (written : Written) → IsTypedBy of lexicon typing →
     CutsBehind lexicon typing recutter → IsRecut recutter written.name.now written.recut.now →

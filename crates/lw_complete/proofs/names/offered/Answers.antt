@@ -11,7 +11,9 @@ use Rattle.lw_complete.proofs.NamedOrdered.{among_more, among_pass, kept_more, k
 use Rattle.lw_complete.proofs.names.offered.Goals as goal
 
 pub is_offered-requires : goal.is_offered-requires
-is_offered-requires c = ?
+is_offered-requires c =
+    let (of, lexicon, tasks, typed, parsed, cuts, all) = c.requires.known in
+    record { known = (of, lexicon, tasks, typed, parsed, subst (CutsBehind lexicon c.args.typing.now) (sym c.names.invariant.kept) cuts, all) }
 
 pub names-preserved : goal.names-preserved
 names-preserved c =
