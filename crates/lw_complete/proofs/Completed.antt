@@ -1,5 +1,5 @@
 -- All that is offered at an offset, from what is offered in place of the word that is typed there.
-use Rattle.std.proofs.Common.{◌≡◌, ◌↔◌, ◌⊎◌, inl, inr, ◌<◌, ◌≤◌, ℕ, List, [], All, AllPairs, Contains, length, map, slice_range, take, ap, Result, Ok, Err, IfOk, sym, subst, arith}
+use Rattle.std.proofs.Common.{◌≡◌, ◌∙◌, ◌↔◌, ◌⊎◌, inl, inr, ◌<◌, ◌≤◌, ℕ, List, [], All, AllPairs, Contains, length, map, slice_range, take, ap, Result, Ok, Err, IfOk, sym, subst, arith}
 use Rattle.lw_base.specs.declared.limits.TheConstants.{LONGEST_DOCUMENT}
 use Rattle.lw_base.specs.declared.token.Token.{Token}
 use Rattle.std.proofs.lemmas.List.Elements.{All-weaker}

@@ -37,6 +37,9 @@ one_moved by t [] same = absurd cc
 one_moved by t (u ∷ []) same = ap (λ (x : Token). x ∷ []) (same_moved by u t cc)
 one_moved by t (u ∷ v ∷ vs) same = absurd cc
 
+pub tail_within : (recutter : RecutterParts) (more : List ℕ) (it : Recut) → IsRecut recutter more it → it.tail ≤ length it.tokens.items
+tail_within recutter more it recut = omega (arith, recut.tail, ap length recut.are, length-append recutter.tokens (added it))
+
 module _ (typing : Typing) (lexicon : Lexicon) (recutter : RecutterParts) (cuts : CutsBehind lexicon typing recutter) (keyword : List ℕ) (it : Recut)
     (recut : IsRecut recutter keyword it) (kind : ℕ) where
   abbrev here : Token
@@ -50,8 +53,15 @@ module _ (typing : Typing) (lexicon : Lexicon) (recutter : RecutterParts) (cuts 
 
   place : it.from + (length it.text - length keyword) ≡ length typing.front.now
   place =
-      omega (arith, ap length recut.text, length-append recutter.text keyword, recut.from, ap length cuts.end.text, length-drop recutter.from typing.front.now,
-      cuts.end.within)
+      omega (
+        arith,
+        ap length recut.text,
+        length-append recutter.text keyword,
+        recut.from,
+        ap length cuts.end.text,
+        length-drop recutter.from typing.front.now,
+        cuts.end.within,
+      )
 
   moved_there : moved it.from here ≡ there
   moved_there = moved_token it.from kind (length it.text - length keyword) (length keyword) ∙ same_place kind _ _ (length keyword) place

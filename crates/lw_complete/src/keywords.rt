@@ -1,18 +1,18 @@
 // The keywords that may be written.
-ghost use Rattle.std.specs.Prelude.{ℕ, ◌≡◌, ◌≢◌, ◌↔◌, ◌-◌, ◌≤◌, ◌++◌, ◌∷◌, [], List, false, AllPairs, Contains, IfOk, IsTrue, length};
+ghost use Rattle.std.specs.Prelude.{ℕ, ◌≡◌, ◌≢◌, ◌↔◌, ◌-◌, ◌≤◌, ◌++◌, ◌∷◌, [], List, AllPairs, Contains, IfOk, IsTrue, length};
+ghost use Rattle.lw_base.specs.declared.limits.TheConstants.{LONGEST_TEXT};
 ghost use Rattle.lw_grammar.specs.Kinds.{Kinds};
 ghost use Rattle.lw_look.specs.Supplied.{IsSupplied};
 ghost use Rattle.lw_offers.specs.Offers.{IsKeywordNext, visible_token};
 ghost use Rattle.lw_offers.specs.Words.{BeginsBy};
 ghost use Rattle.lw_program.specs.Says.{Task};
-ghost use Rattle.lw_recut.specs.Recut.{added};
 ghost use Rattle.lw_tokens.specs.Cut.{IsCut};
 ghost use Rattle.lw_tokens.specs.Lexicon.{Lexicon};
 ghost use Rattle.lw_complete.specs.Typing.{AreReadings, CutsBehind, IsTypedBy, grammar_of};
 
 use crate::typing::Typing;
-use lw_base::{KindId, Name, NoMemory, Token};
-use lw_recut::{Recut, Recutter};
+use lw_base::{KindId, Name, NoMemory, Span, Token};
+use lw_recut::Recutter;
 use lw_terminals::TokenSet;
 use lw_viable::Fronts;
 use std::alloc::Global;
@@ -78,29 +78,31 @@ fn is_next(
         return Ok(false);
     }
     match recutter.cut(alloc, keyword.text())? {
-        Some(recut) => Ok(is_alone(&recut, kind, keyword)),
+        Some(recut) => Ok(is_alone(recut.added(), last_token(kind, &recut.text, keyword))),
         None => Ok(false),
     }
 }
 
-/// Whether what is added is one visible token of this kind, which is the keyword.
-fn is_alone(recut: &Recut, kind: KindId, keyword: &Name) -> bool
-    requires tail { recut.now.tail ≤ length recut.now.tokens.items }
-    requires ends { length keyword.now ≤ length recut.now.text }
-    ensures { IsTrue result ↔ (added recut.now ≡ visible_token kind.0 (length recut.now.text - length keyword.now) (length keyword.now) ∷ []) }
+/// The tokens are this one alone.
+fn is_alone(tokens: &[Token], token: Token) -> bool
+    ensures { IsTrue result ↔ (tokens.now ≡ token ∷ []) }
 {
-    let end = recut.text.bytes().len();
-    let start = end - keyword.bytes().len();
-    match recut.added() {
-        [one] => is_visible(*one, kind)
-            && one.span.start as usize == start
-            && one.span.end as usize == end,
-        _ => false,
-    }
+    matches!(tokens, [one] if *one == token)
 }
 
-fn is_visible(token: Token, kind: KindId) -> bool
-    ensures { IsTrue result ↔ ((token.hidden ≡ false) × (token.kind.0 ≡ kind.0)) }
+/// The visible token of this kind that the keyword is at the end of a text.
+fn last_token(kind: KindId, text: &Name, keyword: &Name) -> Token
+    requires { (length keyword.now ≤ length text.now) × (length text.now ≤ LONGEST_TEXT) }
+    ensures { result ≡ visible_token kind.0 (length text.now - length keyword.now) (length keyword.now) }
 {
-    !token.hidden && token.kind == kind
+    let bytes = keyword.bytes().len();
+    let start = text.bytes().len() - bytes;
+    Token {
+        kind,
+        span: Span {
+            start: start as u32,
+            end: (start + bytes) as u32,
+        },
+        hidden: false,
+    }
 }

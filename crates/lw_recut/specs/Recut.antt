@@ -1,6 +1,7 @@
 -- The end of a text, from which it is cut again with more behind it, and what comes of that.
 -- Held against the rules of the cut: at each place the next token hangs on the text from there on alone.
 use Rattle.std.specs.Prelude.{ℕ, ◌≡◌, ◌<◌, ◌≤◌, ◌+◌, ◌⊎◌, List, ◌++◌, Option, Some, None, All, IfSome, Vec, drop, length, map}
+use Rattle.lw_base.specs.declared.limits.TheConstants.{LONGEST_TEXT}
 use Rattle.lw_base.specs.declared.token.Token.{Token}
 use Rattle.regex_nfa.specs.declared.nfa.Nfa.{Nfa}
 use Rattle.std.specs.declared.alloc.Global.{Global}
@@ -54,6 +55,7 @@ added_behind it = map (moved it.from) (added it)
 pub record IsRecut (parts : RecutterParts) (more : List ℕ) (it : Recut) : Type 0 where
   pub from : it.from ≡ parts.from
   pub text : it.text ≡ parts.text ++ more
+  pub short : length it.text ≤ LONGEST_TEXT
   pub tail : it.tail ≡ length parts.tokens
   pub are : it.tokens.items ≡ parts.tokens ++ added it
   pub cut : IsCut parts.lexicon it.text it.tokens.items

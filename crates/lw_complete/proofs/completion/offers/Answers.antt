@@ -3,24 +3,72 @@ use Rattle.std.proofs.lemmas.Result.{IfOk-weaker}
 use Rattle.lw_offers.specs.Offers.{IsOffered, Offer, keyword_offer, name_offer}
 use Rattle.lw_complete.specs.Items.{offer_of}
 use Rattle.lw_complete.specs.Typing.{AreReadings, CutsBehind, grammar_of}
-use Rattle.lw_complete.proofs.Completed.{among, cuts_made, cut_there, offered, places_there}
+use Rattle.lw_complete.proofs.Completed.{among, cut_there, cuts_made, offered, places_there}
 use Rattle.lw_complete.proofs.ParserKnown.{parsed_by}
 use Rattle.lw_complete.proofs.completion.offers.Goals as goal
 
 pub read_front-requires : goal.read_front-requires
-read_front-requires c = ?
+read_front-requires c =
+    let (of, lexicon, typed) = c.requires.known in
+    let (tasks, rule, parsed, entry) = parsed_by c.args.typing.now c.parser-parser.result.now c.parser-parser.ensures of typed.are_kinds in
+    (grammar_of c.args.typing.now, of, tasks, rule, parsed.program, entry, typed.of_kinds)
 
 pub of-requires-clause-cut : goal.of-requires-clause-cut
-of-requires-clause-cut c = ?
+of-requires-clause-cut c =
+    let (of, lexicon, typed) = c.requires.known in
+    cut_there c.args.typing.now typed c.tokens-tokens.result.now.lexicon c.tokens-tokens.ensures.lexicon
 
 pub of-requires-clause-places : goal.of-requires-clause-places
-of-requires-clause-places c = ?
+of-requires-clause-places c = let (of, lexicon, typed) = c.requires.known in places_there c.args.typing.now typed
 
-pub keywords-requires-clause-known : goal.keywords-requires-clause-known
-keywords-requires-clause-known c = ?
+pub keywords-requires : goal.keywords-requires
+keywords-requires c =
+    let (of, lexicon, typed) = c.requires.known in
+    let (tasks, rule, parsed, entry) = parsed_by c.args.typing.now c.parser-parser.result.now c.parser-parser.ensures of typed.are_kinds in
+    let readings = c.in_ok-fronts.ensures (grammar_of c.args.typing.now) of tasks rule parsed.program entry typed.of_kinds in
+    let made = c.in_ok-recutter.ensures in
+    let cuts : CutsBehind lexicon c.args.typing.now c.in_ok-recutter.recutter =
+    cuts_made c.args.typing.now typed c.tokens-tokens.result.now.lexicon c.tokens-tokens.ensures.lexicon c.in_ok-recutter.recutter made.lexicon made.end made.own in
+    record { known = (of, lexicon, tasks, typed, readings, parsed.faultless.supplied, cuts) }
 
 pub names-requires-clause-known : goal.names-requires-clause-known
-names-requires-clause-known c = ?
+names-requires-clause-known c =
+    let typing = c.args.typing.now in
+    let (of, lexicon, typed) = c.requires.known in
+    let (tasks, rule, parsed, entry) = parsed_by typing c.parser-parser.result.now c.parser-parser.ensures of typed.are_kinds in
+    let readings = c.in_ok-fronts.ensures (grammar_of typing) of tasks rule parsed.program entry typed.of_kinds in
+    let made = c.in_ok-recutter.ensures in
+    let cuts : CutsBehind lexicon typing c.in_ok-recutter.recutter =
+    cuts_made typing typed c.tokens-tokens.result.now.lexicon c.tokens-tokens.ensures.lexicon c.in_ok-recutter.recutter made.lexicon made.end made.own in (
+      of,
+      lexicon,
+      tasks,
+      typed,
+      subst (AreReadings of tasks typing) (sym c.in_ok-keywords.ensures.same) readings,
+      parsed,
+      subst (CutsBehind lexicon typing) (sym c.in_ok-keywords.ensures.kept) cuts,
+    )
 
 pub returns-clause-exact : goal.returns-clause-exact
-returns-clause-exact c of lexicon trees address typed is number = ?
+returns-clause-exact c of lexicon trees address typed is number =
+    let typing = c.args.typing.now in
+    let g = grammar_of typing in
+    let (tasks, rule, parsed, entry) = parsed_by typing c.parser-parser.result.now c.parser-parser.ensures of typed.are_kinds in
+    let readings = c.in_ok-fronts.ensures g of tasks rule parsed.program entry typed.of_kinds in
+    let made = c.in_ok-recutter.ensures in
+    let cuts : CutsBehind lexicon typing c.in_ok-recutter.recutter =
+    cuts_made typing typed c.tokens-tokens.result.now.lexicon c.tokens-tokens.ensures.lexicon c.in_ok-recutter.recutter made.lexicon made.end made.own in
+    let keywords = c.in_ok-keywords.keywords.items in
+    let names = c.in_ok-names.names.items in
+    let keywords_are = c.in_ok-keywords.ensures.keywords of lexicon tasks typed readings parsed.faultless.supplied in
+    let names_are = c.in_ok-names.ensures.names of lexicon tasks trees address typed (subst (CutsBehind lexicon typing) (sym c.in_ok-keywords.ensures.kept) cuts)
+    (subst (AreReadings of tasks typing) (sym c.in_ok-keywords.ensures.same) readings) parsed c.requires.one_way is number in
+    IfOk-weaker c.in_order.result
+    (λ items. (x : Offer) → Contains (map offer_of items.items) x ↔ (Contains (map keyword_offer keywords) x ⊎ Contains (map name_offer names) x))
+    (λ items. (x : Offer) → Contains (map offer_of items.items) x ↔
+    IsOffered g of lexicon trees address typing.front.now typing.rest.now typing.tokens.now typing.word.now x)
+    (λ items are x. (
+      λ has. offered g of lexicon trees address typing.front.now typing.rest.now typing.word.now typing.tokens.now keywords names keywords_are names_are x ((are x).0 has),
+      λ offer. (are x).1 (among g of lexicon trees address typing.front.now typing.rest.now typing.word.now typing.tokens.now keywords names keywords_are names_are x offer),
+    ))
+    c.in_order.ensures.exact

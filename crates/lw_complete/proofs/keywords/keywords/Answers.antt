@@ -58,22 +58,31 @@ kinds-preserved c =
           let at : slice_get keywords kind.0 ≡ Some keyword = looked_up c.keywords.result.now keywords kind.0 keyword c.keywords.ensures.keywords inside (read keyword) in
           let items : c.match-get.found.items ≡ found ++ keyword ∷ [] =
           ap (λ v. v.items) w.found-is ∙ w.in_ok-push.ensures.items ∙ ap (λ copy. found ++ copy ∷ []) w.in_ok-copy.ensures in
-          subst (AreSoFar typing keywords expected (i + 1)) (sym items)
-          (so_far_push typing keywords expected i found keyword distinct rising c.kinds-test.true c.kinds.invariant.so_far (record { kind = kind; expects = expects; at = at })
-          (λ of lexicon typed. (w.in_ok-is_next.ensures.next of lexicon typed).0 w.if-branch.true))
+          record {
+            so_far = subst (AreSoFar typing keywords expected (i + 1)) (sym items)
+                (so_far_push typing keywords expected i found keyword distinct rising c.kinds-test.true c.kinds.invariant.so_far
+                (record { kind = kind; expects = expects; at = at }) (λ of lexicon typed. (w.in_ok-is_next.ensures.next of lexicon typed).0 w.if-branch.true));
+            kept = w.recutter-is ∙ w.in_ok-is_next.ensures.kept ∙ c.kinds.invariant.kept;
+          }
       | in-Some+in_ok-is_next+else-branch w ↦
           let keyword = w.in-Some.keyword.now in
           let (flag, same, inner, (inside, read), other) = w.in-Some.ensures.lookup in
           let at : slice_get keywords kind.0 ≡ Some keyword = looked_up c.keywords.result.now keywords kind.0 keyword c.keywords.ensures.keywords inside (read keyword) in
-          subst (AreSoFar typing keywords expected (i + 1)) (sym (ap (λ v. v.items) w.found-is))
-          (so_far_pass typing keywords expected i found c.kinds.invariant
-          (not_next typing keywords expected i kind keyword expects at
-          (λ of lexicon typed is. true≢false (sym ((w.in_ok-is_next.ensures.next of lexicon typed).1 is) ∙ w.if-branch.false))))
+          record {
+            kept = w.recutter-is ∙ w.in_ok-is_next.ensures.kept ∙ c.kinds.invariant.kept;
+            so_far = subst (AreSoFar typing keywords expected (i + 1)) (sym (ap (λ v. v.items) w.found-is))
+                (so_far_pass typing keywords expected i found c.kinds.invariant.so_far
+                (not_next typing keywords expected i kind keyword expects at
+          (λ of lexicon typed is. true≢false (sym ((w.in_ok-is_next.ensures.next of lexicon typed).1 is) ∙ w.if-branch.false))));
+          }
       | in_default w ↦
           let (flag, none, inner, past, other) = w.in_default.ensures.lookup in
-          subst (AreSoFar typing keywords expected (i + 1)) (sym (ap (λ v. v.items) w.found-is))
-          (so_far_pass typing keywords expected i found c.kinds.invariant
-          (none_next typing keywords expected i kind expects (subst (λ (xs : List (List ℕ)). length xs ≤ kind.0) c.keywords.ensures.keywords past)))
+          record {
+            kept = w.recutter-is ∙ c.kinds.invariant.kept;
+            so_far = subst (AreSoFar typing keywords expected (i + 1)) (sym (ap (λ v. v.items) w.found-is))
+                (so_far_pass typing keywords expected i found c.kinds.invariant.so_far
+                (none_next typing keywords expected i kind expects (subst (λ (xs : List (List ℕ)). length xs ≤ kind.0) c.keywords.ensures.keywords past)));
+          }
     ]
 
 pub returns-clause-keywords : goal.returns-clause-keywords
@@ -85,7 +94,7 @@ returns-clause-keywords c of lexicon tasks typed readings supplied =
     let told =
     subst (λ (items : List KindId). (kind : KindId) → Contains items kind ↔ Starts g of (kinds_before typing ++ kind.0 ∷ [])) (sym c.deref-kind-items.ensures.value)
     (c.in_ok-expected.ensures.expected g of tasks Sentence (kinds_before typing) readings count supplied) in
-    all_next g of typing c.tokens-set.result.now.lexicon.keywords c.deref-kind-items.result.now c.kinds.found.items c.kinds.kind-index c.kinds.invariant
+    all_next g of typing c.tokens-set.result.now.lexicon.keywords c.deref-kind-items.result.now c.kinds.found.items c.kinds.kind-index c.kinds.invariant.so_far
     (omega (arith, c.kinds-test.false)) (keywords_are g of others c.tokens-set.result.now.lexicon typed.are_kinds were is) told lexicon typed
 
 pub returns-clause-apart : goal.returns-clause-apart

@@ -1,4 +1,4 @@
-use Rattle.std.proofs.Common.{◌≡◌, ◌<◌, ◌≤◌, ◌+◌, List, All, length, map, take, sym, ap, ◌∙◌, subst, arith}
+use Rattle.std.proofs.Common.{◌≡◌, ◌<◌, ◌≤◌, ◌+◌, List, All, get_or, length, map, take, sym, ap, ◌∙◌, subst, arith}
 use Rattle.std.proofs.lemmas.List.{take_all}
 use Rattle.std.proofs.lemmas.List.Elements.{All-contains, All-nil, All-push}
 use Rattle.lw_findings.specs.Finding.{Finds}
@@ -51,7 +51,8 @@ starts-preserved c =
     let inside : i < length starts = omega arith in record {
       starts =
           subst (λ (known : List Known). map (λ (one : Known). one.start.now) known ≡ take (i + 1) starts) (sym c.in_ok-push.ensures.items)
-          (starts_more c.starts.known.items starts i one inside (c.in_ok-one.ensures.start ∙ c.start-item.is) inv.starts);
+          (starts_more c.starts.known.items starts i one inside
+          (subst (λ (s : ReferenceStart). s ≡ get_or starts i s) (sym c.in_ok-one.ensures.start) c.start-item.is) inv.starts);
       known = λ of lexicon trees address typed index number.
           subst (All (IsKnownStart of typing trees address)) (sym c.in_ok-push.ensures.items)
           (All-push (IsKnownStart of typing trees address) c.starts.known.items one (inv.known of lexicon trees address typed index number)

@@ -1,4 +1,5 @@
-use Rattle.std.proofs.Common.{ℕ, ◌≡◌, ◌++◌, List, Err, drop, length, map, refl, sym, ap, ◌∙◌, subst, true≢false}
+use Rattle.std.proofs.Common.{ℕ, ◌≡◌, ◌≤◌, ◌++◌, List, Err, drop, length, map, refl, sym, ap, ◌∙◌, subst, arith, true≢false}
+use Rattle.lw_base.specs.declared.limits.TheConstants.{LONGEST_TEXT}
 use Rattle.lw_base.specs.declared.token.Token.{Token}
 use Rattle.lw_sure.specs.Parted.{moved}
 use Rattle.lw_tokens.specs.Cut.{IsCut}
@@ -71,6 +72,7 @@ returns-clause-recut c =
     (record {
       from = refl;
       text = c.in_ok-text.ensures;
+      short = subst (λ (bytes : List ℕ). length bytes ≤ LONGEST_TEXT) c.bytes.ensures.bytes (omega (arith, c.if-bytes-gt-LONGEST_TEXT.false));
       tail = tail;
       are = are ∙ ap (λ (n : ℕ). parts.tokens ++ drop n all) (sym tail);
       cut = c.in-Ok.ensures.cut;
