@@ -1,5 +1,5 @@
 -- A keyword behind the text before the word: whether it is one token there.
-use Rattle.std.proofs.Common.{ℕ, ◌≡◌, ◌↔◌, ◌+◌, ◌-◌, ◌≤◌, List, [], ◌∷◌, ◌++◌, Bool, true, false, IsTrue, length, map, refl, sym, ap, ◌∙◌, subst, true≢false, arith, length-append, length-drop}
+use Rattle.std.proofs.Common.{ℕ, ◌≡◌, ◌↔◌, ◌+◌, ◌-◌, ◌≤◌, List, [], ◌∷◌, ◌++◌, Bool, false, IsTrue, length, map, sym, ap, ◌∙◌, subst, arith, length-append, length-drop}
 use Rattle.lw_base.specs.declared.token.Token.{Token}
 use Rattle.lw_grammar.specs.Kinds.{Kinds}
 use Rattle.lw_grammar.proofs.KindLemmas.{one_kinds}

@@ -1,7 +1,5 @@
 -- Which starts a name is read as, and whether it is offered.
-use Rattle.std.proofs.Common.{◌≡◌, ◌↔◌, ◌+◌, ◌<◌, ◌≤◌, ◌++◌, ◌∷◌, [], ◌⊎◌, inl, inr, ℕ, List, Bool, true, false, Some, None, IsTrue, Contains, get_or, length, take, refl, sym, ap, ◌∙◌, subst, true≢false, arith}
-use Rattle.std.proofs.lemmas.List.{take_all, take_more}
-use Rattle.std.proofs.lemmas.List.Elements.{Contains-push_cases}
+use Rattle.std.proofs.Common.{◌≡◌, ◌↔◌, ◌++◌, ◌⊎◌, inl, inr, ℕ, List, Bool, true, false, Some, None, IsTrue, Contains, refl, sym, subst, true≢false}
 use Rattle.lw_grammar.specs.Kinds.{Kinds}
 use Rattle.lw_program.specs.Says.{Task}
 use Rattle.lw_scoping.specs.Links.{Trees}

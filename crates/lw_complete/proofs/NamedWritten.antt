@@ -8,7 +8,6 @@ use Rattle.std.proofs.lemmas.Slice.Eq.{starts_is}
 use Rattle.lw_base.specs.declared.numbers.TypeId.{TypeId}
 use Rattle.lw_base.specs.declared.token.Token.{Token}
 use Rattle.lw_begins.specs.Gives.{PlacesGive}
-use Rattle.lw_builder.specs.Built.{ArePartsOf}
 use Rattle.lw_builder.specs.Contents.{said_in}
 use Rattle.lw_grammar.specs.declared.grammar.Grammar.{Grammar}
 use Rattle.lw_grammar.specs.Kinds.{Kinds}
@@ -16,10 +15,9 @@ use Rattle.lw_lang.proofs.CutPlaces.{all_known, are_parts}
 use Rattle.lw_lang.proofs.ParsedLemmas.{counted}
 use Rattle.lw_lexer.specs.TokenPlaces.{IsTokenPlace}
 use Rattle.lw_marks.specs.Brackets.{joined_texts}
-use Rattle.lw_marks.specs.Follows.{LooksUp}
 use Rattle.lw_offers.specs.Starting.{ReferenceNext}
 use Rattle.lw_offers.specs.Words.{BeginsBy}
-use Rattle.lw_parse.specs.Parsers.{AreOfKinds, ParserParts}
+use Rattle.lw_parse.specs.Parsers.{ParserParts}
 use Rattle.lw_program.specs.Says.{Task}
 use Rattle.lw_recipes.specs.declared.recipe.Content.TheVariants.{Reference}
 use Rattle.lw_recipes.specs.declared.recipe.TextForm.{TextForm}

@@ -13,7 +13,10 @@
 //!
 //! Names that are tried are those that would be found from one of the places where a cross-reference may come next: in the tree of what was
 //! read before, or in that of the whole text with the reference left blank, which is made once for each place, or among what other documents
-//! export. For each that begins with the word the text with it in place of the word is read.
+//! export. A name that begins with the word is cut with the end of the text before it (`lw_recut`), and read as what may come next there.
+//! Where the text goes on behind it as it does without it, the blank trees tell where it leads, by the laws of `lw_tried`: then no text is
+//! read for it. Only where its cut does not tell that, as where a pattern looks far ahead, is the text with the name in place of the word
+//! read.
 #![tactic(auto)]
 
 mod blanks;

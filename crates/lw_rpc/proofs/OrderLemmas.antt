@@ -9,10 +9,6 @@ use Rattle.lw_rpc.specs.Replies.{AreOrdered}
 use Rattle.lw_rpc.specs.Values.{with_members, file_member}
 use Rattle.lw_rpc.specs.declared.reply.FileEdits.{FileEdits}
 
-pub with_members-push : (found : Members) (members : List (List ℕ × Data)) (last : List ℕ × Data) → with_members found (members ++ last ∷ []) ≡ put last.0 last.1 (with_members found members)
-with_members-push found [] last = refl
-with_members-push found (m ∷ others) last = with_members-push (put m.0 m.1 found) others last
-
 -- the members as they stand in the list
 abbrev pub members_as : List (List ℕ × Data) → Members
 members_as [] = no_members

@@ -1,11 +1,10 @@
-use Rattle.std.proofs.Common.{◌≡◌, ◌≤◌, ◌++◌, ◌↔◌, ◌∷◌, [], ℕ, List, IsTrue, length, arith, ap, sym, subst, ◌∙◌}
+use Rattle.std.proofs.Common.{◌≡◌, ◌++◌, ◌↔◌, ◌∷◌, [], ℕ, List, IsTrue, length, sym, subst}
 use Rattle.std.proofs.lemmas.Str.Pattern.{starts_text}
 use Rattle.lw_base.specs.declared.token.Token.{Token}
 use Rattle.lw_offers.specs.Offers.{visible_token}
 use Rattle.lw_recut.specs.Recut.{IsRecut, added, added_behind}
 use Rattle.lw_tokens.specs.Cut.{IsCut}
 use Rattle.lw_tokens.specs.Lexicon.{Lexicon}
-use Rattle.lw_complete.specs.Typing.{CutsBehind}
 use Rattle.lw_complete.proofs.KeywordsCut.{cuts_for, fits, next_alone, tail_within}
 use Rattle.lw_complete.proofs.NamedWritten.{begun, begun_not, never}
 use Rattle.lw_complete.proofs.keywords.is_next.Goals as goal

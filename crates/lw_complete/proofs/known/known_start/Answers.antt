@@ -1,4 +1,4 @@
-use Rattle.std.proofs.Common.{sym, subst}
+use Rattle.std.proofs.Common.{subst}
 use Rattle.lw_offers.specs.Starting.{ReferenceNext}
 use Rattle.lw_complete.specs.Starts.{AreBlankNames}
 use Rattle.lw_complete.proofs.NamedOnce.{one_start}

@@ -1,4 +1,4 @@
-use Rattle.std.proofs.Common.{◌≡◌, ◌++◌, [], List, ℕ, Option, OnOk, ap, ap₂, sym, subst, ◌∙◌, append-nil}
+use Rattle.std.proofs.Common.{◌≡◌, ◌++◌, List, ℕ, Option, OnOk, ap, ap₂, sym, subst, ◌∙◌, append-nil}
 use Rattle.lw_complete.specs.Starts.{names_in}
 use Rattle.lw_complete.proofs.known.put_names.Goals as goal
 

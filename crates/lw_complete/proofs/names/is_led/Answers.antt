@@ -1,4 +1,4 @@
-use Rattle.std.proofs.Common.{◌≡◌, ◌↔◌, ◌∙◌, ℕ, List, true, false, Some, Contains, IsTrue, sym, subst, ap}
+use Rattle.std.proofs.Common.{◌↔◌, ◌∙◌, true, false, Some, Contains, IsTrue, subst, ap}
 use Rattle.std.proofs.lemmas.Result.{IfOk-weaker}
 use Rattle.lw_recut.specs.Recut.{added_behind}
 use Rattle.lw_complete.specs.declared.known.Known.{Known}
