@@ -73,7 +73,7 @@ kinds-preserved c =
             so_far = subst (AreSoFar typing keywords expected (i + 1)) (sym (ap (λ v. v.items) w.found-is))
                 (so_far_pass typing keywords expected i found c.kinds.invariant.so_far
                 (not_next typing keywords expected i kind keyword expects at
-          (λ of lexicon typed is. true≢false (sym ((w.in_ok-is_next.ensures.next of lexicon typed).1 is) ∙ w.if-branch.false))));
+                (λ of lexicon typed is. true≢false (sym ((w.in_ok-is_next.ensures.next of lexicon typed).1 is) ∙ w.if-branch.false))));
           }
       | in_default w ↦
           let (flag, none, inner, past, other) = w.in_default.ensures.lookup in
