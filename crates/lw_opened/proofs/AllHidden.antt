@@ -1,5 +1,5 @@
 -- Tokens are all hidden where none is visible, and only there.
-use Rattle.std.proofs.Common.{◌≡◌, ◌≢◌, IsTrue, Bool, true, false, not, cond, List, [], ◌∷◌, All, ap, refl, sym, subst, ◌∙◌}
+use Rattle.std.proofs.Common.{◌≡◌, ◌≢◌, IsTrue, Bool, true, false, not, cond, List, [], ◌∷◌, All, ap, refl, ◌∙◌}
 use Rattle.std.proofs.lemmas.List.Elements.{All-cons, All-head, All-nil, All-tail}
 use Rattle.lw_base.specs.declared.token.Token.{Token}
 use Rattle.lw_tokens.specs.Cut.{kinds, visible}

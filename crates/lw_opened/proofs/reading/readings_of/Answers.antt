@@ -1,6 +1,5 @@
-use Rattle.std.proofs.Common.{◌≡◌, ◌≢◌, ◌↔◌, ◌∷◌, [], ℕ, List, All, Any, ap, refl, sym, ◌∙◌, true≢false}
+use Rattle.std.proofs.Common.{◌≡◌, ◌≢◌, ◌↔◌, ◌∷◌, [], List, All, Any, ap, refl, sym, ◌∙◌, true≢false}
 use Rattle.std.proofs.lemmas.Result.{IfOk-weaker}
-use Rattle.lw_recipes.specs.declared.mark.TreeMark.{TreeMark}
 use Rattle.lw_recipes.specs.declared.mark.TreeMark.TheVariants as mark
 use Rattle.lw_recipes.specs.Meant.{AreMeant}
 use Rattle.lw_sentences.specs.Marks.{Mark}
