@@ -28,9 +28,13 @@ ok_both (Ok x) P Q R by is too = by x is too
 ok_both (Err e) P Q R by is too = tt
 
 module _ (g : Grammar) (of : Kinds) (entry : ℕ) where
-  only_begun : {ks : List ℕ} {m : List Mark} → ks ≡ [] → IsReading g of entry ks m → m ≡ Open entry ∷ []
+  pub only_begun : {ks : List ℕ} {m : List Mark} → ks ≡ [] → IsReading g of entry ks m → m ≡ Open entry ∷ []
   only_begun none reading.begun = refl
   only_begun none (reading.read is) = absurd (has_kinds is.ends (is.kinds_are ∙ none))
+
+  pub its_kinds : {ks : List ℕ} {m : List Mark} → IsReading g of entry ks m → kinds_of m ≡ ks
+  its_kinds reading.begun = refl
+  its_kinds (reading.read is) = is.kinds_are
 
   so_read : {ks : List ℕ} {m : List Mark} → ks ≢ [] → IsReading g of entry ks m → IsReadSoFar (IsSentence g of) ks m
   so_read some reading.begun = absurd (some refl)
