@@ -1,0 +1,6 @@
+mod AllHidden
+mod Begun
+mod Found
+mod Lent
+mod ReadKinds
+mod TreesSoFar

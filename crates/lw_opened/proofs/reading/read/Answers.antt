@@ -1,0 +1,20 @@
+use Rattle.std.proofs.Common.{ℕ, [], subst, sym}
+use Rattle.lw_grammar.specs.Named.{IsEntry}
+use Rattle.lw_opened.proofs.Lent.{lent}
+use Rattle.lw_opened.proofs.reading.read.Goals as goal
+
+pub start-requires : goal.start-requires
+start-requires c =
+    let (g, of, tasks, rule, with, entry, are) = c.requires in
+    record { known = (g, of, tasks, rule, lent c.program.ensures c.begins.ensures with, subst (λ (n : ℕ). IsEntry g n rule) (sym c.entry.ensures) entry) }
+
+pub read_all-requires : goal.read_all-requires
+read_all-requires c =
+    let (g, of, tasks, rule, with, entry, are) = c.requires in
+    let started = c.in_ok-fronts.ensures g of tasks rule (lent c.program.ensures c.begins.ensures with) (subst (λ (n : ℕ). IsEntry g n rule) (sym c.entry.ensures) entry) in
+    (g, of, tasks, [], started, are)
+
+pub returns : goal.returns
+returns c g of tasks rule with entry are =
+    let started = c.in_ok-fronts.ensures g of tasks rule (lent c.program.ensures c.begins.ensures with) (subst (λ (n : ℕ). IsEntry g n rule) (sym c.entry.ensures) entry) in
+    c.read_all.ensures g of tasks [] started are
