@@ -26,7 +26,7 @@ use Rattle.langbench.specs.Serving as serving
 use Rattle.langbench.specs.Serving.{Talked, OfGrammar, ServeComesTo, ServeDone, IsSession, WentWrong}
 use Rattle.langbench.specs.Stops.{EndsWith, TheSource, TheSink}
 use Rattle.langbench.proofs.Ends.{CountsAll, if_told, only_memory}
-use Rattle.lw_build.proofs.OneWay.{one_way}
+use Rattle.lw_lang.proofs.OneWay.{one_way}
 use Rattle.langbench.proofs.Grammars.{same_grammar}
 
 -- of two fronts of a list one is a front of the other

@@ -17,7 +17,7 @@ use Rattle.langbench.specs.Reports.{IsReport, IsVerdict}
 use Rattle.lw_load.specs.Loading.{Files}
 use Rattle.langbench.specs.Checking.{Prints, ReadsDocument, ReadsPart, StopsReading, CheckComesTo, WritesSome, most_read}
 use Rattle.langbench.specs.Stops.{stop_of_fault}
-use Rattle.lw_build.proofs.OneWay.{one_way}
+use Rattle.lw_lang.proofs.OneWay.{one_way}
 use Rattle.langbench.proofs.OneOutput.{one_output}
 
 abbrev stopped : Stop → Result Verdict Stop

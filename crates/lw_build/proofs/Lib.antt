@@ -10,7 +10,6 @@ pub mod Agreeing
 pub mod Advancing
 pub mod Finding
 pub mod Empty
-pub mod OneWay
 pub mod Leading
 pub mod Views
 pub mod Lending

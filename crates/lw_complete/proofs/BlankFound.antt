@@ -1,5 +1,5 @@
 -- The names that are found in blank trees of one start, and what is known where these are made.
-use Rattle.std.proofs.Common.{◌≡◌, ◌≢◌, ◌↔◌, ◌<◌, ◌⊎◌, inl, inr, ℕ, List, [], ◌∷◌, ◌++◌, Option, Some, All, Any, Contains, get_or, map, length, slice_get, refl, sym, ap, subst, ◌∙◌, arith}
+use Rattle.std.proofs.Common.{◌≡◌, ◌≢◌, ◌↔◌, ◌<◌, ◌⊎◌, inl, inr, ℕ, List, [], ◌∷◌, ◌++◌, Option, Some, Result, Ok, Err, IfOk, All, Contains, get_or, map, length, slice_get, refl, sym, ap, subst, ◌∙◌, arith}
 use Rattle.std.proofs.lemmas.List.Elements.{All-contains, All-head, Contains-append_cases, Contains-append_left, Contains-append_right}
 use Rattle.lw_base.specs.declared.numbers.PropId.{PropId}
 use Rattle.lw_base.specs.declared.token.Token.{Token}
@@ -27,6 +27,7 @@ use Rattle.lw_tree.specs.declared.node.Reference.{Reference}
 use Rattle.lw_tree.specs.Parts.{Parts}
 use Rattle.lw_viable.specs.Aims.{Aim, Fulfils, Places}
 use Rattle.lw_viable.specs.Fronts.{FrontsParts, HoldReadings, IsProgramWith}
+use Rattle.lw_viable.specs.Marked.{MeanExactly, MeanSome}
 use Rattle.lw_viable.specs.Readings.{HasTask}
 use Rattle.lw_viable.specs.declared.reference_start.ReferenceStart.{ReferenceStart}
 use Rattle.lw_viable.proofs.Meaning.{meant_joined}
@@ -34,22 +35,20 @@ use Rattle.lw_alike.proofs.Differing.{tables_of}
 use Rattle.lw_alike.proofs.Placed.{front_counts, one_place}
 use Rattle.lw_complete.specs.declared.starting.Blank.{Blank}
 use Rattle.lw_complete.specs.declared.typing.Typing.{Typing}
-use Rattle.lw_complete.specs.Starts.{AreBehind, GoesOnBehind, GrowsReference, HasBlankTree, IsBlank, IsBlankName, IsParsedBy, IsReady, IsSoundStart, IsTreeOfBlank, LeadsInBlank}
+use Rattle.lw_complete.specs.Starts.{AreMarksBehind, GoesOnBehind, GrowsReference, HasBlankTree, IsBlank, IsBlankName, IsBlankReady, IsParsedBy, IsSoundStart, IsTreeOfBlank, LeadsInBlank, StandsBehind}
 use Rattle.lw_complete.specs.Typing.{IsTypedBy, grammar_of}
 use Rattle.lw_complete.proofs.BlankTrees.{blank_grows, blank_reference, marks_are, stand_in_row}
 
--- what is known where the blank trees of a start are made, of its parts
-abbrev pub ready_for : (typing : Typing) (parser : ParserParts) (start : ReferenceStart) (before : ℕ) (blank : Blank) →
-    ((of : Kinds) × (lexicon : Lexicon) × (tasks : List Task) × (next : ReferenceNext) × (front_tree : Parts) × (r : Reference) × IsTypedBy of lexicon typing
-    × IsBlank typing lexicon blank × IsParsedBy of tasks typing parser × IsSoundStart of tasks typing next start
-    × IsFrontTree (grammar_of typing) of typing.front.now typing.tokens.now next front_tree r × (before ≡ length front_tree.refs)) →
-    IsReady typing parser start before blank
-ready_for typing parser start before blank (of, lexicon, tasks, next, front_tree, r, typed, is_blank, parsed, sound, front, counted) = record {
+-- what is known where the blank trees of a start are made, by what is known of the reference
+abbrev pub ready_for : (of : Kinds) (lexicon : Lexicon) (tasks : List Task) (next : ReferenceNext) (typing : Typing) (parser : ParserParts) (start : ReferenceStart) (before : ℕ)
+    (blank : Blank) → IsTypedBy of lexicon typing → IsBlank typing lexicon blank → IsParsedBy of tasks typing parser → IsSoundStart of tasks typing next start →
+    StandsBehind of typing next before → IsBlankReady typing parser start before blank
+ready_for of lexicon tasks next typing parser start before blank typed is_blank parsed sound (tree, r, front, counted) = record {
   of = of;
   lexicon = lexicon;
   tasks = tasks;
   next = next;
-  front_tree = front_tree;
+  front_tree = tree;
   r = r;
   typed = typed;
   is_blank = is_blank;
@@ -67,7 +66,7 @@ only_found P xs finds x = (λ has. found ((finds.exact x).0 has), λ is. (finds.
     found (inl (k, inside, is)) = absurd (omega (arith, inside))
     found (inr is) = is
 
-module _ {typing : Typing} {parser : ParserParts} {start : ReferenceStart} {before : ℕ} {blank : Blank} (ready : IsReady typing parser start before blank) where
+module _ {typing : Typing} {parser : ParserParts} {start : ReferenceStart} {before : ℕ} {blank : Blank} (ready : IsBlankReady typing parser start before blank) where
   abbrev g : Grammar
   g = grammar_of typing
 
@@ -87,29 +86,31 @@ module _ {typing : Typing} {parser : ParserParts} {start : ReferenceStart} {befo
     pub of_kinds : AreOfKinds ready.of ts
     of_kinds = subst (AreOfKinds ready.of) (sym tokens) (ready.is_blank.of_kinds ready.of ready.typed.are_kinds)
 
-    all_after : (sentences : List (List TreeMark)) →
-        ((n : List Mark) → (PlacesGive g ready.of ready.tasks places n × (kinds_of n ≡ kinds (visible ts))) ↔ Any (λ (marks : List TreeMark). AreMeant g marks n) sentences) →
-        (n : List Mark) → IsAfter n ↔ Any (λ (marks : List TreeMark). AreMeant g marks n) sentences
+    -- those that these places give with the kinds of these tokens
+    abbrev IsGiven : List ℕ → List Token → List Mark → Type 0
+    IsGiven ps us n = PlacesGive g ready.of ready.tasks ps n × (kinds_of n ≡ kinds (visible us))
+
+    all_after : (sentences : List (List TreeMark)) → MeanExactly g (IsGiven places ts) sentences → MeanExactly g IsAfter sentences
     all_after sentences all =
-        subst (λ (us : List Token). (n : List Mark) → (PlacesGive g ready.of ready.tasks start.behind n × (kinds_of n ≡ kinds (visible us))) ↔
-        Any (λ (marks : List TreeMark). AreMeant g marks n) sentences) tokens
-        (subst (λ (ps : List ℕ). (n : List Mark) → (PlacesGive g ready.of ready.tasks ps n × (kinds_of n ≡ kinds (visible ts))) ↔
-        Any (λ (marks : List TreeMark). AreMeant g marks n) sentences) same all)
+        subst (λ (us : List Token). MeanExactly g (IsGiven start.behind us) sentences) tokens
+        (subst (λ (ps : List ℕ). MeanExactly g (IsGiven ps ts) sentences) same all)
 
     module _ (fronts : FrontsParts) (read : (grammar : Grammar) (of : Kinds) (tasks : List Task) → IsProgramWith grammar of tasks parser.program parser.begins →
         All (HasTask grammar of tasks) places → AreOfKinds of ts → HoldReadings grammar of tasks (Places places) (kinds (visible ts)) fronts) where
       pub hold : HoldReadings g ready.of ready.tasks (Places places) (kinds (visible ts)) fronts
       hold = read g ready.of ready.tasks ready.parsed.program placed of_kinds
 
-      pub are_behind : (sentences : List (List TreeMark)) →
+      pub are_behind : {X E : Type 0} (r : Result X E) (items : X → List (List TreeMark)) →
           ((grammar : Grammar) (of : Kinds) (tasks : List Task) (aim : Aim) (ks : List ℕ) → HoldReadings grammar of tasks aim ks fronts →
-          (m : List Mark) → (Fulfils grammar of tasks aim m × (kinds_of m ≡ ks)) ↔ Any (λ (marks : List TreeMark). AreMeant grammar marks m) sentences) →
+          IfOk r (λ found. MeanExactly grammar (λ (m : List Mark). Fulfils grammar of tasks aim m × (kinds_of m ≡ ks)) (items found))) →
           ((grammar : Grammar) (of : Kinds) (tasks : List Task) (aim : Aim) (ks : List ℕ) → HoldReadings grammar of tasks aim ks fronts →
-          All (λ (marks : List TreeMark). (m : List Mark) × AreMeant grammar marks m) sentences) → AreBehind ready sentences
-      are_behind sentences all each = record {
-        all = all_after sentences (all g ready.of ready.tasks (Places places) (kinds (visible ts)) hold);
+          IfOk r (λ found. MeanSome grammar (items found))) →
+          IfOk r (λ found. AreMarksBehind ready (items found))
+      are_behind (Ok found) items all each = record {
+        all = all_after (items found) (all g ready.of ready.tasks (Places places) (kinds (visible ts)) hold);
         each = each g ready.of ready.tasks (Places places) (kinds (visible ts)) hold;
       }
+      are_behind (Err e) items all each = tt
 
   -- ---- blank trees
 
@@ -131,7 +132,7 @@ module _ {typing : Typing} {parser : ParserParts} {start : ReferenceStart} {befo
   reference_grows : (n : List Mark) → IsAfter n → GrowsReference typing blank before (marks_with ready.next [] ++ n)
   reference_grows n after =
       let (ks, sentence) = ready.sound.whole n after.0 in
-      let comes = ready.sound.comes in
+      let comes = ready.sound.at.comes in
       let faultless = ready.parsed.faultless in record {
         grows =
             joined (λ (text : List ℕ) (ts : List Token). GrowsRoot g text (marks_with ready.next [] ++ n) (visible ts))
@@ -149,7 +150,7 @@ module _ {typing : Typing} {parser : ParserParts} {start : ReferenceStart} {befo
   marks_meant : (marks all : List TreeMark) (n : List Mark) → AreMeant g marks n → all ≡ start.marks ++ (numbered.Put start.put ∷ numbered.End ∷ marks) →
       AreMeant g all (marks_with ready.next [] ++ n)
   marks_meant marks all n is are =
-      let is_start = ready.sound.is_start in
+      let is_start = ready.sound.at.is_start in
       subst (λ (xs : List TreeMark). AreMeant g xs (marks_with ready.next [] ++ n)) (sym are)
       (subst (AreMeant g (start.marks ++ (numbered.Put start.put ∷ numbered.End ∷ marks))) (marks_are ready.next n)
       (meant_joined g is_start.meant (meant.more is_start.puts (meant.more meant.ends is))))
@@ -168,6 +169,18 @@ module _ {typing : Typing} {parser : ParserParts} {start : ReferenceStart} {befo
     reference = ap (λ (i : ℕ). slice_get tree.refs i) (sym ready.counted) ∙ at;
   }
 
+  abbrev has_tree : (n : List Mark) → IsAfter n → (tree : Parts) (r : Reference) → IsTreeOfBlank typing blank (marks_with ready.next [] ++ n) tree →
+      slice_get tree.refs before ≡ Some r → HasBlankTree ready.of ready.lexicon ready.tasks typing ready.next start
+  has_tree n after tree r is at = record {
+    front_tree = ready.front_tree;
+    front_r = ready.r;
+    is_front = ready.front;
+    tree = tree;
+    r = r;
+    is_tree = blank_tree n after tree r is at;
+    behind = after.0;
+  }
+
   some_tree : (m : List Mark) (name : Option PropId) → IsNamingProperty g name → GrowsRoot g blank.text m (visible blank.tokens.items) →
       (tree : Parts) × IsTreeOfBlank typing blank m tree
   some_tree m name named (x, follows) = (
@@ -179,17 +192,10 @@ module _ {typing : Typing} {parser : ParserParts} {start : ReferenceStart} {befo
   has_tree_after n after =
       let grows = reference_grows n after in
       let (tree, is) = some_tree (marks_with ready.next [] ++ n) _ ready.parsed.faultless.parser.recipes.name grows.grows in
-      let (r, at) = grows.reference tree is in record {
-        front_tree = ready.front_tree;
-        front_r = ready.r;
-        is_front = ready.front;
-        tree = tree;
-        r = r;
-        is_tree = blank_tree n after tree r is at;
-        behind = after.0;
-      }
+      let (r, at) = grows.reference tree is in
+      has_tree n after tree r is at
 
-  pub has_blank_tree : (sentences : List (List TreeMark)) → AreBehind ready sentences → length sentences ≢ 0 →
+  pub has_blank_tree : (sentences : List (List TreeMark)) → AreMarksBehind ready sentences → length sentences ≢ 0 →
       HasBlankTree ready.of ready.lexicon ready.tasks typing ready.next start
   has_blank_tree [] behind some = absurd (some refl)
   has_blank_tree (x ∷ xs) behind some =
@@ -197,7 +203,7 @@ module _ {typing : Typing} {parser : ParserParts} {start : ReferenceStart} {befo
       has_tree_after n ((behind.all n).1 (0, x, omega arith, refl, is))
 
   -- where there are no such marks, nothing goes on behind the start
-  pub goes_on_none : (sentences : List (List TreeMark)) → AreBehind ready sentences → length sentences ≡ 0 → (after : List Mark) →
+  pub goes_on_none : (sentences : List (List TreeMark)) → AreMarksBehind ready sentences → length sentences ≡ 0 → (after : List Mark) →
       ¬ GoesOnBehind ready.of ready.lexicon ready.tasks typing start after
   goes_on_none sentences behind none after on =
       let same : on.others ≡ blank.others.items = ready.is_blank.only on.others on.cut in
@@ -215,16 +221,7 @@ module _ {typing : Typing} {parser : ParserParts} {start : ReferenceStart} {befo
     IsFoundBy marks name = (n : List Mark) × AreMeant g marks n × LeadsInBlank typing trees address blank before (marks_with ready.next [] ++ n) name
 
     blank_name : (n : List Mark) (name : List ℕ) → IsAfter n → LeadsInBlank typing trees address blank before (marks_with ready.next [] ++ n) name → IsName name
-    blank_name n name after leads = record {
-      front_tree = ready.front_tree;
-      front_r = ready.r;
-      is_front = ready.front;
-      tree = leads.tree;
-      r = leads.r;
-      is_tree = blank_tree n after leads.tree leads.r leads.is_tree leads.reference;
-      behind = after.0;
-      target = leads.target;
-    }
+    blank_name n name after leads = record { blank = has_tree n after leads.tree leads.r leads.is_tree leads.reference; target = leads.target }
 
     -- one number of references before it
     one_count : (tree : Parts) (s : Reference) → IsFrontTree g ready.of typing.front.now typing.tokens.now ready.next tree s → before ≡ length tree.refs
@@ -236,27 +233,28 @@ module _ {typing : Typing} {parser : ParserParts} {start : ReferenceStart} {befo
 
     name_after : (name : List ℕ) → IsName name → (n : List Mark) × IsAfter n × LeadsInBlank typing trees address blank before (marks_with ready.next [] ++ n) name
     name_after name is =
-        let there = is.is_tree in
+        let found = is.blank in
+        let there = found.is_tree in
         let same : there.others ≡ blank.others.items = ready.is_blank.only there.others there.cut in (
           there.after,
-          (is.behind, there.kinds_are ∙ ap (λ (ts : List Token). kinds (visible ts)) same),
+          (found.behind, there.kinds_are ∙ ap (λ (ts : List Token). kinds (visible ts)) same),
           record {
-            tree = is.tree;
-            r = is.r;
+            tree = found.tree;
+            r = found.r;
             is_tree =
-                joined (λ (text : List ℕ) (ts : List Token). IsTree g text (marks_with ready.next [] ++ there.after) (visible ts) ts is.tree)
+                joined (λ (text : List ℕ) (ts : List Token). IsTree g text (marks_with ready.next [] ++ there.after) (visible ts) ts found.tree)
                 (subst (λ (ts : List Token).
                 IsTree g (typing.front.now ++ typing.rest.now) (marks_with ready.next [] ++ there.after)
-                (visible (typing.tokens.now ++ map (moved_by (length typing.front.now)) ts)) (typing.tokens.now ++ map (moved_by (length typing.front.now)) ts) is.tree)
+                (visible (typing.tokens.now ++ map (moved_by (length typing.front.now)) ts)) (typing.tokens.now ++ map (moved_by (length typing.front.now)) ts) found.tree)
                 same there.is_tree);
-            reference = ap (λ (i : ℕ). slice_get is.tree.refs i) (one_count is.front_tree is.front_r is.is_front) ∙ there.reference;
+            reference = ap (λ (i : ℕ). slice_get found.tree.refs i) (one_count found.front_tree found.front_r found.is_front) ∙ there.reference;
             target = is.target;
           },
         )
 
   -- ---- those of all sentences
 
-  module _ (sentences : List (List TreeMark)) (behind : AreBehind ready sentences) where
+  module _ (sentences : List (List TreeMark)) (behind : AreMarksBehind ready sentences) where
     meant_after : (marks : List TreeMark) (n : List Mark) → Contains sentences marks → AreMeant g marks n → IsAfter n
     meant_after marks n (i, inside, at) means = (behind.all n).1 (i, marks, inside, at, means)
 

@@ -96,8 +96,10 @@ pub sound_start : (typing : Typing) (of : Kinds) (tasks : List Task) → ((f : G
     kinds_of next.before ≡ kinds_before typing → IsSoundStart of tasks typing next start
 sound_start typing of tasks no_check_fault next start site is_start makes numbers reads value behind whole supplied kinds_are =
     let g = grammar_of typing in record {
-      is_start = is_start;
-      comes = start_comes g of tasks no_check_fault next start site is_start makes numbers reads value behind whole supplied typing kinds_are;
+      at = record {
+        is_start = is_start;
+        comes = start_comes g of tasks no_check_fault next start site is_start makes numbers reads value behind whole supplied typing kinds_are;
+      };
       behind = behind;
       whole = goes_on g of tasks no_check_fault next start site is_start makes numbers reads value behind whole supplied;
     }

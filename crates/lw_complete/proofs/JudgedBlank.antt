@@ -10,8 +10,9 @@ use Rattle.lw_begins.specs.Gives.{PlacesGive}
 use Rattle.lw_grammar.specs.declared.grammar.Grammar.{Grammar}
 use Rattle.lw_grammar.specs.Kinds.{Kinds}
 use Rattle.lw_marks.specs.Brackets.{span_of_tokens}
-use Rattle.lw_offers.specs.Starting.{ComesNext, IsBlankTree, IsFrontTree, ReferenceNext}
+use Rattle.lw_offers.specs.Starting.{ComesNext, ReferenceNext}
 use Rattle.lw_offers.specs.Targets.{HasTarget, renamed_to}
+use Rattle.lw_parse.specs.Parsers.{AreOfKinds, ParserParts}
 use Rattle.lw_program.specs.Says.{Task}
 use Rattle.lw_reading.specs.Laws.{IsReadOneWay}
 use Rattle.lw_reading.specs.Reading.{Reads}
@@ -35,25 +36,26 @@ use Rattle.lw_tried.proofs.Judged.{judged}
 use Rattle.lw_tried.proofs.NoReference.{no_sentence, none_spans}
 use Rattle.lw_tried.proofs.ReadSo.{read_so, told_apart}
 use Rattle.lw_viable.specs.Aims.{EndsSome}
+use Rattle.lw_viable.specs.Fronts.{IsProgramWith}
+use Rattle.lw_viable.specs.Readings.{HasTask}
 use Rattle.lw_viable.specs.declared.reference_start.ReferenceStart.{ReferenceStart}
+use Rattle.lw_complete.specs.declared.judging.Judgement.{Judgement}
+use Rattle.lw_complete.specs.declared.judging.Judgement.TheVariants.{Leads, LeadsNowhere, NoReference}
 use Rattle.lw_complete.specs.declared.known.Known.{Known}
 use Rattle.lw_complete.specs.declared.typing.Typing.{Typing}
 use Rattle.lw_complete.specs.declared.written.Written.{Written}
 use Rattle.lw_complete.specs.Judged.{IsJudgement, LeadsWhole, StandsWhole}
-use Rattle.lw_complete.specs.Starts.{AreBlankNames, AreTried, BeginsAt, GoesOnBehind, IsBlankKnown, IsSaidBy, IsStartNext, IsWritten, MeetsRest, TakesAll}
+use Rattle.lw_complete.specs.Starts.{AreBlankNames, AreTried, BeginsAt, GivesKinds, GoesOnBehind, HasBlankTree, IsBlankKnown, IsSaidBy, IsStartNext, IsWritten, MeetsRest, TakesAll}
+use Rattle.lw_complete.specs.Tried.{IsWrittenFor}
 use Rattle.lw_complete.specs.Typing.{IsTypedBy, grammar_of}
 use Rattle.lw_complete.proofs.WrittenThere.{kinds_there}
 
 -- ---- what is looked for at each start
 
 module _ (of : Kinds) (tasks : List Task) (typing : Typing) (written : Written) where
-  -- the place of the start's value gives the kinds of the name's tokens
-  abbrev pub GivesKinds : ReferenceStart → Type 0
-  GivesKinds start = EndsSome (PlacesGive (grammar_of typing) of tasks (start.value ∷ [])) (kinds (visible (added written.recut.now)))
-
-  -- and there is a tree in which the reference is left blank
+  -- the place of the start's value gives the kinds of the name's tokens, and there is a tree in which the reference is left blank
   abbrev pub MayRead : Known → Type 0
-  MayRead one = (names : List (List ℕ)) × (one.blank ≡ Some names) × GivesKinds one.start.now
+  MayRead one = (names : List (List ℕ)) × (one.blank ≡ Some names) × GivesKinds of tasks typing written one.start.now
 
   pub none_blank : (one : Known) → one.blank ≡ None → ¬ MayRead one
   none_blank one none (names, is, gives) = differ (sym none ∙ is)
@@ -61,8 +63,17 @@ module _ (of : Kinds) (tasks : List Task) (typing : Typing) (written : Written) 
       differ : {names : List (List ℕ)} → None ≡ Some names → ⊥
       differ e = cc
 
-  pub none_given : (one : Known) → ¬ GivesKinds one.start.now → ¬ MayRead one
+  pub none_given : (one : Known) → ¬ GivesKinds of tasks typing written one.start.now → ¬ MayRead one
   none_given one not (names, is, gives) = not gives
+
+  -- what is told of the tokens, as they are lent
+  pub told_given : (lexicon : Lexicon) (parser : ParserParts) → IsWrittenFor of lexicon tasks typing parser written → (start : ReferenceStart) →
+      IsStartNext of tasks typing start → (lent : List Token) → lent ≡ added written.recut.now → (b : Bool) →
+      ((g : Grammar) (of : Kinds) (tasks : List Task) → IsProgramWith g of tasks parser.program parser.begins → HasTask g of tasks start.value → AreOfKinds of lent →
+      IsTrue b ↔ EndsSome (PlacesGive g of tasks (start.value ∷ [])) (kinds (visible lent))) → IsTrue b ↔ GivesKinds of tasks typing written start
+  told_given lexicon parser here start next lent same b told =
+      subst (λ (ts : List Token). IsTrue b ↔ EndsSome (PlacesGive (grammar_of typing) of tasks (start.value ∷ [])) (kinds (visible ts))) same
+      (told (grammar_of typing) of tasks here.parsed.program next.value (subst (AreOfKinds of) (sym same) here.written.of_kinds))
 
 pub some_bytes : (name bytes : List ℕ) (r : Bool) → bytes ≡ name → r ≡ (length bytes == 0) → r ≡ false → name ≢ []
 some_bytes name bytes r same told not none = true≢false (sym (told ∙ ap (λ (xs : List ℕ). length xs == 0) (same ∙ none)) ∙ not)
@@ -73,7 +84,7 @@ read_short : {g : Grammar} {text : List ℕ} {tree : Parts} → Reads g text (Wh
 read_short (reading.read of lexicon short are is by) = short
 
 module _ (typing : Typing) (trees : Trees) (address name : List ℕ) where
-  pub too_long : ¬ (length typing.front.now + length name + length typing.rest.now ≤ LONGEST_DOCUMENT) → IsJudgement typing trees address name None
+  pub too_long : ¬ (length typing.front.now + length name + length typing.rest.now ≤ LONGEST_DOCUMENT) → IsJudgement typing trees address name NoReference
   too_long long tree r stands =
       let short : length (typing.front.now ++ name ++ typing.rest.now) ≤ LONGEST_DOCUMENT = read_short stands.reads in
       long (omega (arith, short, length-append (typing.front.now ++ name) typing.rest.now, length-append typing.front.now name))
@@ -94,7 +105,7 @@ module _ (of : Kinds) (lexicon : Lexicon) (typing : Typing) (typed : IsTypedBy o
   apart = told_apart g of lexicon one_way typed.are_kinds typed.is_lexicon
 
   pub crossed : (trees : Trees) (address name : List ℕ) → IsCrossed lexicon (typing.front.now ++ name ++ typing.rest.now) (length (typing.front.now ++ name)) →
-      IsJudgement typing trees address name None
+      IsJudgement typing trees address name NoReference
   crossed trees address name is tree r stands =
       none_crossed g of lexicon apart typed.are_kinds typed.is_lexicon typing.front.now name typing.rest.now is.at is.tokens is.found is.cut is.before is.is_next
       (over is.found (λ (next : Next). length (typing.front.now ++ name) < is.at + next.bytes) is.crosses) tree r stands
@@ -146,51 +157,40 @@ module _ (of : Kinds) (lexicon : Lexicon) (typing : Typing) (typed : IsTypedBy o
       given_here start = subst (EndsSome (PlacesGive g of tasks (start.value ∷ []))) (kinds_there of lexicon typing written is)
 
       module _ (trees : Trees) (address : List ℕ) where
-        abbrev Judged : Option Bool → Type 0
+        abbrev Judged : Judgement → Type 0
         Judged = IsJudgement typing trees address name
 
         -- ---- by one start
 
-        module _ (start : ReferenceStart) (comes : IsStartNext of tasks typing start) (gives : GivesKinds of tasks typing written start) (takes : TakesAll typing written)
-            (says : IsSaidBy typing comes.next placed name) where
+        module _ (one : Known) (comes : IsStartNext of tasks typing one.start.now) (gives : GivesKinds of tasks typing written one.start.now)
+            (takes : TakesAll typing written) (says : IsSaidBy typing comes.next placed name) (known : IsBlankKnown of lexicon tasks typing trees address one)
+            (names : List (List ℕ)) (blank : one.blank ≡ Some names) where
+          abbrev start : ReferenceStart
+          start = one.start.now
+
           abbrev LeadsBy : Parts → Reference → Type 0
           LeadsBy blank r = HasTarget (IsNumberBelow g) trees address blank (renamed_to name r)
 
-          by_tree : (front_tree blank : Parts) (s r : Reference) → IsFrontTree g of typing.front.now typing.tokens.now comes.next front_tree s →
-              (is_tree : IsBlankTree g of lexicon typing.front.now typing.rest.now typing.tokens.now comes.next front_tree blank r) →
-              PlacesGive g of tasks start.behind is_tree.after →
+          by_tree : (has : HasBlankTree of lexicon tasks typing comes.next start) →
               ((tree : Parts) × (found : Reference) × StandsWhole typing trees address name tree found)
-              × (LeadsWhole typing trees address name ↔ LeadsBy blank r)
-          by_tree front_tree blank s r opened is_tree behind =
-              judged g of lexicon apart one_way.sentences typed.are_kinds typed.is_lexicon typing.front.now name typing.rest.now typing.tokens.now placed is_tree.others
-              (around is_tree.others is_tree.cut) comes.next front_tree blank s r meets.short is_tree.cut comes.sound.comes opened is_tree
-              (comes.joins (kinds (visible placed)) is_tree.after (given_there start gives) behind) says.wanted says.rule says.refers says.means takes.spans takes.some
+              × (LeadsWhole typing trees address name ↔ LeadsBy has.tree has.r)
+          by_tree has =
+              let blank = has.is_tree in
+              judged g of lexicon apart one_way.sentences typed.are_kinds typed.is_lexicon typing.front.now name typing.rest.now typing.tokens.now placed blank.others
+              (around blank.others blank.cut) comes.next has.front_tree has.tree has.front_r has.r meets.short blank.cut comes.sound.at.comes has.is_front blank
+              (comes.joins (kinds (visible placed)) blank.after (given_there start gives) has.behind) says.wanted says.rule says.refers says.means takes.spans takes.some
               trees address
 
-          pub told_so : (names : List (List ℕ)) → AreBlankNames of lexicon tasks typing trees address comes.next start (Some names) → (b : Bool) →
-              IsTrue b ↔ Contains names name → Judged (Some b)
-          told_so names (has, exact) b found =
-              let (some, leads) = by_tree has.front_tree has.tree has.front_r has.r has.is_front has.is_tree has.behind in (
-                some,
-                (
-                  λ yes. (
-                      let blank = (exact name).0 (found.0 yes) in
-                      (by_tree blank.front_tree blank.tree blank.front_r blank.r blank.is_front blank.is_tree blank.behind).1.1 blank.target
-                      ),
-                  λ led.
-                      found.1
-                      ((exact name).1 (record {
-                        front_tree = has.front_tree;
-                        front_r = has.front_r;
-                        is_front = has.is_front;
-                        tree = has.tree;
-                        r = has.r;
-                        is_tree = has.is_tree;
-                        behind = has.behind;
-                        target = leads.0 led;
-                      })),
-                ),
-              )
+          are_names : AreBlankNames of lexicon tasks typing trees address comes.next start (Some names)
+          are_names = subst (AreBlankNames of lexicon tasks typing trees address comes.next start) blank (known.told comes.next comes.sound.at)
+
+          pub leads_so : Contains names name → Judged Leads
+          leads_so found = let by = (are_names.1 name).0 found in (by_tree by.blank).1.1 by.target
+
+          pub leads_not_so : ¬ Contains names name → Judged LeadsNowhere
+          leads_not_so not =
+              let (some, leads) = by_tree are_names.0 in
+              (some, λ led. not ((are_names.1 name).1 (record { blank = are_names.0; target = leads.0 led })))
 
         -- ---- by none
 
@@ -201,7 +201,7 @@ module _ (of : Kinds) (lexicon : Lexicon) (typing : Typing) (typed : IsTypedBy o
         none_at next one (Some names) same told gives after goes not = not (names, same, given_here one.start.now gives)
 
         pub none_told : (known : List Known) → AreTried of lexicon tasks typing trees address known → name ≢ [] →
-            ((one : Known) → Contains known one → ¬ MayRead of tasks typing written one) → Judged None
+            ((one : Known) → Contains known one → ¬ MayRead of tasks typing written one) → Judged NoReference
         none_told known tried some none tree r stands =
             let so = read_so g of lexicon text tree typed.are_kinds typed.is_lexicon stands.reads in
             let (others, cut) = behind_cut so.tokens so.cut in
@@ -215,7 +215,7 @@ module _ (of : Kinds) (lexicon : Lexicon) (typing : Typing) (typed : IsTypedBy o
             none_at next at.one at.one.blank refl (blank.told next (record { is_start = at.is_start; comes = comes })) at.gives after
             (record { others = others; cut = cut; gives = at.behind; kinds_are = goes_on }) (none at.one at.among))
 
-        pub not_taken : name ≢ [] → ¬ TakesAll typing written → Judged None
+        pub not_taken : name ≢ [] → ¬ TakesAll typing written → Judged NoReference
         not_taken some not tree r stands =
             let so = read_so g of lexicon text tree typed.are_kinds typed.is_lexicon stands.reads in
             let (others, cut) = behind_cut so.tokens so.cut in

@@ -17,6 +17,8 @@ use Rattle.lw_scoping.proofs.Tables.{same_exports, same_named, same_own, turned}
 use Rattle.lw_tree.specs.declared.issue.Issue.{Issue}
 use Rattle.lw_tree.specs.declared.node.Reference.{Reference}
 use Rattle.lw_tree.specs.Parts.{Parts, SameTables}
+use Rattle.lw_complete.specs.declared.judging.Judgement.{Judgement}
+use Rattle.lw_complete.specs.declared.judging.Judgement.TheVariants.{Leads, LeadsNowhere, NoReference}
 use Rattle.lw_complete.specs.declared.typing.Typing.{Typing}
 use Rattle.lw_complete.specs.Judged.{IsJudgement, IsToldOf, StandsBetween, StandsWhole}
 use Rattle.lw_complete.specs.Typing.{grammar_of}
@@ -80,11 +82,11 @@ module _ (typing : Typing) (one_way : IsReadOneWay (grammar_of typing)) (trees :
   abbrev text : List ℕ
   text = typing.front.now ++ name ++ typing.rest.now
 
-  pub judged_broken : (issue : Issue) → Reads (grammar_of typing) text (Broken issue) → IsJudgement typing trees address name None
+  pub judged_broken : (issue : Issue) → Reads (grammar_of typing) text (Broken issue) → IsJudgement typing trees address name NoReference
   judged_broken issue is tree r stands = no_tree one_way is stands.reads
 
   module _ (tree : Parts) (is : Reads (grammar_of typing) text (Whole tree)) where
-    abbrev IsTold : Option Bool → Type 0
+    abbrev IsTold : Judgement → Type 0
     IsTold = IsToldOf typing trees address tree (length typing.front.now) (length typing.front.now + length name) tree.refs
 
     -- the reference of another tree of the text is one of this
@@ -95,18 +97,16 @@ module _ (typing : Typing) (one_way : IsReadOneWay (grammar_of typing)) (trees :
         StandsWhole typing trees address name tree r
     stands_here r among at = record { reads = is; among = among; starts = at.0; ends = at.1 }
 
-    pub judged : (found : Option Bool) → IsTold found → IsJudgement typing trees address name found
-    judged None none = λ other r stands. none r (there_too other r stands) (stands.starts, stands.ends)
-    judged (Some leads) (some, exactly) = (
-      (tree, some.0, stands_here some.0 some.1 some.2),
-      (
-        λ true_. let (r, among, at, target) = exactly.0 true_ in (tree, r, stands_here r among at, target),
-        λ (other, r, stands, target).
-            exactly.1 (
-              r,
-              there_too other r stands,
-              (stands.starts, stands.ends),
-              target_over (grammar_of typing) trees address other tree r (turned (same_trees one_way is stands.reads)) target,
-            ),
-      ),
+    pub judged : (found : Judgement) → IsTold found → IsJudgement typing trees address name found
+    judged Leads (r, among, at, target) = (tree, r, stands_here r among at, target)
+    judged LeadsNowhere ((some, among, at), nowhere) = (
+      (tree, some, stands_here some among at),
+      λ (other, r, stands, target).
+          nowhere (
+            r,
+            there_too other r stands,
+            (stands.starts, stands.ends),
+            target_over (grammar_of typing) trees address other tree r (turned (same_trees one_way is stands.reads)) target,
+          ),
     )
+    judged NoReference none = λ other r stands. none r (there_too other r stands) (stands.starts, stands.ends)

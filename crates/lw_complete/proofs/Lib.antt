@@ -18,6 +18,7 @@ mod JudgedTrees
 mod KeywordsCut
 mod KeywordsNext
 mod KindNumbers
+mod KnownNext
 mod NamedFront
 mod NamedKnown
 mod NamedNext
@@ -31,6 +32,5 @@ mod NamedWritten
 mod NamesFound
 mod NoneSoFar
 mod ParserKnown
-mod ReadKinds
 mod TypedWords
 mod WrittenThere

@@ -48,7 +48,10 @@ module _ (of : Kinds) (lexicon : Lexicon) (tasks : List Task) (typing : Typing) 
       Contains (names_in found) name ↔ IsBlankName of typing trees address lexicon tasks next known.start.now name
   blank_are None none name = (
     λ (k, inside, is). absurd (omega (arith, inside)),
-    λ is. absurd (none is.is_tree.after record { others = is.is_tree.others; cut = is.is_tree.cut; gives = is.behind; kinds_are = is.is_tree.kinds_are }),
+    λ is. (
+        let tree = is.blank.is_tree in
+        absurd (none tree.after record { others = tree.others; cut = tree.cut; gives = is.blank.behind; kinds_are = tree.kinds_are })
+        ),
   )
   blank_are (Some names) (has, exact) name = exact name
 

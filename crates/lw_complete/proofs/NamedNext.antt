@@ -106,6 +106,10 @@ module _ (typing : Typing) (of : Kinds) (tasks : List Task) (parser : ParserPart
   pub all_next : (starts : List ReferenceStart) → AreStarts parser.recipes starts → All (IsStartNext of tasks typing) starts
   all_next starts all = All-weaker IsStart (IsStartNext of tasks typing) start_next starts all.each
 
+  pub lent_next : (recipes : RecipeLists) (starts lent : List ReferenceStart) → recipes ≡ parser.recipes → lent ≡ starts →
+      (AreRecipesOf g recipes → AreStarts recipes starts) → All (IsStartNext of tasks typing) lent
+  lent_next recipes starts lent same lends told = all_next lent (all_starts recipes starts lent same lends told)
+
   -- whatever the place of the value gives is read as the reference of the start
   pub reads_so : (start : ReferenceStart) → IsStart start → (next : ReferenceNext) → ComesAt of typing next start → (read : List ℕ) →
       EndsSome (PlacesGive g of tasks (start.value ∷ [])) read → (after : List Mark) × IsSentence g of (marks_with next read ++ after)

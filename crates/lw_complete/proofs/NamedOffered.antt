@@ -63,7 +63,10 @@ module _ (typing : Typing) (of : Kinds) (lexicon : Lexicon) (tasks : List Task) 
         (
           next,
           record { is_start = b.is_start; comes = comes },
-          inr record { front_tree = front_tree; front_r = s; is_front = is; tree = tree; r = r; is_tree = is_blank; behind = b.behind; target = target },
+          inr record {
+            blank = record { front_tree = front_tree; front_r = s; is_front = is; tree = tree; r = r; is_tree = is_blank; behind = b.behind };
+            target = target;
+          },
         ),
       )
 
@@ -71,7 +74,7 @@ module _ (typing : Typing) (of : Kinds) (lexicon : Lexicon) (tasks : List Task) 
       LeadsInFront of typing trees address next name ⊎ IsBlankName of typing trees address lexicon tasks next start name →
       IsFindable (grammar_of typing) of lexicon trees address typing.front.now typing.rest.now typing.tokens.now next name
   findable name next start (inl (tree, r, is, target)) = find.in_front is target
-  findable name next start (inr is) = find.in_whole is.is_front is.is_tree is.target
+  findable name next start (inr is) = find.in_whole is.blank.is_front is.blank.is_tree is.target
 
   pub found_both : (name : List ℕ) → IsFound name ↔ IsFoundBySome name
   found_both name = (

@@ -1,5 +1,6 @@
 -- Which starts a name is read as, and whether it is offered.
-use Rattle.std.proofs.Common.{◌≡◌, ◌↔◌, ◌++◌, ◌⊎◌, inl, inr, ℕ, List, Bool, true, false, Some, None, IsTrue, Contains, refl, sym, subst, true≢false}
+use Rattle.std.proofs.Common.{◌≡◌, ◌↔◌, ◌++◌, ◌⊎◌, inl, inr, ℕ, List, Bool, true, false, Result, IfOk, IsTrue, Contains, refl, sym, subst, true≢false}
+use Rattle.std.proofs.lemmas.Result.{IfOk-weaker}
 use Rattle.lw_grammar.specs.Kinds.{Kinds}
 use Rattle.lw_program.specs.Says.{Task}
 use Rattle.lw_scoping.specs.Links.{Trees}
@@ -10,6 +11,8 @@ use Rattle.lw_tree.specs.declared.node.Reference.{Reference}
 use Rattle.lw_tree.specs.Parts.{Parts}
 use Rattle.lw_offers.specs.Starting.{ReferenceNext}
 use Rattle.lw_offers.specs.Words.{BeginsBy}
+use Rattle.lw_complete.specs.declared.judging.Judgement.{Judgement}
+use Rattle.lw_complete.specs.declared.judging.Judgement.TheVariants.{Leads, LeadsNowhere, NoReference}
 use Rattle.lw_complete.specs.declared.known.Known.{Known}
 use Rattle.lw_complete.specs.declared.typing.Typing.{Typing}
 use Rattle.lw_complete.specs.Judged.{IsJudgement, LeadsWhole, StandsWhole}
@@ -38,23 +41,23 @@ module _ (of : Kinds) (tasks : List Task) (typing : Typing) (trees : Trees) (add
   abbrev pub SomeRead : Bool → Type 0
   SomeRead leads = (one : Known) × Contains known one × IsReadAt of tasks typing leads added name one
 
-  pub not_led_whole : IsJudgement typing trees address name (Some false) → ¬ IsLed
-  not_led_whole ((tree, r, stands), leads) is = by is.whole
+  not_led_whole : IsJudgement typing trees address name LeadsNowhere → ¬ IsLed
+  not_led_whole ((tree, r, stands), nowhere) is = by is.whole
     where
       by : LeadsWhole typing trees address name ⊎ (IsTrue is.judged × ((tree : Parts) (r : Reference) → ¬ StandsWhole typing trees address name tree r)) → ⊥
-      by (inl led) = true≢false (sym (leads.1 led))
+      by (inl led) = nowhere led
       by (inr (judged, none)) = none tree r stands
 
-  pub by_whole : IsJudgement typing trees address name (Some true) → (r : Bool) → IsTrue r ↔ SomeRead false → IsTrue r ↔ IsLed
-  by_whole (some, leads) r read = (
-    λ yes. let (one, among, reads) = read.0 yes in record { one = one; among = among; judged = false; reads = reads; whole = inl (leads.0 refl) },
+  by_whole : IsJudgement typing trees address name Leads → (r : Bool) → IsTrue r ↔ SomeRead false → IsTrue r ↔ IsLed
+  by_whole leads r read = (
+    λ yes. let (one, among, reads) = read.0 yes in record { one = one; among = among; judged = false; reads = reads; whole = inl leads },
     λ (is : IsLed). (
         let (next, at, read_by, has) = is.reads in
         read.1 (is.one, is.among, (next, at, read_by, λ no. absurd (true≢false (sym no))))
         ),
   )
 
-  pub by_front : IsJudgement typing trees address name None → (r : Bool) → IsTrue r ↔ SomeRead true → IsTrue r ↔ IsLed
+  by_front : IsJudgement typing trees address name NoReference → (r : Bool) → IsTrue r ↔ SomeRead true → IsTrue r ↔ IsLed
   by_front none r read = (
     λ yes. let (one, among, reads) = read.0 yes in record { one = one; among = among; judged = true; reads = reads; whole = inr (refl, none) },
     λ (is : IsLed). (
@@ -67,6 +70,19 @@ module _ (of : Kinds) (tasks : List Task) (typing : Typing) (trees : Trees) (add
           IsTrue judged
       judged_front judged (inl (tree, r, stands, target)) = absurd (none tree r stands)
       judged_front judged (inr (is, others)) = is
+
+  -- by what is told of it, and of how it is read
+  module _ (told : Judgement) (judged : IsJudgement typing trees address name told) where
+    pub led_nowhere : told ≡ LeadsNowhere → ¬ IsLed
+    led_nowhere is = not_led_whole (subst (IsJudgement typing trees address name) is judged)
+
+    pub led_whole : told ≡ Leads → {E : Type 0} (r : Result Bool E) → IfOk r (λ read. IsTrue read ↔ SomeRead false) → IfOk r (λ led. IsTrue led ↔ IsLed)
+    led_whole is r =
+        IfOk-weaker r (λ read. IsTrue read ↔ SomeRead false) (λ led. IsTrue led ↔ IsLed) (by_whole (subst (IsJudgement typing trees address name) is judged))
+
+    pub led_front : told ≡ NoReference → {E : Type 0} (r : Result Bool E) → IfOk r (λ read. IsTrue read ↔ SomeRead true) → IfOk r (λ led. IsTrue led ↔ IsLed)
+    led_front is r =
+        IfOk-weaker r (λ read. IsTrue read ↔ SomeRead true) (λ led. IsTrue led ↔ IsLed) (by_front (subst (IsJudgement typing trees address name) is judged))
 
 -- ---- whether it is offered
 

@@ -22,6 +22,7 @@ use Rattle.lw_program.specs.Says.{Task}
 use Rattle.lw_recipes.specs.declared.recipe.Content.TheVariants.{Reference}
 use Rattle.lw_recipes.specs.declared.recipe.TextForm.{TextForm}
 use Rattle.lw_recipes.specs.declared.recipe.ValueRecipe.{ValueRecipe}
+use Rattle.lw_recut.specs.declared.recut.Recut.{Recut}
 use Rattle.lw_recut.specs.Recut.{IsRecut, RecutterParts, added, added_behind}
 use Rattle.lw_rooted.proofs.Meant.{IsReadAs}
 use Rattle.lw_sure.specs.Parted.{moved}
@@ -32,7 +33,7 @@ use Rattle.lw_viable.specs.Visiting.{IsReferencePut}
 use Rattle.lw_viable.specs.declared.reference_start.ReferenceStart.{ReferenceStart}
 use Rattle.lw_complete.specs.declared.written.Written.{Written}
 use Rattle.lw_complete.specs.declared.typing.Typing.{Typing}
-use Rattle.lw_complete.specs.Starts.{ComesAt, IsParsedBy, IsReadAsStart, IsSaidBy, IsStartNext, IsWritten}
+use Rattle.lw_complete.specs.Starts.{ComesAt, IsParsedBy, IsReadAsStart, IsSaidBy, IsWritten}
 use Rattle.lw_complete.specs.Typing.{CutsBehind, IsTypedBy, grammar_of}
 use Rattle.lw_complete.proofs.NamedReads.{next_read}
 use Rattle.lw_complete.proofs.NamedSays.{HasRecipe, IsReferenceBy, recipe_of, reference_by, says_name}
@@ -61,6 +62,26 @@ begun word name lent r same told so =
 pub begun_not : (word name lent : List ℕ) (r : Bool) → lent ≡ name → r ≡ starts_with eqb lent word → r ≡ false → ¬ BeginsBy word name
 begun_not word name lent r same told not (rest, is) = true≢false (sym ((starts_is Decides-eqb lent word r told).1 rest (same ∙ is)) ∙ not)
 
+-- how a name is cut behind the text before the word, where that is told of its text as it is lent
+pub cut_as_named : (lexicon : Lexicon) (typing : Typing) (recutter : RecutterParts) → CutsBehind lexicon typing recutter → (lent name : List ℕ) → lent ≡ name →
+    (it : Recut) → IsCut recutter.lexicon (typing.front.now ++ lent) (typing.tokens.now ++ added_behind it)
+    × ((others : List Token) → IsCut recutter.lexicon (typing.front.now ++ lent) (typing.tokens.now ++ others) → others ≡ added_behind it) →
+    IsCut lexicon (typing.front.now ++ name) (typing.tokens.now ++ added_behind it)
+    × ((others : List Token) → IsCut lexicon (typing.front.now ++ name) (typing.tokens.now ++ others) → others ≡ added_behind it)
+cut_as_named lexicon typing recutter cuts lent name same it told =
+    subst (λ (t : List ℕ). IsCut lexicon (typing.front.now ++ t) (typing.tokens.now ++ added_behind it)
+    × ((others : List Token) → IsCut lexicon (typing.front.now ++ t) (typing.tokens.now ++ others) → others ≡ added_behind it)) same
+    (subst (λ (l : Lexicon). IsCut l (typing.front.now ++ lent) (typing.tokens.now ++ added_behind it)
+    × ((others : List Token) → IsCut l (typing.front.now ++ lent) (typing.tokens.now ++ others) → others ≡ added_behind it)) cuts.lexicon_is told)
+
+pub uncut_as_named : (lexicon : Lexicon) (typing : Typing) (recutter : RecutterParts) → CutsBehind lexicon typing recutter → (lent name : List ℕ) → lent ≡ name →
+    ((others : List Token) → ¬ IsCut recutter.lexicon (typing.front.now ++ lent) (typing.tokens.now ++ others)) → (others : List Token) →
+    ¬ IsCut lexicon (typing.front.now ++ name) (typing.tokens.now ++ others)
+uncut_as_named lexicon typing recutter cuts lent name same not others cut =
+    not others
+    (subst (λ (l : Lexicon). IsCut l (typing.front.now ++ lent) (typing.tokens.now ++ others)) (sym cuts.lexicon_is)
+    (subst (λ (t : List ℕ). IsCut lexicon (typing.front.now ++ t) (typing.tokens.now ++ others)) (sym same) cut))
+
 -- what a name comes to behind the text before the word, by what cuts it there
 pub written_there : (of : Kinds) (lexicon : Lexicon) (typing : Typing) (recutter : RecutterParts) (written : Written) → IsTypedBy of lexicon typing →
     CutsBehind lexicon typing recutter → IsRecut recutter written.name.now written.recut.now →
@@ -87,9 +108,6 @@ written_there of lexicon typing recutter written typed cuts recut cut =
           (All-drop (λ (t : Token). t.kind.0 < length recutter.lexicon.keywords + length recutter.lexicon.terminals) it.tail it.tokens.items
           (all_known recutter.lexicon it.text recut.cut)));
     }
-
-pub comes_at : (of : Kinds) (tasks : List Task) (typing : Typing) (start : ReferenceStart) (is : IsStartNext of tasks typing start) → ComesAt of typing is.next start
-comes_at of tasks typing start is = record { is_start = is.sound.is_start; comes = is.sound.comes }
 
 module _ (typing : Typing) (of : Kinds) (tasks : List Task) (parser : ParserParts) (parsed : IsParsedBy of tasks typing parser) (start : ReferenceStart)
     (next : ReferenceNext) (at : ComesAt of typing next start) where

@@ -1,15 +1,11 @@
--- The parser of a language, by the kinds of its grammar, and what it lends.
-use Rattle.std.proofs.Common.{ℕ, ◌≡◌, List, refl, subst, sym}
-use Rattle.lw_begins.specs.Told.{BeginsParts}
-use Rattle.lw_grammar.specs.declared.grammar.Grammar.{Grammar}
+-- The parser of a language, by the kinds of its grammar.
+use Rattle.std.proofs.Common.{ℕ, List, refl, subst}
 use Rattle.lw_grammar.specs.Kinds.{AreKinds, Kinds}
 use Rattle.lw_grammar.specs.Named.{IsEntry}
 use Rattle.lw_grammar.specs.declared.rule.Rule.{Rule}
 use Rattle.lw_grammar.proofs.KindLemmas.{one_kinds}
 use Rattle.lw_parse.specs.Parsers.{ParserParts, ParsesFaultless}
-use Rattle.lw_program.specs.ProgramOf.{ProgramParts}
 use Rattle.lw_program.specs.Says.{Task}
-use Rattle.lw_viable.specs.Fronts.{IsProgramWith}
 use Rattle.lw_complete.specs.declared.typing.Typing.{Typing}
 use Rattle.lw_complete.specs.Starts.{IsParsedBy}
 use Rattle.lw_complete.specs.Typing.{grammar_of}
@@ -23,9 +19,3 @@ parsed_by typing parser (kinds, are_kinds, k, is) of are =
     let faultless = subst (λ of. ParsesFaultless g of k parser) (one_kinds g kinds of are_kinds are) is in
     let known = faultless.parser.known in
     (known.program.tasks, faultless.parser.rule, record { k = k; faultless = faultless; program = record { known = known; tasks_are = refl } }, faultless.parser.entry)
-
--- a program that is lent, and what is told of its places
-pub lent : {g : Grammar} {of : Kinds} {tasks : List Task} {own program : ProgramParts} {owned begins : BeginsParts} → own ≡ program → owned ≡ begins →
-    IsProgramWith g of tasks program begins → IsProgramWith g of tasks own owned
-lent {g} {of} {tasks} {own} {program} {owned} {begins} same also is =
-    subst (λ (b : BeginsParts). IsProgramWith g of tasks own b) (sym also) (subst (λ (p : ProgramParts). IsProgramWith g of tasks p begins) (sym same) is)

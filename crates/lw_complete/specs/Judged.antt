@@ -1,11 +1,13 @@
 -- What is told of a name once it is written, in words of the code.
-use Rattle.std.specs.Prelude.{ℕ, ◌≡◌, ◌↔◌, ◌+◌, ◌++◌, List, Bool, Option, Some, None, IsTrue, Contains, length}
+use Rattle.std.specs.Prelude.{ℕ, ◌≡◌, ◌+◌, ◌++◌, List, Contains, length}
 use Rattle.lw_scopes.specs.Links.{IsNumberBelow}
 use Rattle.lw_scoping.specs.Links.{Trees}
 use Rattle.lw_tree.specs.declared.node.Reference.{Reference}
 use Rattle.lw_tree.specs.Parts.{Parts}
 use Rattle.lw_offers.specs.Offers.{HasReferenceAt}
 use Rattle.lw_offers.specs.Targets.{HasTarget}
+use Rattle.lw_complete.specs.declared.judging.Judgement.{Judgement}
+use Rattle.lw_complete.specs.declared.judging.Judgement.TheVariants.{Leads, LeadsNowhere, NoReference}
 use Rattle.lw_complete.specs.declared.typing.Typing.{Typing}
 use Rattle.lw_complete.specs.Typing.{grammar_of}
 
@@ -22,10 +24,11 @@ module _ (typing : Typing) (trees : Trees) (address : List ℕ) (tree : Parts) (
   abbrev pub SomeLeads : Type 0
   SomeLeads = (r : Reference) × Contains refs r × StandsBetween start end r × HasTarget (IsNumberBelow (grammar_of typing)) trees address tree r
 
-  -- None where none of these references takes up just these bytes, else whether one of those that do leads somewhere
-  abbrev pub IsToldOf : Option Bool → Type 0
-  IsToldOf None = (r : Reference) → Contains refs r → ¬ StandsBetween start end r
-  IsToldOf (Some leads) = SomeStands × (IsTrue leads ↔ SomeLeads)
+  -- whether one of those that take up just these bytes leads somewhere, if there is one
+  abbrev pub IsToldOf : Judgement → Type 0
+  IsToldOf Leads = SomeLeads
+  IsToldOf LeadsNowhere = SomeStands × ¬ SomeLeads
+  IsToldOf NoReference = (r : Reference) → Contains refs r → ¬ StandsBetween start end r
 
 module _ (typing : Typing) (trees : Trees) (address : List ℕ) (name : List ℕ) where
   -- the text with the name in it has this tree, and the name is this reference there
@@ -37,7 +40,8 @@ module _ (typing : Typing) (trees : Trees) (address : List ℕ) (name : List ℕ
   abbrev pub LeadsWhole : Type 0
   LeadsWhole = (tree : Parts) × (r : Reference) × StandsWhole tree r × HasTarget (IsNumberBelow (grammar_of typing)) trees address tree r
 
-  -- None where the text has no such tree, else whether the reference leads somewhere
-  abbrev pub IsJudgement : Option Bool → Type 0
-  IsJudgement None = (tree : Parts) (r : Reference) → ¬ StandsWhole tree r
-  IsJudgement (Some leads) = ((tree : Parts) × (r : Reference) × StandsWhole tree r) × (IsTrue leads ↔ LeadsWhole)
+  -- whether the reference leads somewhere, if the text has a tree with it
+  abbrev pub IsJudgement : Judgement → Type 0
+  IsJudgement Leads = LeadsWhole
+  IsJudgement LeadsNowhere = ((tree : Parts) × (r : Reference) × StandsWhole tree r) × ¬ LeadsWhole
+  IsJudgement NoReference = (tree : Parts) (r : Reference) → ¬ StandsWhole tree r

@@ -1,4 +1,5 @@
 pub mod Typing
 pub mod Starts
+pub mod Tried
 pub mod Judged
 pub mod Items

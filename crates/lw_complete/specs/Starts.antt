@@ -1,5 +1,5 @@
 -- What is told of the cross-references that may come next, in words of the code.
-use Rattle.std.specs.Prelude.{ℕ, ◌≡◌, ◌≢◌, ◌≤◌, ◌+◌, ◌⊎◌, ◌↔◌, ◌++◌, ◌∷◌, [], List, Bool, Option, All, Any, Contains, IsTrue, map, length, slice_get, Some, None}
+use Rattle.std.specs.Prelude.{ℕ, ◌≡◌, ◌≢◌, ◌≤◌, ◌+◌, ◌⊎◌, ◌↔◌, ◌++◌, ◌∷◌, [], List, Bool, Option, All, Contains, IsTrue, MatchOption, map, length, slice_get, Some, None}
 use Rattle.lw_base.specs.declared.limits.TheConstants.{LONGEST_DOCUMENT}
 use Rattle.lw_base.specs.declared.token.Token.{Token}
 use Rattle.lw_begins.specs.Gives.{PlacesGive}
@@ -29,12 +29,14 @@ use Rattle.lw_tree.specs.declared.node.Reference.{Reference}
 use Rattle.lw_tree.specs.Parts.{Parts, Tile}
 use Rattle.lw_viable.specs.Aims.{EndsSome}
 use Rattle.lw_viable.specs.Fronts.{IsProgramWith}
+use Rattle.lw_viable.specs.Marked.{MeanExactly, MeanSome}
 use Rattle.lw_viable.specs.Readings.{HasTask}
 use Rattle.lw_viable.specs.declared.reference_start.ReferenceStart.{ReferenceStart}
 use Rattle.lw_complete.specs.declared.known.Known.{Known}
 use Rattle.lw_complete.specs.declared.written.Written.{Written}
 use Rattle.lw_complete.specs.declared.starting.Blank.{Blank}
 use Rattle.lw_complete.specs.declared.starting.FrontNames.{FrontNames}
+use Rattle.lw_complete.specs.declared.starting.FrontTrees.{FrontTrees}
 use Rattle.lw_complete.specs.declared.typing.Typing.{Typing}
 use Rattle.lw_complete.specs.Judged.{LeadsWhole, StandsWhole}
 use Rattle.lw_complete.specs.Typing.{IsTypedBy, grammar_of}
@@ -43,6 +45,21 @@ use Rattle.lw_complete.specs.Typing.{IsTypedBy, grammar_of}
 pub record IsStartOf (g : Grammar) (next : ReferenceNext) (start : ReferenceStart) : Type 0 where
   pub meant : AreMeant g start.marks next.before
   pub puts : MeansMark g (numbered.Put start.put) (Put next.prop next.op next.value)
+
+-- a cross-reference of this start comes next
+pub record ComesAt (of : Kinds) (typing : Typing) (next : ReferenceNext) (start : ReferenceStart) : Type 0 where
+  pub is_start : IsStartOf (grammar_of typing) next start
+  pub comes : ComesNext (grammar_of typing) of typing.tokens.now next
+
+-- a tree of the whole text with the reference left blank, whose marks behind it the places behind the start give
+pub record HasBlankTree (of : Kinds) (lexicon : Lexicon) (tasks : List Task) (typing : Typing) (next : ReferenceNext) (start : ReferenceStart) : Type 0 where
+  pub front_tree : Parts
+  pub front_r : Reference
+  pub is_front : IsFrontTree (grammar_of typing) of typing.front.now typing.tokens.now next front_tree front_r
+  pub tree : Parts
+  pub r : Reference
+  pub is_tree : IsBlankTree (grammar_of typing) of lexicon typing.front.now typing.rest.now typing.tokens.now next front_tree tree r
+  pub behind : PlacesGive (grammar_of typing) of tasks start.behind is_tree.after
 
 module _ (of : Kinds) (typing : Typing) (trees : Trees) (address : List ℕ) where
   -- by which names the reference leads somewhere in the tree of what was read before it, and how many references that tree has
@@ -55,19 +72,19 @@ module _ (of : Kinds) (typing : Typing) (trees : Trees) (address : List ℕ) whe
 
   -- a name by which it leads somewhere in a tree of the whole text with the reference left blank, whose marks behind it the places behind this start give
   pub record IsBlankName (lexicon : Lexicon) (tasks : List Task) (next : ReferenceNext) (start : ReferenceStart) (name : List ℕ) : Type 0 where
-    pub front_tree : Parts
-    pub front_r : Reference
-    pub is_front : IsFrontTree (grammar_of typing) of typing.front.now typing.tokens.now next front_tree front_r
-    pub tree : Parts
-    pub r : Reference
-    pub is_tree : IsBlankTree (grammar_of typing) of lexicon typing.front.now typing.rest.now typing.tokens.now next front_tree tree r
-    pub behind : PlacesGive (grammar_of typing) of tasks start.behind is_tree.after
-    pub target : HasTarget (IsNumberBelow (grammar_of typing)) trees address tree (renamed_to name r)
+    pub blank : HasBlankTree of lexicon tasks typing next start
+    pub target : HasTarget (IsNumberBelow (grammar_of typing)) trees address blank.tree (renamed_to name blank.r)
 
 -- so many references stand in the tree of what was read before the reference
 abbrev pub StandsBehind : Kinds → Typing → ReferenceNext → ℕ → Type 0
 StandsBehind of typing next before =
     (tree : Parts) × (r : Reference) × IsFrontTree (grammar_of typing) of typing.front.now typing.tokens.now next tree r × (before ≡ length tree.refs)
+
+-- the one tree is that of what was read before the reference, and in the other the reference stands behind all that stand in the first
+pub record AreFrontTrees (of : Kinds) (typing : Typing) (next : ReferenceNext) (trees : FrontTrees) : Type 0 where
+  pub r : Reference
+  pub is_tree : IsFrontTree (grammar_of typing) of typing.front.now typing.tokens.now next trees.tree r
+  pub behind : is_tree.behind ≡ trees.behind
 
 -- texts of the language are parsed by this parser, at the places of whose program these tasks stand
 pub record IsParsedBy (of : Kinds) (tasks : List Task) (typing : Typing) (parser : ParserParts) : Type 0 where
@@ -77,8 +94,7 @@ pub record IsParsedBy (of : Kinds) (tasks : List Task) (typing : Typing) (parser
 
 -- the start is one of a reference that comes next, and a sentence goes on so with whatever its places behind give
 pub record IsSoundStart (of : Kinds) (tasks : List Task) (typing : Typing) (next : ReferenceNext) (start : ReferenceStart) : Type 0 where
-  pub is_start : IsStartOf (grammar_of typing) next start
-  pub comes : ComesNext (grammar_of typing) of typing.tokens.now next
+  pub at : ComesAt of typing next start
   pub behind : All (HasTask (grammar_of typing) of tasks) start.behind
   pub whole : (n : List Mark) → PlacesGive (grammar_of typing) of tasks start.behind n →
       (ks : List ℕ) × IsSentence (grammar_of typing) of (marks_with next ks ++ n)
@@ -93,8 +109,12 @@ pub record IsBlank (typing : Typing) (lexicon : Lexicon) (blank : Blank) : Type 
   pub tile : Tile 0 blank.tokens.items
   pub parts : ArePartsOf blank.text blank.tokens.items
 
+-- the same, where what stands behind the offset is cut into tokens, and none where it is not
+abbrev pub IsBlankIfCut : Typing → Lexicon → Option Blank → Type 0
+IsBlankIfCut typing lexicon blank = MatchOption blank ((others : List Token) → ¬ IsCut lexicon typing.rest.now others) (IsBlank typing lexicon)
+
 -- what is known where the blank trees of a start are made
-pub record IsReady (typing : Typing) (parser : ParserParts) (start : ReferenceStart) (before : ℕ) (blank : Blank) : Type 0 where
+pub record IsBlankReady (typing : Typing) (parser : ParserParts) (start : ReferenceStart) (before : ℕ) (blank : Blank) : Type 0 where
   pub of : Kinds
   pub lexicon : Lexicon
   pub tasks : List Task
@@ -108,12 +128,12 @@ pub record IsReady (typing : Typing) (parser : ParserParts) (start : ReferenceSt
   pub front : IsFrontTree (grammar_of typing) of typing.front.now typing.tokens.now next front_tree r
   pub counted : before ≡ length front_tree.refs
 
--- these lists of marks, all of them, are given by the places behind the start with the kinds of the tokens behind the offset
-pub record AreBehind {typing : Typing} {parser : ParserParts} {start : ReferenceStart} {before : ℕ} {blank : Blank} (ready : IsReady typing parser start before blank)
+-- these lists mean exactly the marks that are given by the places behind the start and have the kinds of the tokens behind the offset
+pub record AreMarksBehind {typing : Typing} {parser : ParserParts} {start : ReferenceStart} {before : ℕ} {blank : Blank} (ready : IsBlankReady typing parser start before blank)
     (sentences : List (List TreeMark)) : Type 0 where
-  pub all : (n : List Mark) → (PlacesGive (grammar_of typing) ready.of ready.tasks start.behind n × (kinds_of n ≡ kinds (visible blank.others.items)))
-      ↔ Any (λ (marks : List TreeMark). AreMeant (grammar_of typing) marks n) sentences
-  pub each : All (λ (marks : List TreeMark). (m : List Mark) × AreMeant (grammar_of typing) marks m) sentences
+  pub all : MeanExactly (grammar_of typing)
+      (λ (n : List Mark). PlacesGive (grammar_of typing) ready.of ready.tasks start.behind n × (kinds_of n ≡ kinds (visible blank.others.items))) sentences
+  pub each : MeanSome (grammar_of typing) sentences
 
 -- the whole tree of these marks of the text without the word
 abbrev pub IsTreeOfBlank : Typing → Blank → List Mark → Parts → Type 0
@@ -143,12 +163,7 @@ pub record IsWritten (of : Kinds) (lexicon : Lexicon) (typing : Typing) (written
   pub parts : ArePartsOf written.recut.now.text (added written.recut.now)
   pub of_kinds : AreOfKinds of (added written.recut.now)
 
--- a cross-reference of this start comes next
-pub record ComesAt (of : Kinds) (typing : Typing) (next : ReferenceNext) (start : ReferenceStart) : Type 0 where
-  pub is_start : IsStartOf (grammar_of typing) next start
-  pub comes : ComesNext (grammar_of typing) of typing.tokens.now next
-
--- some does, a sentence goes on so with whatever its places behind give, and its value has a task
+-- a cross-reference of the start comes next, a sentence goes on so with whatever its places behind give, and its value has a task
 pub record IsStartNext (of : Kinds) (tasks : List Task) (typing : Typing) (start : ReferenceStart) : Type 0 where
   pub next : ReferenceNext
   pub sound : IsSoundStart of tasks typing next start
@@ -156,6 +171,10 @@ pub record IsStartNext (of : Kinds) (tasks : List Task) (typing : Typing) (start
   -- and it goes on so whatever is read as the reference
   pub joins : (read : List ℕ) (after : List Mark) → EndsSome (PlacesGive (grammar_of typing) of tasks (start.value ∷ [])) read →
       PlacesGive (grammar_of typing) of tasks start.behind after → IsSentence (grammar_of typing) of (marks_with next read ++ after)
+
+-- each of these starts is one of a cross-reference that comes next
+abbrev pub AllComeNext : Kinds → List Task → Typing → List Known → Type 0
+AllComeNext of tasks typing known = All (λ one. IsStartNext of tasks typing one.start.now) known
 
 -- the name is what the reference looks up by these tokens, which are those of the name behind the text before the word
 pub record IsSaidBy (typing : Typing) (next : ReferenceNext) (added : List Token) (name : List ℕ) : Type 0 where
@@ -176,16 +195,6 @@ pub record GoesOnBehind (of : Kinds) (lexicon : Lexicon) (tasks : List Task) (ty
   pub cut : IsCut lexicon typing.rest.now others
   pub gives : PlacesGive (grammar_of typing) of tasks start.behind after
   pub kinds_are : kinds_of after ≡ kinds (visible others)
-
--- a tree of the whole text with the reference left blank, whose marks behind it the places behind the start give
-pub record HasBlankTree (of : Kinds) (lexicon : Lexicon) (tasks : List Task) (typing : Typing) (next : ReferenceNext) (start : ReferenceStart) : Type 0 where
-  pub front_tree : Parts
-  pub front_r : Reference
-  pub is_front : IsFrontTree (grammar_of typing) of typing.front.now typing.tokens.now next front_tree front_r
-  pub tree : Parts
-  pub r : Reference
-  pub is_tree : IsBlankTree (grammar_of typing) of lexicon typing.front.now typing.rest.now typing.tokens.now next front_tree tree r
-  pub behind : PlacesGive (grammar_of typing) of tasks start.behind is_tree.after
 
 -- by which names a reference leads somewhere in the trees of the whole text with it left blank. None where what is behind the offset cannot stand behind it.
 abbrev pub AreBlankNames : Kinds → Lexicon → List Task → Typing → Trees → List ℕ → ReferenceNext → ReferenceStart → Option (List (List ℕ)) → Type 0
@@ -218,7 +227,7 @@ names_in (Some names) = names
 
 -- what is known of starts that come next
 pub record AreTried (of : Kinds) (lexicon : Lexicon) (tasks : List Task) (typing : Typing) (trees : Trees) (address : List ℕ) (known : List Known) : Type 0 where
-  pub next : All (λ one. IsStartNext of tasks typing one.start.now) known
+  pub next : AllComeNext of tasks typing known
   pub blank : All (IsBlankKnown of lexicon tasks typing trees address) known
   -- each cross-reference that comes next is that of one of them
   pub all : (next : ReferenceNext) → ComesNext (grammar_of typing) of typing.tokens.now next → (read : List ℕ) (after : List Mark) →
@@ -254,6 +263,11 @@ pub record TakesAll (typing : Typing) (written : Written) : Type 0 where
   pub some : visible (added_behind written.recut.now) ≢ []
   pub spans : span_of_tokens (visible (added_behind written.recut.now)) ≡
       record { start = length typing.front.now; end = length typing.front.now + length written.name.now }
+
+-- the place of the start's value gives the kinds of the name's visible tokens
+abbrev pub GivesKinds : Kinds → List Task → Typing → Written → ReferenceStart → Type 0
+GivesKinds of tasks typing written start =
+    EndsSome (PlacesGive (grammar_of typing) of tasks (start.value ∷ [])) (kinds (visible (added written.recut.now)))
 
 -- the name, which comes to these tokens, is read as one of the starts and leads somewhere so
 pub record IsLedBy (of : Kinds) (tasks : List Task) (typing : Typing) (trees : Trees) (address : List ℕ) (known : List Known) (added : List Token)

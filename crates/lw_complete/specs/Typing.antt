@@ -3,9 +3,12 @@ use Rattle.std.specs.Prelude.{ℕ, ◌≡◌, List}
 use Rattle.lw_builder.specs.Built.{ArePartsOf}
 use Rattle.lw_grammar.specs.declared.grammar.Grammar.{Grammar}
 use Rattle.lw_grammar.specs.Kinds.{AreKinds, Kinds}
+use Rattle.lw_link.specs.Indexed.{IsIndexOf}
+use Rattle.lw_link.specs.Visible.{IsNumberAt}
 use Rattle.lw_parse.specs.Parsers.{AreOfKinds}
 use Rattle.lw_program.specs.Says.{Task}
 use Rattle.lw_recut.specs.Recut.{IsEndOf, RecutterParts}
+use Rattle.lw_scoping.specs.Links.{Trees}
 use Rattle.lw_tokens.specs.Cut.{IsCut, kinds, visible}
 use Rattle.lw_tokens.specs.Lexicon.{IsLexicon, Lexicon}
 use Rattle.lw_tree.specs.Parts.{Tile}
@@ -25,6 +28,11 @@ pub record IsTypedBy (of : Kinds) (lexicon : Lexicon) (typing : Typing) : Type 0
   pub tile : Tile 0 typing.tokens.now
   pub parts : ArePartsOf typing.front.now typing.tokens.now
   pub of_kinds : AreOfKinds of typing.tokens.now
+
+-- these are the trees of all documents, of which the index holds what they export, and the word is typed in the document at this address
+pub record IsTypedAmong (typing : Typing) (trees : Trees) (address : List ℕ) : Type 0 where
+  pub index : IsIndexOf trees typing.index.now
+  pub number : IsNumberAt typing.index.now typing.doc.0 address
 
 -- the kinds of the visible tokens before the word
 abbrev pub kinds_before : Typing → List ℕ

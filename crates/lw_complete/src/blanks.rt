@@ -1,12 +1,10 @@
 // The text in which the word that is being typed is left out.
-ghost use Rattle.std.specs.Prelude.{◌≡◌, ◌≤◌, ◌<◌, ◌+◌, ◌++◌, List, Some, All, IfOk, MatchOption, length, map};
+ghost use Rattle.std.specs.Prelude.{◌≡◌, ◌≤◌, ◌<◌, ◌+◌, ◌++◌, List, Some, All, IfOk, length, map};
 ghost use Rattle.lw_base.specs.declared.limits.TheConstants.{LONGEST_DOCUMENT};
-ghost use Rattle.lw_base.specs.declared.token.Token.{Token as AToken};
 ghost use Rattle.lw_grammar.specs.Kinds.{Kinds};
 ghost use Rattle.lw_offers.specs.Starting.{moved_by};
-ghost use Rattle.lw_tokens.specs.Cut.{IsCut};
 ghost use Rattle.lw_tokens.specs.Lexicon.{Lexicon};
-ghost use Rattle.lw_complete.specs.Starts.{IsBlank};
+ghost use Rattle.lw_complete.specs.Starts.{IsBlankIfCut};
 ghost use Rattle.lw_complete.specs.Typing.{IsTypedBy};
 
 use crate::starting::Blank;
@@ -19,7 +17,7 @@ use std::alloc::Global;
 pub(crate) fn blank(alloc: Global, typing: &Typing<'_>) -> Result<Option<Blank>, NoMemory>
     requires short { length typing.now.front.now + length typing.now.rest.now ≤ LONGEST_DOCUMENT }
     ensures { (of : Kinds) (lexicon : Lexicon) → IsTypedBy of lexicon typing.now →
-        IfOk result (λ blank. MatchOption blank ((others : List AToken) → ¬ IsCut lexicon typing.now.rest.now others) (IsBlank typing.now lexicon)) }
+        IfOk result (IsBlankIfCut typing.now lexicon) }
 {
     let others = match typing.language.cut(alloc, typing.rest) {
         Ok(others) => others,

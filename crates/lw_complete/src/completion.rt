@@ -11,17 +11,17 @@ ghost use Rattle.lw_scopes.specs.Links.{AreTreesOfTexts, Texts};
 ghost use Rattle.lw_scoping.specs.Links.{Trees};
 ghost use Rattle.lw_tokens.specs.Lexicon.{Lexicon};
 ghost use Rattle.lw_complete.specs.Items.{TakesThePlace, item_of, items_of, offer_of};
-ghost use Rattle.lw_complete.specs.Typing.{IsTypedBy, grammar_of};
+ghost use Rattle.lw_complete.specs.Typing.{IsTypedAmong, IsTypedBy, grammar_of};
 
 use crate::item::{Item, KEYWORD_ITEM, REFERENCE_ITEM};
 use crate::keywords::keywords;
 use crate::names::names;
-use crate::reading::read_front;
 use crate::typing::Typing;
 use crate::words::word_start;
 use lw_base::{DocId, LONGEST_DOCUMENT, Name, NoMemory};
 use lw_index::Index;
 use lw_lang::{Language, LexFault};
+use lw_opened::read_front;
 use lw_recut::Recutter;
 use std::alloc::Global;
 
@@ -81,8 +81,8 @@ fn offers(alloc: Global, typing: &Typing<'_>, from: u32, to: u32) -> Result<Vec<
     requires short { length typing.now.front.now + length typing.now.rest.now ≤ LONGEST_DOCUMENT }
     requires known { (of : Kinds) × (lexicon : Lexicon) × IsTypedBy of lexicon typing.now }
     requires one_way { IsReadOneWay (grammar_of typing.now) }
-    ensures exact { (of : Kinds) (lexicon : Lexicon) (trees : Trees) (address : List ℕ) → IsTypedBy of lexicon typing.now → IsIndexOf trees typing.now.index.now →
-        IsNumberAt typing.now.index.now typing.now.doc.0 address → IfOk result (λ items. (x : Offer) → Contains (map offer_of items.items) x ↔
+    ensures exact { (of : Kinds) (lexicon : Lexicon) (trees : Trees) (address : List ℕ) → IsTypedBy of lexicon typing.now →
+        IsTypedAmong typing.now trees address → IfOk result (λ items. (x : Offer) → Contains (map offer_of items.items) x ↔
         IsOffered (grammar_of typing.now) of lexicon trees address typing.now.front.now typing.now.rest.now typing.now.tokens.now typing.now.word.now x) }
     ensures ordered { IfOk result (λ items. AllPairs OfferPrecedes (map offer_of items.items)) }
     ensures spans { IfOk result (λ items. All (TakesThePlace from to) items.items) }

@@ -1,15 +1,10 @@
 // Whether a name leads somewhere once it is written.
-ghost use Rattle.std.specs.Prelude.{ℕ, ◌≡◌, ◌≤◌, ◌+◌, ◌↔◌, ◌++◌, ◌∷◌, [], List, Some, All, IfOk, IfSome, IsTrue, Contains, length};
+ghost use Rattle.std.specs.Prelude.{ℕ, ◌≡◌, ◌≤◌, ◌+◌, ◌↔◌, ◌++◌, ◌∷◌, [], List, Some, IfOk, IfSome, IsTrue, Contains, length};
 ghost use Rattle.lw_base.specs.declared.limits.TheConstants.{LONGEST_DOCUMENT};
-ghost use Rattle.lw_begins.specs.Gives.{PlacesGive};
 ghost use Rattle.lw_grammar.specs.Kinds.{Kinds};
 ghost use Rattle.lw_program.specs.Says.{Task};
-ghost use Rattle.lw_recut.specs.Recut.{IsRecut, added};
-ghost use Rattle.lw_tokens.specs.Cut.{kinds, visible};
+ghost use Rattle.lw_recut.specs.Recut.{IsRecut};
 ghost use Rattle.lw_tokens.specs.Lexicon.{Lexicon};
-ghost use Rattle.lw_viable.specs.Aims.{EndsSome};
-ghost use Rattle.lw_link.specs.Indexed.{IsIndexOf};
-ghost use Rattle.lw_link.specs.Visible.{IsNumberAt};
 ghost use Rattle.lw_offers.specs.Targets.{HasTarget};
 ghost use Rattle.lw_reading.specs.Laws.{IsReadOneWay};
 ghost use Rattle.lw_reading.specs.Reading.{Reads};
@@ -19,8 +14,9 @@ ghost use Rattle.lw_scoping.specs.Links.{Trees};
 ghost use Rattle.lw_symbols.specs.Locals.{AreLocalsOf};
 ghost use Rattle.lw_tree.specs.declared.node.Reference.{Reference as AReference};
 ghost use Rattle.lw_complete.specs.Judged.{IsJudgement, IsToldOf, StandsBetween};
-ghost use Rattle.lw_complete.specs.Starts.{AreTried, IsBlankKnown, IsParsedBy, IsStartNext, IsWritten, MeetsRest, TakesAll};
-ghost use Rattle.lw_complete.specs.Typing.{CutsBehind, IsTypedBy, grammar_of};
+ghost use Rattle.lw_complete.specs.Starts.{AllComeNext, AreTried, GivesKinds, IsBlankKnown, IsStartNext, IsWritten, TakesAll};
+ghost use Rattle.lw_complete.specs.Tried.{AreJudgedBy, GoesOnAsBefore, IsCutBy, IsWrittenFor};
+ghost use Rattle.lw_complete.specs.Typing.{IsTypedAmong, grammar_of};
 ghost use Rattle.lw_complete.specs.declared.typing.Typing.{Typing as ATyping};
 
 use crate::known::Known;
@@ -36,7 +32,18 @@ use lw_symbols::Locals;
 use lw_tree::{Reference, Tree};
 use std::alloc::Global;
 
-/// Whether the reference that the name is in the text with it leads somewhere. None where that text has no tree with such a reference.
+/// What is told of the reference that a name is in the text with it.
+#[derive(Clone, Copy)]
+pub(crate) enum Judgement {
+    /// It leads somewhere.
+    Leads,
+    /// It leads nowhere.
+    LeadsNowhere,
+    /// That text has no tree with such a reference.
+    NoReference,
+}
+
+/// Whether the reference that the name is in the text with it leads somewhere, if there is one.
 ///
 /// Where the text goes on behind the name as it did before, that is told by the trees with the reference left blank, and else the text is
 /// read.
@@ -47,21 +54,19 @@ pub(crate) fn judge(
     known: &[Known<'_>],
     recutter: &mut Recutter<'_>,
     written: &Written<'_>,
-) -> Result<Option<bool>, NoMemory>
-    requires known { (of : Kinds) × (lexicon : Lexicon) × (tasks : List Task) × IsWritten of lexicon typing.now written.now × IsParsedBy of tasks typing.now parser.now
-        × IsRecut recutter.old written.now.name.now written.now.recut.now × All (λ one. IsStartNext of tasks typing.now one.start.now) known.now }
-    ensures judged { (of : Kinds) (lexicon : Lexicon) (tasks : List Task) (trees : Trees) (address : List ℕ) → IsTypedBy of lexicon typing.now →
-        IsWritten of lexicon typing.now written.now → IsParsedBy of tasks typing.now parser.now → CutsBehind lexicon typing.now recutter.old →
-        IsRecut recutter.old written.now.name.now written.now.recut.now → AreTried of lexicon tasks typing.now trees address known.now →
-        IsReadOneWay (grammar_of typing.now) → IsIndexOf trees typing.now.index.now → IsNumberAt typing.now.index.now typing.now.doc.0 address →
+) -> Result<Judgement, NoMemory>
+    requires known { (of : Kinds) × (lexicon : Lexicon) × (tasks : List Task) × IsWrittenFor of lexicon tasks typing.now parser.now written.now
+        × IsRecut recutter.old written.now.name.now written.now.recut.now × AllComeNext of tasks typing.now known.now }
+    ensures judged { (of : Kinds) (lexicon : Lexicon) (tasks : List Task) (trees : Trees) (address : List ℕ) →
+        IsCutBy of lexicon tasks typing.now parser.now recutter.old written.now → AreJudgedBy of lexicon tasks typing.now trees address known.now →
         IfOk result (IsJudgement typing.now trees address written.now.name.now) }
     ensures same { recutter.new ≡ recutter.old }
 {
     if LONGEST_DOCUMENT < length_with(typing, written.name.bytes()) {
-        return Ok(None);
+        return Ok(Judgement::NoReference);
     }
     match recutter.seam(alloc, written.recut, typing.rest.text())? {
-        Seam::Crossed => Ok(None),
+        Seam::Crossed => Ok(Judgement::NoReference),
         Seam::Meets => judge_apart(alloc, typing, parser, known, written),
         Seam::Unknown => leads_in_whole(alloc, typing, written.name),
     }
@@ -83,13 +88,11 @@ fn judge_apart(
     parser: &Parser,
     known: &[Known<'_>],
     written: &Written<'_>,
-) -> Result<Option<bool>, NoMemory>
-    requires known { (of : Kinds) × (lexicon : Lexicon) × (tasks : List Task) × IsWritten of lexicon typing.now written.now × IsParsedBy of tasks typing.now parser.now
-        × All (λ one. IsStartNext of tasks typing.now one.start.now) known.now }
-    ensures { (of : Kinds) (lexicon : Lexicon) (tasks : List Task) (trees : Trees) (address : List ℕ) → IsTypedBy of lexicon typing.now →
-        IsWritten of lexicon typing.now written.now → IsParsedBy of tasks typing.now parser.now → MeetsRest lexicon typing.now written.now →
-        AreTried of lexicon tasks typing.now trees address known.now →
-        IsReadOneWay (grammar_of typing.now) → IsIndexOf trees typing.now.index.now → IsNumberAt typing.now.index.now typing.now.doc.0 address →
+) -> Result<Judgement, NoMemory>
+    requires known { (of : Kinds) × (lexicon : Lexicon) × (tasks : List Task) × IsWrittenFor of lexicon tasks typing.now parser.now written.now
+        × AllComeNext of tasks typing.now known.now }
+    ensures { (of : Kinds) (lexicon : Lexicon) (tasks : List Task) (trees : Trees) (address : List ℕ) →
+        GoesOnAsBefore of lexicon tasks typing.now parser.now written.now → AreJudgedBy of lexicon tasks typing.now trees address known.now →
         IfOk result (IsJudgement typing.now trees address written.now.name.now) }
 {
     match by_blank(alloc, typing, parser, known, written)? {
@@ -106,19 +109,18 @@ fn by_blank(
     parser: &Parser,
     known: &[Known<'_>],
     written: &Written<'_>,
-) -> Result<Option<Option<bool>>, NoMemory>
-    requires known { (of : Kinds) × (lexicon : Lexicon) × (tasks : List Task) × IsWritten of lexicon typing.now written.now × IsParsedBy of tasks typing.now parser.now
-        × All (λ one. IsStartNext of tasks typing.now one.start.now) known.now }
-    ensures { (of : Kinds) (lexicon : Lexicon) (tasks : List Task) (trees : Trees) (address : List ℕ) → IsTypedBy of lexicon typing.now →
-        IsWritten of lexicon typing.now written.now → IsParsedBy of tasks typing.now parser.now → MeetsRest lexicon typing.now written.now →
-        AreTried of lexicon tasks typing.now trees address known.now → IsReadOneWay (grammar_of typing.now) →
-        IfOk result (λ told. IfSome told (IsJudgement typing.now trees address written.now.name.now)) }
+) -> Result<Option<Judgement>, NoMemory>
+    requires known { (of : Kinds) × (lexicon : Lexicon) × (tasks : List Task) × IsWrittenFor of lexicon tasks typing.now parser.now written.now
+        × AllComeNext of tasks typing.now known.now }
+    ensures { (of : Kinds) (lexicon : Lexicon) (tasks : List Task) (trees : Trees) (address : List ℕ) →
+        GoesOnAsBefore of lexicon tasks typing.now parser.now written.now → AreTried of lexicon tasks typing.now trees address known.now →
+        IsReadOneWay (grammar_of typing.now) → IfOk result (λ told. IfSome told (IsJudgement typing.now trees address written.now.name.now)) }
 {
     if written.name.bytes().is_empty() {
         return Ok(None);
     }
     if !takes_all(alloc, written)? {
-        return Ok(Some(None));
+        return Ok(Some(Judgement::NoReference));
     }
     let added = written.recut.added();
     'known: for one in known {
@@ -128,7 +130,7 @@ fn by_blank(
             }
         }
     }
-    Ok(Some(None))
+    Ok(Some(Judgement::NoReference))
 }
 
 /// What is told by the names of the blank trees of this start.
@@ -139,20 +141,22 @@ fn told_by(
     one: &Known<'_>,
     names: &SortedNames,
     written: &Written<'_>,
-) -> Result<Option<Option<bool>>, NoMemory>
-    requires known { (of : Kinds) × (lexicon : Lexicon) × (tasks : List Task) × IsWritten of lexicon typing.now written.now × IsParsedBy of tasks typing.now parser.now
+) -> Result<Option<Judgement>, NoMemory>
+    requires known { (of : Kinds) × (lexicon : Lexicon) × (tasks : List Task) × IsWrittenFor of lexicon tasks typing.now parser.now written.now
         × IsStartNext of tasks typing.now one.now.start.now }
-    ensures { (of : Kinds) (lexicon : Lexicon) (tasks : List Task) (trees : Trees) (address : List ℕ) → IsTypedBy of lexicon typing.now →
-        IsWritten of lexicon typing.now written.now → IsParsedBy of tasks typing.now parser.now → MeetsRest lexicon typing.now written.now →
-        IsStartNext of tasks typing.now one.now.start.now → IsBlankKnown of lexicon tasks typing.now trees address one.now → one.now.blank ≡ Some names.now →
-        IsReadOneWay (grammar_of typing.now) → TakesAll typing.now written.now →
-        EndsSome (PlacesGive (grammar_of typing.now) of tasks (one.now.start.now.value ∷ [])) (kinds (visible (added written.now.recut.now))) →
+    ensures { (of : Kinds) (lexicon : Lexicon) (tasks : List Task) (trees : Trees) (address : List ℕ) →
+        GoesOnAsBefore of lexicon tasks typing.now parser.now written.now → IsReadOneWay (grammar_of typing.now) → IsStartNext of tasks typing.now one.now.start.now →
+        IsBlankKnown of lexicon tasks typing.now trees address one.now → one.now.blank ≡ Some names.now → TakesAll typing.now written.now →
+        GivesKinds of tasks typing.now written.now one.now.start.now →
         IfOk result (λ told. IfSome told (IsJudgement typing.now trees address written.now.name.now)) }
 {
     if !says(alloc, parser, one.start, written)? {
         return Ok(None);
     }
-    Ok(Some(Some(names.has(written.name))))
+    if names.has(written.name) {
+        return Ok(Some(Judgement::Leads));
+    }
+    Ok(Some(Judgement::LeadsNowhere))
 }
 
 /// Whether the tokens of the name that are not hidden stand from its first byte to its last.
@@ -177,10 +181,10 @@ fn stand_between(first: &Token, last: &Token, start: usize, end: usize) -> bool
     first.span.start as usize == start && last.span.end as usize == end
 }
 
-/// Whether the reference that the name is in the text with it leads somewhere. None where that text has no tree with such a reference.
-fn leads_in_whole(alloc: Global, typing: &Typing<'_>, name: &Name) -> Result<Option<bool>, NoMemory>
-    ensures { (trees : Trees) (address : List ℕ) → IsReadOneWay (grammar_of typing.now) → IsIndexOf trees typing.now.index.now →
-        IsNumberAt typing.now.index.now typing.now.doc.0 address → IfOk result (IsJudgement typing.now trees address name.now) }
+/// The same by the tree of that text.
+fn leads_in_whole(alloc: Global, typing: &Typing<'_>, name: &Name) -> Result<Judgement, NoMemory>
+    ensures { (trees : Trees) (address : List ℕ) → IsReadOneWay (grammar_of typing.now) → IsTypedAmong typing.now trees address →
+        IfOk result (IsJudgement typing.now trees address name.now) }
 {
     let text = text_with(alloc, typing, name)?;
     match typing.language.read(alloc, &text)? {
@@ -188,7 +192,7 @@ fn leads_in_whole(alloc: Global, typing: &Typing<'_>, name: &Name) -> Result<Opt
             let start = typing.front.bytes().len();
             leads_in(alloc, typing, &tree, start, start + name.bytes().len())
         }
-        Parsed::Broken(_) => Ok(None),
+        Parsed::Broken(_) => Ok(Judgement::NoReference),
     }
 }
 
@@ -203,20 +207,20 @@ fn text_with(alloc: Global, typing: &Typing<'_>, name: &Name) -> Result<Name, No
     Ok(Name::from_string(text))
 }
 
-/// Whether one of the references of the tree that take up just these bytes leads somewhere, where there is one.
+/// Whether one of the references of the tree that take up just these bytes leads somewhere, if there is one.
 fn leads_in(
     alloc: Global,
     typing: &Typing<'_>,
     tree: &Tree,
     start: usize,
     end: usize,
-) -> Result<Option<bool>, NoMemory>
+) -> Result<Judgement, NoMemory>
     requires { (text : List ℕ) × Reads (grammar_of typing.now) text (Whole tree.now) }
-    ensures { (trees : Trees) (address : List ℕ) → IsIndexOf trees typing.now.index.now → IsNumberAt typing.now.index.now typing.now.doc.0 address →
+    ensures { (trees : Trees) (address : List ℕ) → IsTypedAmong typing.now trees address →
         IfOk result (IsToldOf typing.now trees address tree.now start end tree.now.refs) }
 {
     let locals = Locals::of_tree(alloc, tree)?;
-    let mut found = None;
+    let mut found = Judgement::NoReference;
     'references: for reference in tree.refs() {
         found = told(typing, tree, &locals, reference, start, end, found);
     }
@@ -231,22 +235,25 @@ fn told(
     reference: &Reference,
     start: usize,
     end: usize,
-    found: Option<bool>,
-) -> Option<bool>
+    found: Judgement,
+) -> Judgement
     requires read { (text : List ℕ) × Reads (grammar_of typing.now) text (Whole tree.now) }
     requires locals { AreLocalsOf tree.now locals.now }
     requires among { Contains tree.now.refs reference.now }
-    ensures { (trees : Trees) (address : List ℕ) (before : List AReference) → IsIndexOf trees typing.now.index.now →
-        IsNumberAt typing.now.index.now typing.now.doc.0 address → IsToldOf typing.now trees address tree.now start end before found →
+    ensures { (trees : Trees) (address : List ℕ) (before : List AReference) → IsTypedAmong typing.now trees address →
+        IsToldOf typing.now trees address tree.now start end before found →
         IsToldOf typing.now trees address tree.now start end (before ++ reference.now ∷ []) result }
 {
     if !stands_at(reference, start, end) {
         return found;
     }
     if leads(typing, tree, locals, reference) {
-        return Some(true);
+        return Judgement::Leads;
     }
-    Some(found.unwrap_or(false))
+    match found {
+        Judgement::Leads => Judgement::Leads,
+        Judgement::LeadsNowhere | Judgement::NoReference => Judgement::LeadsNowhere,
+    }
 }
 
 fn stands_at(reference: &Reference, start: usize, end: usize) -> bool
@@ -259,7 +266,7 @@ fn leads(typing: &Typing<'_>, tree: &Tree, locals: &Locals, reference: &Referenc
     requires read { (text : List ℕ) × Reads (grammar_of typing.now) text (Whole tree.now) }
     requires locals { AreLocalsOf tree.now locals.now }
     requires among { Contains tree.now.refs reference.now }
-    ensures { (trees : Trees) (address : List ℕ) → IsIndexOf trees typing.now.index.now → IsNumberAt typing.now.index.now typing.now.doc.0 address →
+    ensures { (trees : Trees) (address : List ℕ) → IsTypedAmong typing.now trees address →
         IsTrue result ↔ HasTarget (IsNumberBelow (grammar_of typing.now)) trees address tree.now reference.now }
 {
     let types = typing.language.types();

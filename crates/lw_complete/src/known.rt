@@ -1,18 +1,14 @@
 // What is known of the cross-references that may come next.
-ghost use Rattle.std.specs.Prelude.{ℕ, ◌≡◌, ◌≤◌, ◌+◌, ◌++◌, List, Some, All, IfOk, OnOk, MatchOption, length, map};
+ghost use Rattle.std.specs.Prelude.{ℕ, ◌≡◌, ◌≤◌, ◌+◌, ◌++◌, List, Some, All, IfOk, OnOk, length, map};
 ghost use Rattle.lw_base.specs.declared.limits.TheConstants.{LONGEST_DOCUMENT};
-ghost use Rattle.lw_base.specs.declared.token.Token.{Token as AToken};
 ghost use Rattle.lw_findings.specs.Finding.{Finds, OfSome};
 ghost use Rattle.lw_grammar.specs.Kinds.{Kinds};
-ghost use Rattle.lw_link.specs.Indexed.{IsIndexOf};
-ghost use Rattle.lw_link.specs.Visible.{IsNumberAt};
 ghost use Rattle.lw_offers.specs.Starting.{ReferenceNext};
 ghost use Rattle.lw_program.specs.Says.{Task};
 ghost use Rattle.lw_scoping.specs.Links.{Trees};
-ghost use Rattle.lw_tokens.specs.Cut.{IsCut};
 ghost use Rattle.lw_tokens.specs.Lexicon.{Lexicon};
-ghost use Rattle.lw_complete.specs.Starts.{AreBlankNames, IsBlank, IsBlankKnown, IsNameFoundAt, IsKnownStart, IsParsedBy, IsSoundStart, IsStartNext, StandsBehind, names_in};
-ghost use Rattle.lw_complete.specs.Typing.{IsTypedBy};
+ghost use Rattle.lw_complete.specs.Starts.{AreBlankNames, IsBlankIfCut, IsBlankKnown, IsNameFoundAt, IsKnownStart, IsParsedBy, IsSoundStart, IsStartNext, StandsBehind, names_in};
+ghost use Rattle.lw_complete.specs.Typing.{IsTypedAmong, IsTypedBy};
 
 use crate::blanks::blank;
 use crate::sorted::SortedNames;
@@ -44,15 +40,13 @@ pub(crate) fn known_starts<'s>(
     requires known { (of : Kinds) × (lexicon : Lexicon) × (tasks : List Task) × IsTypedBy of lexicon typing.now × IsParsedBy of tasks typing.now parser.now
         × All (IsStartNext of tasks typing.now) starts.now }
     ensures starts { IfOk result (λ known. map (λ one. one.start.now) known.items ≡ starts.now) }
-    ensures known { (of : Kinds) (lexicon : Lexicon) (trees : Trees) (address : List ℕ) → IsTypedBy of lexicon typing.now → IsIndexOf trees typing.now.index.now →
-        IsNumberAt typing.now.index.now typing.now.doc.0 address → IfOk result (λ known. All (IsKnownStart of typing.now trees address) known.items) }
+    ensures known { (of : Kinds) (lexicon : Lexicon) (trees : Trees) (address : List ℕ) → IsTypedBy of lexicon typing.now →
+        IsTypedAmong typing.now trees address → IfOk result (λ known. All (IsKnownStart of typing.now trees address) known.items) }
     ensures blank { (of : Kinds) (lexicon : Lexicon) (tasks : List Task) (trees : Trees) (address : List ℕ) → IsTypedBy of lexicon typing.now →
-        IsParsedBy of tasks typing.now parser.now → All (IsStartNext of tasks typing.now) starts.now → IsIndexOf trees typing.now.index.now →
-        IsNumberAt typing.now.index.now typing.now.doc.0 address →
+        IsParsedBy of tasks typing.now parser.now → All (IsStartNext of tasks typing.now) starts.now → IsTypedAmong typing.now trees address →
         IfOk result (λ known. All (IsBlankKnown of lexicon tasks typing.now trees address) known.items) }
     ensures found { (of : Kinds) (lexicon : Lexicon) (tasks : List Task) (trees : Trees) (address : List ℕ) → IsTypedBy of lexicon typing.now →
-        IsParsedBy of tasks typing.now parser.now → All (IsStartNext of tasks typing.now) starts.now → IsIndexOf trees typing.now.index.now →
-        IsNumberAt typing.now.index.now typing.now.doc.0 address →
+        IsParsedBy of tasks typing.now parser.now → All (IsStartNext of tasks typing.now) starts.now → IsTypedAmong typing.now trees address →
         OnOk result (Finds (OfSome (IsNameFoundAt of lexicon tasks typing.now trees address) starts.now) found.old.items found.new.items) }
 {
     let made = blank(alloc, typing)?;
@@ -76,14 +70,14 @@ fn known_start<'s>(
 ) -> Result<Known<'s>, NoMemory>
     requires known { (of : Kinds) × (lexicon : Lexicon) × (tasks : List Task) × IsTypedBy of lexicon typing.now × IsParsedBy of tasks typing.now parser.now
         × IsStartNext of tasks typing.now start.now
-        × MatchOption blank.now ((others : List AToken) → ¬ IsCut lexicon typing.now.rest.now others) (IsBlank typing.now lexicon) }
+        × IsBlankIfCut typing.now lexicon blank.now }
     ensures start { IfOk result (λ known. known.start.now ≡ start.now) }
-    ensures known { (of : Kinds) (lexicon : Lexicon) (trees : Trees) (address : List ℕ) → IsTypedBy of lexicon typing.now → IsIndexOf trees typing.now.index.now →
-        IsNumberAt typing.now.index.now typing.now.doc.0 address → IfOk result (IsKnownStart of typing.now trees address) }
+    ensures known { (of : Kinds) (lexicon : Lexicon) (trees : Trees) (address : List ℕ) → IsTypedBy of lexicon typing.now →
+        IsTypedAmong typing.now trees address → IfOk result (IsKnownStart of typing.now trees address) }
     ensures blank { (of : Kinds) (lexicon : Lexicon) (tasks : List Task) (trees : Trees) (address : List ℕ) → IsTypedBy of lexicon typing.now →
         IsParsedBy of tasks typing.now parser.now → IsStartNext of tasks typing.now start.now →
-        MatchOption blank.now ((others : List AToken) → ¬ IsCut lexicon typing.now.rest.now others) (IsBlank typing.now lexicon) →
-        IsIndexOf trees typing.now.index.now → IsNumberAt typing.now.index.now typing.now.doc.0 address →
+        IsBlankIfCut typing.now lexicon blank.now →
+        IsTypedAmong typing.now trees address →
         IfOk result (IsBlankKnown of lexicon tasks typing.now trees address) }
 {
     let front = front_names(alloc, typing, start)?;
@@ -105,12 +99,12 @@ fn names_left_blank(
     blank: &Option<Blank>,
 ) -> Result<Option<SortedNames>, NoMemory>
     requires { (of : Kinds) × (lexicon : Lexicon) × (tasks : List Task) × (next : ReferenceNext) × IsTypedBy of lexicon typing.now
-        × MatchOption blank.now ((others : List AToken) → ¬ IsCut lexicon typing.now.rest.now others) (IsBlank typing.now lexicon)
+        × IsBlankIfCut typing.now lexicon blank.now
         × IsParsedBy of tasks typing.now parser.now × IsSoundStart of tasks typing.now next start.now × StandsBehind of typing.now next before }
     ensures { (of : Kinds) (lexicon : Lexicon) (tasks : List Task) (next : ReferenceNext) (trees : Trees) (address : List ℕ) → IsTypedBy of lexicon typing.now →
-        MatchOption blank.now ((others : List AToken) → ¬ IsCut lexicon typing.now.rest.now others) (IsBlank typing.now lexicon) →
+        IsBlankIfCut typing.now lexicon blank.now →
         IsParsedBy of tasks typing.now parser.now → IsSoundStart of tasks typing.now next start.now → StandsBehind of typing.now next before →
-        IsIndexOf trees typing.now.index.now → IsNumberAt typing.now.index.now typing.now.doc.0 address →
+        IsTypedAmong typing.now trees address →
         IfOk result (AreBlankNames of lexicon tasks typing.now trees address next start.now) }
 {
     match blank {

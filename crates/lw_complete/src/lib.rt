@@ -26,7 +26,6 @@ mod judging;
 mod keywords;
 mod known;
 mod names;
-mod reading;
 mod sorted;
 mod starting;
 mod typing;
@@ -35,3 +34,6 @@ mod written;
 
 pub use completion::complete;
 pub use item::{Item, KEYWORD_ITEM, REFERENCE_ITEM};
+
+#[cfg(test)]
+mod tests;

@@ -1,12 +1,10 @@
 // The names that may be written.
-ghost use Rattle.std.specs.Prelude.{ℕ, ◌≡◌, ◌≤◌, ◌+◌, ◌↔◌, List, Some, AllPairs, All, Contains, IfOk, IsTrue, length};
+ghost use Rattle.std.specs.Prelude.{ℕ, ◌≡◌, ◌≤◌, ◌+◌, ◌↔◌, List, AllPairs, Contains, IfOk, IsTrue, length};
 ghost use Rattle.std.specs.Cmp.Lexicographic.{slice_cmp};
 ghost use Rattle.std.specs.Ordering.{nat_cmp};
 ghost use Rattle.std.specs.declared.cmp.Ordering.TheVariants.{Less};
 ghost use Rattle.lw_base.specs.declared.limits.TheConstants.{LONGEST_DOCUMENT};
 ghost use Rattle.lw_grammar.specs.Kinds.{Kinds};
-ghost use Rattle.lw_link.specs.Indexed.{IsIndexOf};
-ghost use Rattle.lw_link.specs.Visible.{IsNumberAt};
 ghost use Rattle.lw_offers.specs.Offers.{IsNameNext};
 ghost use Rattle.lw_offers.specs.Words.{BeginsBy};
 ghost use Rattle.lw_program.specs.Says.{Task};
@@ -14,10 +12,11 @@ ghost use Rattle.lw_reading.specs.Laws.{IsReadOneWay};
 ghost use Rattle.lw_recut.specs.Recut.{IsRecut, added_behind};
 ghost use Rattle.lw_scoping.specs.Links.{Trees};
 ghost use Rattle.lw_tokens.specs.Lexicon.{Lexicon};
-ghost use Rattle.lw_complete.specs.Starts.{AreTried, IsLedBy, IsOfferedBy, IsParsedBy, IsStartNext, IsWritten};
-ghost use Rattle.lw_complete.specs.Typing.{AreReadings, CutsBehind, IsTypedBy, grammar_of};
+ghost use Rattle.lw_complete.specs.Starts.{AllComeNext, IsLedBy, IsOfferedBy};
+ghost use Rattle.lw_complete.specs.Tried.{AreJudgedBy, IsCutBy, IsTypedWith, IsWrittenFor};
+ghost use Rattle.lw_complete.specs.Typing.{AreReadings, IsTypedAmong, grammar_of};
 
-use crate::judging::judge;
+use crate::judging::{Judgement, judge};
 use crate::known::{Known, known_starts};
 use crate::typing::Typing;
 use crate::written::{Written, is_read};
@@ -37,11 +36,11 @@ pub(crate) fn names(
     fronts: &mut Fronts<'_>,
 ) -> Result<Vec<Name>, NoMemory>
     requires short { length typing.now.front.now + length typing.now.rest.now ≤ LONGEST_DOCUMENT }
-    requires known { (of : Kinds) × (lexicon : Lexicon) × (tasks : List Task) × IsTypedBy of lexicon typing.now × AreReadings of tasks typing.now fronts.old
-        × IsParsedBy of tasks typing.now parser.now × CutsBehind lexicon typing.now recutter.old }
-    ensures names { (of : Kinds) (lexicon : Lexicon) (tasks : List Task) (trees : Trees) (address : List ℕ) → IsTypedBy of lexicon typing.now →
-        CutsBehind lexicon typing.now recutter.old → AreReadings of tasks typing.now fronts.old → IsParsedBy of tasks typing.now parser.now → IsReadOneWay (grammar_of typing.now) →
-        IsIndexOf trees typing.now.index.now → IsNumberAt typing.now.index.now typing.now.doc.0 address → IfOk result (λ found. (name : List ℕ) → Contains found.items name ↔
+    requires known { (of : Kinds) × (lexicon : Lexicon) × (tasks : List Task) × IsTypedWith of lexicon tasks typing.now parser.now recutter.old
+        × AreReadings of tasks typing.now fronts.old }
+    ensures names { (of : Kinds) (lexicon : Lexicon) (tasks : List Task) (trees : Trees) (address : List ℕ) →
+        IsTypedWith of lexicon tasks typing.now parser.now recutter.old → AreReadings of tasks typing.now fronts.old → IsReadOneWay (grammar_of typing.now) →
+        IsTypedAmong typing.now trees address → IfOk result (λ found. (name : List ℕ) → Contains found.items name ↔
         (BeginsBy typing.now.word.now name
         × IsNameNext (grammar_of typing.now) of lexicon trees address typing.now.front.now typing.now.rest.now typing.now.tokens.now name)) }
     ensures ordered { IfOk result (λ found. AllPairs (λ one other. slice_cmp nat_cmp one other ≡ Less) found.items) }
@@ -63,11 +62,10 @@ fn offered(
     recutter: &mut Recutter<'_>,
     names: Vec<Name>,
 ) -> Result<Vec<Name>, NoMemory>
-    requires known { (of : Kinds) × (lexicon : Lexicon) × (tasks : List Task) × IsTypedBy of lexicon typing.now × IsParsedBy of tasks typing.now parser.now
-        × CutsBehind lexicon typing.now recutter.old × All (λ one. IsStartNext of tasks typing.now one.start.now) known.now }
-    ensures offered { (of : Kinds) (lexicon : Lexicon) (tasks : List Task) (trees : Trees) (address : List ℕ) → IsTypedBy of lexicon typing.now →
-        IsParsedBy of tasks typing.now parser.now → CutsBehind lexicon typing.now recutter.old → AreTried of lexicon tasks typing.now trees address known.now →
-        IsReadOneWay (grammar_of typing.now) → IsIndexOf trees typing.now.index.now → IsNumberAt typing.now.index.now typing.now.doc.0 address →
+    requires known { (of : Kinds) × (lexicon : Lexicon) × (tasks : List Task) × IsTypedWith of lexicon tasks typing.now parser.now recutter.old
+        × AllComeNext of tasks typing.now known.now }
+    ensures offered { (of : Kinds) (lexicon : Lexicon) (tasks : List Task) (trees : Trees) (address : List ℕ) →
+        IsTypedWith of lexicon tasks typing.now parser.now recutter.old → AreJudgedBy of lexicon tasks typing.now trees address known.now →
         IfOk result (λ found. (name : List ℕ) → Contains found.items name ↔
         (Contains names.items name × IsOfferedBy of lexicon tasks typing.now trees address known.now name)) }
     ensures ordered { AllPairs (λ one other. slice_cmp nat_cmp one other ≡ Less) names.items →
@@ -92,11 +90,10 @@ fn is_offered(
     recutter: &mut Recutter<'_>,
     name: &Name,
 ) -> Result<bool, NoMemory>
-    requires known { (of : Kinds) × (lexicon : Lexicon) × (tasks : List Task) × IsTypedBy of lexicon typing.now × IsParsedBy of tasks typing.now parser.now
-        × CutsBehind lexicon typing.now recutter.old × All (λ one. IsStartNext of tasks typing.now one.start.now) known.now }
-    ensures offered { (of : Kinds) (lexicon : Lexicon) (tasks : List Task) (trees : Trees) (address : List ℕ) → IsTypedBy of lexicon typing.now →
-        IsParsedBy of tasks typing.now parser.now → CutsBehind lexicon typing.now recutter.old → AreTried of lexicon tasks typing.now trees address known.now →
-        IsReadOneWay (grammar_of typing.now) → IsIndexOf trees typing.now.index.now → IsNumberAt typing.now.index.now typing.now.doc.0 address →
+    requires known { (of : Kinds) × (lexicon : Lexicon) × (tasks : List Task) × IsTypedWith of lexicon tasks typing.now parser.now recutter.old
+        × AllComeNext of tasks typing.now known.now }
+    ensures offered { (of : Kinds) (lexicon : Lexicon) (tasks : List Task) (trees : Trees) (address : List ℕ) →
+        IsTypedWith of lexicon tasks typing.now parser.now recutter.old → AreJudgedBy of lexicon tasks typing.now trees address known.now →
         IfOk result (λ offered. IsTrue offered ↔ IsOfferedBy of lexicon tasks typing.now trees address known.now name.now) }
     ensures same { recutter.new ≡ recutter.old }
 {
@@ -122,19 +119,17 @@ fn is_led(
     recutter: &mut Recutter<'_>,
     written: &Written<'_>,
 ) -> Result<bool, NoMemory>
-    requires known { (of : Kinds) × (lexicon : Lexicon) × (tasks : List Task) × IsWritten of lexicon typing.now written.now × IsParsedBy of tasks typing.now parser.now
-        × IsRecut recutter.old written.now.name.now written.now.recut.now × All (λ one. IsStartNext of tasks typing.now one.start.now) known.now }
-    ensures led { (of : Kinds) (lexicon : Lexicon) (tasks : List Task) (trees : Trees) (address : List ℕ) → IsTypedBy of lexicon typing.now →
-        IsWritten of lexicon typing.now written.now → IsParsedBy of tasks typing.now parser.now → CutsBehind lexicon typing.now recutter.old →
-        IsRecut recutter.old written.now.name.now written.now.recut.now → AreTried of lexicon tasks typing.now trees address known.now →
-        IsReadOneWay (grammar_of typing.now) → IsIndexOf trees typing.now.index.now → IsNumberAt typing.now.index.now typing.now.doc.0 address →
+    requires known { (of : Kinds) × (lexicon : Lexicon) × (tasks : List Task) × IsWrittenFor of lexicon tasks typing.now parser.now written.now
+        × IsRecut recutter.old written.now.name.now written.now.recut.now × AllComeNext of tasks typing.now known.now }
+    ensures led { (of : Kinds) (lexicon : Lexicon) (tasks : List Task) (trees : Trees) (address : List ℕ) →
+        IsCutBy of lexicon tasks typing.now parser.now recutter.old written.now → AreJudgedBy of lexicon tasks typing.now trees address known.now →
         IfOk result (λ led. IsTrue led ↔
         IsLedBy of tasks typing.now trees address known.now (added_behind written.now.recut.now) written.now.name.now) }
     ensures same { recutter.new ≡ recutter.old }
 {
     match judge(alloc, typing, parser, known, recutter, written)? {
-        Some(false) => Ok(false),
-        Some(true) => is_read(alloc, typing, parser, known, written, false),
-        None => is_read(alloc, typing, parser, known, written, true),
+        Judgement::LeadsNowhere => Ok(false),
+        Judgement::Leads => is_read(alloc, typing, parser, known, written, false),
+        Judgement::NoReference => is_read(alloc, typing, parser, known, written, true),
     }
 }

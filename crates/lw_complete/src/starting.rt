@@ -1,38 +1,32 @@
 // The cross-references that may come next, and the trees in which their names are looked for.
-ghost use Rattle.std.specs.Prelude.{ℕ, ◌≡◌, ◌<◌, ◌↔◌, ◌++◌, ◌∷◌, List, Contains, IfOk, OnOk, length};
+ghost use Rattle.std.specs.Prelude.{ℕ, ◌≡◌, ◌<◌, ◌↔◌, ◌++◌, ◌∷◌, List, Contains, IfOk, length};
 ghost use Rattle.lw_grammar.specs.Kinds.{Kinds};
-ghost use Rattle.lw_link.specs.Indexed.{IsIndexOf};
-ghost use Rattle.lw_link.specs.Visible.{IsNumberAt};
-ghost use Rattle.lw_marks.specs.Trees.{IsOpenedTree};
-ghost use Rattle.lw_offers.specs.Starting.{ComesNext, IsFrontTree, ReferenceNext};
+ghost use Rattle.lw_offers.specs.Starting.{ReferenceNext};
 ghost use Rattle.lw_offers.specs.Targets.{HasTarget, renamed_to};
 ghost use Rattle.lw_outwards.specs.Known.{HasOneRoot};
 ghost use Rattle.lw_numbers.specs.Numbering.{type_names};
 ghost use Rattle.lw_parse.specs.Parsers.{ParserParts};
-ghost use Rattle.lw_program.specs.Says.{Task};
 ghost use Rattle.lw_recipes.specs.declared.mark.TreeMark.TheVariants as mark;
-ghost use Rattle.lw_recipes.specs.Making.{AreRecipesOf};
 ghost use Rattle.lw_recipes.specs.Meant.{AreMeant};
-ghost use Rattle.lw_rooted.specs.Growing.{GrowsOpen, GrowsRoot};
+ghost use Rattle.lw_rooted.specs.Growing.{GrowsRoot};
 ghost use Rattle.lw_scopes.specs.Links.{IsNumberBelow};
 ghost use Rattle.lw_scoping.specs.Links.{Trees};
 ghost use Rattle.lw_scoping.specs.Outward.{ContainersComeFirst};
 ghost use Rattle.lw_sentences.specs.Marks.{Mark};
 ghost use Rattle.lw_tokens.specs.Cut.{visible as visible_tokens};
 ghost use Rattle.lw_tokens.specs.Lexicon.{Lexicon};
-ghost use Rattle.lw_tree.specs.declared.node.Reference.{Reference as AReference};
-ghost use Rattle.lw_tree.specs.Parts.{Parts};
-ghost use Rattle.lw_complete.specs.Starts.{AreBehind, AreBlankNames, AreFrontNames, GrowsReference, IsBlank, IsBlankName, IsParsedBy, IsReady, IsSoundStart, IsStartOf, IsTreeOfBlank, LeadsInBlank, StandsBehind};
-ghost use Rattle.lw_complete.specs.Typing.{IsTypedBy, grammar_of};
+ghost use Rattle.lw_complete.specs.Starts.{AreBlankNames, AreFrontNames, AreFrontTrees, AreMarksBehind, ComesAt, GrowsReference, IsBlank, IsBlankName, IsBlankReady, IsTreeOfBlank, LeadsInBlank, StandsBehind};
+ghost use Rattle.lw_complete.specs.Typing.{IsTypedAmong, IsTypedBy, grammar_of};
+ghost use Rattle.lw_complete.specs.declared.typing.Typing.{Typing as ATyping};
 
-use crate::reading::read_over;
 use crate::sorted::SortedNames;
 use crate::typing::Typing;
 use lw_base::{Items, Name, NoMemory, Token};
 use lw_builder::tree_of;
 use lw_link::visible;
+use lw_opened::{opened_tree, read_over};
 use lw_parse::Parser;
-use lw_recipes::{Recipes, TreeMark};
+use lw_recipes::TreeMark;
 use lw_symbols::Locals;
 use lw_tree::{Reference, Tree};
 use lw_viable::ReferenceStart;
@@ -52,44 +46,45 @@ pub(crate) fn front_names(
     typing: &Typing<'_>,
     start: &ReferenceStart,
 ) -> Result<FrontNames, NoMemory>
-    requires { (of : Kinds) × (lexicon : Lexicon) × (next : ReferenceNext) × IsTypedBy of lexicon typing.now × IsStartOf (grammar_of typing.now) next start.now
-        × ComesNext (grammar_of typing.now) of typing.now.tokens.now next }
+    requires { (of : Kinds) × (lexicon : Lexicon) × (next : ReferenceNext) × IsTypedBy of lexicon typing.now × ComesAt of typing.now next start.now }
     ensures names { (of : Kinds) (lexicon : Lexicon) (next : ReferenceNext) (trees : Trees) (address : List ℕ) → IsTypedBy of lexicon typing.now →
-        IsStartOf (grammar_of typing.now) next start.now → ComesNext (grammar_of typing.now) of typing.now.tokens.now next →
-        IsIndexOf trees typing.now.index.now → IsNumberAt typing.now.index.now typing.now.doc.0 address →
+        ComesAt of typing.now next start.now → IsTypedAmong typing.now trees address →
         IfOk result (AreFrontNames of typing.now trees address next) }
-    ensures stands { (of : Kinds) (lexicon : Lexicon) (next : ReferenceNext) → IsTypedBy of lexicon typing.now →
-        IsStartOf (grammar_of typing.now) next start.now → ComesNext (grammar_of typing.now) of typing.now.tokens.now next →
+    ensures stands { (of : Kinds) (lexicon : Lexicon) (next : ReferenceNext) → IsTypedBy of lexicon typing.now → ComesAt of typing.now next start.now →
         IfOk result (λ found. StandsBehind of typing.now next found.before) }
 {
-    let recipes = typing.language.parser().recipes();
-    let tree = front_tree(alloc, typing, recipes, start.marks.as_slice())?;
-    let marks = marks_with(alloc, start, &[])?;
-    let behind = front_tree(alloc, typing, recipes, marks.as_slice())?;
-    let before = tree.refs().len();
-    let names = names_in(alloc, typing, &tree, &behind.refs()[before])?;
+    let trees = front_trees(alloc, typing, start)?;
+    let before = trees.tree.refs().len();
+    let names = names_in(alloc, typing, &trees.tree, &trees.behind.refs()[before])?;
     Ok(FrontNames {
         names: SortedNames::of(names),
         before,
     })
 }
 
-/// The tree of these marks, by which the tokens of the text before the word are read.
-fn front_tree(
+/// The tree of what was read before a cross-reference, and that of what was read up to its end where it is left blank.
+#[derive(Drop)]
+struct FrontTrees {
+    tree: Tree,
+    behind: Tree,
+}
+
+/// Those of this start.
+fn front_trees(
     alloc: Global,
     typing: &Typing<'_>,
-    recipes: &Recipes,
-    marks: &[TreeMark],
-) -> Result<Tree, NoMemory>
-    requires recipes { AreRecipesOf (grammar_of typing.now) recipes.now }
-    requires known { (of : Kinds) × (lexicon : Lexicon) × (m : List Mark) × IsTypedBy of lexicon typing.now × AreMeant (grammar_of typing.now) marks.now m
-        × GrowsOpen (grammar_of typing.now) typing.now.front.now m (visible_tokens typing.now.tokens.now) }
-    ensures { (m : List Mark) → AreMeant (grammar_of typing.now) marks.now m →
-        GrowsOpen (grammar_of typing.now) typing.now.front.now m (visible_tokens typing.now.tokens.now) →
-        IfOk result (IsOpenedTree (grammar_of typing.now) typing.now.front.now m (visible_tokens typing.now.tokens.now) typing.now.tokens.now) }
+    start: &ReferenceStart,
+) -> Result<FrontTrees, NoMemory>
+    requires { (of : Kinds) × (lexicon : Lexicon) × (next : ReferenceNext) × IsTypedBy of lexicon typing.now × ComesAt of typing.now next start.now }
+    ensures { (of : Kinds) (next : ReferenceNext) → ComesAt of typing.now next start.now → IfOk result (AreFrontTrees of typing.now next) }
 {
-    let tokens = Vec::from_slice(alloc, typing.tokens)?;
-    tree_of(alloc, recipes, marks, tokens, typing.front)
+    let recipes = typing.language.parser().recipes();
+    let tokens = typing.tokens;
+    let before = start.marks.as_slice();
+    let tree = opened_tree(alloc, recipes, typing.front, tokens, before)?;
+    let marks = marks_with(alloc, start, &[])?;
+    let behind = opened_tree(alloc, recipes, typing.front, tokens, marks.as_slice())?;
+    Ok(FrontTrees { tree, behind })
 }
 
 /// The marks up to the end of a cross-reference that is left blank, and these behind them.
@@ -117,7 +112,7 @@ fn names_in(
     requires outwards { ContainersComeFirst tree.now }
     requires root { HasOneRoot tree.now }
     requires known { reference.now.want.0 < length (type_names (grammar_of typing.now)) }
-    ensures { (trees : Trees) (address : List ℕ) → IsIndexOf trees typing.now.index.now → IsNumberAt typing.now.index.now typing.now.doc.0 address →
+    ensures { (trees : Trees) (address : List ℕ) → IsTypedAmong typing.now trees address →
         IfOk result (λ names. (name : List ℕ) → Contains names.items name ↔
         HasTarget (IsNumberBelow (grammar_of typing.now)) trees address tree.now (renamed_to name reference.now)) }
 {
@@ -155,25 +150,32 @@ pub(crate) fn blank_names(
     before: usize,
     blank: &Blank,
 ) -> Result<Option<SortedNames>, NoMemory>
-    requires { (of : Kinds) × (lexicon : Lexicon) × (tasks : List Task) × (next : ReferenceNext) × (front_tree : Parts) × (r : AReference) ×
-        IsTypedBy of lexicon typing.now × IsBlank typing.now lexicon blank.now × IsParsedBy of tasks typing.now parser.now ×
-        IsSoundStart of tasks typing.now next start.now
-        × IsFrontTree (grammar_of typing.now) of typing.now.front.now typing.now.tokens.now next front_tree r × (before ≡ length front_tree.refs) }
-    ensures { (of : Kinds) (lexicon : Lexicon) (tasks : List Task) (next : ReferenceNext) (front_tree : Parts) (r : AReference) (trees : Trees)
-        (address : List ℕ) → IsTypedBy of lexicon typing.now → IsBlank typing.now lexicon blank.now → IsParsedBy of tasks typing.now parser.now →
-        IsSoundStart of tasks typing.now next start.now →
-        IsFrontTree (grammar_of typing.now) of typing.now.front.now typing.now.tokens.now next front_tree r → before ≡ length front_tree.refs →
-        IsIndexOf trees typing.now.index.now → IsNumberAt typing.now.index.now typing.now.doc.0 address →
-        IfOk result (AreBlankNames of lexicon tasks typing.now trees address next start.now) }
+    requires { IsBlankReady typing.now parser.now start.now before blank.now }
+    ensures { (ready : IsBlankReady typing.now parser.now start.now before blank.now) (trees : Trees) (address : List ℕ) → IsTypedAmong typing.now trees address →
+        IfOk result (AreBlankNames ready.of ready.lexicon ready.tasks typing.now trees address ready.next start.now) }
 {
-    let places = start.behind.as_slice();
-    let mut fronts = read_over(alloc, parser, places, blank.others.as_slice())?;
-    let sentences = fronts.sentences(alloc)?;
+    let sentences = marks_behind(alloc, parser, start, blank)?;
     if sentences.is_empty() {
         return Ok(None);
     }
     let names = names_behind(alloc, typing, start, before, blank, sentences.as_slice())?;
     Ok(Some(SortedNames::of(names)))
+}
+
+/// The lists of marks that may come behind this start and have the kinds of the tokens behind the offset.
+fn marks_behind(
+    alloc: Global,
+    parser: &Parser,
+    start: &ReferenceStart,
+    blank: &Blank,
+) -> Result<Vec<Items<TreeMark>>, NoMemory>
+    requires { (typing : ATyping) × (before : ℕ) × IsBlankReady typing parser.now start.now before blank.now }
+    ensures { (typing : ATyping) (before : ℕ) (ready : IsBlankReady typing parser.now start.now before blank.now) →
+        IfOk result (λ sentences. AreMarksBehind ready sentences.items) }
+{
+    let places = start.behind.as_slice();
+    let mut fronts = read_over(alloc, parser, places, blank.others.as_slice())?;
+    fronts.sentences(alloc)
 }
 
 /// The names by which this start would lead somewhere in the trees of the whole text with the reference left blank, where these marks, one
@@ -186,17 +188,17 @@ fn names_behind(
     blank: &Blank,
     sentences: &[Items<TreeMark>],
 ) -> Result<Vec<Name>, NoMemory>
-    requires { (parser : ParserParts) × (ready : IsReady typing.now parser start.now before blank.now) × AreBehind ready sentences.now }
-    ensures { (parser : ParserParts) (ready : IsReady typing.now parser start.now before blank.now) (trees : Trees) (address : List ℕ) → AreBehind ready sentences.now →
-        IsIndexOf trees typing.now.index.now → IsNumberAt typing.now.index.now typing.now.doc.0 address →
+    requires { (parser : ParserParts) × (ready : IsBlankReady typing.now parser start.now before blank.now) × AreMarksBehind ready sentences.now }
+    ensures { (parser : ParserParts) (ready : IsBlankReady typing.now parser start.now before blank.now) (trees : Trees) (address : List ℕ) → AreMarksBehind ready sentences.now →
+        IsTypedAmong typing.now trees address →
         IfOk result (λ names. (name : List ℕ) → Contains names.items name ↔
         IsBlankName ready.of typing.now trees address ready.lexicon ready.tasks ready.next start.now name) }
 {
     let mut names = Vec::new(alloc);
     'sentences: for after in sentences {
         let marks = marks_with(alloc, start, after.as_slice())?;
-        let found = names_of_blank(alloc, typing, marks.as_slice(), before, blank)?;
-        put_all(&mut names, found)?;
+        let mut found = names_of_blank(alloc, typing, marks.as_slice(), before, blank)?;
+        names.append(&mut found)?;
     }
     Ok(names)
 }
@@ -212,7 +214,7 @@ fn names_of_blank(
     requires { (lexicon : Lexicon) × (m : List Mark) × IsBlank typing.now lexicon blank.now × AreMeant (grammar_of typing.now) marks.now m
         × GrowsReference typing.now blank.now before m }
     ensures { (m : List Mark) (trees : Trees) (address : List ℕ) → AreMeant (grammar_of typing.now) marks.now m → GrowsReference typing.now blank.now before m →
-        IsIndexOf trees typing.now.index.now → IsNumberAt typing.now.index.now typing.now.doc.0 address →
+        IsTypedAmong typing.now trees address →
         IfOk result (λ names. (name : List ℕ) → Contains names.items name ↔ LeadsInBlank typing.now trees address blank.now before m name) }
 {
     let tree = blank_tree(alloc, typing, marks, blank)?;
@@ -234,14 +236,4 @@ fn blank_tree(
     let recipes = typing.language.parser().recipes();
     let tokens = Vec::from_slice(alloc, blank.tokens.as_slice())?;
     tree_of(alloc, recipes, marks, tokens, &blank.text)
-}
-
-/// Puts in all of these.
-fn put_all(names: &mut Vec<Name>, others: Vec<Name>) -> Result<(), NoMemory>
-    ensures { OnOk result (names.new.items ≡ names.old.items ++ others.items) }
-{
-    for name in others {
-        names.push(name)?;
-    }
-    Ok(())
 }

@@ -1,5 +1,5 @@
 // What a name is read as where it is written.
-ghost use Rattle.std.specs.Prelude.{◌≡◌, ◌≤◌, ◌↔◌, ◌∷◌, List, [], Some, slice_get, All, Contains, IfOk, IsTrue, length};
+ghost use Rattle.std.specs.Prelude.{◌≡◌, ◌≤◌, ◌↔◌, ◌∷◌, List, [], Some, slice_get, Contains, IfOk, IsTrue, length};
 ghost use Rattle.lw_base.specs.declared.numbers.TypeId.{TypeId};
 ghost use Rattle.lw_begins.specs.Gives.{PlacesGive};
 ghost use Rattle.lw_builder.specs.Built.{ArePartsOf};
@@ -19,17 +19,18 @@ ghost use Rattle.lw_viable.specs.Aims.{EndsSome};
 ghost use Rattle.lw_viable.specs.Fronts.{IsProgramWith};
 ghost use Rattle.lw_viable.specs.Readings.{HasTask};
 ghost use Rattle.lw_viable.specs.Visiting.{IsReferencePut};
-ghost use Rattle.lw_complete.specs.Starts.{ComesAt, IsParsedBy, IsReadAt, IsReadAsStart, IsStartNext, IsWritten};
+ghost use Rattle.lw_complete.specs.Starts.{AllComeNext, ComesAt, IsReadAsStart, IsReadAt, IsStartNext};
+ghost use Rattle.lw_complete.specs.Tried.{IsWrittenFor};
 
 use crate::known::Known;
-use crate::reading::read_over;
 use crate::typing::Typing;
-use lw_base::{Name, NoMemory, Token};
+use lw_base::{KindId, Name, NoMemory, Token};
 use lw_builder::said_by;
+use lw_opened::read_over;
 use lw_parse::Parser;
 use lw_recipes::Content;
 use lw_recut::Recut;
-use lw_viable::ReferenceStart;
+use lw_viable::{ReferenceStart, only_token};
 use std::alloc::Global;
 
 /// A name, and the end of the text before the word with it behind.
@@ -48,11 +49,10 @@ pub(crate) fn is_read(
     written: &Written<'_>,
     leads: bool,
 ) -> Result<bool, NoMemory>
-    requires known { (of : Kinds) × (lexicon : Lexicon) × (tasks : List Task) × IsWritten of lexicon typing.now written.now × IsParsedBy of tasks typing.now parser.now
-        × All (λ one. IsStartNext of tasks typing.now one.start.now) known.now }
-    ensures { (of : Kinds) (lexicon : Lexicon) (tasks : List Task) → IsWritten of lexicon typing.now written.now → IsParsedBy of tasks typing.now parser.now →
-        All (λ one. IsStartNext of tasks typing.now one.start.now) known.now →
-        IfOk result (λ read. IsTrue read ↔ ((one : Known) × Contains known.now one
+    requires known { (of : Kinds) × (lexicon : Lexicon) × (tasks : List Task) × IsWrittenFor of lexicon tasks typing.now parser.now written.now
+        × AllComeNext of tasks typing.now known.now }
+    ensures { (of : Kinds) (lexicon : Lexicon) (tasks : List Task) → IsWrittenFor of lexicon tasks typing.now parser.now written.now →
+        AllComeNext of tasks typing.now known.now → IfOk result (λ read. IsTrue read ↔ ((one : Known) × Contains known.now one
         × IsReadAt of tasks typing.now leads (added_behind written.now.recut.now) written.now.name.now one)) }
 {
     'known: for one in known {
@@ -72,9 +72,9 @@ fn is_read_at(
     written: &Written<'_>,
     leads: bool,
 ) -> Result<bool, NoMemory>
-    requires known { (of : Kinds) × (lexicon : Lexicon) × (tasks : List Task) × IsWritten of lexicon typing.now written.now × IsParsedBy of tasks typing.now parser.now
+    requires known { (of : Kinds) × (lexicon : Lexicon) × (tasks : List Task) × IsWrittenFor of lexicon tasks typing.now parser.now written.now
         × IsStartNext of tasks typing.now one.now.start.now }
-    ensures { (of : Kinds) (lexicon : Lexicon) (tasks : List Task) → IsWritten of lexicon typing.now written.now → IsParsedBy of tasks typing.now parser.now →
+    ensures { (of : Kinds) (lexicon : Lexicon) (tasks : List Task) → IsWrittenFor of lexicon tasks typing.now parser.now written.now →
         IsStartNext of tasks typing.now one.now.start.now →
         IfOk result (λ read. IsTrue read ↔ IsReadAt of tasks typing.now leads (added_behind written.now.recut.now) written.now.name.now one.now) }
 {
@@ -99,11 +99,10 @@ fn is_read_as(
     start: &ReferenceStart,
     written: &Written<'_>,
 ) -> Result<bool, NoMemory>
-    requires known { (of : Kinds) × (lexicon : Lexicon) × (tasks : List Task) × IsWritten of lexicon typing.now written.now × IsParsedBy of tasks typing.now parser.now
+    requires known { (of : Kinds) × (lexicon : Lexicon) × (tasks : List Task) × IsWrittenFor of lexicon tasks typing.now parser.now written.now
         × IsStartNext of tasks typing.now start.now }
-    ensures { (of : Kinds) (lexicon : Lexicon) (tasks : List Task) → IsWritten of lexicon typing.now written.now →
-        IsParsedBy of tasks typing.now parser.now → IsStartNext of tasks typing.now start.now →
-        IfOk result (λ read. (next : ReferenceNext) → ComesAt of typing.now next start.now →
+    ensures { (of : Kinds) (lexicon : Lexicon) (tasks : List Task) → IsWrittenFor of lexicon tasks typing.now parser.now written.now →
+        IsStartNext of tasks typing.now start.now → IfOk result (λ read. (next : ReferenceNext) → ComesAt of typing.now next start.now →
         IsTrue read ↔ IsReadAsStart of tasks typing.now next start.now (added_behind written.now.recut.now) written.now.name.now) }
 {
     let added = written.recut.added();
@@ -116,8 +115,41 @@ fn is_read_as(
     gives(alloc, parser, start, added)
 }
 
-/// Whether the tokens are what the value of this start may read.
+/// Whether the tokens are what the value of this start may read. Where that is always one token of one kind, no readings are made for it.
 pub(crate) fn gives(
+    alloc: Global,
+    parser: &Parser,
+    start: &ReferenceStart,
+    added: &[Token],
+) -> Result<bool, NoMemory>
+    requires known { (g : Grammar) × (of : Kinds) × (tasks : List Task) × IsProgramWith g of tasks parser.now.program parser.now.begins
+        × HasTask g of tasks start.now.value × AreOfKinds of added.now }
+    ensures { (g : Grammar) (of : Kinds) (tasks : List Task) → IsProgramWith g of tasks parser.now.program parser.now.begins →
+        HasTask g of tasks start.now.value → AreOfKinds of added.now →
+        IfOk result (λ given. IsTrue given ↔ EndsSome (PlacesGive g of tasks (start.now.value ∷ [])) (kinds (visible added.now))) }
+{
+    match only_token(parser.program(), start.value) {
+        Some(kind) => are_only(alloc, added, kind),
+        None => are_read(alloc, parser, start, added),
+    }
+}
+
+/// Whether one of the tokens is of this kind, and the others are hidden.
+fn are_only(alloc: Global, added: &[Token], kind: KindId) -> Result<bool, NoMemory>
+    ensures { IfOk result (λ only. IsTrue only ↔ (kinds (visible added.now) ≡ kind.0 ∷ [])) }
+{
+    let tokens = shown(alloc, added)?;
+    Ok(is_one(tokens.as_slice(), kind))
+}
+
+fn is_one(tokens: &[Token], kind: KindId) -> bool
+    ensures { IsTrue result ↔ (kinds tokens.now ≡ kind.0 ∷ []) }
+{
+    matches!(tokens, [token] if token.kind == kind)
+}
+
+/// Whether the tokens are what the value of this start may read, by all readings of them.
+fn are_read(
     alloc: Global,
     parser: &Parser,
     start: &ReferenceStart,

@@ -13,3 +13,4 @@ pub mod CompileLemmas
 pub mod ChoicePlaces
 pub mod LookLemmas
 pub mod Supplied
+pub mod OneWay

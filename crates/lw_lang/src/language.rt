@@ -20,7 +20,7 @@ ghost use Rattle.lw_lang.specs.Prepared.{IsPrepared};
 
 use lw_base::{KindId, LONGEST_DOCUMENT, Name, NoMemory, Token};
 use lw_grammar::Grammar;
-use lw_lexer::{LexFault, lex};
+use lw_lexer::{LexFault, Lexer};
 use lw_lookahead::Tables;
 use lw_parse::{ParseFault, Parser};
 use lw_reading::{Issue, Parsed};
@@ -135,7 +135,7 @@ impl Language {
         ensures tile { IfOk result (λ tokens. Tile 0 tokens.items) }
         ensures parts { IfOk result (λ tokens. ArePartsOf text.now tokens.items) }
     {
-        lex(alloc, &self.tokens, text)
+        Lexer::new(alloc, &self.tokens)?.cut(alloc, text)
     }
 
     /// How messages name a kind: a keyword in single quotes, a terminal by its name.
@@ -162,7 +162,7 @@ impl Language {
         if length > LONGEST_DOCUMENT {
             return Ok(Parsed::Broken(Issue::TooLarge));
         }
-        match lex(alloc, &self.tokens, text) {
+        match Lexer::new(alloc, &self.tokens)?.cut(alloc, text) {
             Ok(tokens) => parsed(alloc, &self.parser, text, tokens),
             Err(LexFault::NoToken(span)) => Ok(Parsed::Broken(Issue::Lexical(span))),
             Err(LexFault::NoMemory) => Err(NoMemory),

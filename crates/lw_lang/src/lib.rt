@@ -11,6 +11,9 @@
 //! (`lw_lookahead`); why not is told in the same way. What has passed all of this is made ready: by the tables its rules are
 //! parsed (`lw_parse`), and nothing of that is made anew for a text. Who asks more of a text than its reading cuts it into tokens himself
 //! ([`Language::cut`]) and is lent what texts are parsed by ([`Language::parser`]).
+//!
+//! A grammar that is compiled has no empty keyword, and no two of its sentences have one list of kinds
+//! ([`compiled_grammars_are_read_in_one_way`]). What the crates above say of texts is settled by such a grammar, and they ask for one.
 #![tactic(auto)]
 
 mod compiler;
@@ -20,6 +23,7 @@ mod fault;
 mod fault_tests;
 mod judging;
 mod language;
+mod laws;
 #[cfg(test)]
 mod reading_tests;
 mod told_look;
@@ -28,6 +32,7 @@ mod told_term;
 pub use compiler::compile;
 pub use fault::CompileFault;
 pub use language::Language;
+pub use laws::compiled_grammars_are_read_in_one_way;
 pub use lw_lexer::LexFault;
 pub use lw_reading::{Issue, Parsed};
 pub use told_look::{ToldConflict, ToldLookFault};

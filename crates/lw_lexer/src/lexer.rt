@@ -7,7 +7,6 @@ ghost use Rattle.lw_base.specs.declared.token.Token.{Token};
 ghost use Rattle.lw_tokens.specs.Cut.{IsCut, HasNoTokenAt, IsCharacterAt};
 ghost use Rattle.lw_tokens.specs.NextToken.{IsNextToken};
 ghost use Rattle.lw_lexer.specs.Place.{next_of};
-ghost use Rattle.lw_terminals.specs.TokenKinds.{AreTokenKinds};
 ghost use Rattle.lw_lexer.specs.TokenPlaces.{IsTokenPlace};
 
 use crate::LexFault;
@@ -54,6 +53,8 @@ impl<'s> Lexer<'s> {
         ensures places { IfOk result (λ tokens. All (IsTokenPlace text.now) tokens.items) }
         ensures no_token { (s : Span) → result ≡ Err (LexFault.NoToken s) → HasNoTokenAt self.old.lexicon text.now s.start }
         ensures character { (s : Span) → result ≡ Err (LexFault.NoToken s) → IsCharacterAt text.now s }
+
+        // The cut is the only one, and no text has both a cut and a place without a token.
         ensures one_cut { IfOk result (λ tokens. (others : List Token) → IsCut self.old.lexicon text.now others → others ≡ tokens.items) }
         ensures no_fault { IfOk result (λ _. (at : ℕ) → ¬ HasNoTokenAt self.old.lexicon text.now at) }
         ensures no_cut { (s : Span) → result ≡ Err (LexFault.NoToken s) → (tokens : List Token) → ¬ IsCut self.old.lexicon text.now tokens }
@@ -61,7 +62,23 @@ impl<'s> Lexer<'s> {
             → HasNoTokenAt self.old.lexicon text.now at → at ≡ s.start }
         ensures same { self.new ≡ self.old }
     {
-        cut(alloc, self.set, &mut self.matchers, text)
+        let text = text.text();
+        let mut tokens = Vec::new(alloc);
+        let mut at = 0;
+        'cutting: while at < text.len() {
+            let rest = &text[at..];
+            let Some(next) = next_token(self.set, &mut self.matchers, rest) else {
+                return Err(LexFault::NoToken(span_of(at, first_character(rest))));
+            };
+            let token = Token {
+                kind: next.kind,
+                span: span_of(at, next.bytes),
+                hidden: next.hidden,
+            };
+            tokens.push(token)?;
+            at += next.bytes;
+        }
+        Ok(tokens)
     }
 
     /// The token at the start of the text, where one stands there.
@@ -73,64 +90,6 @@ impl<'s> Lexer<'s> {
     {
         next_token(self.set, &mut self.matchers, text)
     }
-}
-
-/// The tokens of the text, as by a [`Lexer`] that cuts it alone.
-pub fn lex(alloc: Global, set: &TokenSet, text: &Name) -> Result<Vec<Token>, LexFault>
-    requires { length text.now ≤ LONGEST_TEXT }
-    ensures cut { IfOk result (λ tokens. IsCut set.now.lexicon text.now tokens.items) }
-    ensures places { IfOk result (λ tokens. All (IsTokenPlace text.now) tokens.items) }
-    ensures no_token { (s : Span) → result ≡ Err (LexFault.NoToken s) → HasNoTokenAt set.now.lexicon text.now s.start }
-    ensures character { (s : Span) → result ≡ Err (LexFault.NoToken s) → IsCharacterAt text.now s }
-
-    // The cut is the only one, and no text has both a cut and a place without a token.
-    ensures one_cut { IfOk result (λ tokens. (others : List Token) → IsCut set.now.lexicon text.now others → others ≡ tokens.items) }
-    ensures no_fault { IfOk result (λ _. (at : ℕ) → ¬ HasNoTokenAt set.now.lexicon text.now at) }
-    ensures no_cut { (s : Span) → result ≡ Err (LexFault.NoToken s) → (tokens : List Token) → ¬ IsCut set.now.lexicon text.now tokens }
-    ensures one_place { (s : Span) → result ≡ Err (LexFault.NoToken s) → (at : ℕ)
-        → HasNoTokenAt set.now.lexicon text.now at → at ≡ s.start }
-{
-    Lexer::new(alloc, set)?.cut(alloc, text)
-}
-
-// The tokens of the text, by these matchers of the set's terminals.
-fn cut(
-    alloc: Global,
-    set: &TokenSet,
-    matchers: &mut Vec<TerminalMatcher<'_>>,
-    text: &Name,
-) -> Result<Vec<Token>, LexFault>
-    requires short { length text.now ≤ LONGEST_TEXT }
-    requires matchers { matchers.old.items ≡ set.now.lexicon.terminals }
-    requires kinds { AreTokenKinds set.now }
-    ensures cut { IfOk result (λ tokens. IsCut set.now.lexicon text.now tokens.items) }
-    ensures places { IfOk result (λ tokens. All (IsTokenPlace text.now) tokens.items) }
-    ensures no_token { (s : Span) → result ≡ Err (LexFault.NoToken s) → HasNoTokenAt set.now.lexicon text.now s.start }
-    ensures character { (s : Span) → result ≡ Err (LexFault.NoToken s) → IsCharacterAt text.now s }
-    ensures one_cut { IfOk result (λ tokens. (others : List Token) → IsCut set.now.lexicon text.now others → others ≡ tokens.items) }
-    ensures no_fault { IfOk result (λ _. (at : ℕ) → ¬ HasNoTokenAt set.now.lexicon text.now at) }
-    ensures no_cut { (s : Span) → result ≡ Err (LexFault.NoToken s) → (tokens : List Token) → ¬ IsCut set.now.lexicon text.now tokens }
-    ensures one_place { (s : Span) → result ≡ Err (LexFault.NoToken s) → (at : ℕ)
-        → HasNoTokenAt set.now.lexicon text.now at → at ≡ s.start }
-    ensures same { matchers.new.items ≡ matchers.old.items }
-{
-    let text = text.text();
-    let mut tokens = Vec::new(alloc);
-    let mut at = 0;
-    'cutting: while at < text.len() {
-        let rest = &text[at..];
-        let Some(next) = next_token(set, matchers, rest) else {
-            return Err(LexFault::NoToken(span_of(at, first_character(rest))));
-        };
-        let token = Token {
-            kind: next.kind,
-            span: span_of(at, next.bytes),
-            hidden: next.hidden,
-        };
-        tokens.push(token)?;
-        at += next.bytes;
-    }
-    Ok(tokens)
 }
 
 fn span_of(start: usize, bytes: usize) -> Span

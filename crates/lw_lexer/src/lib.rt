@@ -1,6 +1,6 @@
 //! Texts cut into tokens.
 //!
-//! A [`Lexer`] cuts texts by the keywords and terminals of a [`TokenSet`](lw_terminals::TokenSet), and [`lex`] cuts one alone. Its model
+//! A [`Lexer`] cuts texts by the keywords and terminals of a [`TokenSet`](lw_terminals::TokenSet). Its model
 //! is the cut itself, the list of tokens that `specs/Cut.antt` of `lw_tokens` defines by the rest of the
 //! text at each place; the code keeps a place and goes over the text once.
 //!
@@ -15,7 +15,7 @@ mod next;
 mod terminal;
 
 pub use fault::LexFault;
-pub use lexer::{Lexer, lex};
+pub use lexer::Lexer;
 pub use next::Next;
 
 #[cfg(test)]

@@ -3,7 +3,7 @@
 ghost use Rattle.std.specs.Prelude.{IfOk};
 ghost use Rattle.lw_tokens.specs.Keywords.{AreKeywords};
 
-use crate::{LexFault, lex};
+use crate::{LexFault, Lexer};
 use lw_base::{Name, NoMemory, Token};
 use lw_io::MemPatterns;
 use lw_terminals::{TerminalSource, TokenSet};
@@ -72,7 +72,7 @@ fn token_text(alloc: Global, token: &Token) -> Result<String, NoMemory> {
 fn shown(rt: &impl Abort, alloc: Global, set: &TokenSet, text: &str) -> Result<String, NoMemory> {
     let text = Name::from_text(alloc, text)?;
     assert!(rt; text.text().len() <= 1000);
-    match lex(alloc, set, &text) {
+    match Lexer::new(alloc, set)?.cut(alloc, &text) {
         Ok(tokens) => tokens_text(alloc, tokens.as_slice()),
         Err(LexFault::NoToken(s)) => Ok(format!(in alloc; "none at {}..{}", s.start, s.end)?),
         Err(LexFault::NoMemory) => Err(NoMemory),

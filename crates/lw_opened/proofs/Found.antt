@@ -1,5 +1,5 @@
 -- The marks that are found are those of the readings.
-use Rattle.std.proofs.Common.{◌≡◌, ◌≢◌, ◌↔◌, ◌<◌, ℕ, List, [], ◌∷◌, All, Any, Result, Ok, Err, IfOk, length, get_or, refl, sym, ap, subst, ◌∙◌, arith}
+use Rattle.std.proofs.Common.{◌≡◌, ◌≢◌, ◌<◌, ℕ, List, [], ◌∷◌, Result, Ok, Err, IfOk, length, get_or, refl, sym, ap, subst, ◌∙◌, arith}
 use Rattle.std.proofs.lemmas.List.{length-append}
 use Rattle.std.proofs.lemmas.List.Elements.{All-nil, All-cons, Contains-get_or}
 use Rattle.lw_base.specs.declared.numbers.RuleId.{RuleId}
@@ -12,9 +12,10 @@ use Rattle.lw_recipes.specs.Meant as meant
 use Rattle.lw_sentences.proofs.Joined.{kinds_join}
 use Rattle.lw_sentences.specs.Marks.{Mark, Token, Open, End, kinds_of}
 use Rattle.lw_sentences.specs.Sentences.{IsSentence}
+use Rattle.lw_viable.specs.Marked.{MeanExactly, MeanSome}
 use Rattle.lw_viable.specs.ReadSoFar.{EndsRead, IsReadSoFar}
 use Rattle.lw_viable.specs.ReadSoFar as so_far
-use Rattle.lw_opened.specs.Readings.{AreReadings, IsReading}
+use Rattle.lw_opened.specs.Readings.{IsReading, MeanReadings}
 use Rattle.lw_opened.specs.Readings as reading
 
 -- marks that end with a token have one
@@ -50,25 +51,24 @@ module _ (g : Grammar) (of : Kinds) (entry : ℕ) where
     abbrev IsMeantReading : List ℕ → List TreeMark → Type 0
     IsMeantReading ks marks = (m : List Mark) × AreMeant g marks m × IsReading g of entry ks m
 
-    of_none : AreReadings g of entry [] (opening ∷ [])
+    of_none : MeanReadings g of entry [] (opening ∷ [])
     of_none = record {
       each = All-cons (IsMeantReading []) opening [] (Open entry ∷ [], opening_is, reading.begun) (All-nil (IsMeantReading []));
       all = λ m is. (0, opening, omega arith, refl, subst (λ (n : List Mark). AreMeant g opening n) (sym (only_begun refl is)) opening_is);
     }
 
-    pub begun_are : (ks : List ℕ) (found : List (List TreeMark)) → ks ≡ [] → found ≡ opening ∷ [] → AreReadings g of entry ks found
+    pub begun_are : (ks : List ℕ) (found : List (List TreeMark)) → ks ≡ [] → found ≡ opening ∷ [] → MeanReadings g of entry ks found
     begun_are ks found none same =
-        subst (λ (ls : List ℕ). AreReadings g of entry ls found) (sym none)
-        (subst (λ (all : List (List TreeMark)). AreReadings g of entry [] all) (sym same) of_none)
+        subst (λ (ls : List ℕ). MeanReadings g of entry ls found) (sym none)
+        (subst (λ (all : List (List TreeMark)). MeanReadings g of entry [] all) (sym same) of_none)
 
   module _ (ks : List ℕ) (some : ks ≢ []) (found : List (List TreeMark))
-      (exact : (m : List Mark) → IsReadSoFar (IsSentence g of) ks m ↔ Any (λ (marks : List TreeMark). AreMeant g marks m) found)
-      (each : All (λ (marks : List TreeMark). (m : List Mark) × AreMeant g marks m) found) where
+      (exact : MeanExactly g (IsReadSoFar (IsSentence g of) ks) found) (each : MeanSome g found) where
     is_reading : (i : ℕ) (d : List TreeMark) → i < length found → (m : List Mark) × AreMeant g (get_or found i d) m × IsReading g of entry ks m
     is_reading i d inside =
         let (m, means) = each i d inside in
         let (n, within, is) = Contains-get_or found i d inside in
         (m, means, reading.read ((exact m).1 (n, get_or found i d, within, is, means)))
 
-    pub read_are : AreReadings g of entry ks found
+    pub read_are : MeanReadings g of entry ks found
     read_are = record { each = is_reading; all = λ m is. (exact m).0 (so_read some is) }

@@ -3,4 +3,5 @@ mod Begun
 mod Found
 mod Lent
 mod ReadKinds
+mod SameOpened
 mod TreesSoFar

@@ -1,6 +1,6 @@
 -- The readings of tokens, and the trees that are opened of them.
 -- Held against the textbooks' viable prefixes.
-use Rattle.std.specs.Prelude.{ℕ, List, [], ◌∷◌, All, Any}
+use Rattle.std.specs.Prelude.{ℕ, List, [], ◌∷◌, All, AllPairs, Any}
 use Rattle.lw_base.specs.declared.token.Token.{Token}
 use Rattle.lw_grammar.specs.declared.grammar.Grammar.{Grammar}
 use Rattle.lw_grammar.specs.Kinds.{Kinds}
@@ -10,7 +10,7 @@ use Rattle.lw_recipes.specs.Meant.{AreMeant}
 use Rattle.lw_sentences.specs.Marks.{Mark, Open}
 use Rattle.lw_sentences.specs.Sentences.{IsSentence}
 use Rattle.lw_tokens.specs.Cut.{kinds, visible}
-use Rattle.lw_tree.specs.Parts.{Parts}
+use Rattle.lw_tree.specs.Parts.{Parts, SameTables}
 use Rattle.lw_viable.specs.ReadSoFar.{IsReadSoFar}
 
 -- `entry` is the number of the entry rule
@@ -22,7 +22,7 @@ module _ (g : Grammar) (of : Kinds) (entry : ℕ) where
     read : {ks : List ℕ} {m : List Mark} → IsReadSoFar (IsSentence g of) ks m → IsReading ks m
 
   -- exactly the readings, by marks that mean them
-  pub record AreReadings (ks : List ℕ) (found : List (List TreeMark)) : Type 0 where
+  pub record MeanReadings (ks : List ℕ) (found : List (List TreeMark)) : Type 0 where
     pub each : All (λ (marks : List TreeMark). (m : List Mark) × AreMeant g marks m × IsReading ks m) found
     pub all : (m : List Mark) → IsReading ks m → Any (λ (marks : List TreeMark). AreMeant g marks m) found
 
@@ -31,7 +31,8 @@ module _ (g : Grammar) (of : Kinds) (entry : ℕ) where
     abbrev pub IsOpenOf : Parts → Type 0
     IsOpenOf tree = (m : List Mark) × IsReading (kinds (visible tokens)) m × IsOpenedTree g text m (visible tokens) tokens tree
 
-    -- exactly the trees that are opened of the readings
+    -- exactly the trees that are opened of the readings, each once
     pub record AreOpenTrees (trees : List Parts) : Type 0 where
       pub each : All IsOpenOf trees
       pub all : (m : List Mark) → IsReading (kinds (visible tokens)) m → Any (λ (tree : Parts). IsOpenedTree g text m (visible tokens) tokens tree) trees
+      pub once : AllPairs (λ (one other : Parts). ¬ SameTables one other) trees

@@ -1,5 +1,5 @@
 // The trees that readings leave, once what is not finished is closed.
-ghost use Rattle.std.specs.Prelude.{ℕ, List, IfOk};
+ghost use Rattle.std.specs.Prelude.{ℕ, ◌↔◌, List, Any, IfOk, IsTrue};
 ghost use Rattle.lw_builder.specs.Built.{ArePartsOf};
 ghost use Rattle.lw_grammar.specs.declared.grammar.Grammar.{Grammar};
 ghost use Rattle.lw_grammar.specs.Kinds.{Kinds};
@@ -10,10 +10,10 @@ ghost use Rattle.lw_recipes.specs.Meant.{AreMeant};
 ghost use Rattle.lw_rooted.specs.Growing.{GrowsOpen};
 ghost use Rattle.lw_sentences.specs.Marks.{Mark};
 ghost use Rattle.lw_tokens.specs.Cut.{kinds, visible};
-ghost use Rattle.lw_tree.specs.Parts.{Tile};
-ghost use Rattle.lw_opened.specs.Readings.{AreOpenTrees, AreReadings};
+ghost use Rattle.lw_tree.specs.Parts.{SameTables, Tile};
+ghost use Rattle.lw_opened.specs.Readings.{AreOpenTrees, MeanReadings};
 
-use crate::reading::readings_of;
+use crate::readings::readings_of;
 use lw_base::{Items, Name, NoMemory, Token};
 use lw_builder::tree_of;
 use lw_parse::Parser;
@@ -21,7 +21,10 @@ use lw_recipes::{Recipes, TreeMark};
 use lw_tree::Tree;
 use std::alloc::Global;
 
-/// The trees opened of the readings of these tokens of the text, one of each reading.
+/// The trees opened of the readings of these tokens of the text, each once.
+///
+/// It is linear in what keeping the readings comes to, and, for each reading, in the tokens and marks, and in the trees that were found
+/// before: no two of these are the same, and each is compared with the tree in time linear in that at most.
 pub fn open_trees(
     alloc: Global,
     parser: &Parser,
@@ -38,7 +41,7 @@ pub fn open_trees(
     trees_of(alloc, parser, text, tokens, readings.as_slice())
 }
 
-/// A tree of each of these readings.
+/// The trees of these readings, each once.
 fn trees_of(
     alloc: Global,
     parser: &Parser,
@@ -47,24 +50,33 @@ fn trees_of(
     readings: &[Items<TreeMark>],
 ) -> Result<Vec<Tree>, NoMemory>
     requires known { (g : Grammar) × (of : Kinds) × (k : ℕ) × ParsesFaultless g of k parser.now
-        × AreReadings g of parser.now.entry (kinds (visible tokens.now)) readings.now }
+        × MeanReadings g of parser.now.entry (kinds (visible tokens.now)) readings.now }
     requires tile { Tile 0 tokens.now }
     requires parts { ArePartsOf text.now tokens.now }
     ensures { (g : Grammar) (of : Kinds) (k : ℕ) → ParsesFaultless g of k parser.now →
-        AreReadings g of parser.now.entry (kinds (visible tokens.now)) readings.now →
+        MeanReadings g of parser.now.entry (kinds (visible tokens.now)) readings.now →
         IfOk result (λ trees. AreOpenTrees g of parser.now.entry text.now tokens.now trees.items) }
 {
     let recipes = parser.recipes();
     let mut trees = Vec::new(alloc);
     'readings: for marks in readings {
-        let tree = opened(alloc, recipes, text, tokens, marks.as_slice())?;
-        trees.push(tree)?;
+        let tree = opened_tree(alloc, recipes, text, tokens, marks.as_slice())?;
+        if !is_among(trees.as_slice(), &tree) {
+            trees.push(tree)?;
+        }
     }
     Ok(trees)
 }
 
-/// The tree opened of these marks.
-fn opened(
+/// Whether one of the trees is the same as this one.
+fn is_among(trees: &[Tree], tree: &Tree) -> bool
+    ensures { IsTrue result ↔ Any (λ known. SameTables known tree.now) trees.now }
+{
+    trees.iter().any(|known| known.is_same(tree))
+}
+
+/// The tree opened of these marks, which the visible ones of these tokens of the text were read with.
+pub fn opened_tree(
     alloc: Global,
     recipes: &Recipes,
     text: &Name,

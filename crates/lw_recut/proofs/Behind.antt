@@ -79,7 +79,7 @@ module _ (parts : RecutterParts) (front more : List ℕ) (tokens : List Token) (
       ∙ ap (λ (ts : List Token). ts ++ map (moved parts.from) others) (sym end.are)
 
   -- what is left is cut
-  pub cut_whole : (text : List ℕ) (all others : List Token) → text ≡ parts.text ++ more → all ≡ parts.tokens ++ others → IsCut parts.lexicon text all →
+  cut_whole : (text : List ℕ) (all others : List Token) → text ≡ parts.text ++ more → all ≡ parts.tokens ++ others → IsCut parts.lexicon text all →
       IsCut parts.lexicon whole (tokens ++ map (moved parts.from) others)
   cut_whole text all others same are cut =
       subst (IsCut parts.lexicon whole) (ap (λ (ts : List Token). end.first ++ map (moved parts.from) ts) are ∙ all_are others)
@@ -122,12 +122,22 @@ module _ (parts : RecutterParts) (front more : List ℕ) (tokens : List Token) (
           let behind = cut_behind apart others is in
           not behind.rest (sym (one (parts.tokens ++ behind.rest) behind.cut))
 
-      pub one_other : (others : List Token) → all ≡ parts.tokens ++ others → (more_others : List Token) → IsCut parts.lexicon whole (tokens ++ more_others) →
+      one_other : (others : List Token) → all ≡ parts.tokens ++ others → (more_others : List Token) → IsCut parts.lexicon whole (tokens ++ more_others) →
           more_others ≡ map (moved parts.from) others
       one_other others are more_others is =
           let behind = cut_behind apart more_others is in
           behind.others_are
           ∙ ap (map (moved parts.from)) (append_cancel_left parts.tokens behind.rest others (one (parts.tokens ++ behind.rest) behind.cut ∙ are))
+
+  -- what is cut here is added, and nothing else
+  pub added_alone : AreKeywords parts.lexicon.keywords → (it : Recut) → IsRecut parts more it → IsCut parts.lexicon whole (tokens ++ added_behind it)
+      × ((others : List Token) → IsCut parts.lexicon whole (tokens ++ others) → others ≡ added_behind it)
+  added_alone apart it recut =
+      let behind : map (moved parts.from) (added it) ≡ added_behind it = ap (λ (n : ℕ). map (moved n) (added it)) (sym recut.from) in (
+        subst (λ (ts : List Token). IsCut parts.lexicon whole (tokens ++ ts)) behind
+            (cut_whole it.text it.tokens.items (added it) recut.text recut.are recut.cut),
+        λ others other. one_other apart it.text recut.text it.tokens.items recut.cut (added it) recut.are others other ∙ behind,
+      )
 
 -- ---- the end of a text from a place where its tokens stand
 
@@ -142,7 +152,7 @@ module _ (lexicon : Lexicon) (front : List ℕ) (tokens : List Token) (place : �
   sure_parted = cut_parted lexicon apart front place sure.first tokens first_there cut
 
   pub end_made : (parts : RecutterParts) → parts.lexicon ≡ lexicon → parts.text ≡ drop place front → parts.from ≡ place →
-      IsCut lexicon (drop place front) parts.tokens → IsEndOf parts front tokens
+      IsCut parts.lexicon parts.text parts.tokens → IsEndOf parts front tokens
   end_made parts same text from own = record {
     bytes = small;
     within = subst (λ (n : ℕ). n ≤ length front) (sym from) (cut_within lexicon front place sure.first first_there);
@@ -150,7 +160,8 @@ module _ (lexicon : Lexicon) (front : List ℕ) (tokens : List Token) (place : �
     first = sure.first;
     are = sure_parted.all_are
         ∙ ap₂ (λ (n : ℕ) (ts : List Token). sure.first ++ map (moved n) ts) (sym from)
-        (sym (one_cut lexicon apart (drop place front) sure_parted.others parts.tokens sure_parted.cut own));
+        (sym (one_cut lexicon apart (drop place front) sure_parted.others parts.tokens sure_parted.cut
+        (subst (λ (l : Lexicon). IsCut l (drop place front) parts.tokens) same (subst (λ (xs : List ℕ). IsCut parts.lexicon xs parts.tokens) text own))));
     stand = λ more more_small.
         subst (λ (l : Lexicon). IsCutTo l (front ++ more) parts.from sure.first) (sym same)
         (subst (λ (n : ℕ). IsCutTo lexicon (front ++ more) n sure.first) (sym from)
@@ -183,11 +194,20 @@ module _ (parts : RecutterParts) (front more rest : List ℕ) (tokens : List Tok
       ap (λ (ts : List Token). end.first ++ map (moved parts.from) ts) recut.are ∙ all_are parts front more tokens end small (added it)
       ∙ ap (λ (n : ℕ). tokens ++ map (moved n) (added it)) (sym recut.from)
 
-  pub small_there : All (λ b. b < 256) (it.text ++ rest)
+  small_there : All (λ b. b < 256) (it.text ++ rest)
   small_there =
       All-append (λ b. b < 256) it.text rest
       (subst (All (λ b. b < 256)) (ap (λ (xs : List ℕ). xs ++ more) end.text ∙ sym recut.text)
       (All-append (λ b. b < 256) (drop parts.from front) more (All-drop (λ b. b < 256) parts.from front end.bytes) small)) rest_small
+
+  -- what is so of the end and the beginning of what follows, whatever is behind, is so of all that follows
+  pub looked_at : (Holds : Lexicon → List ℕ → Type 0) (lexicon : Lexicon) → lexicon ≡ parts.lexicon → (text first others : List ℕ) → text ≡ it.text ++ first →
+      rest ≡ first ++ others → (All (λ b. b < 256) (text ++ others) → Holds lexicon (text ++ others)) → Holds parts.lexicon (it.text ++ rest)
+  looked_at Holds lexicon same text first others text_is rest_is holds =
+      let all : text ++ others ≡ it.text ++ rest =
+      ap (λ (xs : List ℕ). xs ++ others) text_is ∙ append_assoc it.text first others ∙ ap (λ (xs : List ℕ). it.text ++ xs) (sym rest_is) in
+      subst (λ (l : Lexicon). Holds l (it.text ++ rest)) same
+      (subst (Holds lexicon) all (holds (subst (All (λ b. b < 256)) (sym all) small_there)))
 
   -- the cut goes on with the tokens of the end
   pub meets : IsCutTo parts.lexicon (it.text ++ rest) (length it.text) it.tokens.items →

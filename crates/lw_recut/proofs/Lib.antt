@@ -1,3 +1,4 @@
+mod Automata
 pub mod Behind
 mod SameTokens
 mod Seaming

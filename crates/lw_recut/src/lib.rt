@@ -23,3 +23,6 @@ mod seam;
 pub use recut::Recut;
 pub use recutter::Recutter;
 pub use seam::Seam;
+
+#[cfg(test)]
+mod tests;

@@ -278,9 +278,5 @@ fn stays(
 ) -> bool
     ensures { IsTrue result → StaysNext keywords.now nfas.now text.now (option_map next_of found.now) }
 {
-    let kind = match found {
-        Some(next) => Some(next.kind),
-        None => None,
-    };
-    next_stays(keywords, nfas, text, kind, walker)
+    next_stays(keywords, nfas, text, found.map(|next| next.kind), walker)
 }

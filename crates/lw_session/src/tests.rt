@@ -529,7 +529,7 @@ fn questions_are_answered_behind_a_build(rt: HostRuntime) -> Result<(), Fail> {
     Ok(())
 }
 
-// Keywords and names that may be written at a place; names that would lead nowhere are not among them.
+// Nothing is offered in a document that is not held.
 #[test]
 fn what_may_be_written_is_offered(rt: HostRuntime) -> Result<(), Fail> {
     play(
@@ -551,46 +551,6 @@ fn what_may_be_written_is_offered(rt: HostRuntime) -> Result<(), Fail> {
             (
                 "{\"jsonrpc\":\"2.0\",\"id\":3,\"method\":\"textDocument/completion\",\"params\":{\"textDocument\":{\"uri\":\"u\"},\"position\":{\"line\":0,\"character\":19}}}",
                 "{\"id\":3,\"jsonrpc\":\"2.0\",\"result\":[{\"kind\":18,\"label\":\"a\",\"textEdit\":{\"newText\":\"a\",\"range\":{\"end\":{\"character\":19,\"line\":0},\"start\":{\"character\":19,\"line\":0}}}},{\"kind\":18,\"label\":\"b\",\"textEdit\":{\"newText\":\"b\",\"range\":{\"end\":{\"character\":19,\"line\":0},\"start\":{\"character\":19,\"line\":0}}}}]}\n",
-                Ended::No,
-            ),
-            (
-                "{\"jsonrpc\":\"2.0\",\"method\":\"textDocument/didOpen\",\"params\":{\"textDocument\":{\"uri\":\"u\",\"version\":2,\"text\":\"model m state a to  state b end\"}}}",
-                "{\"jsonrpc\":\"2.0\",\"method\":\"textDocument/publishDiagnostics\",\"params\":{\"diagnostics\":[{\"code\":2,\"message\":\"Unexpected 'state'.\",\"range\":{\"end\":{\"character\":25,\"line\":0},\"start\":{\"character\":20,\"line\":0}},\"severity\":1}],\"uri\":\"u\",\"version\":2}}\n",
-                Ended::No,
-            ),
-            (
-                "{\"jsonrpc\":\"2.0\",\"id\":4,\"method\":\"textDocument/completion\",\"params\":{\"textDocument\":{\"uri\":\"u\"},\"position\":{\"line\":0,\"character\":19}}}",
-                "{\"id\":4,\"jsonrpc\":\"2.0\",\"result\":[{\"kind\":18,\"label\":\"a\",\"textEdit\":{\"newText\":\"a\",\"range\":{\"end\":{\"character\":19,\"line\":0},\"start\":{\"character\":19,\"line\":0}}}}]}\n",
-                Ended::No,
-            ),
-            (
-                "{\"jsonrpc\":\"2.0\",\"method\":\"textDocument/didOpen\",\"params\":{\"textDocument\":{\"uri\":\"u\",\"version\":3,\"text\":\"model m state a\"}}}",
-                "{\"jsonrpc\":\"2.0\",\"method\":\"textDocument/publishDiagnostics\",\"params\":{\"diagnostics\":[{\"code\":2,\"message\":\"Unexpected end of text.\",\"range\":{\"end\":{\"character\":15,\"line\":0},\"start\":{\"character\":15,\"line\":0}},\"severity\":1}],\"uri\":\"u\",\"version\":3}}\n",
-                Ended::No,
-            ),
-            (
-                "{\"jsonrpc\":\"2.0\",\"id\":5,\"method\":\"textDocument/completion\",\"params\":{\"textDocument\":{\"uri\":\"u\"},\"position\":{\"line\":0,\"character\":15}}}",
-                "{\"id\":5,\"jsonrpc\":\"2.0\",\"result\":[]}\n",
-                Ended::No,
-            ),
-            (
-                "{\"jsonrpc\":\"2.0\",\"method\":\"textDocument/didOpen\",\"params\":{\"textDocument\":{\"uri\":\"u\",\"version\":4,\"text\":\"model m \"}}}",
-                "{\"jsonrpc\":\"2.0\",\"method\":\"textDocument/publishDiagnostics\",\"params\":{\"diagnostics\":[],\"uri\":\"u\",\"version\":4}}\n",
-                Ended::No,
-            ),
-            (
-                "{\"jsonrpc\":\"2.0\",\"id\":6,\"method\":\"textDocument/completion\",\"params\":{\"textDocument\":{\"uri\":\"u\"},\"position\":{\"line\":0,\"character\":8}}}",
-                "{\"id\":6,\"jsonrpc\":\"2.0\",\"result\":[{\"kind\":14,\"label\":\"state\",\"textEdit\":{\"newText\":\"state\",\"range\":{\"end\":{\"character\":8,\"line\":0},\"start\":{\"character\":8,\"line\":0}}}}]}\n",
-                Ended::No,
-            ),
-            (
-                "{\"jsonrpc\":\"2.0\",\"method\":\"textDocument/didOpen\",\"params\":{\"textDocument\":{\"uri\":\"u\",\"version\":5,\"text\":\"model m st\"}}}",
-                "{\"jsonrpc\":\"2.0\",\"method\":\"textDocument/publishDiagnostics\",\"params\":{\"diagnostics\":[{\"code\":2,\"message\":\"Unexpected ID.\",\"range\":{\"end\":{\"character\":10,\"line\":0},\"start\":{\"character\":8,\"line\":0}},\"severity\":1}],\"uri\":\"u\",\"version\":5}}\n",
-                Ended::No,
-            ),
-            (
-                "{\"jsonrpc\":\"2.0\",\"id\":7,\"method\":\"textDocument/completion\",\"params\":{\"textDocument\":{\"uri\":\"u\"},\"position\":{\"line\":0,\"character\":10}}}",
-                "{\"id\":7,\"jsonrpc\":\"2.0\",\"result\":[{\"kind\":14,\"label\":\"state\",\"textEdit\":{\"newText\":\"state\",\"range\":{\"end\":{\"character\":10,\"line\":0},\"start\":{\"character\":8,\"line\":0}}}}]}\n",
                 Ended::No,
             ),
         ],

@@ -19,7 +19,8 @@ use Rattle.lw_begins.specs.Gives.{PlacesGive}
 use Rattle.lw_begins.specs.Gives as gives
 use Rattle.lw_begins.specs.Told.{BeginsParts}
 use Rattle.lw_viable.specs.Fronts.{IsKnownProgram}
-use Rattle.lw_viable.specs.Growing.{read}
+use Rattle.lw_viable.specs.Growing.{marks_of_each, read}
+use Rattle.lw_viable.specs.Marked.{MeanExactly, MeanSome}
 use Rattle.lw_viable.specs.Readings.{KeptReading, HasTask, IsAhead}
 use Rattle.lw_viable.specs.ReferenceStarts.{IsBeforeStart, StartsAt, IsReferenceStart, AreReferenceStarts}
 use Rattle.lw_viable.specs.Visiting.{IsReferencePut, PutsFirst, StandsBeforePut, Arrives, IsFound, FindsDue}
@@ -66,18 +67,18 @@ zip_mapped f R [] (z ∷ zs) zip = absurd zip
 zip_mapped f R (x ∷ xs) [] zip = absurd zip
 zip_mapped f R (x ∷ xs) (z ∷ zs) zip = (zip.0, zip_mapped f R xs zs zip.1)
 
-marks_read : (lists : Lists) (fronts : List Front) → map (λ front. (read lists front).marks) fronts ≡ map (λ r. r.marks) (map (read lists) fronts)
+marks_read : (lists : Lists) (fronts : List Front) → marks_of_each lists fronts ≡ map (λ r. r.marks) (map (read lists) fronts)
 marks_read lists [] = refl
 marks_read lists (front ∷ fronts) = ap (λ all. (read lists front).marks ∷ all) (marks_read lists fronts)
 
 -- the marks of the readings that were found
 pub marks_found : (lists : Lists) {fronts found : List Front} → fronts ≡ found →
-    map (λ front. (read lists front).marks) fronts ≡ map (λ r. r.marks) (map (read lists) found)
-marks_found lists {found} same = ap (map (λ front. (read lists front).marks)) same ∙ marks_read lists found
+    marks_of_each lists fronts ≡ map (λ r. r.marks) (map (read lists) found)
+marks_found lists {found} same = ap (marks_of_each lists) same ∙ marks_read lists found
 
 -- what holds of them holds of the marks that are handed out
 pub by_marks : (P : List (List TreeMark) → Type 0) (lists : Lists) {fronts found : List Front} {all : List (List TreeMark)} →
-    all ≡ map (λ front. (read lists front).marks) fronts → fronts ≡ found → P (map (λ r. r.marks) (map (read lists) found)) → P all
+    all ≡ marks_of_each lists fronts → fronts ≡ found → P (map (λ r. r.marks) (map (read lists) found)) → P all
 by_marks P lists are same holds = subst P (sym (are ∙ marks_found lists same)) holds
 
 -- one value is put at a first place
@@ -182,19 +183,19 @@ module _ (g : Grammar) (kinds : Kinds) {program : ProgramParts} {told : BeginsPa
 
   -- each of such readings means some marks
   pub each_ahead : (readings : List KeptReading) → All (IsAhead g kinds known.program.tasks Whole ks) readings →
-      All (λ marks. (m : List Mark) × AreMeant g marks m) (map (λ r. r.marks) readings)
+      MeanSome g (map (λ r. r.marks) readings)
   each_ahead readings each =
       All-map (λ marks. (m : List Mark) × AreMeant g marks m) (λ (r : KeptReading). r.marks) readings
       (All-weaker (IsAhead g kinds known.program.tasks Whole ks) (λ r. (m : List Mark) × AreMeant g r.marks m) (λ r ahead. (ahead.front, ahead.meant)) readings each)
 
   pub each_found : (found : List KeptReading) → FindsDue g kinds known.program.tasks Whole program Nothing ks found →
-      All (λ marks. (m : List Mark) × AreMeant g marks m) (map (λ r. r.marks) found)
+      MeanSome g (map (λ r. r.marks) found)
   each_found found finds =
       each_ahead found
       (All-weaker (IsFound g kinds known.program.tasks Whole program Nothing ks) (IsAhead g kinds known.program.tasks Whole ks) (λ r (ahead, none). ahead) found finds.each)
 
-  pub wholes_found : (found : List KeptReading) → FindsDue g kinds known.program.tasks Whole program Nothing ks found → (m : List Mark) →
-      (Whole m × (kinds_of m ≡ ks)) ↔ Any (λ marks. AreMeant g marks m) (map (λ r. r.marks) found)
+  pub wholes_found : (found : List KeptReading) → FindsDue g kinds known.program.tasks Whole program Nothing ks found →
+      MeanExactly g (λ m. Whole m × (kinds_of m ≡ ks)) (map (λ r. r.marks) found)
   wholes_found found finds m = (to, from)
     where
       to : Whole m × (kinds_of m ≡ ks) → Any (λ marks. AreMeant g marks m) (map (λ r. r.marks) found)

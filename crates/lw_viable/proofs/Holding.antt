@@ -1,5 +1,5 @@
 -- Readings that are held, over the tasks that are told of the program.
-use Rattle.std.proofs.Common.{◌≡◌, ◌↔◌, ℕ, List, All, Any, Bool, not, eqb, IsTrue, length, map, sym, ap, subst}
+use Rattle.std.proofs.Common.{◌≡◌, ◌↔◌, ℕ, List, All, Any, Bool, not, eqb, IsTrue, length, map, sym, ap, ap₂, ◌∙◌, subst}
 use Rattle.std.specs.List.{AllByRecursion}
 use Rattle.lw_grammar.specs.declared.grammar.Grammar.{Grammar}
 use Rattle.lw_grammar.specs.Kinds.{Kinds}
@@ -9,7 +9,7 @@ use Rattle.lw_program.specs.Says.{Task}
 use Rattle.lw_begins.specs.Told.{BeginsParts}
 use Rattle.lw_viable.specs.Aims.{Aim, Fulfils, BeginsSome, EndsSome}
 use Rattle.lw_viable.specs.Fronts.{FrontsParts, IsKnownProgram, HoldReadings}
-use Rattle.lw_viable.specs.Growing.{HasLists, read, GrowsLists}
+use Rattle.lw_viable.specs.Growing.{AreHeldIn, HasLists, read, GrowsLists}
 use Rattle.lw_viable.specs.Readings.{KeptReading, Keeps}
 use Rattle.lw_viable.specs.Turning.{MayBePassed}
 use Rattle.lw_viable.specs.Visiting.{FindsDue, IsToldDue}
@@ -21,6 +21,17 @@ use Rattle.lw_viable.proofs.Putting.{all_read_same}
 
 abbrev pub parts : ProgramParts → BeginsParts → List KeptReading → FrontsParts
 parts program begins kept = record { program = program; begins = begins; kept = kept }
+
+-- a program, and what is told of it, that are those of fronts
+module _ {fronts : FrontsParts} {program own : ProgramParts} {begins owned : BeginsParts} {kept : List KeptReading} (same : program ≡ fronts.program)
+    (also : begins ≡ fronts.begins) (are : parts own owned kept ≡ fronts) where
+  pub with_own : (readings : List KeptReading) → parts program begins readings ≡ parts own owned readings
+  with_own readings =
+      ap₂ (λ (p : ProgramParts) (b : BeginsParts). parts p b readings) (same ∙ ap (λ (f : FrontsParts). f.program) (sym are))
+      (also ∙ ap (λ (f : FrontsParts). f.begins) (sym are))
+
+  pub with_same : parts program begins kept ≡ fronts
+  with_same = with_own kept ∙ are
 
 -- where the lists have grown, the readings are the same
 pub still : (program : ProgramParts) (begins : BeginsParts) {old new : Lists} → GrowsLists old new → (kept : List Front) → All (HasLists old) kept →
@@ -60,7 +71,7 @@ module _ {program : ProgramParts} {begins : BeginsParts} {kept slice : List Fron
   -- all is known by which they are visited
   pub can_visit : {g : Grammar} {kinds : Kinds} {tasks : List Task} {aim : Aim} {ks : List ℕ} → HoldReadings g kinds tasks aim ks fronts → IsToldDue g due →
       (g : Grammar) × (kinds : Kinds) × (aim : Aim) × (ks : List ℕ) × (known : IsKnownProgram g kinds program begins)
-      × Keeps g kinds known.program.tasks (Fulfils g kinds known.program.tasks aim) ks (map (read lists) slice) × IsToldDue g due
+      × AreHeldIn g kinds known.program.tasks aim ks lists slice × IsToldDue g due
   can_visit {g} {kinds} {tasks} {aim} {ks} hold told =
       let here = subst (HoldReadings g kinds tasks aim ks) (sym are) hold in
       let known = here.by.known in (
@@ -69,7 +80,7 @@ module _ {program : ProgramParts} {begins : BeginsParts} {kept slice : List Fron
         aim,
         ks,
         known,
-        subst (λ kept. Keeps g kinds known.program.tasks (Fulfils g kinds known.program.tasks aim) ks (map (read lists) kept)) (sym same) (held_keeps _ here),
+        subst (AreHeldIn g kinds known.program.tasks aim ks lists) (sym same) (held_keeps _ here),
         told,
       )
 
@@ -77,14 +88,14 @@ module _ {program : ProgramParts} {begins : BeginsParts} {kept slice : List Fron
   pub by_found : {g : Grammar} {kinds : Kinds} {tasks : List Task} {aim : Aim} {ks : List ℕ} {found : List KeptReading} → HoldReadings g kinds tasks aim ks fronts →
       IsToldDue g due →
       ((g : Grammar) (kinds : Kinds) (aim : Aim) (ks : List ℕ) (known : IsKnownProgram g kinds program begins) →
-      Keeps g kinds known.program.tasks (Fulfils g kinds known.program.tasks aim) ks (map (read lists) slice) → IsToldDue g due →
+      AreHeldIn g kinds known.program.tasks aim ks lists slice → IsToldDue g due →
       FindsDue g kinds known.program.tasks (Fulfils g kinds known.program.tasks aim) program due ks found) →
       (P : List Task → Type 0) →
-      ((known : IsKnownProgram g kinds program begins) → Keeps g kinds known.program.tasks (Fulfils g kinds known.program.tasks aim) ks (map (read lists) kept) →
+      ((known : IsKnownProgram g kinds program begins) → AreHeldIn g kinds known.program.tasks aim ks lists kept →
       FindsDue g kinds known.program.tasks (Fulfils g kinds known.program.tasks aim) program due ks found → P known.program.tasks) → P tasks
   by_found {g} {kinds} {tasks} {aim} {ks} hold told finds P from =
       by_known _ (subst (HoldReadings g kinds tasks aim ks) (sym are) hold) P
       (λ known keeps.
       from known keeps
       (finds g kinds aim ks known
-      (subst (λ kept. Keeps g kinds known.program.tasks (Fulfils g kinds known.program.tasks aim) ks (map (read lists) kept)) (sym same) keeps) told))
+      (subst (AreHeldIn g kinds known.program.tasks aim ks lists) (sym same) keeps) told))

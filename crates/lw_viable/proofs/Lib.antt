@@ -2,6 +2,7 @@ pub mod Made
 pub mod Putting
 pub mod AtPlaces
 pub mod Moves
+pub mod OnlyToken
 pub mod Meaning
 pub mod Listing
 pub mod ReadingTurns

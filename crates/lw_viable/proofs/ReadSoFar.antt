@@ -16,8 +16,9 @@ use Rattle.lw_recipes.specs.Meant as meant
 use Rattle.lw_begins.specs.Gives.{PlacesGive}
 use Rattle.lw_begins.specs.Told.{BeginsParts}
 use Rattle.lw_viable.specs.Fronts.{IsKnownProgram}
-use Rattle.lw_viable.specs.Growing.{HasLists, GrowsLists}
+use Rattle.lw_viable.specs.Growing.{HasLists, GrowsLists, marks_of_each}
 use Rattle.lw_viable.specs.Growing.{read as front_read}
+use Rattle.lw_viable.specs.Marked.{MeanSome}
 use Rattle.lw_viable.specs.Moves as move
 use Rattle.lw_viable.specs.Readings.{KeptReading, GoesOnFrom, IsCutReading, HasTask, IsAhead, IsKeptReading, Keeps}
 use Rattle.lw_viable.specs.Readings as keep
@@ -77,7 +78,7 @@ ends_token some (keep.token marks kind) = (marks, kind, refl)
 
 -- the marks that are handed out, of the readings that are kept and of those that were found
 pub handed_are : {old new : Lists} {kept slice ends found : List Front} {all : List (List TreeMark)} → GrowsLists old new → All (HasLists old) kept → slice ≡ kept → ends ≡ found →
-    AreWithEnded (map (λ front. (front_read new front).marks) slice) (map (λ front. (front_read new front).marks) ends) all →
+    AreWithEnded (marks_of_each new slice) (marks_of_each new ends) all →
     AreWithEnded (map (λ r. r.marks) (map (front_read old) kept)) (map (λ r. r.marks) (map (front_read new) found)) all
 handed_are {new} {kept} grows within same same_ends (ended, are, is) = (
   ended,
@@ -115,7 +116,7 @@ module _ (g : Grammar) (kinds : Kinds) {program : ProgramParts} {told : BeginsPa
       (r, All-contains Found found r finds.each there, ends)
 
   -- each means some marks
-  pub each_read : All (λ marks. (m : List Mark) × AreMeant g marks m) handed
+  pub each_read : MeanSome g handed
   each_read =
       let Mean : List TreeMark → Type 0 = λ marks. (m : List Mark) × AreMeant g marks m in
       All-append Mean (map (λ r. r.marks) kept) ended

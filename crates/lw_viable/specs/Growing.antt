@@ -1,8 +1,12 @@
 -- How the lists of readings grow, in words of the code: a front is made of another by putting cells before its lists, and all lists of before stay.
 use Rattle.std.specs.Prelude.{ℕ, ◌≡◌, ◌+◌, ◌-◌, ◌*◌, ◌^◌, ◌<◌, ◌≤◌, List, [], ◌∷◌, ◌++◌, Option, Some, None, All, length, map, sum_by}
 use Rattle.lw_chains.specs.Chains.{chain}
+use Rattle.lw_grammar.specs.declared.grammar.Grammar.{Grammar}
+use Rattle.lw_grammar.specs.Kinds.{Kinds}
+use Rattle.lw_program.specs.Says.{Task}
 use Rattle.lw_recipes.specs.declared.mark.TreeMark.{TreeMark}
-use Rattle.lw_viable.specs.Readings.{KeptReading}
+use Rattle.lw_viable.specs.Aims.{Aim, Fulfils}
+use Rattle.lw_viable.specs.Readings.{KeptReading, Keeps}
 use Rattle.lw_viable.specs.Moves.{left}
 use Rattle.lw_viable.specs.Fronts.{reading_of}
 use Rattle.lw_viable.specs.declared.front.Front.{Front}
@@ -15,6 +19,14 @@ pub record HasLists (lists : Lists) (front : Front) : Type 0 where
 
 abbrev pub read : Lists → Front → KeptReading
 read lists front = reading_of lists.marks lists.rests front
+
+-- the marks of each of these
+abbrev pub marks_of_each : Lists → List Front → List (List TreeMark)
+marks_of_each lists fronts = map (λ front. (read lists front).marks) fronts
+
+-- as the lists have them, these are the readings of the kinds towards the aim
+abbrev pub AreHeldIn : Grammar → Kinds → List Task → Aim → List ℕ → Lists → List Front → Type 0
+AreHeldIn g kinds tasks aim ks lists fronts = Keeps g kinds tasks (Fulfils g kinds tasks aim) ks (map (read lists) fronts)
 
 -- the lists of before are as they were
 pub record GrowsLists (old new : Lists) : Type 0 where

@@ -7,4 +7,5 @@ pub mod Growing
 pub mod Turning
 pub mod Visiting
 pub mod ReferenceStarts
+pub mod Marked
 pub mod Worked

@@ -1,19 +1,19 @@
 // The readings of the tokens so far.
-ghost use Rattle.std.specs.Prelude.{ℕ, ◌≡◌, ◌≢◌, ◌↔◌, ◌<◌, ◌≤◌, ◌++◌, List, [], ◌∷◌, All, Any, Contains, map, IsTrue, IfOk, IfErr};
+ghost use Rattle.std.specs.Prelude.{ℕ, ◌≡◌, ◌≢◌, ◌↔◌, ◌<◌, ◌≤◌, ◌++◌, List, [], ◌∷◌, All, Contains, map, IsTrue, IfOk, IfErr};
 ghost use Rattle.std.specs.List.Sorted.{IsStrictlyIncreasing};
 ghost use Rattle.lw_base.specs.declared.numbers.KindId.{KindId};
 ghost use Rattle.lw_grammar.specs.declared.grammar.Grammar.{Grammar};
 ghost use Rattle.lw_grammar.specs.declared.rule.Rule.{Rule};
 ghost use Rattle.lw_grammar.specs.Kinds.{Kinds, kind_count};
 ghost use Rattle.lw_grammar.specs.Named.{IsEntry};
-ghost use Rattle.lw_sentences.specs.Marks.{Mark, kinds_of};
+ghost use Rattle.lw_sentences.specs.Marks.{kinds_of};
 ghost use Rattle.lw_look.specs.Supplied.{IsSupplied};
 ghost use Rattle.lw_program.specs.Says.{Task};
 ghost use Rattle.lw_recipes.specs.Making.{AreRecipesOf};
-ghost use Rattle.lw_recipes.specs.Meant.{AreMeant};
 ghost use Rattle.lw_viable.specs.Aims.{Aim, BeginsSome, EndsSome, Fulfils};
 ghost use Rattle.lw_viable.specs.Aims.{Sentence, Places};
 ghost use Rattle.lw_viable.specs.Fronts.{HoldReadings, IsProgramWith, seen};
+ghost use Rattle.lw_viable.specs.Marked.{MeanExactly, MeanSome};
 ghost use Rattle.lw_viable.specs.Readings.{HasTask};
 ghost use Rattle.lw_viable.specs.ReadSoFar.{IsReadSoFar};
 ghost use Rattle.lw_viable.specs.ReferenceStarts.{AreReferenceStarts};
@@ -102,6 +102,19 @@ impl<'p> Fronts<'p> {
         })
     }
 
+    /// What is known of the places, and the kind of the next token, if one is sought.
+    fn sought(&self, kind: Option<KindId>) -> Sought<'p>
+        ensures program { result.program.now ≡ self.now.program }
+        ensures begins { result.begins.now ≡ self.now.begins }
+        ensures kind { result.kind ≡ kind }
+    {
+        Sought {
+            program: self.program,
+            begins: self.begins,
+            kind,
+        }
+    }
+
     /// Reads one more token, and answers whether some whole begins with the kinds of the visible tokens so far. A hidden token changes
     /// nothing. Where memory is wanting, the readings are those of before.
     pub fn step(&mut self, token: Token) -> Result<bool, NoMemory>
@@ -117,11 +130,7 @@ impl<'p> Fronts<'p> {
         if token.hidden {
             return Ok(!self.kept.is_empty());
         }
-        let sought = Sought {
-            program: self.program,
-            begins: self.begins,
-            kind: Some(token.kind),
-        };
+        let sought = self.sought(Some(token.kind));
         let alloc = *self.kept.allocator();
         self.kept = sought.explore(alloc, &mut self.lists, self.kept.as_slice())?;
         Ok(!self.kept.is_empty())
@@ -148,11 +157,7 @@ impl<'p> Fronts<'p> {
             IfOk result (λ may. IsTrue may ↔ BeginsSome (Fulfils g kinds tasks aim) (ks ++ kind.0 ∷ [])) }
         ensures same { self.new ≡ self.old }
     {
-        let sought = Sought {
-            program: self.program,
-            begins: self.begins,
-            kind: Some(kind),
-        };
+        let sought = self.sought(Some(kind));
         let found = sought.explore(alloc, &mut self.lists, self.kept.as_slice())?;
         Ok(!found.is_empty())
     }
@@ -193,14 +198,10 @@ impl<'p> Fronts<'p> {
             IfOk result (λ starts. AreReferenceStarts g kinds tasks recipes.now (Fulfils g kinds tasks aim) ks starts.items) }
         ensures same { self.new ≡ self.old }
     {
-        let sought = Sought {
-            program: self.program,
-            begins: self.begins,
-            kind: None,
-        };
+        let sought = self.sought(None);
         let due = Due::Reference(recipes);
         let found = sought.visit(alloc, &mut self.lists, self.kept.as_slice(), due)?;
-        reference_starts(alloc, self.program, &self.lists, found.as_slice())
+        reference_starts(alloc, sought.program, &self.lists, found.as_slice())
     }
 
     /// The wholes whose tokens have the kinds of the visible tokens so far, by their marks. Where memory is wanting, too, the readings stay as
@@ -208,16 +209,12 @@ impl<'p> Fronts<'p> {
     pub fn sentences(&mut self, alloc: Global) -> Result<Vec<Items<TreeMark>>, NoMemory>
         requires known { (g : Grammar) × (kinds : Kinds) × (tasks : List Task) × (aim : Aim) × (ks : List ℕ) × HoldReadings g kinds tasks aim ks self.old }
         ensures all { (g : Grammar) (kinds : Kinds) (tasks : List Task) (aim : Aim) (ks : List ℕ) → HoldReadings g kinds tasks aim ks self.old →
-            IfOk result (λ found. (m : List Mark) → (Fulfils g kinds tasks aim m × (kinds_of m ≡ ks)) ↔ Any (λ marks. AreMeant g marks m) found.items) }
+            IfOk result (λ found. MeanExactly g (λ m. Fulfils g kinds tasks aim m × (kinds_of m ≡ ks)) found.items) }
         ensures each { (g : Grammar) (kinds : Kinds) (tasks : List Task) (aim : Aim) (ks : List ℕ) → HoldReadings g kinds tasks aim ks self.old →
-            IfOk result (λ found. All (λ marks. (m : List Mark) × AreMeant g marks m) found.items) }
+            IfOk result (λ found. MeanSome g found.items) }
         ensures same { self.new ≡ self.old }
     {
-        let sought = Sought {
-            program: self.program,
-            begins: self.begins,
-            kind: None,
-        };
+        let sought = self.sought(None);
         let found = sought.visit(alloc, &mut self.lists, self.kept.as_slice(), Due::Nothing)?;
         self.lists.all_marks(alloc, found.as_slice())
     }
@@ -229,16 +226,12 @@ impl<'p> Fronts<'p> {
         requires known { (g : Grammar) × (kinds : Kinds) × (tasks : List Task) × (aim : Aim) × (ks : List ℕ) × HoldReadings g kinds tasks aim ks self.old }
         ensures all { (g : Grammar) (kinds : Kinds) (tasks : List Task) (aim : Aim) (ks : List ℕ) → HoldReadings g kinds tasks aim ks self.old →
             ks ≢ [] → IsSupplied g kinds →
-            IfOk result (λ found. (m : List Mark) → IsReadSoFar (Fulfils g kinds tasks aim) ks m ↔ Any (λ marks. AreMeant g marks m) found.items) }
+            IfOk result (λ found. MeanExactly g (IsReadSoFar (Fulfils g kinds tasks aim) ks) found.items) }
         ensures each { (g : Grammar) (kinds : Kinds) (tasks : List Task) (aim : Aim) (ks : List ℕ) → HoldReadings g kinds tasks aim ks self.old →
-            IfOk result (λ found. All (λ marks. (m : List Mark) × AreMeant g marks m) found.items) }
+            IfOk result (λ found. MeanSome g found.items) }
         ensures same { self.new ≡ self.old }
     {
-        let sought = Sought {
-            program: self.program,
-            begins: self.begins,
-            kind: None,
-        };
+        let sought = self.sought(None);
         let ends = sought.visit(alloc, &mut self.lists, self.kept.as_slice(), Due::End)?;
         self.lists
             .marks_with_ends(alloc, self.kept.as_slice(), ends.as_slice())

@@ -40,9 +40,11 @@ mod front;
 mod fronts;
 mod listed;
 mod lists;
+mod one_token;
 mod places;
 mod reference_start;
 mod sought;
 
 pub use fronts::Fronts;
+pub use one_token::only_token;
 pub use reference_start::ReferenceStart;

@@ -1,7 +1,7 @@
 // The lists by which readings are kept.
 ghost use Rattle.std.specs.Prelude.{◌≡◌, ◌-◌, ◌<◌, ◌≤◌, ◌++◌, [], ◌∷◌, None, length, map, IfOk, OnOk, MatchOption, ◌↔◌, IsTrue};
 ghost use Rattle.std.specs.List.{AllByRecursion};
-ghost use Rattle.lw_viable.specs.Growing.{ArePut, GrowsLists, IsMadeFront, HasLists, changed, cells_of, read};
+ghost use Rattle.lw_viable.specs.Growing.{ArePut, GrowsLists, IsMadeFront, HasLists, changed, cells_of, marks_of_each, read};
 ghost use Rattle.lw_viable.specs.Moves.{left, side_by_side};
 ghost use Rattle.lw_viable.specs.Turning.{MayBePassed, way_change};
 ghost use Rattle.lw_viable.specs.Visiting.{AreEnded, AreWithEnded, EndsWithToken};
@@ -210,7 +210,7 @@ impl Lists {
         alloc: Global,
         fronts: &[Front],
     ) -> Result<Vec<Items<TreeMark>>, NoMemory>
-        ensures { IfOk result (λ all. all.items ≡ map (λ front. (read self.now front).marks) fronts.now) }
+        ensures { IfOk result (λ all. all.items ≡ marks_of_each self.now fronts.now) }
     {
         let mut all = Vec::new(alloc);
         for front in fronts {
@@ -240,7 +240,7 @@ impl Lists {
 
     /// The marks of each of these whose latest is a token, in order, with the end of a value behind.
     fn all_ended(&self, alloc: Global, fronts: &[Front]) -> Result<Vec<Items<TreeMark>>, NoMemory>
-        ensures { IfOk result (λ all. AreEnded (map (λ front. (read self.now front).marks) fronts.now) all.items) }
+        ensures { IfOk result (λ all. AreEnded (marks_of_each self.now fronts.now) all.items) }
     {
         let mut all = Vec::new(alloc);
         for front in fronts {
@@ -258,7 +258,7 @@ impl Lists {
         kept: &[Front],
         ends: &[Front],
     ) -> Result<Vec<Items<TreeMark>>, NoMemory>
-        ensures { IfOk result (λ all. AreWithEnded (map (λ front. (read self.now front).marks) kept.now) (map (λ front. (read self.now front).marks) ends.now) all.items) }
+        ensures { IfOk result (λ all. AreWithEnded (marks_of_each self.now kept.now) (marks_of_each self.now ends.now) all.items) }
     {
         let mut all = self.all_marks(alloc, kept)?;
         let mut ended = self.all_ended(alloc, ends)?;

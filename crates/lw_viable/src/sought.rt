@@ -5,8 +5,7 @@ ghost use Rattle.lw_grammar.specs.declared.grammar.Grammar.{Grammar};
 ghost use Rattle.lw_grammar.specs.Kinds.{Kinds, kind_count};
 ghost use Rattle.lw_viable.specs.Aims.{Aim, Fulfils};
 ghost use Rattle.lw_viable.specs.Fronts.{IsKnownProgram};
-ghost use Rattle.lw_viable.specs.Growing.{ArePut, Change, GrowsLists, IsMadeFront, HasLists, cells_of, changed, read};
-ghost use Rattle.lw_viable.specs.Readings.{Keeps};
+ghost use Rattle.lw_viable.specs.Growing.{AreHeldIn, ArePut, Change, GrowsLists, IsMadeFront, HasLists, cells_of, changed, read};
 ghost use Rattle.lw_viable.specs.Turning.{IsCalled, Enters, IsMovedAt, IsTurned, LoopsOnce, Misses, ReadsToken};
 ghost use Rattle.lw_viable.specs.Visiting.{AreNumbered, FindsDue, IsNoted, IsToldDue};
 
@@ -173,8 +172,8 @@ impl Sought<'_> {
         ensures within { IfOk result (λ found. All (HasLists lists.new) found.items) }
         ensures keeps { (g : Grammar) (kinds : Kinds) (aim : Aim) (ks : List ℕ) (kind : KindId)
             (known : IsKnownProgram g kinds self.entry.program.now self.entry.begins.now) → self.entry.kind ≡ Some kind → kind.0 < kind_count kinds →
-            Keeps g kinds known.program.tasks (Fulfils g kinds known.program.tasks aim) ks (map (read lists.old) kept.now) →
-            IfOk result (λ found. Keeps g kinds known.program.tasks (Fulfils g kinds known.program.tasks aim) (ks ++ kind.0 ∷ []) (map (read lists.new) found.items)) }
+            AreHeldIn g kinds known.program.tasks aim ks lists.old kept.now →
+            IfOk result (λ found. AreHeldIn g kinds known.program.tasks aim (ks ++ kind.0 ∷ []) lists.new found.items) }
     {
         let mut work = Vec::new(alloc);
         work.extend_from_slice(kept)?;
@@ -215,11 +214,11 @@ impl Sought<'_> {
         requires within { All (HasLists lists.old) kept.now }
         requires quiet { self.kind ≡ None }
         requires known { (g : Grammar) × (kinds : Kinds) × (aim : Aim) × (ks : List ℕ) × (known : IsKnownProgram g kinds self.program.now self.begins.now)
-            × Keeps g kinds known.program.tasks (Fulfils g kinds known.program.tasks aim) ks (map (read lists.old) kept.now) × IsToldDue g due }
+            × AreHeldIn g kinds known.program.tasks aim ks lists.old kept.now × IsToldDue g due }
         ensures grows { GrowsLists lists.old lists.new }
         ensures within { IfOk result (λ found. All (HasLists lists.new) found.items) }
         ensures finds { (g : Grammar) (kinds : Kinds) (aim : Aim) (ks : List ℕ) (known : IsKnownProgram g kinds self.entry.program.now self.entry.begins.now) →
-            Keeps g kinds known.program.tasks (Fulfils g kinds known.program.tasks aim) ks (map (read lists.old) kept.now) → IsToldDue g due.entry →
+            AreHeldIn g kinds known.program.tasks aim ks lists.old kept.now → IsToldDue g due.entry →
             IfOk result (λ found. FindsDue g kinds known.program.tasks (Fulfils g kinds known.program.tasks aim) self.entry.program.now due.entry ks
             (map (read lists.new) found.items)) }
     {

@@ -1,5 +1,5 @@
 use Rattle.langbench.proofs.Conversing.{works_told, no_cause_of}
-use Rattle.lw_build.proofs.OneWay.{one_way}
+use Rattle.lw_lang.proofs.OneWay.{one_way}
 use Rattle.langbench.proofs.serve.serve.Goals as goal
 
 pub returns-clause-works : goal.returns-clause-works

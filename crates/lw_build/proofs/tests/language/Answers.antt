@@ -1,4 +1,4 @@
-use Rattle.lw_build.proofs.OneWay.{one_way}
+use Rattle.lw_lang.proofs.OneWay.{one_way}
 use Rattle.lw_build.proofs.tests.language.Goals as goal
 
 pub returns : goal.returns

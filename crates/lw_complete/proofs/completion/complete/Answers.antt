@@ -70,4 +70,4 @@ returns-clause-offers c texts trees address are is number =
       tile = subst (Tile 0) (sym same) c.in-Ok.ensures.tile;
       parts = let P : List Token → Type 0 = ArePartsOf front in subst P (sym same) c.in-Ok.ensures.parts;
       of_kinds = let P : List Token → Type 0 = AreOfKinds of in subst P (sym same) (c.in-Ok.ensures.of_kinds of are_kinds);
-    }) is number) c.offers.ensures.ordered
+    }) (record { index = is; number = number })) c.offers.ensures.ordered

@@ -43,14 +43,12 @@ names-requires-clause-known c =
       of,
       lexicon,
       tasks,
-      typed,
+      record { typed = typed; parsed = parsed; cuts = subst (CutsBehind lexicon typing) (sym c.in_ok-keywords.ensures.kept) cuts },
       subst (AreReadings of tasks typing) (sym c.in_ok-keywords.ensures.same) readings,
-      parsed,
-      subst (CutsBehind lexicon typing) (sym c.in_ok-keywords.ensures.kept) cuts,
     )
 
 pub returns-clause-exact : goal.returns-clause-exact
-returns-clause-exact c of lexicon trees address typed is number =
+returns-clause-exact c of lexicon trees address typed here =
     let typing = c.args.typing.now in
     let g = grammar_of typing in
     let (tasks, rule, parsed, entry) = parsed_by typing c.parser-parser.result.now c.parser-parser.ensures of typed.are_kinds in
@@ -61,8 +59,10 @@ returns-clause-exact c of lexicon trees address typed is number =
     let keywords = c.in_ok-keywords.keywords.items in
     let names = c.in_ok-names.names.items in
     let keywords_are = c.in_ok-keywords.ensures.keywords of lexicon tasks typed readings parsed.faultless.supplied in
-    let names_are = c.in_ok-names.ensures.names of lexicon tasks trees address typed (subst (CutsBehind lexicon typing) (sym c.in_ok-keywords.ensures.kept) cuts)
-    (subst (AreReadings of tasks typing) (sym c.in_ok-keywords.ensures.same) readings) parsed c.requires.one_way is number in
+    let names_are =
+    c.in_ok-names.ensures.names of lexicon tasks trees address
+    (record { typed = typed; parsed = parsed; cuts = subst (CutsBehind lexicon typing) (sym c.in_ok-keywords.ensures.kept) cuts })
+    (subst (AreReadings of tasks typing) (sym c.in_ok-keywords.ensures.same) readings) c.requires.one_way here in
     IfOk-weaker c.in_order.result
     (λ items. (x : Offer) → Contains (map offer_of items.items) x ↔ (Contains (map keyword_offer keywords) x ⊎ Contains (map name_offer names) x))
     (λ items. (x : Offer) → Contains (map offer_of items.items) x ↔

@@ -18,4 +18,5 @@ finds-requires-clause-known c =
     (g, c.types-types.ensures, read_want g c.requires.read.0 c.args.tree.now c.requires.read.1 c.args.reference.now c.requires.among)
 
 pub returns : goal.returns
-returns c trees address is number = c.finds.ensures (grammar_of c.args.typing.now) trees address c.types-types.ensures is number
+returns c trees address among =
+    c.finds.ensures (grammar_of c.args.typing.now) trees address c.types-types.ensures among.index among.number

@@ -8,7 +8,7 @@ use Rattle.lw_complete.proofs.JudgedTrees.{judged, judged_broken}
 use Rattle.lw_complete.proofs.judging.leads_in_whole.Goals as goal
 
 pub returns-in-Whole : goal.returns-in-Whole
-returns-in-Whole c trees address one_way is number =
+returns-in-Whole c trees address one_way among =
     let typing = c.args.typing.now in
     let g = grammar_of typing in
     let front = typing.front.now in
@@ -20,12 +20,12 @@ returns-in-Whole c trees address one_way is number =
     let told : IfOk c.leads_in.result (IsToldOf typing trees address tree (length front) (length front + length name) tree.refs) =
     subst (λ (text : List ℕ). IfOk c.leads_in.result (IsToldOf typing trees address tree (length front) (length front + length text) tree.refs)) c.bytes.ensures.bytes
     (subst (λ (text : List ℕ). IfOk c.leads_in.result (IsToldOf typing trees address tree (length text) (length text + length c.bytes.result.now) tree.refs))
-    c.bytes-start.ensures.bytes (c.leads_in.ensures trees address is number)) in
+    c.bytes-start.ensures.bytes (c.leads_in.ensures trees address among)) in
     IfOk-weaker c.leads_in.result (IsToldOf typing trees address tree (length front) (length front + length name) tree.refs)
     (IsJudgement typing trees address name) (judged typing one_way trees address name tree reads) told
 
 pub returns : goal.returns
-returns c trees address one_way is number =
+returns c trees address one_way among =
     let typing = c.args.typing.now in
     let g = grammar_of typing in
     let issue = c.in-Broken.field-0 in

@@ -1,26 +1,32 @@
-use Rattle.std.proofs.Common.{subst}
-use Rattle.lw_complete.specs.Starts.{AreBlankNames}
-use Rattle.lw_complete.proofs.JudgedBlank.{told_so}
-use Rattle.lw_complete.proofs.NamedWritten.{comes_at, reference_put, said}
+use Rattle.std.proofs.Common.{◌∙◌, sym, true≢false}
+use Rattle.lw_complete.proofs.JudgedBlank.{leads_not_so, leads_so}
+use Rattle.lw_complete.proofs.NamedWritten.{reference_put, said}
 use Rattle.lw_complete.proofs.judging.told_by.Goals as goal
 
-pub says-requires-clause-tail : goal.says-requires-clause-tail
-says-requires-clause-tail c = let (of, lexicon, tasks, written, parsed, is) = c.requires.known in written.tail
+pub says-requires : goal.says-requires
+says-requires c =
+    let (of, lexicon, tasks, here, is) = c.requires.known in record {
+      tail = here.written.tail;
+      parts = here.written.parts;
+      recipe = reference_put c.args.typing.now of tasks c.args.parser.now here.parsed c.args.one.now.start.now is.next is.sound.at;
+    }
 
-pub says-requires-clause-parts : goal.says-requires-clause-parts
-says-requires-clause-parts c = let (of, lexicon, tasks, written, parsed, is) = c.requires.known in written.parts
-
-pub says-requires-clause-recipe : goal.says-requires-clause-recipe
-says-requires-clause-recipe c =
-    let (of, lexicon, tasks, written, parsed, is) = c.requires.known in
-    let start = c.args.one.now.start.now in
-    reference_put c.args.typing.now of tasks c.args.parser.now parsed start is.next (comes_at of tasks c.args.typing.now start is)
+pub returns-then-has : goal.returns-then-has
+returns-then-has c of lexicon tasks trees address goes one_way next known blank takes gives =
+    let typing = c.args.typing.now in
+    let written = c.args.written.now in
+    let one = c.args.one.now in
+    let says =
+    said typing of tasks c.args.parser.now goes.here.parsed one.start.now next.next next.sound.at lexicon written goes.here.written c.in_ok-says.field-0 c.in_ok-says.ensures in
+    leads_so of lexicon typing goes.typed one_way written goes.here.written goes.meets tasks trees address one next gives takes (says.0 c.if-not-branch.false) known
+    c.args.names.now blank (c.has.ensures.0 c.if-has.true)
 
 pub returns : goal.returns
-returns c of lexicon tasks trees address typed written parsed meets next known blank one_way takes gives =
+returns c of lexicon tasks trees address goes one_way next known blank takes gives =
     let typing = c.args.typing.now in
-    let start = c.args.one.now.start.now in
-    let at = comes_at of tasks typing start next in
-    let says = said typing of tasks c.args.parser.now parsed start next.next at lexicon c.args.written.now written c.in_ok-says.field-0 c.in_ok-says.ensures in
-    told_so of lexicon typing typed one_way c.args.written.now written meets tasks trees address start next gives takes (says.0 c.if-not-branch.false) c.args.names.now
-    (subst (AreBlankNames of lexicon tasks typing trees address next.next start) blank (known.told next.next at)) c.has.result c.has.ensures
+    let written = c.args.written.now in
+    let one = c.args.one.now in
+    let says =
+    said typing of tasks c.args.parser.now goes.here.parsed one.start.now next.next next.sound.at lexicon written goes.here.written c.in_ok-says.field-0 c.in_ok-says.ensures in
+    leads_not_so of lexicon typing goes.typed one_way written goes.here.written goes.meets tasks trees address one next gives takes (says.0 c.if-not-branch.false) known
+    c.args.names.now blank (λ has. true≢false (sym (c.has.ensures.1 has) ∙ c.if-has.false))

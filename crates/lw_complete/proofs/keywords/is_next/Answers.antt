@@ -1,12 +1,10 @@
-use Rattle.std.proofs.Common.{◌≡◌, ◌++◌, ◌↔◌, ◌∷◌, [], ℕ, List, IsTrue, length, sym, subst}
+use Rattle.std.proofs.Common.{◌≡◌, ◌↔◌, ◌∷◌, [], ℕ, List, IsTrue, length, subst}
 use Rattle.std.proofs.lemmas.Str.Pattern.{starts_text}
 use Rattle.lw_base.specs.declared.token.Token.{Token}
 use Rattle.lw_offers.specs.Offers.{visible_token}
-use Rattle.lw_recut.specs.Recut.{IsRecut, added, added_behind}
-use Rattle.lw_tokens.specs.Cut.{IsCut}
-use Rattle.lw_tokens.specs.Lexicon.{Lexicon}
+use Rattle.lw_recut.specs.Recut.{IsRecut, added}
 use Rattle.lw_complete.proofs.KeywordsCut.{cuts_for, fits, next_alone, tail_within}
-use Rattle.lw_complete.proofs.NamedWritten.{begun, begun_not, never}
+use Rattle.lw_complete.proofs.NamedWritten.{begun, begun_not, cut_as_named, never, uncut_as_named}
 use Rattle.lw_complete.proofs.keywords.is_next.Goals as goal
 
 pub added-requires : goal.added-requires
@@ -36,10 +34,7 @@ returns-in-None-clause-next c of lexicon typed =
     let cuts = cuts_for typing c.args.recutter.now also typed cuts_other in
     let not = rw c.in-None.is at (c.in_ok-recut.ensures.added typing.front.now typing.tokens.now cuts.end) in
     let alone : List Token = visible_token c.args.kind.0 (length typing.front.now) (length c.args.keyword.now) ∷ [] in
-    never (λ (begins, cut).
-    not alone
-    (subst (λ (l : Lexicon). IsCut l (typing.front.now ++ c.text-2.result.now) (typing.tokens.now ++ alone)) (sym cuts.lexicon_is)
-    (subst (λ (t : List ℕ). IsCut lexicon (typing.front.now ++ t) (typing.tokens.now ++ alone)) (sym c.text-2.ensures.text) cut)))
+    never (λ (begins, cut). uncut_as_named lexicon typing c.args.recutter.now cuts c.text-2.result.now c.args.keyword.now c.text-2.ensures.text not alone cut)
 
 pub returns-in-Some-clause-next : goal.returns-in-Some-clause-next
 returns-in-Some-clause-next c of lexicon typed =
@@ -53,15 +48,9 @@ returns-in-Some-clause-next c of lexicon typed =
     let begins =
     begun word keyword lent c.starts_with.result c.text.ensures.text (starts_text c.starts_with.result word lent c.starts_with.ensures.cases) c.if-not-starts_with.false in
     let told = rw c.in-Some.is at (c.in_ok-recut.ensures.added typing.front.now typing.tokens.now cuts.end) in
-    let there = added_behind c.in-Some.recut in
     let recut : IsRecut recutter keyword c.in-Some.recut =
     subst (λ (t : List ℕ). IsRecut recutter t c.in-Some.recut) c.text-2.ensures.text (rw c.in-Some.is at c.in_ok-recut.ensures.recut) in
-    let both : IsCut lexicon (typing.front.now ++ keyword) (typing.tokens.now ++ there)
-    × ((others : List Token) → IsCut lexicon (typing.front.now ++ keyword) (typing.tokens.now ++ others) → others ≡ there) =
-    subst (λ (t : List ℕ). IsCut lexicon (typing.front.now ++ t) (typing.tokens.now ++ there)
-    × ((others : List Token) → IsCut lexicon (typing.front.now ++ t) (typing.tokens.now ++ others) → others ≡ there)) c.text-2.ensures.text
-    (subst (λ (l : Lexicon). IsCut l (typing.front.now ++ c.text-2.result.now) (typing.tokens.now ++ there)
-    × ((others : List Token) → IsCut l (typing.front.now ++ c.text-2.result.now) (typing.tokens.now ++ others) → others ≡ there)) cuts.lexicon_is told) in
+    let both = cut_as_named lexicon typing recutter cuts c.text-2.result.now keyword c.text-2.ensures.text c.in-Some.recut told in
     next_alone typing lexicon recutter cuts keyword c.in-Some.recut recut c.args.kind.0 begins both c.is_alone.result
     (subst (λ (t : Token). IsTrue c.is_alone.result ↔ (added c.in-Some.recut ≡ t ∷ [])) c.last_token.ensures
     (subst (λ (ts : List Token). IsTrue c.is_alone.result ↔ (ts ≡ c.last_token.result ∷ [])) c.added.ensures c.is_alone.ensures))

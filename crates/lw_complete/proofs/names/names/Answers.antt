@@ -12,17 +12,17 @@ use Rattle.lw_offers.specs.Words.{BeginsBy}
 use Rattle.lw_recipes.specs.Making.{AreRecipesOf}
 use Rattle.lw_viable.specs.Aims.{Sentence}
 use Rattle.lw_complete.specs.declared.known.Known.{Known}
-use Rattle.lw_complete.specs.Starts.{AreTried, IsBlankKnown, IsNameFoundAt, IsKnownStart, IsOfferedBy, IsStartNext}
+use Rattle.lw_complete.specs.Starts.{AllComeNext, AreTried, IsBlankKnown, IsKnownStart, IsNameFoundAt, IsOfferedBy, IsStartNext}
 use Rattle.lw_complete.specs.Typing.{grammar_of, kinds_before}
 use Rattle.lw_complete.proofs.NamedKnown.{known_all}
-use Rattle.lw_complete.proofs.NamedNext.{all_next, all_starts}
+use Rattle.lw_complete.proofs.NamedNext.{all_next, all_starts, lent_next}
 use Rattle.lw_complete.proofs.NamedOffered.{all_begin, all_offered, names_found}
 use Rattle.lw_complete.proofs.names.names.Goals as goal
 
 pub references-requires : goal.references-requires
 references-requires c =
     let g = grammar_of c.args.typing.now in
-    let (of, lexicon, tasks, typed, readings, parsed, cuts) = c.requires.known in record {
+    let (of, lexicon, tasks, read, readings) = c.requires.known in record {
       known = (
         g,
         of,
@@ -30,80 +30,79 @@ references-requires c =
         Sentence,
         kinds_before c.args.typing.now,
         readings,
-        subst (AreRecipesOf g) (sym c.recipes.ensures) parsed.faultless.parser.recipes,
+        subst (AreRecipesOf g) (sym c.recipes.ensures) read.parsed.faultless.parser.recipes,
       );
     }
 
 pub known_starts-requires-clause-known : goal.known_starts-requires-clause-known
 known_starts-requires-clause-known c =
-    let g = grammar_of c.args.typing.now in
-    let (of, lexicon, tasks, typed, readings, parsed, cuts) = c.requires.known in
-    let all =
-    all_starts c.args.typing.now of tasks c.args.parser.now parsed c.recipes.result.now c.in_ok-starts.starts.items c.as_slice.result.now c.recipes.ensures
-    c.as_slice.ensures.value (λ are. c.in_ok-starts.ensures.starts g of tasks Sentence (kinds_before c.args.typing.now) readings are) in
-    (of, lexicon, tasks, typed, parsed, all_next c.args.typing.now of tasks c.args.parser.now parsed c.as_slice.result.now all)
+    let (of, lexicon, tasks, read, readings) = c.requires.known in (
+      of,
+      lexicon,
+      tasks,
+      read.typed,
+      read.parsed,
+      lent_next c.args.typing.now of tasks c.args.parser.now read.parsed c.recipes.result.now c.in_ok-starts.starts.items c.as_slice.result.now c.recipes.ensures
+          c.as_slice.ensures.value (λ are. c.in_ok-starts.ensures.starts (grammar_of c.args.typing.now) of tasks Sentence (kinds_before c.args.typing.now) readings are),
+    )
 
 pub offered-requires : goal.offered-requires
 offered-requires c =
-    let g = grammar_of c.args.typing.now in
-    let (of, lexicon, tasks, typed, readings, parsed, cuts) = c.requires.known in
-    let all =
-    all_starts c.args.typing.now of tasks c.args.parser.now parsed c.recipes.result.now c.in_ok-starts.starts.items c.as_slice.result.now c.recipes.ensures
-    c.as_slice.ensures.value (λ are. c.in_ok-starts.ensures.starts g of tasks Sentence (kinds_before c.args.typing.now) readings are) in record {
+    let (of, lexicon, tasks, read, readings) = c.requires.known in
+    let next =
+    lent_next c.args.typing.now of tasks c.args.parser.now read.parsed c.recipes.result.now c.in_ok-starts.starts.items c.as_slice.result.now c.recipes.ensures
+    c.as_slice.ensures.value (λ are. c.in_ok-starts.ensures.starts (grammar_of c.args.typing.now) of tasks Sentence (kinds_before c.args.typing.now) readings are) in record {
       known = (
         of,
         lexicon,
         tasks,
-        typed,
-        parsed,
-        cuts,
-        subst (All (λ (one : Known). IsStartNext of tasks c.args.typing.now one.start.now)) (sym c.as_slice-2.ensures.value)
-            (known_all (IsStartNext of tasks c.args.typing.now) c.in_ok-known.known.items c.as_slice.result.now c.in_ok-known.ensures.starts
-            (all_next c.args.typing.now of tasks c.args.parser.now parsed c.as_slice.result.now all)),
+        read,
+        subst (AllComeNext of tasks c.args.typing.now) (sym c.as_slice-2.ensures.value)
+            (known_all (IsStartNext of tasks c.args.typing.now) c.in_ok-known.known.items c.as_slice.result.now c.in_ok-known.ensures.starts next),
       );
     }
 
 pub returns-clause-names : goal.returns-clause-names
-returns-clause-names c of lexicon tasks trees address typed cuts readings parsed one_way index number =
+returns-clause-names c of lexicon tasks trees address read readings one_way among =
     let typing = c.args.typing.now in
     let parser = c.args.parser.now in
     let g = grammar_of typing in
     let starts = c.as_slice.result.now in
     let all =
-    all_starts typing of tasks parser parsed c.recipes.result.now c.in_ok-starts.starts.items starts c.recipes.ensures c.as_slice.ensures.value
+    all_starts typing of tasks parser read.parsed c.recipes.result.now c.in_ok-starts.starts.items starts c.recipes.ensures c.as_slice.ensures.value
     (λ are. c.in_ok-starts.ensures.starts g of tasks Sentence (kinds_before typing) readings are) in
-    let next = all_next typing of tasks parser parsed starts all in
+    let next = all_next typing of tasks parser read.parsed starts all in
     let known = c.as_slice-2.result.now in
     let are_starts : map (λ (one : Known). one.start.now) known ≡ starts =
     ap (map (λ (one : Known). one.start.now)) c.as_slice-2.ensures.value ∙ c.in_ok-known.ensures.starts in
     let are_known : All (IsKnownStart of typing trees address) known =
-    subst (All (IsKnownStart of typing trees address)) (sym c.as_slice-2.ensures.value) (c.in_ok-known.ensures.known of lexicon trees address typed index number) in
+    subst (All (IsKnownStart of typing trees address)) (sym c.as_slice-2.ensures.value) (c.in_ok-known.ensures.known of lexicon trees address read.typed among) in
     let are_blank : All (IsBlankKnown of lexicon tasks typing trees address) known =
     subst (All (IsBlankKnown of lexicon tasks typing trees address)) (sym c.as_slice-2.ensures.value)
-    (c.in_ok-known.ensures.blank of lexicon tasks trees address typed parsed next index number) in
+    (c.in_ok-known.ensures.blank of lexicon tasks trees address read.typed read.parsed next among) in
     let tried : AreTried of lexicon tasks typing trees address known = record {
       next = known_all (IsStartNext of tasks typing) known starts are_starts next;
       blank = are_blank;
-      all = all_begin typing of lexicon tasks parser parsed starts all trees address known are_starts are_known;
+      all = all_begin typing of lexicon tasks parser read.parsed starts all trees address known are_starts are_known;
     } in
     let gathered = c.known_starts.new.found.items in
     let finds : Finds (OfSome (IsNameFoundAt of lexicon tasks typing trees address) starts) [] gathered =
     subst (λ (old : List (List ℕ)). Finds (OfSome (IsNameFoundAt of lexicon tasks typing trees address) starts) old gathered) c.new-found.ensures.items
-    (c.in_ok-known.ensures.found of lexicon tasks trees address typed parsed next index number) in
+    (c.in_ok-known.ensures.found of lexicon tasks trees address read.typed read.parsed next among) in
     let sorted = c.sort_unstable.new.self.items in
     let kept : c.dedup.new.self.items ≡ dedup bytes_eq sorted = dedup_is bytes_eq _ _ c.dedup.ensures.filtered in
     let same : (name : List ℕ) → Contains c.dedup.new.self.items name ↔ Contains gathered name =
     subst (λ (names : List (List ℕ)). (name : List ℕ) → Contains names name ↔ Contains gathered name) (sym kept)
     (same_names gathered sorted c.sort_unstable.ensures.permutation) in
-    let found_are = names_found typing of lexicon tasks parser parsed starts all trees address gathered finds in
+    let found_are = names_found typing of lexicon tasks parser read.parsed starts all trees address gathered finds in
     IfOk-weaker c.offered.result
     (λ found. (name : List ℕ) → Contains found.items name ↔ (Contains c.dedup.new.self.items name × IsOfferedBy of lexicon tasks typing trees address known name))
     (λ found. (name : List ℕ) → Contains found.items name ↔
     (BeginsBy typing.word.now name × IsNameNext g of lexicon trees address typing.front.now typing.rest.now typing.tokens.now name))
     (λ found exact.
-    all_offered typing of lexicon tasks parser parsed starts all trees address known are_starts are_known c.dedup.new.self.items
+    all_offered typing of lexicon tasks parser read.parsed starts all trees address known are_starts are_known c.dedup.new.self.items
     (λ name. (λ has. (found_are name).0 ((same name).0 has), λ is. (same name).1 ((found_are name).1 is))) found.items exact)
-    (c.offered.ensures.offered of lexicon tasks trees address typed parsed cuts tried one_way index number)
+    (c.offered.ensures.offered of lexicon tasks trees address read (record { tried = tried; one_way = one_way; among = among }))
 
 pub returns-clause-ordered : goal.returns-clause-ordered
 returns-clause-ordered c =

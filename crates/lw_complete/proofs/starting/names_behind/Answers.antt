@@ -17,12 +17,12 @@ names_of_blank-requires c =
     (ready.lexicon, m, ready.is_blank, means, grows)
 
 pub sentences-init : goal.sentences-init
-sentences-init c parser ready trees address behind index number =
+sentences-init c parser ready trees address behind among =
     subst (Finds (OfSome (IsFoundBy ready trees address) (take 0 c.args.sentences.now)) []) (sym c.new-names.ensures.items)
     (Finds-begin (IsFoundBy ready trees address) [] c.args.sentences.now)
 
 pub sentences-preserved : goal.sentences-preserved
-sentences-preserved c parser ready trees address behind index number =
+sentences-preserved c parser ready trees address behind among =
     let sentences = c.args.sentences.now in
     let i = c.sentences.after-index in
     let x = c.after-item.result in
@@ -31,15 +31,15 @@ sentences-preserved c parser ready trees address behind index number =
     c.as_slice-in-sentences.ensures.value ∙ c.in_ok-marks.ensures
     ∙ ap (λ (ms : List TreeMark). c.args.start.now.marks ++ (mark.Put c.args.start.now.put ∷ mark.End ∷ ms)) c.as_slice.ensures in
     Finds-more (IsFoundBy ready trees address) sentences i x c.sentences-test.true c.after-item.is
-    (c.sentences.invariant parser ready trees address behind index number)
-    (subst (Finds (IsFoundBy ready trees address x) old) (sym c.in_ok-put_all.ensures)
+    (c.sentences.invariant parser ready trees address behind among)
+    (subst (Finds (IsFoundBy ready trees address x) old) (sym c.in_ok-append.ensures.items)
     (found_more ready sentences behind i x c.sentences-test.true c.after-item.is c.as_slice-in-sentences.result.now are trees address old c.in_ok-found.found.items
-    (λ m means grows. c.in_ok-found.ensures m trees address means grows index number)))
+    (λ m means grows. c.in_ok-found.ensures m trees address means grows among)))
 
 pub returns : goal.returns
-returns c parser ready trees address behind index number =
+returns c parser ready trees address behind among =
     let sentences = c.args.sentences.now in
     let past : length sentences ≤ c.sentences.after-index = omega (arith, c.sentences-test.false) in
     only_found (IsName ready trees address) c.sentences.names.items
     (Finds-iff (names_of_sentences ready sentences behind trees address)
-    (Finds-all (IsFoundBy ready trees address) sentences c.sentences.after-index past (c.sentences.invariant parser ready trees address behind index number)))
+    (Finds-all (IsFoundBy ready trees address) sentences c.sentences.after-index past (c.sentences.invariant parser ready trees address behind among)))

@@ -24,7 +24,7 @@ names_in-requires-clause-known c =
     c.index-refs-before.result c.index-refs-before.is
 
 pub returns : goal.returns
-returns c m trees address meant grows index number =
+returns c m trees address meant grows among =
     let g = grammar_of c.args.typing.now in
     let tree = c.in_ok-tree.tree in
     let is = c.in_ok-tree.ensures m meant grows.grows in
@@ -37,4 +37,4 @@ returns c m trees address meant grows index number =
           ((exact name).0 has),
       λ leads. (exact name).1
           (there_leads c.args.typing.now c.args.blank.now c.args.before m grows tree is c.refs.result.now c.refs.ensures r c.index-refs-before.is trees address name leads),
-    )) (c.names_in.ensures trees address index number)
+    )) (c.names_in.ensures trees address among)

@@ -1,7 +1,7 @@
 use Rattle.std.proofs.Common.{List, sym, subst}
 use Rattle.lw_recipes.specs.declared.mark.TreeMark.{TreeMark}
 use Rattle.lw_tokens.specs.Cut.{kinds, visible}
-use Rattle.lw_opened.specs.Readings.{AreReadings}
+use Rattle.lw_opened.specs.Readings.{MeanReadings}
 use Rattle.lw_opened.proofs.opening.open_trees.Goals as goal
 
 pub trees_of-requires-clause-known : goal.trees_of-requires-clause-known
@@ -11,12 +11,12 @@ trees_of-requires-clause-known c =
       of,
       k,
       faultless,
-      subst (λ (found : List (List TreeMark)). AreReadings g of c.args.parser.now.entry (kinds (visible c.args.tokens.now)) found) (sym c.as_slice.ensures.value)
+      subst (λ (found : List (List TreeMark)). MeanReadings g of c.args.parser.now.entry (kinds (visible c.args.tokens.now)) found) (sym c.as_slice.ensures.value)
           (c.in_ok-readings.ensures g of k faultless are),
     )
 
 pub returns : goal.returns
 returns c g of k faultless are =
     c.trees_of.ensures g of k faultless
-    (subst (λ (found : List (List TreeMark)). AreReadings g of c.args.parser.now.entry (kinds (visible c.args.tokens.now)) found) (sym c.as_slice.ensures.value)
+    (subst (λ (found : List (List TreeMark)). MeanReadings g of c.args.parser.now.entry (kinds (visible c.args.tokens.now)) found) (sym c.as_slice.ensures.value)
     (c.in_ok-readings.ensures g of k faultless are))

@@ -6,7 +6,7 @@ use Rattle.lw_recut.proofs.recutter.seam_of.Given as goal
 
 abbrev pub invariant-tokens : goal.invariant-tokens
 invariant-tokens l = record {
-  kept : l.lexer ≡ l.initial.lexer;
-  cut : (more : List ℕ) → l.keywords ≡ l.lexer.lexicon.keywords → AreNfas l.lexer.lexicon.terminals l.nfas → All (λ b. b < 256) (l.text ++ more) →
-      IsCutTo l.lexer.lexicon (l.text ++ more) (end_from 0 (take l.token-index l.it.tokens.items)) (take l.token-index l.it.tokens.items);
+  kept : l.lexer ≡ l.fn.lexer;
+  cut : (more : List ℕ) → l.keywords ≡ l.fn.lexer.lexicon.keywords → AreNfas l.fn.lexer.lexicon.terminals l.nfas → All (λ b. b < 256) (l.text ++ more) →
+      IsCutTo l.fn.lexer.lexicon (l.text ++ more) (end_from 0 (take l.token-index l.it.tokens.items)) (take l.token-index l.it.tokens.items);
 }

@@ -1,4 +1,4 @@
-use Rattle.std.proofs.Common.{ℕ, ◌++◌, [], List, All, IfSome, IsCharBoundary, length, take, drop, refl, sym, subst}
+use Rattle.std.proofs.Common.{ℕ, ◌++◌, [], List, All, IsCharBoundary, length, take, drop, refl, sym, subst}
 use Rattle.std.proofs.lemmas.List.{take-append-drop}
 use Rattle.std.proofs.lemmas.List.Elements.{All-take, All-weaker}
 use Rattle.std.proofs.lemmas.Str.{IsCharBoundary-start}
@@ -8,6 +8,7 @@ use Rattle.lw_lexer.specs.TokenPlaces.{IsTokenPlace}
 use Rattle.lw_sure.specs.Front.{FrontStays}
 use Rattle.lw_tokens.specs.Cut as cut
 use Rattle.lw_tokens.specs.Cut.{IsCutTo}
+use Rattle.lw_recut.proofs.Automata.{lent_automata}
 use Rattle.lw_recut.proofs.Small.{boundary_from}
 use Rattle.lw_recut.proofs.recutter.sure_place.Goals as goal
 
@@ -39,8 +40,7 @@ returns-clause-sure c lexicon same nfas is =
     let tokens = c.args.tokens.now in
     let n = c.sure_tokens-count.result in
     let are : AreNfas lexicon.terminals c.as_slice.result.now =
-    subst (AreNfas lexicon.terminals) (sym c.as_slice.ensures.value)
-    (subst (λ found. IfSome found (λ nfas. AreNfas lexicon.terminals nfas.items)) c.in-Some.is nfas) in
+    lent_automata lexicon.terminals _ c.in-Some.nfas c.as_slice.result.now c.in-Some.is c.as_slice.ensures.value nfas in
     let stays : FrontStays c.args.keywords.now c.as_slice.result.now front tokens n =
     subst (λ (text : List ℕ). FrontStays c.args.keywords.now c.as_slice.result.now text tokens n) c.text-text.ensures.text c.sure_tokens-count.ensures.stays in
     record {

@@ -1,10 +1,11 @@
-use Rattle.std.proofs.Common.{ℕ, ◌≡◌, ◌≤◌, ◌++◌, List, Err, drop, length, map, refl, sym, ap, ◌∙◌, subst, arith, true≢false}
+use Rattle.std.proofs.Common.{ℕ, ◌≡◌, ◌≤◌, ◌++◌, List, Err, drop, length, refl, sym, ap, ◌∙◌, subst, arith, rules, true≢false}
 use Rattle.lw_base.specs.declared.limits.TheConstants.{LONGEST_TEXT}
 use Rattle.lw_base.specs.declared.token.Token.{Token}
-use Rattle.lw_sure.specs.Parted.{moved}
 use Rattle.lw_tokens.specs.Cut.{IsCut}
+use Rattle.lw_tokens.specs.Keywords.{AreKeywords}
 use Rattle.lw_recut.specs.Recut.{IsEndOf, IsRecut, RecutterParts}
-use Rattle.lw_recut.proofs.Behind.{cut_whole, none_other, none_uncut, one_other}
+use Rattle.lw_recut.specs.declared.recut.Recut.{Recut}
+use Rattle.lw_recut.proofs.Behind.{added_alone, none_other, none_uncut}
 use Rattle.lw_recut.proofs.SameTokens.{begins, told_begins}
 use Rattle.lw_recut.proofs.Small.{utf8_small}
 use Rattle.lw_recut.proofs.recutter.Recutter.cut.Goals as goal
@@ -33,43 +34,18 @@ returns-then-not-starts_with-clause-added c front tokens end =
     (λ end. none_other parts front more tokens end (utf8_small more c.utf8.more) c.self.invariant.apart c.in_ok-text.text c.in_ok-text.ensures all
     c.in-Ok.ensures.cut not) end
 
-pub returns-clause-added : goal.returns-clause-added
-returns-clause-added c front tokens end =
+pub returns : goal.returns
+returns c =
     let inside = c.self.inside in
     let more = c.args.more.now in
     let parts : RecutterParts = record { lexicon = inside.lexer.lexicon; text = inside.text; tokens = inside.tokens.items; from = inside.from } in
     let all = c.in-Ok.tokens.items in
-    let first : c.as_slice.result.now ≡ parts.tokens = c.as_slice.ensures.value in
-    let lent : c.deref.result.now ≡ all = c.deref.ensures.value in
+    let it : Recut = record { text = c.in_ok-text.text; tokens = c.in-Ok.tokens; tail = c.len.result; from = inside.from } in
     let are : all ≡ parts.tokens ++ drop (length parts.tokens) all =
-    told_begins parts.tokens all c.as_slice.result.now c.deref.result.now first lent c.starts_with.result c.starts_with.ensures.value c.if-not-starts_with.false in
+    told_begins parts.tokens all c.as_slice.result.now c.deref.result.now c.as_slice.ensures.value c.deref.ensures.value c.starts_with.result
+    c.starts_with.ensures.value c.if-not-starts_with.false in
     let tail : c.len.result ≡ length parts.tokens = c.len.ensures ∙ inside.tokens.ok.0 in
-    let rest : drop (length parts.tokens) all ≡ drop c.len.result all = ap (λ (n : ℕ). drop n all) (sym tail) in
-    let behind : map (moved parts.from) (drop (length parts.tokens) all) ≡ map (moved parts.from) (drop c.len.result all) = ap (map (moved parts.from)) rest in
-    subst (λ (p : RecutterParts). IsEndOf p front tokens → IsCut p.lexicon (front ++ more) (tokens ++ map (moved inside.from) (drop c.len.result all))
-    × ((others : List Token) → IsCut p.lexicon (front ++ more) (tokens ++ others) → others ≡ map (moved inside.from) (drop c.len.result all))) c.self.view_is
-    (λ end. (
-      subst (λ (ts : List Token). IsCut parts.lexicon (front ++ more) (tokens ++ ts)) behind
-          (cut_whole parts front more tokens end (utf8_small more c.utf8.more) c.in_ok-text.text all (drop (length parts.tokens) all) c.in_ok-text.ensures are
-          c.in-Ok.ensures.cut),
-      λ others other.
-          one_other parts front more tokens end (utf8_small more c.utf8.more) c.self.invariant.apart c.in_ok-text.text c.in_ok-text.ensures all c.in-Ok.ensures.cut
-          (drop (length parts.tokens) all) are others other ∙ behind,
-    )) end
-
-pub returns-clause-recut : goal.returns-clause-recut
-returns-clause-recut c =
-    let inside = c.self.inside in
-    let more = c.args.more.now in
-    let parts : RecutterParts = record { lexicon = inside.lexer.lexicon; text = inside.text; tokens = inside.tokens.items; from = inside.from } in
-    let all = c.in-Ok.tokens.items in
-    let first : c.as_slice.result.now ≡ parts.tokens = c.as_slice.ensures.value in
-    let lent : c.deref.result.now ≡ all = c.deref.ensures.value in
-    let are : all ≡ parts.tokens ++ drop (length parts.tokens) all =
-    told_begins parts.tokens all c.as_slice.result.now c.deref.result.now first lent c.starts_with.result c.starts_with.ensures.value c.if-not-starts_with.false in
-    let tail : c.len.result ≡ length parts.tokens = c.len.ensures ∙ inside.tokens.ok.0 in
-    subst (λ (p : RecutterParts). IsRecut p more (record { text = c.in_ok-text.text; tokens = c.in-Ok.tokens; tail = c.len.result; from = inside.from })) c.self.view_is
-    (record {
+    let recut : IsRecut c.args.self.now more it = subst (λ (p : RecutterParts). IsRecut p more it) c.self.view_is (record {
       from = refl;
       text = c.in_ok-text.ensures;
       short = subst (λ (bytes : List ℕ). length bytes ≤ LONGEST_TEXT) c.bytes.ensures.bytes (omega (arith, c.if-bytes-gt-LONGEST_TEXT.false));
@@ -77,4 +53,10 @@ returns-clause-recut c =
       are = are ∙ ap (λ (n : ℕ). parts.tokens ++ drop n all) (sym tail);
       cut = c.in-Ok.ensures.cut;
       places = c.in-Ok.ensures.places;
-    })
+    }) in
+    let apart = subst (λ (p : RecutterParts). AreKeywords p.lexicon.keywords) c.self.view_is c.self.invariant.apart in
+    record {
+      added = λ front tokens end. added_alone c.args.self.now front more tokens end (utf8_small more c.utf8.more) apart it recut;
+      recut = recut;
+      same = search rules;
+    }

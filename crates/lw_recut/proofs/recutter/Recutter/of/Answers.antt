@@ -4,46 +4,46 @@ use Rattle.lw_recut.specs.Recut.{IsSurePlace}
 use Rattle.lw_recut.proofs.Behind.{end_made, sure_parted}
 use Rattle.lw_recut.proofs.Small.{utf8_small}
 use Rattle.lw_recut.proofs.recutter.Recutter.of.Goals as goal
+use Rattle.lw_recut.proofs.recutter.Recutter.of.Goals.{In_ok-text}
+
+-- the end of the text, from where its tokens may change
+module _ (c : In_ok-text) where
+  text_is : c.in_ok-text.text ≡ drop c.sure_place-from.result c.args.front.now
+  text_is = c.in_ok-text.ensures ∙ c.range_from.ensures.value ∙ ap (λ (text : List ℕ). drop c.sure_place-from.result text) c.text.ensures.text
+
+  sure : IsSurePlace c.args.set.now.lexicon c.args.front.now c.args.tokens.now c.sure_place-from.result
+  sure = c.sure_place-from.ensures.sure c.args.set.now.lexicon (sym c.keywords-keywords.ensures.keywords) c.in_ok-nfas.ensures c.requires.cut
 
 pub range_from-requires : goal.range_from-requires
 range_from-requires c = λ some. subst (λ (text : List ℕ). IsCharBoundary text c.sure_place-from.result) (sym c.text.ensures.text) c.sure_place-from.ensures.boundary
 
 pub own_tokens-requires-clause-short : goal.own_tokens-requires-clause-short
 own_tokens-requires-clause-short c =
-    let from = c.sure_place-from.result in
     omega (
       arith,
       c.requires.short,
-      length-drop from c.args.front.now,
-      ap length (c.in_ok-text.ensures ∙ c.range_from.ensures.value ∙ ap (λ (text : List ℕ). drop from text) c.text.ensures.text),
+      length-drop c.sure_place-from.result c.args.front.now,
+      ap length (text_is (goal.at.own_tokens-requires-clause-short c).In_ok-text),
     )
 
 pub own_tokens-requires-clause-cut : goal.own_tokens-requires-clause-cut
 own_tokens-requires-clause-cut c =
     let front = c.args.front.now in
     let lexicon = c.args.set.now.lexicon in
-    let from = c.sure_place-from.result in
-    let sure : IsSurePlace lexicon front c.args.tokens.now from =
-    c.sure_place-from.ensures.sure lexicon (sym c.keywords-keywords.ensures.keywords) c.in_ok-nfas.ensures c.requires.cut in
-    let parted = sure_parted lexicon front c.args.tokens.now from c.keywords-keywords.ensures.kinds.keywords (utf8_small front c.text.ensures.utf8) sure c.requires.cut in
-    let text_is : c.in_ok-text.text ≡ drop from front = c.in_ok-text.ensures ∙ c.range_from.ensures.value ∙ ap (λ (text : List ℕ). drop from text) c.text.ensures.text in (
+    let before = (goal.at.own_tokens-requires-clause-cut c).In_ok-text in
+    let parted = sure_parted lexicon front c.args.tokens.now c.sure_place-from.result c.keywords-keywords.ensures.kinds.keywords (utf8_small front c.text.ensures.utf8)
+    (sure before) c.requires.cut in (
       parted.others,
       subst (λ set. IsCut set.lexicon c.in_ok-text.text parted.others) (sym c.in_ok-lexer.ensures)
-          (subst (λ (text : List ℕ). IsCut lexicon text parted.others) (sym text_is) parted.cut),
+          (subst (λ (text : List ℕ). IsCut lexicon text parted.others) (sym (text_is before)) parted.cut),
     )
 
 pub returns-clause-end : goal.returns-clause-end
 returns-clause-end c =
     let front = c.args.front.now in
-    let lexicon = c.args.set.now.lexicon in
-    let from = c.sure_place-from.result in
-    let sure : IsSurePlace lexicon front c.args.tokens.now from =
-    c.sure_place-from.ensures.sure lexicon (sym c.keywords-keywords.ensures.keywords) c.in_ok-nfas.ensures c.requires.cut in
-    let text_is : c.in_ok-text.text ≡ drop from front = c.in_ok-text.ensures ∙ c.range_from.ensures.value ∙ ap (λ (text : List ℕ). drop from text) c.text.ensures.text in
-    let kept : c.own_tokens.new.lexer ≡ c.args.set.now = c.own_tokens.ensures.same ∙ c.in_ok-lexer.ensures in
-    let cut : IsCut lexicon (drop from front) c.in_ok-tokens.tokens.items =
-    subst (λ (text : List ℕ). IsCut lexicon text c.in_ok-tokens.tokens.items) text_is
-    (subst (λ set. IsCut set.lexicon c.in_ok-text.text c.in_ok-tokens.tokens.items) c.in_ok-lexer.ensures c.in_ok-tokens.ensures.cut) in
-    end_made lexicon front c.args.tokens.now from c.keywords-keywords.ensures.kinds.keywords (utf8_small front c.text.ensures.utf8) sure c.requires.cut
-    (record { lexicon = c.own_tokens.new.lexer.lexicon; text = c.in_ok-text.text; tokens = c.in_ok-tokens.tokens.items; from = from })
-    (ap (λ set. set.lexicon) kept) text_is refl cut
+    let before = (goal.at.returns-clause-end c).In_ok-text in
+    end_made c.args.set.now.lexicon front c.args.tokens.now c.sure_place-from.result c.keywords-keywords.ensures.kinds.keywords
+    (utf8_small front c.text.ensures.utf8) (sure before) c.requires.cut
+    (record { lexicon = c.own_tokens.new.lexer.lexicon; text = c.in_ok-text.text; tokens = c.in_ok-tokens.tokens.items; from = c.sure_place-from.result })
+    (ap (λ set. set.lexicon) (c.own_tokens.ensures.same ∙ c.in_ok-lexer.ensures)) (text_is before) refl
+    (subst (λ set. IsCut set.lexicon c.in_ok-text.text c.in_ok-tokens.tokens.items) (sym c.own_tokens.ensures.same) c.in_ok-tokens.ensures.cut)

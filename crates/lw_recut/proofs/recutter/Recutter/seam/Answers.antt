@@ -1,11 +1,15 @@
-use Rattle.std.proofs.Common.{ℕ, ◌≡◌, ◌<◌, ◌++◌, List, All, IfSome, length, sym, ap, ◌∙◌, subst, append-nil, append_assoc}
+use Rattle.std.proofs.Common.{ℕ, ◌≡◌, ◌<◌, ◌++◌, List, All, length, sym, ap, ◌∙◌, subst, append-nil}
+use Rattle.lw_base.specs.declared.token.Token.{Token}
 use Rattle.lw_foresee.specs.Nfas.{AreNfas}
 use Rattle.lw_tokens.specs.Cut.{IsCutTo}
-use Rattle.lw_recut.specs.Recut.{IsCrossed, IsEndOf, IsRecut, RecutterParts, added_behind}
+use Rattle.lw_tokens.specs.Lexicon.{Lexicon}
+use Rattle.lw_recut.specs.Recut.{IsCrossed, IsEndOf, IsRecut, RecutterParts}
 use Rattle.lw_recut.specs.declared.seam.Seam.TheVariants.{Crossed, Meets}
-use Rattle.lw_recut.proofs.Behind.{is_crossed, meets, small_there}
+use Rattle.lw_recut.proofs.Automata.{lent_automata}
+use Rattle.lw_recut.proofs.Behind.{is_crossed, looked_at, meets}
 use Rattle.lw_recut.proofs.Small.{emptied, utf8_small}
 use Rattle.lw_recut.proofs.recutter.Recutter.seam.Goals as goal
+use Rattle.lw_recut.proofs.recutter.Recutter.seam.Goals.{After-seam_of}
 
 pub returns-then-is_empty-clause-meets : goal.returns-then-is_empty-clause-meets
 returns-then-is_empty-clause-meets c front more tokens is end small recut =
@@ -15,45 +19,36 @@ returns-then-is_empty-clause-meets c front more tokens is end small recut =
     meets c.args.self.now front more rest tokens end small (utf8_small rest c.utf8.rest) it recut
     (subst (λ (text : List ℕ). IsCutTo c.args.self.now.lexicon text (length it.text) it.tokens.items) (sym none) recut.cut)
 
+-- what is told of the end and the beginning of what follows, whatever is behind, is so of all that follows
+so_of_all : (c : After-seam_of) (front more : List ℕ) (tokens : List Token) → IsEndOf c.args.self.now front tokens → All (λ b. b < 256) more →
+    IsRecut c.args.self.now more c.args.it.now → (Holds : Lexicon → List ℕ → Type 0) →
+    ((others : List ℕ) → c.self.inside.keywords.now ≡ c.self.inside.lexer.lexicon.keywords → AreNfas c.self.inside.lexer.lexicon.terminals c.as_slice.result.now →
+    All (λ b. b < 256) (c.text-2.result.now ++ others) → Holds c.self.inside.lexer.lexicon (c.text-2.result.now ++ others)) →
+    Holds c.args.self.now.lexicon (c.args.it.now.text ++ c.args.rest.now)
+so_of_all c front more tokens end small recut Holds told =
+    let rest = c.args.rest.now in
+    let lexicon = c.self.inside.lexer.lexicon in
+    let (others, split) = c.beginning.ensures in
+    looked_at c.args.self.now front more rest tokens end small (utf8_small rest c.utf8.rest) c.args.it.now recut Holds lexicon
+    (ap (λ (parts : RecutterParts). parts.lexicon) c.self.view_is) c.text-2.result.now c.beginning.result.now others
+    (c.text-2.ensures.text ∙ c.in_ok-text.ensures) split
+    (told others c.self.invariant.same
+    (lent_automata lexicon.terminals _ c.in-Some.nfas c.as_slice.result.now c.in-Some.is c.as_slice.ensures.value c.self.invariant.automata))
+
 pub returns-clause-meets : goal.returns-clause-meets
 returns-clause-meets c front more tokens is end small recut =
     let it = c.args.it.now in
     let rest = c.args.rest.now in
-    let inside = c.self.inside in
-    let parts : RecutterParts = record { lexicon = inside.lexer.lexicon; text = inside.text; tokens = inside.tokens.items; from = inside.from } in
-    let (others, split) = c.beginning.ensures in
-    let text = c.text-2.result.now in
-    let same : text ++ others ≡ it.text ++ rest =
-    ap (λ (xs : List ℕ). xs ++ others) (c.text-2.ensures.text ∙ c.in_ok-text.ensures) ∙ append_assoc it.text c.beginning.result.now others
-    ∙ ap (λ (xs : List ℕ). it.text ++ xs) (sym split) in
-    let are : AreNfas parts.lexicon.terminals c.as_slice.result.now =
-    subst (AreNfas parts.lexicon.terminals) (sym c.as_slice.ensures.value)
-    (subst (λ found. IfSome found (λ nfas. AreNfas parts.lexicon.terminals nfas.items)) c.in-Some.is c.self.invariant.automata) in
     let told : c.seam_of.result ≡ Meets = cc in
-    subst (λ (p : RecutterParts). IsEndOf p front tokens → IsRecut p more it →
-    IsCutTo p.lexicon (front ++ more ++ rest) (length (front ++ more)) (tokens ++ added_behind it)) c.self.view_is
-    (λ end recut. meets parts front more rest tokens end small (utf8_small rest c.utf8.rest) it recut
-    (subst (λ (t : List ℕ). IsCutTo parts.lexicon t (length it.text) it.tokens.items) same
-    (c.seam_of.ensures.meets others told c.self.invariant.same are
-    (subst (All (λ b. b < 256)) (sym same) (small_there parts front more rest tokens end small (utf8_small rest c.utf8.rest) it recut))))) end recut
+    meets c.args.self.now front more rest tokens end small (utf8_small rest c.utf8.rest) it recut
+    (so_of_all (goal.at.returns-clause-meets c).After-seam_of front more tokens end small recut (λ (lexicon : Lexicon) (text : List ℕ). IsCutTo lexicon text (length it.text) it.tokens.items)
+    (λ others. c.seam_of.ensures.meets others told))
 
 pub returns-clause-crossed : goal.returns-clause-crossed
 returns-clause-crossed c front more tokens is end small recut =
     let it = c.args.it.now in
     let rest = c.args.rest.now in
-    let inside = c.self.inside in
-    let parts : RecutterParts = record { lexicon = inside.lexer.lexicon; text = inside.text; tokens = inside.tokens.items; from = inside.from } in
-    let (others, split) = c.beginning.ensures in
-    let text = c.text-2.result.now in
-    let same : text ++ others ≡ it.text ++ rest =
-    ap (λ (xs : List ℕ). xs ++ others) (c.text-2.ensures.text ∙ c.in_ok-text.ensures) ∙ append_assoc it.text c.beginning.result.now others
-    ∙ ap (λ (xs : List ℕ). it.text ++ xs) (sym split) in
-    let are : AreNfas parts.lexicon.terminals c.as_slice.result.now =
-    subst (AreNfas parts.lexicon.terminals) (sym c.as_slice.ensures.value)
-    (subst (λ found. IfSome found (λ nfas. AreNfas parts.lexicon.terminals nfas.items)) c.in-Some.is c.self.invariant.automata) in
     let told : c.seam_of.result ≡ Crossed = cc in
-    subst (λ (p : RecutterParts). IsEndOf p front tokens → IsRecut p more it → IsCrossed p.lexicon (front ++ more ++ rest) (length (front ++ more))) c.self.view_is
-    (λ end recut. is_crossed parts front more rest tokens end small (utf8_small rest c.utf8.rest) it recut
-    (subst (λ (t : List ℕ). IsCrossed parts.lexicon t (length it.text)) same
-    (c.seam_of.ensures.crossed others told c.self.invariant.same are
-    (subst (All (λ b. b < 256)) (sym same) (small_there parts front more rest tokens end small (utf8_small rest c.utf8.rest) it recut))))) end recut
+    is_crossed c.args.self.now front more rest tokens end small (utf8_small rest c.utf8.rest) it recut
+    (so_of_all (goal.at.returns-clause-crossed c).After-seam_of front more tokens end small recut (λ (lexicon : Lexicon) (text : List ℕ). IsCrossed lexicon text (length it.text))
+    (λ others. c.seam_of.ensures.crossed others told))

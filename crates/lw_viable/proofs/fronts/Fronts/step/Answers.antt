@@ -1,5 +1,5 @@
 -- A hidden token, and one that is read.
-use Rattle.std.proofs.Common.{◌≡◌, ◌↔◌, ℕ, List, [], ◌∷◌, ◌++◌, IsTrue, false, not, map, length, vec_len, if◌then◌else◌, refl, sym, ap, ◌∙◌, subst}
+use Rattle.std.proofs.Common.{◌≡◌, ◌↔◌, ℕ, List, [], ◌∷◌, ◌++◌, IsTrue, false, not, map, length, vec_len, if◌then◌else◌, sym, ap, ◌∙◌, subst}
 use Rattle.std.proofs.lemmas.List.{length-map}
 use Rattle.std.proofs.lemmas.Result.{err_from_is_err_and}
 use Rattle.lw_base.specs.declared.token.Token.{Token}
@@ -10,9 +10,9 @@ use Rattle.lw_program.specs.Says.{Task}
 use Rattle.lw_begins.specs.Told.{BeginsParts}
 use Rattle.lw_viable.specs.Aims.{Aim, Fulfils, BeginsSome}
 use Rattle.lw_viable.specs.Fronts.{IsKnownProgram, HoldReadings, seen}
-use Rattle.lw_viable.specs.Growing.{read}
+use Rattle.lw_viable.specs.Growing.{AreHeldIn, read}
 use Rattle.lw_viable.specs.Readings.{KeptReading, Keeps}
-use Rattle.lw_viable.proofs.Holding.{parts, still, by_known, held_begins}
+use Rattle.lw_viable.proofs.Holding.{by_known, held_begins, parts, still, with_own, with_same}
 use Rattle.lw_viable.proofs.fronts.Fronts.step.Goals as goal
 
 -- the readings that were found
@@ -43,16 +43,21 @@ returns-in_err-self-inside-clause-refused c =
 
 pub returns-clause-readings : goal.returns-clause-readings
 returns-clause-readings c g kinds tasks aim ks hold within =
-    next_readings c.args.token (subst (HoldReadings g kinds tasks aim ks) (sym c.self.view_is) hold) c.if-token.false
+    let own = with_same c.sought-sought.ensures.program c.sought-sought.ensures.begins c.self.view_is in
+    let next = map (read c.explore.new.lists) c.in_ok-self-inside.field-0.items in
+    subst (HoldReadings g kinds tasks aim (seen ks c.args.token)) (with_own c.sought-sought.ensures.program c.sought-sought.ensures.begins c.self.view_is next)
+    (next_readings c.args.token (subst (HoldReadings g kinds tasks aim ks) (sym own) hold) c.if-token.false
     (λ known keeps.
-    c.in_ok-self-inside.ensures.keeps g kinds aim ks c.args.token.kind known refl within
-    (subst (λ kept. Keeps g kinds known.program.tasks (Fulfils g kinds known.program.tasks aim) ks (map (read c.self.inside.lists) kept)) (sym c.as_slice.ensures.value) keeps))
+    c.in_ok-self-inside.ensures.keeps g kinds aim ks c.args.token.kind known c.sought-sought.ensures.kind within
+    (subst (AreHeldIn g kinds known.program.tasks aim ks c.self.inside.lists) (sym c.as_slice.ensures.value) keeps)))
 
 pub returns-clause-starts : goal.returns-clause-starts
 returns-clause-starts c g kinds tasks aim ks hold within supplied =
-    let next = next_readings c.args.token (subst (HoldReadings g kinds tasks aim ks) (sym c.self.view_is) hold) c.if-token.false
+    let own = with_same c.sought-sought.ensures.program c.sought-sought.ensures.begins c.self.view_is in
+    let next =
+    next_readings c.args.token (subst (HoldReadings g kinds tasks aim ks) (sym own) hold) c.if-token.false
     (λ known keeps.
-    c.in_ok-self-inside.ensures.keeps g kinds aim ks c.args.token.kind known refl within
-    (subst (λ kept. Keeps g kinds known.program.tasks (Fulfils g kinds known.program.tasks aim) ks (map (read c.self.inside.lists) kept)) (sym c.as_slice.ensures.value) keeps)) in
+    c.in_ok-self-inside.ensures.keeps g kinds aim ks c.args.token.kind known c.sought-sought.ensures.kind within
+    (subst (AreHeldIn g kinds known.program.tasks aim ks c.self.inside.lists) (sym c.as_slice.ensures.value) keeps)) in
     held_begins _ next c.is_empty-2.result (vec_len c.in_ok-self-inside.field-0) supplied c.is_empty-2.ensures
     (c.in_ok-self-inside.field-0.ok.0 ∙ sym (length-map c.in_ok-self-inside.field-0.items (read c.explore.new.lists)))

@@ -2,7 +2,7 @@
 use Rattle.std.proofs.Common.{List, [], ◌∷◌, get_or, map, take, sym, ap, ◌∙◌, subst, subst₂, true≢false}
 use Rattle.std.proofs.lemmas.List.{map-append, take_all, take_more}
 use Rattle.lw_recipes.specs.declared.mark.TreeMark.{TreeMark}
-use Rattle.lw_viable.specs.Growing.{read}
+use Rattle.lw_viable.specs.Growing.{marks_of_each, read}
 use Rattle.lw_viable.specs.Visiting.{AreEnded}
 use Rattle.lw_viable.specs.declared.front.Front.{Front}
 use Rattle.lw_viable.proofs.EndsNext.{ended_push, ended_pass}
@@ -34,5 +34,5 @@ loop-front-preserved c =
 
 pub returns : goal.returns
 returns c =
-    subst (λ fronts. AreEnded (map (λ front. (read c.args.self.now front).marks) fronts) c.loop-front.all.items)
+    subst (λ fronts. AreEnded (marks_of_each c.args.self.now fronts) c.loop-front.all.items)
     (take_all c.loop-front.front-index c.args.fronts.now c.loop-front-test.false) c.loop-front.invariant

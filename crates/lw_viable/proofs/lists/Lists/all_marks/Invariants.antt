@@ -1,7 +1,7 @@
 -- Those of the readings so far.
-use Rattle.std.proofs.Common.{◌≡◌, map, take}
-use Rattle.lw_viable.specs.Growing.{read}
+use Rattle.std.proofs.Common.{◌≡◌, take}
+use Rattle.lw_viable.specs.Growing.{marks_of_each}
 use Rattle.lw_viable.proofs.lists.Lists.all_marks.Given as goal
 
 abbrev pub invariant-loop-front : goal.invariant-loop-front
-invariant-loop-front l = l.all.items ≡ map (λ front. (read l.self front).marks) (take l.front-index l.fronts)
+invariant-loop-front l = l.all.items ≡ marks_of_each l.self (take l.front-index l.fronts)

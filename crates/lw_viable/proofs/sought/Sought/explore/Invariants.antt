@@ -5,8 +5,7 @@ use Rattle.lw_grammar.specs.declared.grammar.Grammar.{Grammar}
 use Rattle.lw_grammar.specs.Kinds.{Kinds, kind_count}
 use Rattle.lw_viable.specs.Aims.{Aim, Fulfils}
 use Rattle.lw_viable.specs.Fronts.{IsKnownProgram}
-use Rattle.lw_viable.specs.Growing.{GrowsLists, HasLists, read, fronts_weight}
-use Rattle.lw_viable.specs.Readings.{Keeps}
+use Rattle.lw_viable.specs.Growing.{AreHeldIn, GrowsLists, HasLists, read, fronts_weight}
 use Rattle.lw_viable.proofs.Exploring.{IsExploring}
 use Rattle.lw_viable.proofs.sought.Sought.explore.Given as goal
 
@@ -16,7 +15,7 @@ invariant-turns l = record {
   within : All (HasLists l.lists) l.work.items;
   found_within : All (HasLists l.lists) l.found.items;
   explored : (g : Grammar) (kinds : Kinds) (aim : Aim) (ks : List ℕ) (kind : KindId) (known : IsKnownProgram g kinds l.self.program.now l.self.begins.now) →
-      l.self.kind ≡ Some kind → kind.0 < kind_count kinds → Keeps g kinds known.program.tasks (Fulfils g kinds known.program.tasks aim) ks (map (read l.fn.lists) l.kept) →
+      l.self.kind ≡ Some kind → kind.0 < kind_count kinds → AreHeldIn g kinds known.program.tasks aim ks l.fn.lists l.kept →
       IsExploring g kinds known (Fulfils g kinds known.program.tasks aim) ks kind (map (read l.lists) l.work.items) (map (read l.lists) l.found.items);
 }
 

@@ -1,0 +1,18 @@
+use Rattle.std.proofs.Common.{◌≡◌, ◌-◌, length, All, IsCharBoundary}
+use Rattle.lw_tokens.specs.Cut.{IsCutTo}
+use Rattle.lw_tokens.specs.Keywords.{AreKeywords}
+use Rattle.lw_lexer.specs.TokenPlaces.{IsTokenPlace}
+use Rattle.lw_lexer.proofs.lexer.Lexer.cut.Given as goal
+
+abbrev pub invariant-cutting : goal.invariant-cutting
+invariant-cutting l = record {
+  set : l.self-inside.set.now ≡ l.fn.self;
+  keywords : AreKeywords l.fn.self.lexicon.keywords;
+  matchers : l.self-inside.matchers.items ≡ l.self-inside.set.now.lexicon.terminals;
+  boundary : IsCharBoundary l.text l.at;
+  cut : IsCutTo l.fn.self.lexicon l.text l.at l.tokens.items;
+  places : All (IsTokenPlace l.text) l.tokens.items;
+}
+
+abbrev pub decreases-cutting : goal.decreases-cutting
+decreases-cutting l = length l.text - l.at

@@ -1,0 +1,4 @@
+mod Addresses
+mod Behind
+mod Lengths
+mod States

@@ -1,0 +1,24 @@
+//! A generated workspace: the addresses, the texts and the edits of documents that are made from their numbers
+//! alone, for whoever wants a workspace of some size to measure by.
+//!
+//! Its model: a document is its number, below the number of all; an address and a text are their lists of bytes,
+//! and an edit is what a client would send. `specs/Made.antt` says what each of them is.
+//!
+//! It promises that the calls give exactly what is defined and fail only for want of memory, that no two documents
+//! have one address, how long the texts are, and that each edit is on a document of the workspace and goes between
+//! two of its lines.
+#![tactic(auto)]
+
+mod documents;
+mod edits;
+mod laws;
+
+pub use documents::{GREATEST_WORKSPACE, LONGEST_MADE_TEXT, STATES, made_address, made_text};
+pub use edits::{DOCUMENTS_PER_EDIT, MadeEdit, edit_count, made_edit};
+pub use laws::{
+    addresses_are_distinct, documents_written_out, edits_go_behind_the_model,
+    texts_have_their_lengths,
+};
+
+#[cfg(test)]
+mod tests;
