@@ -10,6 +10,3 @@ mod findings;
 mod told;
 
 pub use findings::Findings;
-
-#[cfg(test)]
-mod tests;

@@ -21,6 +21,3 @@ mod value;
 pub use body::{BodyLeaf, body_leaves};
 pub use terms::{TermRange, term_calls, term_ranges};
 pub use value::{ValuePart, value_parts};
-
-#[cfg(test)]
-mod tests;

@@ -28,6 +28,3 @@ mod standing;
 pub use called::Called;
 pub use declares::Declares;
 pub use numbers::Numbers;
-
-#[cfg(test)]
-mod tests;
