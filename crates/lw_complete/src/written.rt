@@ -128,10 +128,11 @@ pub(crate) fn gives(
         HasTask g of tasks start.now.value → AreOfKinds of added.now →
         IfOk result (λ given. IsTrue given ↔ EndsSome (PlacesGive g of tasks (start.now.value ∷ [])) (kinds (visible added.now))) }
 {
-    match only_token(parser.program(), start.value) {
-        Some(kind) => are_only(alloc, added, kind),
-        None => are_read(alloc, parser, start, added),
+    if let Some(kind) = only_token(parser.program(), start.value) {
+        return are_only(alloc, added, kind);
     }
+    let fronts = read_over(alloc, parser, &[start.value], added)?;
+    Ok(fronts.complete())
 }
 
 /// Whether one of the tokens is of this kind, and the others are hidden.
@@ -146,23 +147,6 @@ fn is_one(tokens: &[Token], kind: KindId) -> bool
     ensures { IsTrue result ↔ (kinds tokens.now ≡ kind.0 ∷ []) }
 {
     matches!(tokens, [token] if token.kind == kind)
-}
-
-/// Whether the tokens are what the value of this start may read, by all readings of them.
-fn are_read(
-    alloc: Global,
-    parser: &Parser,
-    start: &ReferenceStart,
-    added: &[Token],
-) -> Result<bool, NoMemory>
-    requires known { (g : Grammar) × (of : Kinds) × (tasks : List Task) × IsProgramWith g of tasks parser.now.program parser.now.begins
-        × HasTask g of tasks start.now.value × AreOfKinds of added.now }
-    ensures { (g : Grammar) (of : Kinds) (tasks : List Task) → IsProgramWith g of tasks parser.now.program parser.now.begins →
-        HasTask g of tasks start.now.value → AreOfKinds of added.now →
-        IfOk result (λ given. IsTrue given ↔ EndsSome (PlacesGive g of tasks (start.now.value ∷ [])) (kinds (visible added.now))) }
-{
-    let fronts = read_over(alloc, parser, &[start.value], added)?;
-    Ok(fronts.complete())
 }
 
 /// Whether the visible ones of the tokens say the name, in the form in which the start's value is looked up.
