@@ -1,0 +1,30 @@
+-- The addresses of files, and their paths.
+-- RFC 8089, "The file URI Scheme"; RFC 3986, "Percent-Encoding", "Query" and "Fragment".
+use Rattle.std.specs.Prelude.{ℕ, ◌≡◌, List, [], ◌∷◌, ◌++◌, Contains, codes}
+use Rattle.std.specs.Str.{IsUtf8}
+use Rattle.percent_encoding.specs.Percent.{percent_decode, percent_encode}
+use Rattle.lw_paths.specs.declared.paths.TheConstants.{ESCAPED}
+
+-- what stands before a query or a fragment: up to the first `?`, which is 63, or `#`, which is 35
+abbrev pub before_query : List ℕ → List ℕ
+before_query [] = []
+before_query (63 ∷ rest) = []
+before_query (35 ∷ rest) = []
+before_query (byte ∷ rest) = byte ∷ before_query rest
+
+-- The address has this path: what stands behind `file://`, from a slash on and before a query or a fragment, with its escapes read, where that is
+-- UTF-8 and has no byte 0, which no path of a file has.
+pub record IsPathOf (address path : List ℕ) : Type 0 where
+  pub behind : List ℕ
+  pub begins : address ≡ codes "file:///" ++ behind
+  pub decoded : path ≡ percent_decode (codes "/" ++ before_query behind)
+  pub utf8 : IsUtf8 path
+  pub nonzero : ¬ Contains path 0
+
+-- the address has no path
+abbrev pub HasNoPath : List ℕ → Type 0
+HasNoPath address = (path : List ℕ) → ¬ IsPathOf address path
+
+-- the address of a file whose path begins with a slash: every byte but ASCII letters, digits and `/`, `-`, `.`, `_` and `~` is escaped
+abbrev pub address_of : List ℕ → List ℕ
+address_of path = codes "file://" ++ percent_encode ESCAPED path
