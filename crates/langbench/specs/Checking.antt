@@ -9,7 +9,7 @@ use Rattle.lw_lang.specs.Compiled.{HoldsGrammar, IsClear, Causes}
 use Rattle.langbench.specs.declared.report.Verdict.{Verdict}
 use Rattle.langbench.specs.declared.report.Verdict.TheVariants.{Whole, Broken}
 use Rattle.langbench.specs.declared.stop.Stop.{Stop}
-use Rattle.langbench.specs.declared.stop.Stop.TheVariants.{Words, Grammar, Read, Write, Memory, Frames, Limit}
+use Rattle.langbench.specs.declared.stop.Stop.TheVariants.{Words, Grammar, File, Read, Write, Memory, Frames, Limit}
 use Rattle.langbench.specs.Checked.{Checked, ok_line}
 
 -- how many bytes of a document are read at most: one more than it may have
@@ -61,6 +61,7 @@ module _ (files : Files) (path : List ℕ) (k : ℕ) (held : List ℕ) where
     CheckComesTo (Ok Broken) = (output : List ℕ) × Prints output × (output ≢ ok_line) × ReadsDocument held after × Appends old new output
     CheckComesTo (Err Words) = ⊥
     CheckComesTo (Err (Grammar found)) = Causes files path k refused found × Keeps (Some held) after × Keeps old new
+    CheckComesTo (Err (File found)) = ⊥
     CheckComesTo (Err Read) = TakesFewer (Some held) after most_read × Keeps old new
     CheckComesTo (Err Write) = ReadsDocument held after × WritesSome old new
     CheckComesTo (Err Memory) = StopsShort

@@ -3,7 +3,9 @@ pub mod Checked
 pub mod Reports
 pub mod Stops
 pub mod Checking
+pub mod Named
 pub mod Serving
+pub mod Making
 pub mod Notes
 pub mod Talking
 pub mod Run

@@ -23,6 +23,8 @@ use Rattle.lw_lang.specs.declared.told_look.ToldLookFault.{ToldLookFault}
 use Rattle.lw_lang.specs.declared.told_look.ToldLookFault.TheVariants as look
 use Rattle.lw_lang.specs.declared.fault.CompileFault.{CompileFault}
 use Rattle.lw_lang.specs.declared.fault.CompileFault.TheVariants as fault
+use Rattle.langbench.specs.declared.named.FileFault.{FileFault}
+use Rattle.langbench.specs.declared.named.FileFault.TheVariants as file
 use Rattle.langbench.specs.declared.report.Verdict.{Verdict}
 use Rattle.langbench.specs.declared.stop.Stop.{Stop}
 use Rattle.langbench.specs.declared.stop.Stop.TheVariants as stop
@@ -120,10 +122,18 @@ fault_line path (fault.Term told) = term_line path told
 fault_line path (fault.Look told) = look_line path told
 fault_line path fault.NoMemory = memory_line
 
+-- why a file that the words name was not read
+abbrev pub unread_line : FileFault → List ℕ
+unread_line (file.Absent path) = file_line path (codes "absent")
+unread_line (file.NotUtf8 path) = file_line path (codes "not UTF-8")
+unread_line (file.TooLong path) = file_line path (codes "too long")
+unread_line (file.Failed path) = file_line path (codes "failed")
+
 -- why a run stopped, where this is the path of the grammar that its words name
 abbrev pub IsStopLine : Option (List ℕ) → Stop → List ℕ → Type 0
 IsStopLine path stop.Words output = output ≡ usage_line
 IsStopLine path (stop.Grammar found) output = IfSome path (λ p. output ≡ fault_line p found)
+IsStopLine path (stop.File found) output = output ≡ unread_line found
 IsStopLine path stop.Read output = output ≡ read_line
 IsStopLine path stop.Write output = output ≡ write_line
 IsStopLine path stop.Memory output = output ≡ memory_line

@@ -11,9 +11,11 @@ use Rattle.langbench.specs.declared.stop.Stop.TheVariants.{Words}
 use Rattle.lw_load.specs.Loading.{Files}
 use Rattle.langbench.specs.Checking.{CheckComesTo, CheckDone, IsCaused}
 use Rattle.langbench.specs.Notes.{NotesOutcome, NotesOutcomePart}
+use Rattle.langbench.specs.Making.{MakeComesTo, MakeDone}
+use Rattle.langbench.specs.Named.{AreNamed}
 use Rattle.langbench.specs.Serving.{ServeComesTo, ServeDone, IsSession}
 use Rattle.langbench.specs.Stops.{Object, TheSource, TheSink, TheStore, ThePatterns, Counts, EndsWith}
-use Rattle.langbench.specs.Words.{IsCheck, IsServe, IsNoCommand, NamesFile}
+use Rattle.langbench.specs.Words.{IsCheck, IsServe, IsMake, IsNoCommand, NamesFile}
 
 -- how often each object had failed, before the run and behind it
 pub record Faults : Type 0 where
@@ -46,8 +48,10 @@ module _ (words : List (List ℕ)) (w : Work) where
   pub record ComesTo (outcome : Result Verdict Stop) : Type 0 where
     pub check : (path : List ℕ) (k : ℕ) → IsCheck words path k → IfSome w.files (λ files. IfSome w.left.0 (λ held.
         CheckComesTo files path k held w.refused w.left.1 w.written.0 w.written.1 outcome))
-    pub serve : (path : List ℕ) (k : ℕ) → IsServe words path k → IfSome w.files (λ files.
-        ServeComesTo files path k w.refused w.left.0 w.left.1 w.written.0 w.written.1 outcome)
+    pub serve : (path : List ℕ) (paths : List (List ℕ)) (k : ℕ) → IsServe words path paths k → IfSome w.files (λ files.
+        ServeComesTo files path paths k w.refused w.left.0 w.left.1 w.written.0 w.written.1 outcome)
+    pub make : (path : List ℕ) (count k : ℕ) → IsMake words path count k → Keeps w.left.0 w.left.1 × IfSome w.files (λ files.
+        MakeComesTo files path k count w.refused w.written.0 w.written.1 outcome)
     pub none : IsNoCommand words → (outcome ≡ Err Words) × Keeps w.left.0 w.left.1 × Keeps w.written.0 w.written.1
     -- a command does not stop for its words
     pub unnamed : outcome ≡ Err Words → IsNoCommand words
@@ -70,13 +74,21 @@ module _ (words : List (List ℕ)) (w : Work) where
   ChecksAll code = (path : List ℕ) (k : ℕ) → IsCheck words path k → IfSome w.files (λ files. IfSome w.left.0 (λ held. (g : plain.Grammar) → HoldsGrammar files path g → IsClear g k →
       NoneRose w.faults → CheckDone g held w.written.0 w.written.1 code))
 
-  -- and where what the source holds begins with a session that ends with `exit` behind `shutdown`, it is answered whole, or memory was refused
+  -- and where the files that are named are texts, and what the source holds begins with a session over them that ends with `exit` behind `shutdown`, it is answered
+  -- whole, or memory was refused
   abbrev pub ServesAll : ℕ → Type 0
-  ServesAll code = (path : List ℕ) (k : ℕ) → IsServe words path k → IfSome w.files (λ files. IfSome w.left.0 (λ held. (g : plain.Grammar) (replies : List Reply) →
-      HoldsGrammar files path g → IsClear g k → IsSession g held replies → NoneRose w.faults → ServeDone replies w.written.0 w.written.1 code))
+  ServesAll code = (path : List ℕ) (paths : List (List ℕ)) (k : ℕ) → IsServe words path paths k → IfSome w.files (λ files. IfSome w.left.0 (λ held. (g : plain.Grammar)
+      (named : List (List ℕ × List ℕ)) (replies : List Reply) → HoldsGrammar files path g → IsClear g k → AreNamed files paths named → IsSession g named held replies →
+      NoneRose w.faults → ServeDone replies w.written.0 w.written.1 code))
+
+  -- and the summary is written, or memory was refused
+  abbrev pub MakesAll : ℕ → Type 0
+  MakesAll code = (path : List ℕ) (count k : ℕ) → IsMake words path count k → IfSome w.files (λ files. (g : plain.Grammar) → HoldsGrammar files path g → IsClear g k →
+      NoneRose w.faults → MakeDone g count w.written.0 w.written.1 code)
 
   -- all that is claimed of a run
   pub record Runs (notes : Option (List ℕ) × Option (List ℕ)) (failures : ℕ × ℕ) (code : ℕ) : Type 0 where
     pub ends : Ends notes failures code
     pub checks_all : ChecksAll code
     pub serves_all : ServesAll code
+    pub makes_all : MakesAll code

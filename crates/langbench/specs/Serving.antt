@@ -1,4 +1,4 @@
--- What `serve` takes and writes, by its outcome: the session over the bytes that were taken from the source, and its replies.
+-- What `serve` takes and writes, by its outcome: the session over the files that are named and the bytes that were taken from the source, and its replies.
 -- Language Server Protocol 3.17, "Base Protocol" and "Server lifecycle".
 use Rattle.std.specs.Prelude.{ℕ, ◌≡◌, ◌<◌, ◌≤◌, ◌⊎◌, List, [], ◌∷◌, ◌++◌, length, take, true, false, Option, Some, None, Result, Ok, Err}
 use Rattle.std.specs.Io.KnownBytes.{Appends, Consumes, IsAtEnd, Keeps}
@@ -18,12 +18,13 @@ use Rattle.langbench.specs.declared.report.Verdict.TheVariants.{Whole, Broken}
 use Rattle.langbench.specs.declared.stop.Stop.{Stop}
 use Rattle.langbench.specs.declared.stop.Stop.TheVariants as stop
 use Rattle.lw_load.specs.Loading.{Files}
+use Rattle.langbench.specs.Named.{AreNamed, IsFirstUnread}
 
 -- a front of the bytes was written, which may be all of them
 abbrev pub WritesPart : Option (List ℕ) → Option (List ℕ) → List ℕ → Type 0
 WritesPart old new bytes = (count : ℕ) × (count ≤ length bytes) × Appends old new (take count bytes)
 
-module _ (g : plain.Grammar) (before after old new : Option (List ℕ)) where
+module _ (g : plain.Grammar) (named : List (List ℕ × List ℕ)) (before after old new : Option (List ℕ)) where
   -- These bytes were taken from the source, no more than may be, and the replies to all their bodies were written, each in its frame.
   pub record Talked (taken : List ℕ) (ended : Ended) : Type 0 where
     pub standing : Standing
@@ -31,7 +32,7 @@ module _ (g : plain.Grammar) (before after old new : Option (List ℕ)) where
     pub replies : List Reply
     pub consumed : Consumes before after taken
     pub within : length taken ≤ LONGEST_SESSION
-    pub serves : Serves g (beginning []) (bodies_of taken) found standing replies ended
+    pub serves : Serves g (beginning named) (bodies_of taken) found standing replies ended
     pub written : Appends old new (framed replies)
 
   -- Some bytes were taken from the source, and a part of the replies to the first of their bodies was written.
@@ -45,7 +46,7 @@ module _ (g : plain.Grammar) (before after old new : Option (List ℕ)) where
     pub ended : Ended
     pub consumed : Consumes before after taken
     pub parts : bodies_of taken ≡ answered ++ others
-    pub serves : Serves g (beginning []) answered found standing replies ended
+    pub serves : Serves g (beginning named) answered found standing replies ended
     pub written : WritesPart old new (framed replies)
 
   -- the last of the bodies ended the session: those before it did not
@@ -56,7 +57,7 @@ module _ (g : plain.Grammar) (before after old new : Option (List ℕ)) where
     pub found : List (List Found)
     pub replies : List Reply
     pub parts : bodies_of taken ≡ earlier ++ last ∷ []
-    pub serves : Serves g (beginning []) earlier found standing replies No
+    pub serves : Serves g (beginning named) earlier found standing replies No
 
   -- the session is over, and nothing behind `exit` was taken
   abbrev pub Exited : Ended → Type 0
@@ -88,16 +89,17 @@ module _ (g : plain.Grammar) (before after old new : Option (List ℕ)) where
   Conversed (Ok Broken) = Exited Early ⊎ RanOut
   Conversed (Err stop.Words) = ⊥
   Conversed (Err (stop.Grammar found)) = ⊥
+  Conversed (Err (stop.File found)) = ⊥
   Conversed (Err stop.Read) = WasCutOff
   Conversed (Err stop.Write) = TalkedSome
   Conversed (Err stop.Memory) = TalkedSome
   Conversed (Err (stop.Frames found)) = WentWrong found
   Conversed (Err stop.Limit) = WasTooLong
 
--- by this grammar a session has one outcome, whatever bodies come: these are the only replies to them
+-- by this grammar a session has one outcome, whatever texts were put and whatever bodies come: these are the only replies to them
 abbrev pub HasOneOutcome : plain.Grammar → Type 0
-HasOneOutcome g = (bodies : List (List ℕ)) (found : List (List Found)) (t u : Standing) (p q : List Reply) (e f : Ended) →
-    Serves g (beginning []) bodies found t p e → Serves g (beginning []) bodies found u q f → (t ≡ u) × (p ≡ q) × (e ≡ f)
+HasOneOutcome g = (named : List (List ℕ × List ℕ)) (bodies : List (List ℕ)) (found : List (List Found)) (t u : Standing) (p q : List Reply) (e f : Ended) →
+    Serves g (beginning named) bodies found t p e → Serves g (beginning named) bodies found u q f → (t ≡ u) × (p ≡ q) × (e ≡ f)
 
 -- a fact of the grammar that the path holds, which is built
 pub record OfGrammar (files : Files) (path : List ℕ) (k : ℕ) (Fact : plain.Grammar → Type 0) : Type 0 where
@@ -107,23 +109,28 @@ pub record OfGrammar (files : Files) (path : List ℕ) (k : ℕ) (Fact : plain.G
   pub only : HasOneOutcome grammar
   pub fact : Fact grammar
 
-module _ (files : Files) (path : List ℕ) (k : ℕ) (refused before after old new : Option (List ℕ)) where
-  -- what was taken and written, and the cause of a fault of the grammar
+-- a fact of the session that begins with the texts of the files at these paths
+abbrev pub WithNamed : Files → List (List ℕ) → (List (List ℕ × List ℕ) → Type 0) → Type 0
+WithNamed files paths Fact = (named : List (List ℕ × List ℕ)) × AreNamed files paths named × Fact named
+
+module _ (files : Files) (path : List ℕ) (paths : List (List ℕ)) (k : ℕ) (refused before after old new : Option (List ℕ)) where
+  -- what was taken and written, and the cause of a fault of the grammar or of a file that is named
   abbrev pub ServeComesTo : Result Verdict Stop → Type 0
   ServeComesTo (Err (stop.Grammar found)) = Causes files path k refused found × Keeps before after × Keeps old new
-  ServeComesTo (Err stop.Memory) = Keeps old new ⊎ OfGrammar files path k (λ g. TalkedSome g before after old new)
-  ServeComesTo outcome = OfGrammar files path k (λ g. Conversed g before after old new outcome)
+  ServeComesTo (Err (stop.File found)) = OfGrammar files path k (λ g. IsFirstUnread files paths found) × Keeps before after × Keeps old new
+  ServeComesTo (Err stop.Memory) = Keeps old new ⊎ OfGrammar files path k (λ g. WithNamed files paths (λ named. TalkedSome g named before after old new))
+  ServeComesTo outcome = OfGrammar files path k (λ g. WithNamed files paths (λ named. Conversed g named before after old new outcome))
 
--- What the source holds begins with a session: frames up to an `exit` that comes after `shutdown`, fewer bytes of them than may be taken, and these are the
--- replies to them.
-pub record IsSession (g : plain.Grammar) (held : List ℕ) (replies : List Reply) : Type 0 where
+-- What the source holds begins with a session over the texts that are named: frames up to an `exit` that comes after `shutdown`, fewer bytes of them than may be
+-- taken, and these are the replies to them.
+pub record IsSession (g : plain.Grammar) (named : List (List ℕ × List ℕ)) (held : List ℕ) (replies : List Reply) : Type 0 where
   pub taken : List ℕ
   pub rest : List ℕ
   pub standing : Standing
   pub found : List (List Found)
   pub parts : held ≡ taken ++ rest
   pub short : length taken < LONGEST_SESSION
-  pub serves : Serves g (beginning []) (bodies_of taken) found standing replies Clean
+  pub serves : Serves g (beginning named) (bodies_of taken) found standing replies Clean
 
 -- such a session is answered whole, where nothing fails and there is memory
 pub data ServeDone (replies : List Reply) (old new : Option (List ℕ)) : ℕ → Type 0 where

@@ -12,10 +12,12 @@ use Rattle.lw_lang.specs.declared.told_term.ToldTermFault.{ToldTermFault}
 use Rattle.lw_lang.specs.declared.told_term.ToldTermFault.TheVariants as term
 use Rattle.lw_lang.specs.declared.fault.CompileFault.{CompileFault}
 use Rattle.lw_lang.specs.declared.fault.CompileFault.TheVariants as fault
+use Rattle.langbench.specs.declared.named.FileFault.{FileFault}
+use Rattle.langbench.specs.declared.named.FileFault.TheVariants as file
 use Rattle.langbench.specs.declared.report.Verdict.{Verdict}
 use Rattle.langbench.specs.declared.report.Verdict.TheVariants.{Whole, Broken}
 use Rattle.langbench.specs.declared.stop.Stop.{Stop}
-use Rattle.langbench.specs.declared.stop.Stop.TheVariants.{Words, Grammar, Read, Write, Memory, Frames, Limit}
+use Rattle.langbench.specs.declared.stop.Stop.TheVariants.{Words, Grammar, File, Read, Write, Memory, Frames, Limit}
 
 -- the objects that are handed to a run, and may fail
 pub data Object : Type 0 where
@@ -67,10 +69,16 @@ fault_blame (fault.Term told) = term_blame told
 fault_blame (fault.Look told) = Nobody
 fault_blame fault.NoMemory = Unsaid
 
+-- a file that the words name
+abbrev pub file_blame : FileFault → Blame
+file_blame (file.Failed path) = One TheStore
+file_blame _ = Nobody
+
 -- any stop
 abbrev pub code_of : Stop → ℕ
 code_of Words = 2
 code_of (Grammar found) = fault_code found
+code_of (File found) = 6
 code_of Read = 4
 code_of Write = 5
 code_of Memory = 7
@@ -80,6 +88,7 @@ code_of Limit = 10
 abbrev pub blame_of : Stop → Blame
 blame_of Words = Nobody
 blame_of (Grammar found) = fault_blame found
+blame_of (File found) = file_blame found
 blame_of Read = One TheSource
 blame_of Write = One TheSink
 blame_of Memory = Unsaid

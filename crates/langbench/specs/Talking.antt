@@ -27,7 +27,7 @@ in_frames bodies = flat_map frame_of bodies
 
 -- All that was taken was answered, and that is no more than may be: the stream is open and without a fault, each of its bodies was handed out and answered, and all
 -- replies were written.
-pub record IsUnderway (g : plain.Grammar) (before now old new : Option (List ℕ)) (stream : Stream) (standing : Standing) : Type 0 where
+pub record IsUnderway (g : plain.Grammar) (named : List (List ℕ × List ℕ)) (before now old new : Option (List ℕ)) (stream : Stream) (standing : Standing) : Type 0 where
   pub found : List (List Found)
   pub replies : List Reply
   pub going_on : stream.closed ≡ false
@@ -35,7 +35,7 @@ pub record IsUnderway (g : plain.Grammar) (before now old new : Option (List ℕ
   pub sound : fault_of stream.fed false ≡ None
   pub within : length stream.fed ≤ LONGEST_SESSION
   pub consumed : Consumes before now stream.fed
-  pub serves : Serves g (beginning []) (bodies_of stream.fed) found standing replies No
+  pub serves : Serves g (beginning named) (bodies_of stream.fed) found standing replies No
   pub written : Appends old new (framed replies)
 
 -- what was taken from the source and fed to the reader

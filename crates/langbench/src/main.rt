@@ -14,6 +14,8 @@
 ghost use Rattle.std.specs.Prelude.{◌≡◌, ◌<◌};
 
 mod desk;
+mod making;
+mod named;
 mod notes;
 mod place;
 mod report;

@@ -3,8 +3,9 @@ ghost use Rattle.std.specs.Prelude.{◌≡◌, ◌++◌, IfOk, IfSome, IsTrue, c
 ghost use Rattle.std.specs.Fmt.{decimal};
 ghost use Rattle.std.specs.Option.{option_copied};
 ghost use Rattle.lw_io.specs.Causes.{Rose};
-ghost use Rattle.langbench.specs.Notes.{file_line, placed_line, whole_line, refusal_text, load_line, problem_text, term_line, look_line, conflict_text, told_line, told_lines, fault_line, frame_line, IsStopLine, NotesPart, NotesStop};
+ghost use Rattle.langbench.specs.Notes.{file_line, placed_line, whole_line, refusal_text, load_line, problem_text, term_line, look_line, conflict_text, told_line, told_lines, fault_line, frame_line, unread_line, IsStopLine, NotesPart, NotesStop};
 
+use crate::named::FileFault;
 use crate::place::printed;
 use crate::stop::Stop;
 use lw_base::{Name, NoMemory};
@@ -46,6 +47,7 @@ fn stop_line(alloc: Global, grammar: Option<&Name>, stop: &Stop) -> Result<Strin
             "usage: langbench check|serve|replay|make GRAMMAR [--lookahead K] [FILE or N]\n"
         }
         Stop::Grammar(fault) => return grammar_line(alloc, grammar, fault),
+        Stop::File(fault) => return unread_line(alloc, fault),
         Stop::Read => "read failed\n",
         Stop::Write => "write failed\n",
         Stop::Memory => "out of memory\n",
@@ -110,6 +112,18 @@ fn load_line(alloc: Global, path: &Name, fault: &LoadFault) -> Result<String, No
         }
         LoadFault::TooLarge(_) => whole_line(alloc, path, "grammar too large"),
         LoadFault::NoMemory => Ok(String::from_str(alloc, "out of memory\n")?),
+    }
+}
+
+// Why a file that the words name was not read.
+fn unread_line(alloc: Global, fault: &FileFault) -> Result<String, NoMemory>
+    ensures { IfOk result (λ line. string_bytes line ≡ unread_line fault.now) }
+{
+    match fault {
+        FileFault::Absent(path) => file_line(alloc, path, "absent"),
+        FileFault::NotUtf8(path) => file_line(alloc, path, "not UTF-8"),
+        FileFault::TooLong(path) => file_line(alloc, path, "too long"),
+        FileFault::Failed(path) => file_line(alloc, path, "failed"),
     }
 }
 

@@ -11,6 +11,7 @@ ghost use Rattle.langbench.specs.Stops.{Counts, TheSource, TheSink, TheStore, Th
 ghost use Rattle.langbench.specs.Talking.{AnswersNext, LosesPiece, Responds, RespondsPartly, RunsOut, TakesPiece, in_frames};
 
 use crate::desk::Desk;
+use crate::named::load_named;
 use crate::report::Verdict;
 use crate::root::Root;
 use crate::stop::Stop;
@@ -23,10 +24,11 @@ use lw_session::{Ended, Mode, Session};
 use std::alloc::Global;
 use std::sync::ledger::Ledger;
 
-/// Reads the grammar, then answers the session of the source frame by frame, and leaves it on the desk.
+/// Reads the grammar and the files that are named, then answers the session of the source frame by frame, and leaves it on the desk.
 pub(crate) fn serve<S: Source, K: Sink, F: Store, P: Patterns, L: Ledger>(
     alloc: Global,
     root: Root<'_>,
+    paths: &[&Name],
     source: &mut S,
     out: &mut K,
     store: &mut F,
@@ -35,7 +37,7 @@ pub(crate) fn serve<S: Source, K: Sink, F: Store, P: Patterns, L: Ledger>(
     steps: &mut Steps<L>,
 ) -> Result<Verdict, Stop>
     ensures works { IfSome (F.files store.old) (λ files.
-        ServeComesTo files root.entry.path.now root.entry.k (P.last_refused patterns.new) (S.left source.old) (S.left source.new) (K.written out.old) (K.written out.new) result) }
+        ServeComesTo files root.entry.path.now (paths_of paths.now) root.entry.k (P.last_refused patterns.new) (S.left source.old) (S.left source.new) (K.written out.old) (K.written out.new) result) }
     ensures cause { IsCaused (F.files store.old) root.entry.path.now root.entry.k (P.last_refused patterns.new) result }
     ensures not_words { ¬ (result ≡ Err Stop.Words) }
     ensures source { Counts TheSource (S.count source.old) (S.count source.new) result }
@@ -46,6 +48,7 @@ pub(crate) fn serve<S: Source, K: Sink, F: Store, P: Patterns, L: Ledger>(
     let language = compile(alloc, root.path, root.k, store, patterns)?;
     one_outcome();
     let mut session = Session::new(alloc, language, Mode::Full)?;
+    load_named(alloc, &mut session, paths, store)?;
     let outcome = converse(alloc, &mut session, source, out, store, steps);
     desk.leave(session);
     outcome
@@ -61,8 +64,8 @@ fn converse<S: Source, K: Sink, F: Store, L: Ledger>(
     store: &mut F,
     steps: &mut Steps<L>,
 ) -> Result<Verdict, Stop>
-    requires { session.old.standing ≡ beginning [] }
-    ensures conversed { Conversed session.old.grammar (S.left source.old) (S.left source.new) (K.written out.old) (K.written out.new) result }
+    requires { (named : List (List ℕ × List ℕ)) × (session.old.standing ≡ beginning named) }
+    ensures conversed { (named : List (List ℕ × List ℕ)) → session.old.standing ≡ beginning named → Conversed session.old.grammar named (S.left source.old) (S.left source.new) (K.written out.old) (K.written out.new) result }
     ensures source { Counts TheSource (S.count source.old) (S.count source.new) result }
     ensures sink { Counts TheSink (K.count out.old) (K.count out.new) result }
     ensures store { Counts TheStore (F.count store.old) (F.count store.new) result }

@@ -3,6 +3,7 @@ ghost use Rattle.std.specs.Prelude.{◌≡◌};
 ghost use Rattle.langbench.specs.Stops.{code_of, fault_code, load_code, stop_of_read, stop_of_write, stop_of_fault};
 ghost use Rattle.langbench.specs.declared.stop.Stop.TheVariants.{Memory as memory};
 
+use crate::named::FileFault;
 use lw_base::NoMemory;
 use lw_frame::FrameFault;
 use lw_io::{ReadFault, WriteFault};
@@ -16,6 +17,8 @@ pub(crate) enum Stop {
     Words,
     /// The grammar is not compiled.
     Grammar(CompileFault),
+    /// A file that the words name is not read.
+    File(FileFault),
     /// The source failed.
     Read,
     /// The sink failed.
@@ -36,6 +39,7 @@ impl Stop {
         match self {
             Stop::Words => 2,
             Stop::Grammar(fault) => fault_code(fault),
+            Stop::File(_) => 6,
             Stop::Read => 4,
             Stop::Write => 5,
             Stop::Memory => 7,

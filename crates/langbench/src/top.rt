@@ -11,6 +11,7 @@ ghost use Rattle.langbench.specs.Run.{ComesTo, Runs};
 ghost use Rattle.langbench.specs.Stops.{Counts, EndsWith, TheSource, TheSink, TheStore, ThePatterns};
 
 use crate::desk::Desk;
+use crate::making::make;
 use crate::notes::note;
 use crate::report::{Report, Verdict, report_on};
 use crate::root::Root;

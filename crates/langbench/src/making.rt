@@ -1,0 +1,47 @@
+// A workspace is generated and built, and its summary is printed.
+ghost use Rattle.std.specs.Prelude.{◌≡◌, ◌≤◌, IfSome, Err};
+ghost use Rattle.langbench.specs.Checking.{IsCaused};
+ghost use Rattle.langbench.specs.Making.{MakeComesTo};
+ghost use Rattle.langbench.specs.Stops.{Counts, TheSink, TheStore, ThePatterns};
+ghost use Rattle.lw_make.specs.declared.documents.TheConstants.{GREATEST_WORKSPACE};
+
+use crate::desk::Desk;
+use crate::report::Verdict;
+use crate::root::Root;
+use crate::stop::Stop;
+use lw_base::Steps;
+use lw_io::{Patterns, Sink, Store, write_all};
+use lw_lang::compile;
+use lw_making::summary_text;
+use std::alloc::Global;
+use std::sync::ledger::Ledger;
+
+/// Reads the grammar, generates a workspace of so many documents by it, prints its summary, and leaves it on the desk.
+pub(crate) fn make<K: Sink, F: Store, P: Patterns, L: Ledger>(
+    alloc: Global,
+    root: Root<'_>,
+    count: u32,
+    out: &mut K,
+    store: &mut F,
+    patterns: &mut P,
+    desk: &mut Desk,
+    steps: &mut Steps<L>,
+) -> Result<Verdict, Stop>
+    requires some { 1 ≤ count }
+    requires most { count ≤ GREATEST_WORKSPACE }
+    ensures works { IfSome (F.files store.old) (λ files.
+        MakeComesTo files root.entry.path.now root.entry.k count (P.last_refused patterns.new) (K.written out.old) (K.written out.new) result) }
+    ensures cause { IsCaused (F.files store.old) root.entry.path.now root.entry.k (P.last_refused patterns.new) result }
+    ensures not_words { ¬ (result ≡ Err Stop.Words) }
+    ensures sink { Counts TheSink (K.count out.old) (K.count out.new) result }
+    ensures store { Counts TheStore (F.count store.old) (F.count store.new) result }
+    ensures patterns { Counts ThePatterns (P.count patterns.old) (P.count patterns.new) result }
+{
+    let language = compile(alloc, root.path, root.k, store, patterns)?;
+    let made = lw_making::make(alloc, language, count, steps)?;
+    let lines = summary_text(alloc, &made.summary)?;
+    let printed = write_all(out, lines.bytes());
+    desk.leave_made(made.workspace);
+    printed?;
+    Ok(Verdict::Whole)
+}

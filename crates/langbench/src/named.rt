@@ -1,0 +1,89 @@
+// The files that the words name behind a grammar: their texts are put before a session begins.
+ghost use Rattle.std.specs.Prelude.{◌≡◌, ◌++◌, ◌∷◌, ◌≤◌, [], IfErr, IfSome, OnOk, List, length, map, ℕ};
+ghost use Rattle.lw_conversation.specs.Standing.{beginning};
+ghost use Rattle.langbench.specs.Named.{AreNamed, IsFileText};
+ghost use Rattle.langbench.specs.Reading.{IsUnreadBy, StopsAtFile, paths_of};
+ghost use Rattle.langbench.specs.Stops.{Counts, TheStore};
+ghost use Rattle.langbench.specs.Words.{MOST_FILES};
+
+use crate::stop::Stop;
+use lw_base::{Name, NoMemory};
+use lw_io::{Found, Store};
+use lw_paths::address_of;
+use lw_session::Session;
+use std::alloc::Global;
+
+/// Why a file that the words name is not read, with its path.
+#[derive(Drop)]
+pub(crate) enum FileFault {
+    /// There is no such file.
+    Absent(Name),
+    /// Its bytes are not UTF-8.
+    NotUtf8(Name),
+    /// It has more than 67,108,864 bytes.
+    TooLong(Name),
+    /// The store failed.
+    Failed(Name),
+}
+
+/// Puts the texts of the files at these paths, in their order, into a session to which nothing has come.
+pub(crate) fn load_named<F: Store>(
+    alloc: Global,
+    session: &mut Session,
+    paths: &[&Name],
+    store: &mut F,
+) -> Result<(), Stop>
+    requires { session.old.standing ≡ beginning [] }
+    ensures loaded { OnOk result ((named : List (List ℕ × List ℕ)) × (session.new.standing ≡ beginning named) × IfSome (F.files store.old) (λ files.
+        AreNamed files (paths_of paths.now) named)) }
+    ensures unread { IfErr result (StopsAtFile (F.files store.old) (paths_of paths.now)) }
+    ensures grammar { session.new.grammar ≡ session.old.grammar }
+    ensures files { F.files store.new ≡ F.files store.old }
+    ensures store { Counts TheStore (F.count store.old) (F.count store.new) result }
+{
+    'paths: for path in paths {
+        load_file(alloc, session, path, store)?;
+    }
+    Ok(())
+}
+
+// Puts the text of one file behind those that were put before.
+fn load_file<F: Store>(
+    alloc: Global,
+    session: &mut Session,
+    path: &Name,
+    store: &mut F,
+) -> Result<(), Stop>
+    requires { (named : List (List ℕ × List ℕ)) × (session.old.standing ≡ beginning named) }
+    ensures loaded { OnOk result ((named : List (List ℕ × List ℕ)) → session.old.standing ≡ beginning named → (put : List ℕ × List ℕ) ×
+        (session.new.standing ≡ beginning (named ++ put ∷ [])) × IfSome (F.files store.old) (λ files. IsFileText files path.now put)) }
+    ensures unread { IfErr result (IsUnreadBy (F.files store.old) path.now) }
+    ensures grammar { session.new.grammar ≡ session.old.grammar }
+    ensures files { F.files store.new ≡ F.files store.old }
+    ensures store { Counts TheStore (F.count store.old) (F.count store.new) result }
+{
+    match store.read(alloc, path) {
+        Found::Text(text) => put(alloc, session, path, text),
+        Found::Absent => Err(Stop::File(FileFault::Absent(path.copy(alloc)?))),
+        Found::NotUtf8 => Err(Stop::File(FileFault::NotUtf8(path.copy(alloc)?))),
+        Found::TooLong => Err(Stop::File(FileFault::TooLong(path.copy(alloc)?))),
+        Found::Failed => Err(Stop::File(FileFault::Failed(path.copy(alloc)?))),
+        Found::NoMemory => Err(Stop::Memory),
+    }
+}
+
+// Puts a text at the address of the file at a path. Nothing is refused but memory: no text of a store is too long, and the words name no more files
+// than a session holds documents.
+fn put(alloc: Global, session: &mut Session, path: &Name, text: Name) -> Result<(), Stop>
+    requires { (named : List (List ℕ × List ℕ)) × (session.old.standing ≡ beginning named) }
+    ensures loaded { OnOk result ((named : List (List ℕ × List ℕ)) → session.old.standing ≡ beginning named →
+        session.new.standing ≡ beginning (named ++ (address_of path.now, text) ∷ [])) }
+    ensures fault { IfErr result (λ stop. stop ≡ Stop.Memory) }
+    ensures grammar { session.new.grammar ≡ session.old.grammar }
+{
+    let address = address_of(alloc, path)?;
+    match session.load_file(&address, text) {
+        Ok(()) => Ok(()),
+        Err(_) => Err(Stop::Memory),
+    }
+}
