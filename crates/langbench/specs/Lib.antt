@@ -4,6 +4,7 @@ pub mod Reports
 pub mod Stops
 pub mod Checking
 pub mod Named
+pub mod Reading
 pub mod Serving
 pub mod Making
 pub mod Notes

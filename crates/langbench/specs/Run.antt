@@ -1,5 +1,5 @@
 -- How a run ends: what its work came to, and the status, the counts of faults and the note by which that is told.
-use Rattle.std.specs.Prelude.{ℕ, ◌≡◌, ◌≢◌, List, Option, Result, Err, IfSome, MatchOption}
+use Rattle.std.specs.Prelude.{ℕ, ◌≡◌, ◌≢◌, ◌⊎◌, List, Option, Result, Err, IfSome, MatchOption}
 use Rattle.std.specs.Io.KnownBytes.{Keeps}
 use Rattle.lw_grammar.specs.declared.grammar.Grammar as plain
 use Rattle.lw_io.specs.Causes.{Rose}
@@ -7,7 +7,7 @@ use Rattle.lw_lang.specs.Compiled.{HoldsGrammar, IsClear}
 use Rattle.lw_rpc.specs.declared.reply.Reply.{Reply}
 use Rattle.langbench.specs.declared.report.Verdict.{Verdict}
 use Rattle.langbench.specs.declared.stop.Stop.{Stop}
-use Rattle.langbench.specs.declared.stop.Stop.TheVariants.{Words}
+use Rattle.langbench.specs.declared.stop.Stop.TheVariants.{Words, Memory}
 use Rattle.lw_load.specs.Loading.{Files}
 use Rattle.langbench.specs.Checking.{CheckComesTo, CheckDone, IsCaused}
 use Rattle.langbench.specs.Notes.{NotesOutcome, NotesOutcomePart}
@@ -52,20 +52,21 @@ module _ (words : List (List ℕ)) (w : Work) where
         ServeComesTo files path paths k w.refused w.left.0 w.left.1 w.written.0 w.written.1 outcome)
     pub make : (path : List ℕ) (count k : ℕ) → IsMake words path count k → Keeps w.left.0 w.left.1 × IfSome w.files (λ files.
         MakeComesTo files path k count w.refused w.written.0 w.written.1 outcome)
-    pub none : IsNoCommand words → (outcome ≡ Err Words) × Keeps w.left.0 w.left.1 × Keeps w.written.0 w.written.1
+    pub none : IsNoCommand words → ((outcome ≡ Err Words) ⊎ (outcome ≡ Err Memory)) × Keeps w.left.0 w.left.1 × Keeps w.written.0 w.written.1
     -- a command does not stop for its words
     pub unnamed : outcome ≡ Err Words → IsNoCommand words
     pub cause : (path : List ℕ) (k : ℕ) → NamesFile words path k → IsCaused w.files path k w.refused outcome
     pub counts : (object : Object) → Counts object (count_of w.faults object).0 (count_of w.faults object).1 outcome
 
-  -- The notes before the run and behind it, and how often they had failed. The status is that of the outcome. Where the notes did not fail and there was memory,
+  -- The notes before the run and behind it, and how often they had failed. The status is that of the outcome. The path is that of the grammar that the words name,
+  -- unless memory was refused while they were read. Where the notes did not fail and there was memory,
   -- the line of the outcome was noted, and whatever fails no more than a front of it.
   pub record Ends (notes : Option (List ℕ) × Option (List ℕ)) (failures : ℕ × ℕ) (code : ℕ) : Type 0 where
     pub outcome : Result Verdict Stop
     pub comes_to : ComesTo outcome
     pub status : EndsWith outcome code
     pub path : Option (List ℕ)
-    pub named : MatchOption path (IsNoCommand words) (λ p. (k : ℕ) × NamesFile words p k)
+    pub named : (outcome ≡ Err Memory) ⊎ MatchOption path (IsNoCommand words) (λ p. (k : ℕ) × NamesFile words p k)
     pub noted : code ≢ 7 → ¬ Rose failures.0 failures.1 → NotesOutcome path outcome notes.0 notes.1
     pub noted_part : NotesOutcomePart path outcome notes.0 notes.1
 

@@ -2,9 +2,8 @@
 ghost use Rattle.std.specs.Prelude.{◌≡◌, ◌++◌, ◌∷◌, ◌≤◌, [], IfErr, IfSome, OnOk, List, length, map, ℕ};
 ghost use Rattle.lw_conversation.specs.Standing.{beginning};
 ghost use Rattle.langbench.specs.Named.{AreNamed, IsFileText};
-ghost use Rattle.langbench.specs.Reading.{IsUnreadBy, StopsAtFile, paths_of};
+ghost use Rattle.langbench.specs.Reading.{IsUnreadBy, StopsAtFile};
 ghost use Rattle.langbench.specs.Stops.{Counts, TheStore};
-ghost use Rattle.langbench.specs.Words.{MOST_FILES};
 
 use crate::stop::Stop;
 use lw_base::{Name, NoMemory};
@@ -35,8 +34,8 @@ pub(crate) fn load_named<F: Store>(
 ) -> Result<(), Stop>
     requires { session.old.standing ≡ beginning [] }
     ensures loaded { OnOk result ((named : List (List ℕ × List ℕ)) × (session.new.standing ≡ beginning named) × IfSome (F.files store.old) (λ files.
-        AreNamed files (paths_of paths.now) named)) }
-    ensures unread { IfErr result (StopsAtFile (F.files store.old) (paths_of paths.now)) }
+        AreNamed files (map (λ path. path.now) paths.now) named)) }
+    ensures unread { IfErr result (StopsAtFile (F.files store.old) (map (λ path. path.now) paths.now)) }
     ensures grammar { session.new.grammar ≡ session.old.grammar }
     ensures files { F.files store.new ≡ F.files store.old }
     ensures store { Counts TheStore (F.count store.old) (F.count store.new) result }

@@ -37,7 +37,7 @@ pub(crate) fn serve<S: Source, K: Sink, F: Store, P: Patterns, L: Ledger>(
     steps: &mut Steps<L>,
 ) -> Result<Verdict, Stop>
     ensures works { IfSome (F.files store.old) (λ files.
-        ServeComesTo files root.entry.path.now (paths_of paths.now) root.entry.k (P.last_refused patterns.new) (S.left source.old) (S.left source.new) (K.written out.old) (K.written out.new) result) }
+        ServeComesTo files root.entry.path.now (map (λ path. path.now) paths.now) root.entry.k (P.last_refused patterns.new) (S.left source.old) (S.left source.new) (K.written out.old) (K.written out.new) result) }
     ensures cause { IsCaused (F.files store.old) root.entry.path.now root.entry.k (P.last_refused patterns.new) result }
     ensures not_words { ¬ (result ≡ Err Stop.Words) }
     ensures source { Counts TheSource (S.count source.old) (S.count source.new) result }
