@@ -1,8 +1,8 @@
 // The path that an address has, and the address of a path.
-ghost use Rattle.std.specs.Prelude.{◌≡◌, Contains, IfOk, IsUtf8, MatchOption};
+ghost use Rattle.std.specs.Prelude.{◌≡◌, IfOk, MatchOption, length};
 ghost use Rattle.percent_encoding.specs.Percent.{percent_decode};
 ghost use Rattle.lw_paths.specs.Paths as spec;
-ghost use Rattle.lw_paths.specs.Written.{HasNoWrittenPath, IsWrittenPath};
+ghost use Rattle.lw_paths.specs.Written.{CanBePath, HasNoWrittenPath, IsWrittenPath};
 
 use lw_base::{Name, NoMemory};
 use percent_encoding::{AsciiSet, NON_ALPHANUMERIC, ascii_set, percent_decode, percent_encode};
@@ -10,7 +10,14 @@ use std::alloc::Global;
 
 /// The ASCII bytes that are escaped in the address of a path: all but letters, digits and `/`, `-`, `.`, `_` and `~`. Bytes
 /// outside ASCII are always escaped.
-pub const ESCAPED: AsciiSet = ascii_set!(NON_ALPHANUMERIC.remove(b'/').remove(b'-').remove(b'.').remove(b'_').remove(b'~'));
+pub const ESCAPED: AsciiSet = ascii_set!(
+    NON_ALPHANUMERIC
+        .remove(b'/')
+        .remove(b'-')
+        .remove(b'.')
+        .remove(b'_')
+        .remove(b'~')
+);
 
 /// The path that the address has, or None where it has none. It takes time in proportion to the bytes of the address.
 pub fn path_of(alloc: Global, address: &Name) -> Result<Option<Name>, NoMemory>
@@ -38,8 +45,15 @@ fn written_path(address: &str) -> Option<&[u8]>
 fn before_query(bytes: &[u8]) -> &[u8]
     ensures { result.now ≡ spec.before_query bytes.now }
 {
-    let length = bytes.iter().take_while(|byte| !ends_path(**byte)).count();
+    let length = path_length(bytes);
     &bytes[..length]
+}
+
+// How many bytes stand before a query or a fragment.
+fn path_length(bytes: &[u8]) -> usize
+    ensures { result ≡ length (spec.before_query bytes.now) }
+{
+    bytes.iter().take_while(|byte| !ends_path(**byte)).count()
 }
 
 // Whether a query or a fragment begins with this byte.
@@ -51,8 +65,7 @@ fn ends_path(byte: u8) -> bool
 
 // What is written with its escapes read, where that is UTF-8 and has no byte 0.
 fn decoded(alloc: Global, written: &[u8]) -> Result<Option<Name>, NoMemory>
-    ensures { IfOk result (λ found. MatchOption found (¬ (IsUtf8 (percent_decode written.now) × (¬ Contains (percent_decode written.now) 0)))
-        (λ path. (path ≡ percent_decode written.now) × IsUtf8 path × (¬ Contains path 0))) }
+    ensures { IfOk result (λ found. MatchOption found (¬ CanBePath (percent_decode written.now)) (λ path. (path ≡ percent_decode written.now) × CanBePath path)) }
 {
     let mut path = Vec::with_capacity(alloc, written.len())?;
     percent_decode(written).append_to(&mut path)?;
