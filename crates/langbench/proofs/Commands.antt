@@ -11,8 +11,8 @@ use Rattle.langbench.specs.Checking.{CheckComesTo, IsCaused}
 use Rattle.langbench.specs.Run.{Work, ComesTo}
 use Rattle.langbench.specs.Serving.{ServeComesTo}
 use Rattle.langbench.specs.Stops.{TheSource, TheSink, TheStore, ThePatterns}
-use Rattle.langbench.specs.Words.{IsCheck, IsServe, IsNoCommand, IsDepth, NamesFile, NamesGrammar, SaysDepth}
-use Rattle.langbench.specs.Words as words
+use Rattle.lw_words.specs.Words.{IsCheck, IsServe, IsNoCommand, IsDepth, NamesFile, NamesGrammar, SaysDepth}
+use Rattle.lw_words.specs.Words as words
 use Rattle.langbench.proofs.Ends.{CountsAll}
 
 -- the words name one file

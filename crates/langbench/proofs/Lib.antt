@@ -9,5 +9,4 @@ pub mod Turns
 pub mod Done
 pub mod Conversing
 pub mod JoinedTexts
-pub mod WordLemmas
 pub mod Counting

@@ -1,4 +1,3 @@
-pub mod Words
 pub mod Checked
 pub mod Reports
 pub mod Stops

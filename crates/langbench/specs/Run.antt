@@ -15,7 +15,7 @@ use Rattle.langbench.specs.Making.{MakeComesTo, MakeDone}
 use Rattle.langbench.specs.Named.{AreNamed}
 use Rattle.langbench.specs.Serving.{ServeComesTo, ServeDone, IsSession}
 use Rattle.langbench.specs.Stops.{Object, TheSource, TheSink, TheStore, ThePatterns, Counts, EndsWith}
-use Rattle.langbench.specs.Words.{IsCheck, IsServe, IsMake, IsNoCommand, NamesFile}
+use Rattle.lw_words.specs.Words.{IsCheck, IsServe, IsMake, IsNoCommand, NamesFile}
 
 -- how often each object had failed, before the run and behind it
 pub record Faults : Type 0 where

@@ -1,14 +1,16 @@
 //! Langbench: a language server from one grammar file.
 //!
-//! `langbench check GRAMMAR` reads a document from standard input and prints `ok` where the grammar
-//! reads it whole, and else its one fault with its line and column. `langbench serve GRAMMAR` answers an
-//! editor over standard input and output, by the Language Server Protocol 3.17.
+//! `langbench check GRAMMAR` reads a document from standard input and prints `ok`, or a line for each of its
+//! diagnostics. `langbench serve GRAMMAR FILE ..` answers an editor over standard input and output, by the
+//! Language Server Protocol 3.17, over the files that are named. `langbench make GRAMMAR N` generates a workspace of
+//! N documents, builds and edits it, and prints what it holds.
 //!
 //! [`top::run`] has the whole meaning, over any source, sinks, store and patterns; `main` hands in the
-//! real ones and the words of the command line, and ends with the status. `words` reads the words, `serve`
-//! keeps the conversation frame by frame and `desk` the session behind it, `report` makes the line of
-//! `check`, `stop` has the causes that end a run early and `notes` their lines. How a run ends is defined in
-//! `specs/Run.antt` (`check`), `specs/Serving.antt` (`serve`) and `specs/Notes.antt` (the notes).
+//! real ones and the words of the command line, and ends with the status. `named` reads the files that the words name,
+//! `serve` keeps the conversation frame by frame and `desk` what a run leaves, `report` makes the lines of
+//! `check` and `making` those of `make`, `stop` has the causes that end a run early and `notes` their lines. How a run ends is defined
+//! in `specs/Run.antt`, command by command in `Checking.antt`, `Serving.antt` with `Named.antt`, and `Making.antt`, and the notes in
+//! `Notes.antt`.
 #![tactic(auto)]
 
 ghost use Rattle.std.specs.Prelude.{◌≡◌, ◌<◌};
@@ -19,11 +21,9 @@ mod named;
 mod notes;
 mod place;
 mod report;
-mod root;
 mod serve;
 mod stop;
 mod top;
-mod words;
 
 use desk::Desk;
 use lw_base::{Name, NoMemory, Steps};

@@ -7,7 +7,7 @@ ghost use Rattle.lw_make.specs.declared.documents.TheConstants.{GREATEST_WORKSPA
 
 use crate::desk::Desk;
 use crate::report::Verdict;
-use crate::root::Root;
+use lw_words::Root;
 use crate::stop::Stop;
 use lw_base::Steps;
 use lw_io::{Patterns, Sink, Store, write_all};

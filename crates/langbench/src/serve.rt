@@ -13,7 +13,7 @@ ghost use Rattle.langbench.specs.Talking.{AnswersNext, LosesPiece, Responds, Res
 use crate::desk::Desk;
 use crate::named::load_named;
 use crate::report::Verdict;
-use crate::root::Root;
+use lw_words::Root;
 use crate::stop::Stop;
 use lw_base::{Name, NoMemory, Steps};
 use lw_conversation::one_outcome;

@@ -1,5 +1,5 @@
 // The top call: what the words name is done, and how it ended is told.
-ghost use Rattle.std.specs.Prelude.{◌≡◌, ◌≢◌, ◌⊎◌, IfOk, IfErr, IfSome, Err, OnOk, OnErr, take, string_bytes};
+ghost use Rattle.std.specs.Prelude.{ℕ, ◌≡◌, ◌≢◌, ◌⊎◌, List, MatchOption, IfOk, IfErr, IfSome, Err, OnOk, OnErr, take, string_bytes};
 ghost use Rattle.std.specs.Option.{option_copied};
 ghost use Rattle.std.specs.Io.KnownBytes.{Appends};
 ghost use Rattle.lw_io.specs.Causes.{Rose};
@@ -8,20 +8,20 @@ ghost use Rattle.langbench.specs.Checking.{CheckComesTo, IsCaused, ReadsDocument
 ghost use Rattle.langbench.specs.Notes.{NotesOutcome, NotesOutcomePart};
 ghost use Rattle.langbench.specs.Reports.{IsReport};
 ghost use Rattle.langbench.specs.Run.{ComesTo, Runs};
+ghost use Rattle.lw_words.specs.Words.{IsCommand, IsNoCommand, NamesFile};
 ghost use Rattle.langbench.specs.Stops.{Counts, EndsWith, TheSource, TheSink, TheStore, ThePatterns};
 
 use crate::desk::Desk;
 use crate::making::make;
 use crate::notes::note;
 use crate::report::{Report, Verdict, report_on};
-use crate::root::Root;
 use crate::serve::serve;
 use crate::stop::Stop;
-use crate::words::{Command, command_of, grammar_named};
-use lw_base::{LONGEST_DOCUMENT, Name, Steps};
+use lw_base::{LONGEST_DOCUMENT, Name, NoMemory, Steps};
 use lw_conversation::one_outcome;
 use lw_io::{Patterns, Sink, Source, Store, read_all, write_all};
 use lw_lang::{Language, compile};
+use lw_words::{Command, Root, command_of};
 use std::alloc::Global;
 use std::sync::ledger::Ledger;
 
@@ -30,18 +30,19 @@ use std::sync::ledger::Ledger;
 pub struct Status {
     /// 0: the work was done. 1: `check` printed anything but `ok`, or the session of `serve` ended without
     /// `shutdown` or without `exit`. 2: the words are no command. 3: the grammar has a fault. 4, 5: the
-    /// source, the sink failed. 6: the grammar could not be read. 7: there was no memory. 8: the frames of
-    /// the session have a fault. 10: the session has 2^40 bytes and goes on.
+    /// source, the sink failed. 6: the grammar, or a file that is named, could not be read. 7: there was no memory. 8: the
+    /// frames of the session have a fault. 10: the session has 2^40 bytes and goes on.
     pub code: u8,
 }
 
 /// Runs the command that the words name.
 ///
-/// Behind `GRAMMAR` the words `--lookahead` and `1`, `2` or `3` may follow: how many kinds of tokens tell the ways of a choice apart, which
-/// are two where nothing is said. `check GRAMMAR` reads the grammar from the store and a document from the source, and writes one
-/// line: `ok`, or the document's fault. `serve GRAMMAR` answers the session of the source frame by frame,
-/// each reply before the next read, and leaves the session on the desk. The first that is met in this order
-/// ends the run: the words, the grammar, then the source in its order, each reply in its place. From status 2
+/// Behind `GRAMMAR` the words `--lookahead` and `1`, `2` or `3` may stand: how many kinds of tokens tell the ways of a choice apart, which
+/// are two where nothing is said. `check GRAMMAR` reads the grammar from the store and a document from the source, and writes `ok` or
+/// what is wrong with it. `serve GRAMMAR FILE ..` puts the files that are named, answers the session of the source frame by frame,
+/// each reply before the next read, and leaves the session on the desk. `make GRAMMAR N` generates and builds N documents, writes what
+/// they hold, and leaves their workspace there; it reads nothing of the source. The first that is met in this order
+/// ends the run: the words, the grammar, the files that are named, then the source in its order, each reply in its place. From status 2
 /// on one line of why goes to `notes`; that a note fails changes nothing.
 pub fn run<S: Source, K: Sink, N: Sink, F: Store, P: Patterns, L: Ledger>(
     alloc: Global,
@@ -69,8 +70,24 @@ pub fn run<S: Source, K: Sink, N: Sink, F: Store, P: Patterns, L: Ledger>(
     }) (N.written notes.old, N.written notes.new) (N.count notes.old, N.count notes.new) result.code }
 {
     one_outcome();
-    let outcome = act(alloc, words, source, out, store, patterns, desk, steps);
-    finish(alloc, notes, grammar_named(words), outcome)
+    let command = match command_of(alloc, words) {
+        Ok(command) => command,
+        Err(NoMemory) => return finish(alloc, notes, None, Err(Stop::Memory)),
+    };
+    let grammar = grammar_of(&command);
+    let outcome = act(alloc, &command, source, out, store, patterns, desk, steps);
+    finish(alloc, notes, grammar, outcome)
+}
+
+// The path of the grammar that a command names.
+fn grammar_of<'a>(command: &Option<Command<'a>>) -> Option<&'a Name>
+    ensures { (words : List (List ℕ)) → MatchOption command.now (IsNoCommand words) (IsCommand words) →
+        MatchOption result (IsNoCommand words) (λ path. (k : ℕ) × NamesFile words path.now k) }
+{
+    match command {
+        Some(command) => Some(command.root().path),
+        None => None,
+    }
 }
 
 // Turns what the work answered into a status, and notes why it stopped. `grammar` is the path of the
@@ -99,10 +116,10 @@ fn finish<N: Sink>(
     }
 }
 
-// Does what the words name.
+// Does what the command says.
 fn act<S: Source, K: Sink, F: Store, P: Patterns, L: Ledger>(
     alloc: Global,
-    words: &[Name],
+    command: &Option<Command<'_>>,
     source: &mut S,
     out: &mut K,
     store: &mut F,
@@ -110,7 +127,7 @@ fn act<S: Source, K: Sink, F: Store, P: Patterns, L: Ledger>(
     desk: &mut Desk,
     steps: &mut Steps<L>,
 ) -> Result<Verdict, Stop>
-    ensures { ComesTo words.now (record {
+    ensures { (words : List (List ℕ)) → MatchOption command.now (IsNoCommand words) (IsCommand words) → ComesTo words (record {
       files = F.files store.old;
       left = (S.left source.old, S.left source.new);
       written = (K.written out.old, K.written out.new);
@@ -123,10 +140,13 @@ fn act<S: Source, K: Sink, F: Store, P: Patterns, L: Ledger>(
       };
     }) result }
 {
-    match command_of(words) {
-        Some(Command::Check(root)) => check(alloc, root, source, out, store, patterns),
-        Some(Command::Serve(root)) => {
-            serve(alloc, root, source, out, store, patterns, desk, steps)
+    match command {
+        Some(Command::Check(root)) => check(alloc, *root, source, out, store, patterns),
+        Some(Command::Serve(root, files)) => {
+            serve(alloc, *root, files, source, out, store, patterns, desk, steps)
+        }
+        Some(Command::Make(root, count)) => {
+            make(alloc, *root, *count, out, store, patterns, desk, steps)
         }
         None => Err(Stop::Words),
     }

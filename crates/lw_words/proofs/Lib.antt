@@ -1,0 +1,3 @@
+pub mod SaidLemmas
+pub mod OneCommand
+pub mod WordLemmas
