@@ -1,5 +1,5 @@
 -- What is counted document by document are the sums of a summary.
-use Rattle.std.proofs.Common.{◌≡◌, ◌≢◌, ℕ, zero, suc, ◌+◌, List, [], ◌∷◌, length, map, Bool, true, false, cond, Option, Some, None, All, AllPairs, Contains, option_and_then, option_map, refl, sym, ap, ap₂, ◌∙◌, subst, arith}
+use Rattle.std.proofs.Common.{◌≡◌, ◌≢◌, ℕ, zero, suc, ◌+◌, ◌<◌, ◌≤◌, List, [], ◌∷◌, length, map, drop, get_or, Bool, true, false, cond, Option, Some, None, All, AllPairs, Contains, option_and_then, option_map, refl, sym, ap, ap₂, ◌∙◌, subst, arith, add-one, drop-cons}
 use Rattle.std.specs.Cmp.Lexicographic.{slice_cmp}
 use Rattle.std.specs.FinMap.{entries, get, keys, len, len-entries}
 use Rattle.std.specs.List.{AllZip, sum}
@@ -60,6 +60,23 @@ module _ (below : ℕ → ℕ → Type 0) (Stands : ℕ → List ℕ → Type 0)
         lead = (all.0.is_link, rest.lead);
         nowhere = one_more a all.0.link rest.links answers all.0.leads rest.nowhere;
       }
+
+missing-cons : (a : Answer) (answers : List Answer) → missing_in (a ∷ answers) ≡ missing_in (a ∷ []) + missing_in answers
+missing-cons Missing answers = omega arith
+missing-cons (Found target) answers = omega arith
+
+at_most_one : (a : Answer) → missing_in (a ∷ []) ≤ 1
+at_most_one Missing = omega arith
+at_most_one (Found target) = omega arith
+
+-- one answer more is looked at
+pub one_counted : (answers : List Answer) (i count more : ℕ) (d : Answer) → i < length answers → more ≡ missing_in (get_or answers i d ∷ []) →
+    count + missing_in (drop i answers) ≡ missing_in answers → count ≤ i →
+    (count + more + missing_in (drop (i + 1) answers) ≡ missing_in answers) × (count + more ≤ i + 1)
+one_counted answers i count more d inside is counted few =
+    let front = ap missing_in (drop-cons answers i d inside) ∙ missing-cons (get_or answers i d) (drop (suc i) answers) in
+    let next = ap (λ k. missing_in (drop k answers)) (add-one i) in
+    (omega (arith, front, next, is, counted), omega (arith, is, few, at_most_one (get_or answers i d)))
 
 -- ---- what is seen of the documents that are lent
 

@@ -1,5 +1,5 @@
 // The summary of a workspace.
-ghost use Rattle.std.specs.Prelude.{◌≡◌, ◌+◌, ◌++◌, List, true, IfOk, length, string_bytes};
+ghost use Rattle.std.specs.Prelude.{◌≡◌, ◌+◌, ◌++◌, ◌∷◌, [], List, true, IfOk, length, string_bytes};
 ghost use Rattle.std.specs.Option.{option_map};
 ghost use Rattle.lw_build.specs.View.{documents};
 ghost use Rattle.lw_machine.specs.declared.published.Published.{Published};
@@ -41,23 +41,31 @@ pub(crate) fn added(sum: u64, more: usize) -> Result<u64, NoMemory>
     }
 }
 
+/// One for an answer that leads nowhere.
+fn nowhere(answer: Answer) -> usize
+    ensures { result ≡ missing_in (answer ∷ []) }
+{
+    match answer {
+        Answer::Missing => 1,
+        Answer::Found(_) => 0,
+    }
+}
+
 /// How many of these lead nowhere.
 fn missing(answers: &[Answer]) -> usize
     ensures { result ≡ missing_in answers.now }
 {
     let mut count = 0;
     'answers: for answer in answers {
-        if let Answer::Missing = answer {
-            count += 1;
-        }
+        count += nowhere(*answer);
     }
     count
 }
 
 /// How many nodes and references a document has, where it has a tree.
 fn tables_of(tree: Option<&Tree>) -> (usize, usize)
-    ensures nodes { result.0 ≡ nodes_in (option_map (λ tree. tree.now) tree) }
-    ensures references { result.1 ≡ references_in (option_map (λ tree. tree.now) tree) }
+    ensures nodes { result.0 ≡ nodes_in (option_map (λ tree. tree.now) tree.entry) }
+    ensures references { result.1 ≡ references_in (option_map (λ tree. tree.now) tree.entry) }
 {
     match tree {
         Some(tree) => (tree.len() as usize, tree.refs().len()),
