@@ -1,6 +1,7 @@
 -- The edits of a workspace that is being made, one by one: what they publish, and which documents are still to be edited.
-use Rattle.std.proofs.Common.{◌≡◌, ◌≢◌, ℕ, ℤ, Bool, ◌+◌, ◌<◌, ◌≤◌, List, [], ◌∷◌, ◌++◌, Option, Some, None, option_map, refl, sym, ap, ◌∙◌, subst, inl, inr, arith, append_assoc}
+use Rattle.std.proofs.Common.{◌≡◌, ◌≢◌, ℕ, ℤ, Bool, ◌+◌, ◌<◌, ◌≤◌, List, [], ◌∷◌, ◌++◌, Option, Some, None, Ok, option_map, refl, sym, ap, ◌∙◌, subst, subst₂, inl, inr, arith, append_assoc}
 use Rattle.std.specs.FinMap.{empty, get, insert}
+use Rattle.std.proofs.lemmas.List.{append-nil}
 use Rattle.lw_grammar.specs.declared.grammar.Grammar.{Grammar}
 use Rattle.lw_machine.specs.Building.{BuildsToEnd}
 use Rattle.lw_machine.specs.Documents.{Document, Documents, present_texts}
@@ -10,7 +11,11 @@ use Rattle.lw_machine.specs.declared.published.Published.{Published}
 use Rattle.lw_machine.proofs.Contents.{to_end_same}
 use Rattle.lw_machine.proofs.Places.{put_elsewhere}
 use Rattle.lw_make.specs.Made.{edit_count, made_address, made_edit, made_text}
+use Rattle.lw_make.specs.declared.edits.MadeEdit.{MadeEdit}
 use Rattle.lw_make.specs.declared.documents.TheConstants.{GREATEST_WORKSPACE}
+use Rattle.lw_text.specs.Changes.{AreMade, Changes, made as is_made}
+use Rattle.lw_text.specs.declared.change.Change.{Change}
+use Rattle.lw_text.specs.declared.units.Encoding.TheVariants.{Utf16}
 use Rattle.lw_making.specs.Making.{AreEdited, done, edits}
 use Rattle.lw_making.specs.Unedited.{AreUnedited}
 use Rattle.lw_making.proofs.Putting.{AreDistinct, made, made_texts}
@@ -23,6 +28,31 @@ edited_further g m n o numbers others lists news done more = more
 edited_further g m n o numbers others lists news (edits {n = k} {number = number} {others = rest} {first = first} {rest = told} there made builds further) more =
     subst (AreEdited g m (number ∷ rest ++ others) o) (sym (append_assoc first told news))
     (edits there made builds (edited_further g k n o rest others told news further more))
+
+of_made : (text new : List ℕ) (changes : List Change) → Changes Utf16 text changes (Ok new) → AreMade Utf16 text changes new
+of_made text new changes (is_made are) = are
+
+pub edited_once : (g : Grammar) (number : ℕ) (m n : Documents) (d : Document) (text : List ℕ) (lists : List Published) →
+    get m (made_address (made_edit number).document) ≡ Some d → Changes Utf16 d.text ((made_edit number).change ∷ []) (Ok text) →
+    BuildsToEnd g (insert m (made_address (made_edit number).document) (edited d text (made_edit number).version)) n lists → AreEdited g m (number ∷ []) n lists
+edited_once g number m n d text lists there changes builds =
+    subst (AreEdited g m (number ∷ []) n) (append-nil lists) (edits there (of_made d.text text ((made_edit number).change ∷ []) changes) builds done)
+
+-- the same of an edit as it was made
+pub built_so : (g h : Grammar) (number : ℕ) (m n : Documents) (address : List ℕ) (edit : MadeEdit) (d : Document) (text : List ℕ) (lists : List Published) → h ≡ g →
+    edit ≡ made_edit number → address ≡ made_address edit.document → BuildsToEnd h (insert m address (edited d text edit.version)) n lists →
+    BuildsToEnd g (insert m (made_address (made_edit number).document) (edited d text (made_edit number).version)) n lists
+built_so g h number m n address edit d text lists same is at builds =
+    subst (λ (x : Grammar). BuildsToEnd x (insert m (made_address (made_edit number).document) (edited d text (made_edit number).version)) n lists) same
+    (subst₂ (λ (a : List ℕ) (e : MadeEdit). BuildsToEnd h (insert m a (edited d text e.version)) n lists) (at ∙ ap (λ (e : MadeEdit). made_address e.document) is) is builds)
+
+pub edited_so : (g h : Grammar) (number : ℕ) (m n : Documents) (address : List ℕ) (edit : MadeEdit) (d : Document) (text : List ℕ) (lists : List Published) → h ≡ g →
+    edit ≡ made_edit number → address ≡ made_address edit.document → get m address ≡ Some d → Changes Utf16 d.text (edit.change ∷ []) (Ok text) →
+    BuildsToEnd h (insert m address (edited d text edit.version)) n lists → AreEdited g m (number ∷ []) n lists
+edited_so g h number m n address edit d text lists same is at there changes builds =
+    edited_once g number m n d text lists (ap (get m) (sym (at ∙ ap (λ (e : MadeEdit). made_address e.document) is)) ∙ there)
+    (subst (λ (e : MadeEdit). Changes Utf16 d.text (e.change ∷ []) (Ok text)) is changes)
+    (built_so g h number m n address edit d text lists same is at builds)
 
 -- ---- which are left
 

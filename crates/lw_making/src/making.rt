@@ -15,7 +15,10 @@ use crate::summary::{Summary, added, summary_of};
 use lw_base::{NoMemory, Steps};
 use lw_build::{WorkFault, Workspace};
 use lw_lang::Language;
-use lw_make::{GREATEST_WORKSPACE, edit_count, made_address, made_edit, made_text};
+use lw_make::{
+    GREATEST_WORKSPACE, addresses_are_distinct, edit_count, edits_go_behind_the_model,
+    made_address, made_edit, made_text,
+};
 use std::alloc::Global;
 use std::sync::ledger::Ledger;
 
@@ -41,6 +44,7 @@ pub fn make<L: Ledger>(
     ensures grammar { IfOk result (λ made. made.workspace.grammar ≡ language.grammar) }
     ensures built { IfOk result (λ made. made.workspace.is_built ≡ true) }
 {
+    addresses_are_distinct();
     let mut workspace = Workspace::new(alloc, language);
     put_all(alloc, &mut workspace, count)?;
     let first = added(0, workspace.advance(steps)?.len())?;
@@ -80,8 +84,17 @@ fn put_one(
     let text = made_text(alloc, document, count)?;
     match workspace.put(&address, text, None, false) {
         Ok(()) => Ok(()),
-        Err(WorkFault::NoMemory) => Err(NoMemory),
-        Err(_) => unreachable!(),
+        Err(fault) => Err(no_memory(fault)),
+    }
+}
+
+/// Want of memory, where nothing else is a cause.
+fn no_memory(fault: WorkFault) -> NoMemory
+    requires { fault ≡ WorkFault.NoMemory }
+{
+    match fault {
+        WorkFault::NoMemory => NoMemory,
+        _ => unreachable!(),
     }
 }
 
@@ -127,14 +140,14 @@ fn edit_one<L: Ledger>(
     ensures built { OnOk result (workspace.new.is_built ≡ true) }
     ensures grammar { workspace.new.grammar ≡ workspace.old.grammar }
 {
+    addresses_are_distinct();
+    edits_go_behind_the_model();
+    workspace.agrees();
     let _ = count;
     let edit = made_edit(alloc, number)?;
     let address = made_address(alloc, edit.document)?;
-    workspace.agrees();
     match workspace.edit(&address, &[edit.change], edit.version) {
-        Ok(()) => {}
-        Err(WorkFault::NoMemory) => return Err(NoMemory),
-        Err(_) => unreachable!(),
+        Ok(()) => Ok(workspace.advance(steps)?.len()),
+        Err(fault) => Err(no_memory(fault)),
     }
-    Ok(workspace.advance(steps)?.len())
 }
