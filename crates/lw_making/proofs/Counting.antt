@@ -7,7 +7,7 @@ use Rattle.std.specs.Ordering.{nat_cmp, ordering_reverse}
 use Rattle.std.specs.Str.{bytes_eq}
 use Rattle.std.specs.declared.cmp.Ordering.TheVariants.{Less, Greater}
 use Rattle.std.proofs.lemmas.Cmp.{nat_list_cmp_total}
-use Rattle.std.proofs.lemmas.List.{length-map}
+use Rattle.std.proofs.lemmas.List.{drop_all, length-map}
 use Rattle.std.proofs.lemmas.List.Sums.{sum_by-cons}
 use Rattle.std.proofs.lemmas.List.Elements.{All-contains}
 use Rattle.std.proofs.lemmas.Slice.Eq.{bytes_eq-Decides}
@@ -27,7 +27,7 @@ use Rattle.lw_scoping.specs.Links as over
 use Rattle.lw_scoping.specs.Links.{Link, LinksTo, Trees}
 use Rattle.lw_tree.specs.declared.node.Reference.{Reference}
 use Rattle.lw_tree.specs.Parts.{Parts}
-use Rattle.lw_build.specs.View.{documents_of}
+use Rattle.lw_build.specs.View.{WorkspaceView, documents, documents_of}
 use Rattle.lw_build.proofs.Documents.{document_of, entries_documents, get_document}
 use Rattle.lw_build.proofs.Places.{entry_held}
 use Rattle.lw_making.specs.Counting.{last_of, missing_in, nodes_in, of_none, references_in, with_all, with_one}
@@ -166,7 +166,7 @@ sum-cons : (n : ℕ) (ns : List ℕ) → sum (n ∷ ns) ≡ n + sum ns
 sum-cons n ns = sum_by-cons (λ (x : ℕ). x) n ns
 
 module _ (kept : ByAddress) where
-  abbrev last_count : View → ℕ
+  abbrev pub last_count : View → ℕ
   last_count v = listed (last_of kept v.uri.now)
 
   module _ (part : Summary → ℕ) (addend : View → ℕ) (adds : (s : Summary) (v : View) → part (with_one s v (last_count v)) ≡ part s + addend v) where
@@ -182,7 +182,17 @@ module _ (kept : ByAddress) where
   told [] s = refl
   told (v ∷ views) s = told views (with_one s v (last_count v))
 
-from_zero : {total part whole : ℕ} → total ≡ 0 + part → part ≡ whole → total ≡ whole
+-- one document more is looked at
+pub one_summed : (kept : ByAddress) (s t all : Summary) (views : List View) (i : ℕ) (d : View) → i < length views →
+    t ≡ with_one s (get_or views i d) (last_count kept (get_or views i d)) → with_all kept s (drop i views) ≡ all → with_all kept t (drop (i + 1) views) ≡ all
+one_summed kept s t all views i d inside is so_far =
+    ap (λ k. with_all kept t (drop k views)) (add-one i) ∙ ap (λ x. with_all kept x (drop (suc i) views)) is
+    ∙ sym (ap (with_all kept s) (drop-cons views i d inside)) ∙ so_far
+
+pub all_summed : (kept : ByAddress) (s all : Summary) (views : List View) (i : ℕ) → length views ≤ i → with_all kept s (drop i views) ≡ all → s ≡ all
+all_summed kept s all views i past is = ap (with_all kept s) (sym (drop_all i views past)) ∙ is
+
+from_zero : {total part n : ℕ} → total ≡ 0 + part → part ≡ n → total ≡ n
 from_zero counts is = omega (arith, counts, is)
 
 map_twice : (f : Sizes → ℕ) (views : List View) → map f (map sizes_of views) ≡ map (λ v. f (sizes_of v)) views
@@ -273,3 +283,11 @@ module _ (g : Grammar) (kept : ByAddress) (views : List View) (are : AreBuiltVie
     where
       start : Summary
       start = of_none published
+
+pub summary_here : (v : WorkspaceView) → v.is_built ≡ true → (views : List View) → AreBuiltViews v.grammar views →
+    ((address : List ℕ) → texts_seen views address ≡ present_texts (documents v) address) → map (λ (w : View). w.uri.now) views ≡ keys v.kept →
+    (published : ℕ) (lists : List Published) → length lists ≡ published → IsSummary v.grammar (documents v) lists (with_all v.kept (of_none published) views)
+summary_here v built views are same addresses published lists how =
+    subst (λ b. ((address : List ℕ) → texts_seen views address ≡ present_texts (documents_of b v.kept) address) →
+    IsSummary v.grammar (documents_of b v.kept) lists (with_all v.kept (of_none published) views)) (sym built)
+    (λ seen. is_summary v.grammar v.kept views are seen addresses published lists how) same

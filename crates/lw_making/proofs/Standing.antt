@@ -74,19 +74,17 @@ held_so o held text at is = same_Some held.doc.text text (sym (ap (option_map (�
 not_refused : (text new : List ℕ) (changes : List Change) (fault : EditFault) → Changes Utf16 text changes (Ok new) → Changes Utf16 text changes (Err fault) → ⊥
 not_refused text new changes fault can cannot = let e = Changes-only Utf16 text changes (Ok new) (Err fault) can cannot in absurd (let same = e in cc)
 
-pub edit_refused : (v : WorkspaceView) (address text new : List ℕ) (changes : List Change) (fault : WorkFault) → present_texts (documents v) address ≡ Some text →
-    Changes Utf16 text changes (Ok new) → IsEditFault v address changes fault → fault ≡ NoMemory
-edit_refused v address text new changes cause there can is = by is
-  where
-    here : option_map (λ (h : Numbered). h.doc.text) (get v.kept address) ≡ Some text
-    here = sym (present_here v.is_built v.kept address) ∙ there
+module _ (v : WorkspaceView) (address text new : List ℕ) (changes : List Change) (there : present_texts (documents v) address ≡ Some text)
+    (can : Changes Utf16 text changes (Ok new)) where
+  here : option_map (λ (h : Numbered). h.doc.text) (get v.kept address) ≡ Some text
+  here = sym (present_here v.is_built v.kept address) ∙ there
 
-    by : IsEditFault v address changes cause → cause ≡ NoMemory
-    by (no_document none) = absurd (none-some text (sym (ap (option_map (λ (h : Numbered). h.doc.text)) none) ∙ here))
-    by (bad_range {held = held} {number = number} at cannot) =
-        absurd (not_refused text new changes (edit.BadRange number) can
-        (subst (λ (t : List ℕ). Changes Utf16 t changes (Err (edit.BadRange number))) (held_so (get v.kept address) held text at here) cannot))
-    by (fault.too_long {held = held} {size = size} at cannot) =
-        absurd (not_refused text new changes (edit.TooLong size) can
-        (subst (λ (t : List ℕ). Changes Utf16 t changes (Err (edit.TooLong size))) (held_so (get v.kept address) held text at here) cannot))
-    by fault.no_memory = refl
+  pub edit_refused : (cause : WorkFault) → IsEditFault v address changes cause → cause ≡ NoMemory
+  edit_refused cause (no_document none) = absurd (none-some text (sym (ap (option_map (λ (h : Numbered). h.doc.text)) none) ∙ here))
+  edit_refused cause (bad_range {held = held} {number = number} at cannot) =
+      absurd (not_refused text new changes (edit.BadRange number) can
+      (subst (λ (t : List ℕ). Changes Utf16 t changes (Err (edit.BadRange number))) (held_so (get v.kept address) held text at here) cannot))
+  edit_refused cause (fault.too_long {held = held} {size = size} at cannot) =
+      absurd (not_refused text new changes (edit.TooLong size) can
+      (subst (λ (t : List ℕ). Changes Utf16 t changes (Err (edit.TooLong size))) (held_so (get v.kept address) held text at here) cannot))
+  edit_refused cause fault.no_memory = refl

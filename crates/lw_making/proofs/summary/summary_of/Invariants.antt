@@ -4,4 +4,4 @@ use Rattle.lw_making.proofs.summary.summary_of.Given as goal
 
 abbrev pub invariant-views : goal.invariant-views
 invariant-views l =
-    with_all l.workspace.kept l.summary (drop l.view-index l.views.items) ≡ with_all l.workspace.kept (of_none l.published) l.views.items
+    with_all l.workspace.kept l.summary (drop l.view-index l.view-items) ≡ with_all l.workspace.kept (of_none l.published) l.view-items
