@@ -5,8 +5,10 @@ use Rattle.std.specs.Io.KnownBytes.{Keeps}
 use denote.Ref.{Bor}
 use Rattle.std.proofs.KnownBytes.{Keeps-refl, Consumes-nil}
 use Rattle.lw_load.specs.Loading.{Files}
-use Rattle.lw_words.specs.Words.{IsCheck, IsServe, IsMake, IsNoCommand, NamesFile}
-use Rattle.lw_words.specs.Words as words
+use Rattle.lw_words.specs.declared.words.Command.{Command}
+use Rattle.lw_words.specs.declared.words.Command.TheVariants.{Check, Serve, Make}
+use Rattle.lw_words.specs.Words.{IsCheck, IsServe, IsMake, IsCommand, IsNoCommand, NamesFile, root_of}
+use Rattle.lw_words.specs.Words as said
 use Rattle.lw_words.proofs.OneCommand.{one_check, one_grammar, one_make, one_serve, not_check_and_make, not_check_and_serve, not_serve_and_make}
 use Rattle.langbench.specs.declared.report.Verdict.{Verdict}
 use Rattle.langbench.specs.declared.stop.Stop.{Stop}
@@ -17,6 +19,12 @@ use Rattle.langbench.specs.Run.{Work, ComesTo}
 use Rattle.langbench.specs.Serving.{ServeComesTo}
 use Rattle.langbench.specs.Stops.{TheSource, TheSink, TheStore, ThePatterns}
 use Rattle.langbench.proofs.Ends.{CountsAll}
+
+-- a command names its grammar
+pub names_its_grammar : (words : List (List ℕ)) (command : Command) → IsCommand words command → (k : ℕ) × NamesFile words (root_of command).path.now k
+names_its_grammar words (Check root) is = (root.k, said.checks is)
+names_its_grammar words (Serve root files) is = (root.k, said.serves is)
+names_its_grammar words (Make root count) is = (root.k, said.makes is)
 
 -- the path that was found is the one that they name, seen as a value
 pub named : (words : List (List ℕ)) (found : Option (Bor (List ℕ))) → MatchOption found (IsNoCommand words) (λ p. (k : ℕ) × NamesFile words p.now k) →
@@ -41,9 +49,9 @@ module _ (words : List (List ℕ)) (w : Work) (p : List ℕ) (j : ℕ) (outcome 
         (subst (λ q. IfSome w.files (λ files. IfSome w.left.0 (λ held. CheckComesTo files q j held w.refused w.left.1 w.written.0 w.written.1 outcome))) same.0 came);
     serve = λ path paths k also. absurd (not_check_and_serve is also);
     make = λ path count k also. absurd (not_check_and_make is also);
-    none = λ none. absurd (none p j (words.checks is));
+    none = λ none. absurd (none p j (said.checks is));
     unnamed = λ stops. absurd (other stops);
-    cause = caused_by (words.checks is);
+    cause = caused_by (said.checks is);
     counts = counts;
   }
 
@@ -57,9 +65,9 @@ module _ (words : List (List ℕ)) (w : Work) (p : List ℕ) (j : ℕ) (outcome 
         (subst (λ ps. IfSome w.files (λ files. ServeComesTo files path ps j w.refused w.left.0 w.left.1 w.written.0 w.written.1 outcome)) same.1
         (subst (λ q. IfSome w.files (λ files. ServeComesTo files q paths j w.refused w.left.0 w.left.1 w.written.0 w.written.1 outcome)) same.0 came));
     make = λ path count k also. absurd (not_serve_and_make is also);
-    none = λ none. absurd (none p j (words.serves is));
+    none = λ none. absurd (none p j (said.serves is));
     unnamed = λ stops. absurd (other stops);
-    cause = caused_by (words.serves is);
+    cause = caused_by (said.serves is);
     counts = counts;
   }
 
@@ -75,9 +83,9 @@ module _ (words : List (List ℕ)) (w : Work) (p : List ℕ) (j : ℕ) (outcome 
               (subst (λ m. IfSome w.files (λ files. MakeComesTo files path j m w.refused w.written.0 w.written.1 outcome)) same.1
               (subst (λ q. IfSome w.files (λ files. MakeComesTo files q j count w.refused w.written.0 w.written.1 outcome)) same.0 came)),
         );
-    none = λ none. absurd (none p j (words.makes is));
+    none = λ none. absurd (none p j (said.makes is));
     unnamed = λ stops. absurd (other stops);
-    cause = caused_by (words.makes is);
+    cause = caused_by (said.makes is);
     counts = counts;
   }
 
@@ -100,9 +108,9 @@ module _ (words : List (List ℕ)) (files : Option Files) (left written refused 
 
   pub does_nothing : IsNoCommand words → ComesTo words untouched (Err stop.Words)
   does_nothing none = record {
-    check = λ path k is. absurd (none path k (words.checks is));
-    serve = λ path paths k is. absurd (none path k (words.serves is));
-    make = λ path count k is. absurd (none path k (words.makes is));
+    check = λ path k is. absurd (none path k (said.checks is));
+    serve = λ path paths k is. absurd (none path k (said.serves is));
+    make = λ path count k is. absurd (none path k (said.makes is));
     none = λ none. (inl refl, Keeps-refl left, Keeps-refl written);
     unnamed = λ stops. none;
     cause = λ path k names. tt;

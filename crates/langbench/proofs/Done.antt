@@ -189,7 +189,7 @@ module _ (files : Files) (path : List ℕ) (paths : List (List ℕ)) (k : ℕ) (
     session_done (Ok Broken) is came counts =
         absurd (broken (fact_of (λ g named. serving.Exited g named (Some held) after old new Early ⊎ serving.RanOut g named (Some held) after old new) came))
     session_done (Err e) (inr seven) came counts = at_code seven serving.no_memory
-    session_done (Err stop.Words) (inl is) came counts = absurd came.fact
+    session_done (Err stop.Words) (inl is) came counts = absurd came.fact.2
     session_done (Err (stop.Grammar found)) (inl is) came counts =
         at_code (is ∙ only_memory files path k refused faults g holds clear none found came.0 counts) serving.no_memory
     session_done (Err (stop.File found)) (inl is) came counts = absurd (all_read found came.0 counts)

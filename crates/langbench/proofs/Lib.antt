@@ -1,6 +1,7 @@
 pub mod ReportLemmas
 pub mod Grammars
 pub mod OneOutput
+pub mod Loading
 pub mod NamedTexts
 pub mod Ends
 pub mod Commands

@@ -1,5 +1,5 @@
 -- The texts of the files that the words name are the only ones, and none of them is unread.
-use Rattle.std.proofs.Common.{◌≡◌, ◌≤◌, ◌<◌, ℕ, List, [], ◌∷◌, ◌++◌, Option, Some, None, length, refl, sym, ap, subst, ◌∙◌, arith}
+use Rattle.std.proofs.Common.{◌≡◌, ◌≤◌, ◌<◌, ℕ, List, [], ◌∷◌, ◌++◌, Option, Some, None, length, refl, sym, ap, ap₂, subst, ◌∙◌, arith}
 use Rattle.lw_io.specs.Store.{FitsFile, file_at}
 use Rattle.lw_io.specs.declared.store.Found.TheVariants as found
 use Rattle.lw_load.specs.Loading.{Files}
@@ -31,7 +31,7 @@ module _ (files : Files) where
   same_put path put other is also =
       let address : put.0 ≡ other.0 = is.address ∙ sym also.address in
       let text : put.1 ≡ other.1 = one_text (file_at files path) put.1 other.1 is.text also.text in
-      cc
+      ap₂ (λ a t. (a, t)) address text
 
   pub same_named : (paths : List (List ℕ)) (named others : List (List ℕ × List ℕ)) → AreNamed files paths named → AreNamed files paths others → named ≡ others
   same_named [] [] [] are also = refl

@@ -1,10 +1,10 @@
 // A workspace is generated and built, and its summary is printed.
-ghost use Rattle.std.specs.Prelude.{◌≡◌, ◌≤◌, ◌⊎◌, IfOk, IfSome, OnErr, OnOk, Err};
+ghost use Rattle.std.specs.Prelude.{◌≡◌, ◌≤◌, ◌⊎◌, IfOk, IfSome, OnErr, OnOk, Err, ℕ};
 ghost use Rattle.std.specs.Io.KnownBytes.{Appends};
 ghost use Rattle.lw_io.specs.Whole.{WritesFront};
 ghost use Rattle.langbench.specs.Checking.{IsCaused};
 ghost use Rattle.langbench.specs.Making.{MakeComesTo};
-ghost use Rattle.langbench.specs.Stops.{Counts, TheSink, TheStore, ThePatterns};
+ghost use Rattle.langbench.specs.Stops.{Counts, TheSource, TheSink, TheStore, ThePatterns};
 ghost use Rattle.lw_make.specs.declared.documents.TheConstants.{GREATEST_WORKSPACE};
 
 use crate::desk::Desk;
@@ -35,6 +35,7 @@ pub(crate) fn make<K: Sink, F: Store, P: Patterns, L: Ledger>(
         MakeComesTo files root.entry.path.now root.entry.k count (P.last_refused patterns.new) (K.written out.old) (K.written out.new) result) }
     ensures cause { IsCaused (F.files store.old) root.entry.path.now root.entry.k (P.last_refused patterns.new) result }
     ensures not_words { ¬ (result ≡ Err Stop.Words) }
+    ensures source { (faults : ℕ) → Counts TheSource faults faults result }
     ensures sink { Counts TheSink (K.count out.old) (K.count out.new) result }
     ensures store { Counts TheStore (F.count store.old) (F.count store.new) result }
     ensures patterns { Counts ThePatterns (P.count patterns.old) (P.count patterns.new) result }

@@ -127,6 +127,7 @@ fn act<S: Source, K: Sink, F: Store, P: Patterns, L: Ledger>(
     desk: &mut Desk,
     steps: &mut Steps<L>,
 ) -> Result<Verdict, Stop>
+    requires { (words : List (List ℕ)) × MatchOption command.now (IsNoCommand words) (IsCommand words) }
     ensures { (words : List (List ℕ)) → MatchOption command.now (IsNoCommand words) (IsCommand words) → ComesTo words (record {
       files = F.files store.old;
       left = (S.left source.old, S.left source.new);
