@@ -141,17 +141,17 @@ fn act<S: Source, K: Sink, F: Store, P: Patterns, L: Ledger>(
       };
     }) result }
 {
+    let Some(command) = command else {
+        return Err(Stop::Words);
+    };
     match command {
-        Some(Command::Check(root)) => check(alloc, *root, source, out, store, patterns),
-        Some(Command::Serve(root, files)) => {
-            serve(
-                alloc, *root, files, source, out, store, patterns, desk, steps,
-            )
+        Command::Check(root) => check(alloc, *root, source, out, store, patterns),
+        Command::Serve(root, files) => {
+            serve(alloc, *root, files, source, out, store, patterns, desk, steps)
         }
-        Some(Command::Make(root, count)) => {
+        Command::Make(root, count) => {
             make(alloc, *root, *count, out, store, patterns, desk, steps)
         }
-        None => Err(Stop::Words),
     }
 }
 
