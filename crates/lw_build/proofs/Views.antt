@@ -1,5 +1,5 @@
 -- All documents as they are lent: each stands where the workspace has it, and its answers are its links.
-use Rattle.std.proofs.Common.{◌≡◌, ◌≢◌, ℕ, List, [], ◌∷◌, ◌++◌, length, map, cond, Contains, T, Bool, true, false, ◌<◌, is_eq, is_lt, Ordering, Less, Equal, Greater, Option, Some, None, IfSome, option_map, option_and_then, refl, sym, ap, subst, subst₂, ◌∙◌, inl, inr, ◌⊎◌, arith}
+use Rattle.std.proofs.Common.{◌≡◌, ◌≢◌, ℕ, List, [], ◌∷◌, ◌++◌, length, map, cond, Contains, T, Bool, true, false, ◌<◌, is_eq, is_lt, Ordering, Less, Equal, Greater, Option, Some, None, IfSome, option_map, option_and_then, refl, sym, ap, ap₂, subst, subst₂, ◌∙◌, inl, inr, ◌⊎◌, arith}
 use Rattle.std.specs.FinMap.{get, entries, is_sorted, entries_sorted}
 use Rattle.std.specs.FinMap.Entries.{below_all}
 use Rattle.std.specs.List.{All, AllPairs, AllZip, slice_index_or}
@@ -143,6 +143,15 @@ module _ (R : List ℕ × DocId → View → Type 0) (at : (p : List ℕ × DocI
       let (h, in_es) = entry_of es p among in
       subst₂ (λ a b. order a b ≡ Less) (sym (at (e.0, e.1.number) v all.0)) (sym (at p w is)) (lower (order e.0 p.0) (below_each e.0 es p.0 h parts.0 in_es))))
       (rising es views parts.1 all.1)
+
+-- they stand in the order of their addresses
+pub same_addresses : (kept : ByAddress) (readings : Readings) (led : Led) (es : List (List ℕ × Numbered)) (views : List View) →
+    AllZip (IsViewOf kept readings led) (map (λ e. (e.0, e.1.number)) es) views → map (λ (v : View). v.uri.now) views ≡ map (λ (e : List ℕ × Numbered). e.0) es
+same_addresses kept readings led [] [] rows = refl
+same_addresses kept readings led [] (v ∷ views) rows = absurd rows
+same_addresses kept readings led (e ∷ es) [] rows = absurd rows
+same_addresses kept readings led (e ∷ es) (v ∷ views) rows =
+    ap₂ (λ a addresses. a ∷ addresses) rows.0.address (same_addresses kept readings led es views rows.1)
 
 -- ---- the documents of a workspace that is built
 

@@ -1,5 +1,5 @@
 // A workspace.
-ghost use Rattle.std.specs.Prelude.{ℕ, List, ◌≡◌, ◌≢◌, ◌≤◌, ◌<◌, ◌↔◌, ◌+◌, Some, None, Ok, Err, IfOk, IfErr, OnOk, OnErr, MatchOption, IsTrue, true, length, map};
+ghost use Rattle.std.specs.Prelude.{ℕ, List, ◌≡◌, ◌≢◌, ◌≤◌, ◌<◌, ◌↔◌, ◌+◌, Some, None, Ok, Err, IfOk, IfErr, OnOk, OnErr, MatchOption, IsTrue, true, length, map, option_and_then};
 ghost use Rattle.std.specs.FinMap as all;
 ghost use Rattle.std.specs.FinMap.{get};
 ghost use Rattle.std.specs.Map.Iter.{ShowsInOrder, deref_pair};
@@ -323,6 +323,17 @@ impl Workspace {
         Some(&self.docs.doc(d).text)
     }
 
+    /// The list that was published last of the document at an address: None where there is no document, or no list of it was published.
+    pub fn published(&self, uri: &Name) -> Option<&[Shown]>
+        ensures { option_map (λ list. list.now) result ≡ option_and_then (λ held. held.doc.published) (get self.now.kept uri.now) }
+    {
+        let d = self.docs.find(uri)?;
+        match &self.docs.doc(d).published {
+            Some(list) => Some(list.as_slice()),
+            None => None,
+        }
+    }
+
     /// Whether an editor has the document at an address open: not where there is none.
     pub fn is_open(&self, uri: &Name) -> bool
         ensures { IsTrue result ↔ ((held : Numbered) × (get self.now.kept uri.now ≡ Some held) × (held.doc.is_open ≡ true)) }
@@ -370,6 +381,7 @@ impl Workspace {
         requires built { self.now.is_built ≡ true }
         ensures built { IfOk result (λ views. AreBuiltViews self.now.grammar views.items) }
         ensures texts { IfOk result (λ views. (address : List ℕ) → texts_seen views.items address ≡ present_texts (documents self.now) address) }
+        ensures addresses { IfOk result (λ views. map (λ v. v.uri.now) views.items ≡ all.keys self.now.kept) }
     {
         let _ = self.is_built;
         views_of(alloc, &self.docs, &self.readings, &self.refs)

@@ -1,2 +1,4 @@
 pub mod Making
 pub mod Summaries
+pub mod Unedited
+pub mod Counting

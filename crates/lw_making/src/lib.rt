@@ -9,8 +9,13 @@
 //! and that they are the only ones.
 #![tactic(auto)]
 
+mod laws;
 mod making;
 mod summary;
 
+pub use laws::one_summary;
 pub use making::{MadeWorkspace, make};
 pub use summary::{Summary, summary_text};
+
+#[cfg(test)]
+mod tests;

@@ -1,9 +1,11 @@
-use Rattle.std.proofs.Common.{◌≡◌, ℕ, List, Result, Ok, Err, IfOk, sym, ap, subst, ◌∙◌}
+use Rattle.std.proofs.Common.{◌≡◌, ℕ, List, map, Result, Ok, Err, IfOk, sym, ap, subst, ◌∙◌}
+use Rattle.std.specs.FinMap.{entries, keys}
 use Rattle.lw_machine.specs.Documents.{present_texts}
 use Rattle.lw_query.specs.Built.{AreBuiltViews, texts_seen}
+use Rattle.lw_query.specs.declared.view.View.{View}
 use Rattle.lw_build.specs.View.{WorkspaceView, documents}
 use Rattle.lw_build.proofs.Documents.{present_here}
-use Rattle.lw_build.proofs.Views.{built_views, same_texts}
+use Rattle.lw_build.proofs.Views.{built_views, same_addresses, same_texts}
 use Rattle.lw_build.proofs.workspace.Workspace.views.Goals as goal
 
 if_ok : {A E : Type 0} {P Q : A → Type 0} (r : Result A E) → ((x : A) → P x → Q x) → IfOk r P → IfOk r Q
@@ -27,4 +29,11 @@ returns-clause-texts c =
     (λ address. same_texts c.self.inside.language.grammar c.self.inside.language.texts c.self.inside.docs c.self.invariant.numbered c.self.inside.readings
     c.self.invariant.read c.self.inside.refs (c.self.invariant.linked is) views.items rows address
     ∙ sym (present_here c.self.inside.is_built c.self.inside.docs address)))
+    c.views_of.ensures
+
+pub returns-clause-addresses : goal.returns-clause-addresses
+returns-clause-addresses c =
+    if_ok c.views_of.result
+    (λ views rows. subst (λ (v : WorkspaceView). map (λ (w : View). w.uri.now) views.items ≡ keys v.kept) c.self.view_is
+    (same_addresses c.self.inside.docs c.self.inside.readings c.self.inside.refs (entries c.self.inside.docs) views.items rows))
     c.views_of.ensures

@@ -1,0 +1,5 @@
+pub mod Putting
+pub mod Editing
+pub mod OneSummary
+pub mod Counting
+pub mod Standing
