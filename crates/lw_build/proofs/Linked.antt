@@ -8,9 +8,8 @@ use Rattle.lw_docs.specs.Documents.{AreNumbered, ByAddress, Numbered}
 use Rattle.lw_grammar.specs.declared.grammar.Grammar.{Grammar}
 use Rattle.lw_index.specs.Indexed.{Indexed}
 use Rattle.lw_index.specs.declared.parts.Answer.{Answer}
-use Rattle.lw_index.specs.declared.parts.Answer.TheVariants.{Found, Missing}
+use Rattle.lw_index.specs.declared.parts.Answer.TheVariants.{Found}
 use Rattle.lw_index.specs.declared.parts.Document.{Document}
-use Rattle.lw_index.specs.declared.parts.Target.{Target}
 use Rattle.lw_link.specs.Indexed as indexed
 use Rattle.lw_link.specs.Indexed.{LeadsIntoHeld, link_of}
 use Rattle.lw_link.proofs.Linked.{address_is}

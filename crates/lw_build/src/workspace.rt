@@ -1,5 +1,5 @@
 // A workspace.
-ghost use Rattle.std.specs.Prelude.{ℕ, List, ◌≡◌, ◌≢◌, ◌≤◌, ◌<◌, ◌↔◌, ◌+◌, Some, None, Ok, Err, IfOk, IfErr, OnOk, OnErr, MatchOption, IsTrue, true, length, map, option_and_then};
+ghost use Rattle.std.specs.Prelude.{ℕ, List, ◌≡◌, ◌≢◌, ◌≤◌, ◌<◌, ◌↔◌, ◌+◌, Some, None, Ok, Err, IfOk, IfErr, OnOk, OnErr, MatchOption, IsTrue, true, false, length, map, option_and_then};
 ghost use Rattle.std.specs.FinMap as all;
 ghost use Rattle.std.specs.FinMap.{get};
 ghost use Rattle.std.specs.Map.Iter.{ShowsInOrder, deref_pair};
@@ -163,6 +163,7 @@ impl Workspace {
     fn change(&mut self, d: DocId, text: TextDoc, version: Option<i64>, is_open: bool)
         requires { IsHeld self.old.kept d }
         ensures kept { Turns self.old.kept self.new.kept d (λ x. record x { text = text; version = version; is_open = is_open }) }
+        ensures begun { self.new.is_built ≡ false }
         ensures grammar { self.new.grammar ≡ self.old.grammar }
     {
         renew(&mut self.docs, d, text, version, is_open);
@@ -182,6 +183,7 @@ impl Workspace {
     ) -> Result<(), WorkFault>
         requires { get self.old.kept uri.now ≡ None }
         ensures kept { OnOk result ((d : DocId) × (self.new.kept ≡ all.insert self.old.kept uri.now (numbered d (changed uri.now text version is_open)))) }
+        ensures begun { OnOk result (self.new.is_built ≡ false) }
         ensures grammar { self.new.grammar ≡ self.old.grammar }
         ensures fault { IfErr result (IsAddRefusal self.old) }
         ensures room { OnOk result (all.len self.old.kept ≢ MOST_DOCUMENTS) }
@@ -202,8 +204,8 @@ impl Workspace {
     }
 
     /// Puts a text at an address, which may be new. What was read of the text that stood there is forgotten; the list that was published
-    /// last stays. Errors: [`WorkFault::TooLong`], [`WorkFault::TooMany`] for an address that is new, and want of memory. The time is
-    /// linear in the text, and logarithmic in the documents.
+    /// last stays. The documents are to be built anew then. Errors: [`WorkFault::TooLong`], [`WorkFault::TooMany`] for an address that is
+    /// new, and want of memory. The time is linear in the text, and logarithmic in the documents.
     pub fn put(
         &mut self,
         uri: &Name,
@@ -212,6 +214,7 @@ impl Workspace {
         is_open: bool,
     ) -> Result<(), WorkFault>
         ensures agrees { OnOk result ((m : Documents) → Agrees self.old m → Agrees self.new (put m uri.now text version is_open)) }
+        ensures begun { OnOk result (self.new.is_built ≡ false) }
         ensures fits { OnOk result ((length text ≤ LONGEST_TEXT) × (¬ HasNoRoom self.old uri.now)) }
         ensures fault { IfErr result (IsPutFault self.old uri.now text) }
         ensures refused { OnErr result (self.new ≡ self.old) }

@@ -10,7 +10,6 @@ use Rattle.lw_build.specs.View.{WorkspaceView, documents_of, built_document, cle
 use Rattle.lw_machine.specs.Documents.{Document, Documents}
 use Rattle.lw_machine.specs.Validity.{content, HaveSameContent}
 use Rattle.lw_machine.proofs.Places.{order, same_documents}
-use Rattle.lw_session.specs.Loading.{HaveSameLastLists}
 
 module _ (f : Numbered → Document) where
   below_turned : (a : List ℕ) (es : List (List ℕ × Numbered)) → below_all order a (map (λ e. (e.0, f e.1)) es) ≡ below_all order a es
@@ -82,7 +81,7 @@ module _ (v : WorkspaceView) (m : Documents) (agrees : Agrees v m) (address : Li
       by None is same = absurd (none-some (known d) same)
       by (Some held) is same = (held, is, sym (same_Some (known_here held) (known d) same))
 
--- documents that one workspace may stand for have the same content and the same last lists
+-- documents that one workspace may stand for have the same content
 content_known : Known → List ℕ × Option ℤ × Bool
 content_known k = (k.text, k.version, k.is_open)
 
@@ -91,17 +90,7 @@ unfolding content_known
 by_known None = refl
 by_known (Some d) = refl
 
-list_known : (o : Option Document) → option_map (λ (d : Document). d.published) o ≡ option_map (λ (k : Known). k.published) (option_map known o)
-list_known None = refl
-list_known (Some d) = refl
-
 module _ (v : WorkspaceView) (m n : Documents) (agrees : Agrees v m) (also : Agrees v n) where
   pub same_content : HaveSameContent m n
   same_content address =
       by_known (get n address) ∙ ap (option_map content_known) (also.same address ∙ sym (agrees.same address)) ∙ sym (by_known (get m address))
-
-  pub same_lists : HaveSameLastLists m n
-  same_lists address =
-      list_known (get n address)
-      ∙ ap (option_map (λ (k : Known). k.published)) (also.same address ∙ sym (agrees.same address))
-      ∙ sym (list_known (get m address))

@@ -8,7 +8,9 @@
 //!
 //! It promises that [`Session::handle`] does with each body exactly what is said there, a build to its end
 //! behind it. Where it is refused memory the replies are lost, and the texts and the phase are such as they
-//! may be in the middle of the message. The grammar stays, and so do the files of the store.
+//! may be in the middle of the message. The grammar stays, and so do the files of the store. Before the first
+//! body [`Session::load_file`] puts texts at addresses, one behind the other: the session is then exactly one in
+//! which these were put.
 //!
 //! How it is made: `lifecycle` decides a message by the two facts of a session alone; `opening` puts a text
 //! and `editing` makes the changes of one in the workspace (`lw_build`), `asking` answers what is asked about a place, over
