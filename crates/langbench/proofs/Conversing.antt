@@ -248,17 +248,3 @@ works_unread (Some files) path paths k refused before old g holds clear settled 
 works_unread (Some files) path paths k refused before old g holds clear settled e (Err s) stops is =
     subst (λ s. ServeComesTo files path paths k refused before before old old (Err s)) (sym is)
     (unread_by files path paths k refused before before old old g holds clear settled e stops (Keeps-refl before) (Keeps-refl old))
-
--- a session has no fault of the grammar
-pub no_cause_of : (g : Grammar) (named : List (List ℕ × List ℕ)) (before after old new : Option (List ℕ)) (told : Option Files) (path : List ℕ) (k : ℕ) (refused : Option (List ℕ)) (r : Result Verdict Stop) → Conversed g named before after old new r →
-    IsCaused told path k refused r
-no_cause_of g named before after old new told path k refused (Ok Whole) fact = tt
-no_cause_of g named before after old new told path k refused (Ok Broken) fact = tt
-no_cause_of g named before after old new told path k refused (Err stop.Words) fact = absurd fact
-no_cause_of g named before after old new told path k refused (Err (stop.Grammar found)) fact = absurd fact
-no_cause_of g named before after old new told path k refused (Err (stop.File found)) fact = absurd fact
-no_cause_of g named before after old new told path k refused (Err stop.Read) fact = tt
-no_cause_of g named before after old new told path k refused (Err stop.Write) fact = tt
-no_cause_of g named before after old new told path k refused (Err stop.Memory) fact = tt
-no_cause_of g named before after old new told path k refused (Err (stop.Frames found)) fact = tt
-no_cause_of g named before after old new told path k refused (Err stop.Limit) fact = tt

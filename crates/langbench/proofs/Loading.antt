@@ -1,20 +1,12 @@
 -- The files that the words name, read one behind the other.
-use Rattle.std.proofs.Common.{◌≡◌, ◌+◌, ◌<◌, ℕ, suc, List, [], ◌∷◌, ◌++◌, length, take, drop, map, get_or, false, Option, Some, None, Result, Ok, Err, IfErr, IfSome, IsErrAnd, refl, sym, ap, subst, ◌∙◌, arith}
+use Rattle.std.proofs.Common.{◌≡◌, ◌+◌, ◌<◌, ℕ, suc, List, [], ◌∷◌, ◌++◌, length, take, drop, map, get_or, Option, Some, None, Result, Ok, Err, IfErr, IfSome, IsErrAnd, refl, sym, ap, subst, ◌∙◌, arith}
 use Rattle.std.proofs.lemmas.List.{map-append, take-append-drop}
 use Rattle.std.proofs.Math.Seq.{take-suc, drop-cons}
-use Rattle.std.specs.List.{AllZip}
 use denote.Ref.{Bor}
-use Rattle.lw_io.specs.Store.{AnswersFile, FitsFile, file_at}
-use Rattle.lw_io.specs.declared.store.Found.TheVariants as found
+use Rattle.lw_io.specs.Store.{FitsFile, file_at}
 use Rattle.lw_load.specs.Loading.{Files}
-use Rattle.lw_paths.specs.Paths.{address_of}
-use Rattle.langbench.specs.Named.{AreNamed, IsFileText, IsFirstUnread, answer_of_fault, path_of_fault}
+use Rattle.langbench.specs.Named.{AreNamed, IsFileText, answer_of_fault}
 use Rattle.langbench.specs.Reading.{IsUnreadBy, StopsAtFile}
-use Rattle.langbench.specs.Checking.{IsCaused}
-use Rattle.langbench.specs.Stops.{CountsAt, CountsIf, Object, TheStore, blame_of, is_same}
-use Rattle.langbench.specs.declared.named.FileFault.{FileFault}
-use Rattle.langbench.specs.declared.named.FileFault.TheVariants as file
-use Rattle.langbench.specs.declared.report.Verdict.{Verdict}
 use Rattle.langbench.specs.declared.stop.Stop.{Stop}
 use Rattle.langbench.specs.declared.stop.Stop.TheVariants as stop
 
@@ -75,65 +67,7 @@ module _ (paths : List (Bor (List ℕ))) (i : ℕ) (path : Bor (List ℕ)) (insi
   first_unread told named (stop.Frames found) are is = absurd is
   first_unread told named stop.Limit are is = absurd is
 
--- all of them are read
-pub all_named : (told : Option Files) (paths : List (Bor (List ℕ))) (i : ℕ) (named : List (List ℕ × List ℕ)) → take i paths ≡ paths → IfSome told (λ files. AreNamed files (paths_of (take i paths)) named) →
-    IfSome told (λ files. AreNamed files (paths_of paths) named)
-all_named told paths i named all are = subst (λ ps. IfSome told (λ files. AreNamed files (paths_of ps) named)) all are
-
 -- a stop that is handed on has what it had
 pub handed_on : {T : Type 0} (P : Stop → Type 0) (e : Stop) (r : Result T Stop) → IsErrAnd r (λ s. s ≡ e) → P e → IfErr r P
 handed_on P e (Ok x) is held = tt
 handed_on P e (Err s) is held = subst P (sym is) held
-
--- ---- one file
-
--- its text is put at its address
-pub put_there : (told : Option Files) (path text address : List ℕ) → address ≡ address_of path → AnswersFile told path (found.Text text) → IfSome told (λ files. IsFileText files path (address, text))
-put_there None path text address is fits = tt
-put_there (Some files) path text address is fits = record { address = is; text = fits }
-
--- ---- where a file is not read
-
--- only the store has failed, if anything did
-pub others_stand : (object : Object) → is_same object TheStore ≡ false → (told : Option Files) (paths : List (List ℕ)) (before now : ℕ) (e : Stop) → StopsAtFile told paths e → now ≡ before →
-    CountsAt object (blame_of e) before now
-others_stand object other told paths before now e stops same = by e stops
-  where
-    of_file : (f : FileFault) → CountsAt object (blame_of (stop.File f)) before now
-    of_file (file.Absent p) = same
-    of_file (file.NotUtf8 p) = same
-    of_file (file.TooLong p) = same
-    of_file (file.Failed p) = subst (λ b. CountsIf b before now) (sym other) same
-
-    by : (e : Stop) → StopsAtFile told paths e → CountsAt object (blame_of e) before now
-    by stop.Words stops = absurd stops
-    by (stop.Grammar f) stops = absurd stops
-    by (stop.File f) stops = of_file f
-    by stop.Read stops = absurd stops
-    by stop.Write stops = absurd stops
-    by stop.Memory stops = tt
-    by (stop.Frames f) stops = absurd stops
-    by stop.Limit stops = absurd stops
-
--- and no grammar is the cause
-pub unread_cause : (stands : Option Files) (paths : List (List ℕ)) (told : Option Files) (path : List ℕ) (k : ℕ) (refused : Option (List ℕ)) (e : Stop) (r : Result Verdict Stop) → StopsAtFile stands paths e →
-    IsErrAnd r (λ s. s ≡ e) → IsCaused told path k refused r
-unread_cause stands paths told path k refused e (Ok verdict) stops is = absurd is
-unread_cause stands paths told path k refused e (Err s) stops is = subst (λ s. IsCaused told path k refused (Err s)) (sym is) (by e stops)
-  where
-    by : (e : Stop) → StopsAtFile stands paths e → IsCaused told path k refused (Err e)
-    by stop.Words stops = tt
-    by (stop.Grammar found) stops = absurd stops
-    by (stop.File found) stops = tt
-    by stop.Read stops = tt
-    by stop.Write stops = tt
-    by stop.Memory stops = tt
-    by (stop.Frames found) stops = tt
-    by stop.Limit stops = tt
-
--- nor do words that are no command
-pub unread_words : (stands : Option Files) (paths : List (List ℕ)) (e : Stop) (r : Result Verdict Stop) → StopsAtFile stands paths e → IsErrAnd r (λ s. s ≡ e) → ¬ (r ≡ Err stop.Words)
-unread_words stands paths e (Ok verdict) stops is same = absurd is
-unread_words stands paths e (Err s) stops is same =
-    let words : s ≡ stop.Words = cc in
-    subst (StopsAtFile stands paths) (sym is ∙ words) stops

@@ -1,12 +1,10 @@
 -- What making a workspace and printing its summary leave, and that it is told by its status.
 use Rattle.std.proofs.Common.{◌≡◌, ◌⊎◌, inl, inr, ℕ, List, Option, Some, None, Result, Ok, Err, IfOk, OnOk, OnErr, IfSome, IsErrAnd, refl, sym, ap, subst, ◌∙◌}
-use Rattle.std.specs.Io.KnownBytes.{Appends, Keeps}
+use Rattle.std.specs.Io.KnownBytes.{Appends}
 use Rattle.std.proofs.KnownBytes.{Keeps-refl}
 use Rattle.lw_grammar.specs.declared.grammar.Grammar.{Grammar}
 use Rattle.lw_io.specs.Whole.{WritesFront}
-use Rattle.lw_lang.specs.Compiled.{Causes, HoldsGrammar, IsClear}
-use Rattle.lw_lang.specs.declared.fault.CompileFault.{CompileFault}
-use Rattle.lw_lang.specs.declared.fault.CompileFault.TheVariants as fault
+use Rattle.lw_lang.specs.Compiled.{HoldsGrammar, IsClear}
 use Rattle.lw_load.specs.Loading.{Files}
 use Rattle.lw_machine.specs.Documents.{Documents}
 use Rattle.lw_machine.specs.declared.published.Published.{Published}
@@ -18,9 +16,9 @@ use Rattle.langbench.specs.declared.report.Verdict.TheVariants.{Whole, Broken}
 use Rattle.langbench.specs.declared.stop.Stop.{Stop}
 use Rattle.langbench.specs.declared.stop.Stop.TheVariants as stop
 use Rattle.langbench.specs.Making as making
-use Rattle.langbench.specs.Making.{MakeComesTo, MakeDone, Sums, SumsUp, WritesSomeLines}
+use Rattle.langbench.specs.Making.{MakeComesTo, MakeDone, Sums, SumsUp}
 use Rattle.langbench.specs.Run.{Faults, NoneRose, Work, Ends, MakesAll}
-use Rattle.langbench.specs.Stops.{EndsWith, TheSink, stop_of_fault}
+use Rattle.langbench.specs.Stops.{EndsWith, TheSink}
 use Rattle.langbench.proofs.Ends.{CountsAll, if_told, only_memory}
 use Rattle.langbench.proofs.Grammars.{same_grammar}
 
@@ -30,14 +28,6 @@ HasOneSummary g count = (m n : Documents) (lists others : List Published) (summa
     (m ≡ n) × (lists ≡ others) × (summary ≡ other)
 
 module _ (files : Files) (path : List ℕ) (k count : ℕ) (refused old new : Option (List ℕ)) where
-  -- where no grammar is built nothing is written
-  unbuilt : (found : CompileFault) → Causes files path k refused found → Keeps old new → MakeComesTo files path k count refused old new (Err (stop_of_fault found))
-  unbuilt (fault.Load found) cause keeps = (cause, keeps)
-  unbuilt (fault.Faults told) cause keeps = (cause, keeps)
-  unbuilt (fault.Term told) cause keeps = (cause, keeps)
-  unbuilt (fault.Look told) cause keeps = (cause, keeps)
-  unbuilt fault.NoMemory cause keeps = inl keeps
-
   -- a summary is written
   module _ (g : Grammar) (holds : HoldsGrammar files path g) (clear : IsClear g k) (one : HasOneSummary g count) (m : Documents) (lists : List Published) (summary : Summary)
       (made : IsMade g count m lists) (sums : IsSummary g m lists summary) where
@@ -60,19 +50,14 @@ module _ (files : Files) (path : List ℕ) (k count : ℕ) (refused old new : Op
     told (Err e) verdict whole (inl write) front = subst (MakeComesTo files path k count refused old new) (sym write) (summary_text summary, sums_up, front)
     told (Err e) verdict whole (inr memory) front = subst (MakeComesTo files path k count refused old new) (sym memory) (inr (summary_text summary, sums_up, front))
 
-pub makes_unbuilt : (told : Option Files) (path : List ℕ) (k count : ℕ) (refused old : Option (List ℕ)) (found : CompileFault) (r : Result Verdict Stop) → IfSome told (λ files. Causes files path k refused found) →
-    IsErrAnd r (λ e. e ≡ stop_of_fault found) → IfSome told (λ files. MakeComesTo files path k count refused old old r)
-makes_unbuilt None path k count refused old found r cause is = tt
-makes_unbuilt (Some files) path k count refused old found (Ok verdict) cause is = absurd is
-makes_unbuilt (Some files) path k count refused old found (Err e) cause is =
-    subst (λ s. MakeComesTo files path k count refused old old (Err s)) (sym is) (unbuilt files path k count refused old old found cause (Keeps-refl old))
-
+-- where memory was refused before it is, nothing is written
 pub makes_without_memory : (told : Option Files) (path : List ℕ) (k count : ℕ) (refused old : Option (List ℕ)) (r : Result Verdict Stop) → IsErrAnd r (λ e. e ≡ stop.Memory) →
     IfSome told (λ files. MakeComesTo files path k count refused old old r)
 makes_without_memory None path k count refused old r is = tt
 makes_without_memory (Some files) path k count refused old (Ok verdict) is = absurd is
 makes_without_memory (Some files) path k count refused old (Err e) is = subst (λ s. MakeComesTo files path k count refused old old (Err s)) (sym is) (inl (Keeps-refl old))
 
+-- a summary that is written, where the store tells
 pub makes_told : (told_files : Option Files) (path : List ℕ) (k count : ℕ) (refused old new : Option (List ℕ)) (g : Grammar) → IfSome told_files (λ files. HoldsGrammar files path g) → IsClear g k → HasOneSummary g count →
     (m : Documents) (lists : List Published) (summary : Summary) → IsMade g count m lists → IsSummary g m lists summary → (r : Result Verdict Stop) → IfOk r (λ verdict. verdict ≡ Whole) →
     OnOk r (Appends old new (summary_text summary)) → OnErr r ((r ≡ Err stop.Write) ⊎ (r ≡ Err stop.Memory)) → OnErr r (WritesFront old new (summary_text summary)) →
