@@ -1,7 +1,7 @@
 -- What the parts of a session come to.
-use Rattle.std.proofs.Common.{◌≡◌, ◌≢◌, ◌⊎◌, inl, inr, ℕ, ◌+◌, ◌<◌, ◌≤◌, List, [], ◌∷◌, ◌++◌, length, take, drop, Option, Some, None, Result, Ok, Err, OnErr, IfSome, get_or, suc, refl, sym, ap, subst, ◌∙◌, append_assoc, append-nil, arith, length-append}
+use Rattle.std.proofs.Common.{◌≡◌, ◌≢◌, ◌⊎◌, inl, inr, ℕ, ◌+◌, ◌<◌, ◌≤◌, List, [], ◌∷◌, ◌++◌, length, take, drop, Option, Some, None, Result, Ok, Err, OnErr, IfSome, IsErrAnd, get_or, suc, refl, sym, ap, subst, ◌∙◌, append_assoc, append-nil, arith, length-append}
 use Rattle.std.specs.Io.KnownBytes.{Appends, Consumes, IsAtEnd, Keeps}
-use Rattle.std.proofs.KnownBytes.{Appends-trans}
+use Rattle.std.proofs.KnownBytes.{Appends-trans, Keeps-refl}
 use Rattle.std.proofs.lemmas.List.{take-append-drop}
 use Rattle.std.proofs.Math.Seq.{take-suc, drop-cons}
 use Rattle.lw_grammar.specs.declared.grammar.Grammar.{Grammar}
@@ -24,7 +24,9 @@ use Rattle.lw_lang.specs.Compiled.{HoldsGrammar, IsClear}
 use Rattle.lw_load.specs.Loading.{Files}
 use Rattle.langbench.specs.Checking.{IsCaused}
 use Rattle.langbench.specs.Stops.{Counts, TheSink, TheStore}
-use Rattle.langbench.specs.Serving.{WritesPart, Conversed, OfGrammar, ServeComesTo}
+use Rattle.langbench.specs.Named.{AreNamed, IsFirstUnread}
+use Rattle.langbench.specs.Reading.{StopsAtFile}
+use Rattle.langbench.specs.Serving.{WritesPart, Conversed, OfGrammar, ServeComesTo, WithNamed}
 use Rattle.langbench.specs.Talking as talking
 use Rattle.langbench.specs.Talking.{IsUnderway, TakesPiece, LosesPiece, Responds, RespondsPartly, AnswersNext, RunsOut, in_frames}
 use Rattle.langbench.proofs.Grammars.{one_session}
@@ -48,26 +50,27 @@ same_fed : (o : Option (List ℕ)) (s : Stream) → (handed o s).fed ≡ s.fed
 same_fed None s = refl
 same_fed (Some body) s = refl
 
-module _ (g : Grammar) (before now after old mid : Option (List ℕ)) (s : Stream) (standing : Standing) (way : IsUnderway g before now old mid s standing) where
+module _ (g : Grammar) (named : List (List ℕ × List ℕ)) (before now after old mid : Option (List ℕ)) (s : Stream) (standing : Standing) (way : IsUnderway g named before now old mid s standing) where
   -- a read failed, or memory was refused behind it
-  pub lost : (found : Stop) → length s.fed < LONGEST_SESSION → LosesPiece now after s found → Conversed g before after old mid (Err found)
-  lost _ short (talking.unread keeps) = cut_off g before now old mid s standing way after keeps short
-  lost _ short (talking.lost bytes consumed within) = lost_piece g before now old mid s standing way after bytes consumed within
+  pub lost : (found : Stop) → length s.fed < LONGEST_SESSION → LosesPiece now after s found → Conversed g named before after old mid (Err found)
+  lost _ short (talking.unread keeps) = cut_off g named before now old mid s standing way after keeps short
+  lost _ short (talking.lost bytes consumed within) = lost_piece g named before now old mid s standing way after bytes consumed within
 
   -- the bytes are over
   pub over : (t : Stream) (n : ℕ) (r : Result Verdict Stop) → n ≡ 0 → length s.fed < LONGEST_SESSION → TakesPiece now after s t n → RunsOut t.fed r →
-      Conversed g before after old mid r
+      Conversed g named before after old mid r
   over t n r none short took ends = by r (subst (λ st. RunsOut st.fed r) is.0 ends)
     where
       is : (t ≡ s) × IsAtEnd after × Keeps now after
       is = at_end_of n now after s t none took
 
-      by : (r : Result Verdict Stop) → RunsOut s.fed r → Conversed g before after old mid r
+      by : (r : Result Verdict Stop) → RunsOut s.fed r → Conversed g named before after old mid r
       by (Ok Whole) ends = absurd ends
-      by (Ok Broken) ends = inr (ran_out g before now old mid s standing way after is.1 is.2 short ends)
-      by (Err (stop.Frames found)) ends = broke_off g before now old mid s standing way after is.1 is.2 short found ends
+      by (Ok Broken) ends = inr (ran_out g named before now old mid s standing way after is.1 is.2 short ends)
+      by (Err (stop.Frames found)) ends = broke_off g named before now old mid s standing way after is.1 is.2 short found ends
       by (Err stop.Words) ends = absurd ends
       by (Err (stop.Grammar found)) ends = absurd ends
+      by (Err (stop.File found)) ends = absurd ends
       by (Err stop.Read) ends = absurd ends
       by (Err stop.Write) ends = absurd ends
       by (Err stop.Memory) ends = absurd ends
@@ -83,12 +86,12 @@ module _ (g : Grammar) (before now after old mid : Option (List ℕ)) (s : Strea
   module _ (new : Option (List ℕ)) (u : Stream) (n : ℕ) (some : n ≢ 0) (fits : length s.fed + n ≤ LONGEST_SESSION)
       (took : TakesPiece now after s u n) (next : Stream) (next_is : next ≡ after_next u) (t : Standing) (outcome : Result Ended Stop)
       (h : Grammar) (same : h ≡ g) (answers : AnswersNext h standing mid new (next_answer u) t outcome) where
-    pub turned : AfterTurn g before after old new next t outcome
+    pub turned : AfterTurn g named before after old new next t outcome
     turned =
         let is = piece_of n now after s u some took in
         let at = subst (λ st. AnswersNext g standing mid new (next_answer st) t outcome) is.1 (subst (λ k. AnswersNext k standing mid new (next_answer u) t outcome) same answers) in
-        subst (λ st. AfterTurn g before after old new st t outcome) (ap after_next (sym is.1) ∙ sym next_is)
-        (turn g before now after old mid new s standing way is.0 is.3 (omega (arith, length-append s.fed is.0, is.2, fits)) t is.4 outcome at)
+        subst (λ st. AfterTurn g named before after old new st t outcome) (ap after_next (sym is.1) ∙ sym next_is)
+        (turn g named before now after old mid new s standing way is.0 is.3 (omega (arith, length-append s.fed is.0, is.2, fits)) t is.4 outcome at)
 
     pub taken_more : length next.fed ≡ length s.fed + n
     taken_more =
@@ -97,14 +100,15 @@ module _ (g : Grammar) (before now after old mid : Option (List ℕ)) (s : Strea
         omega (arith, ap length fed, length-append s.fed is.0, is.2)
 
 -- a turn that stops the session
-pub after_stop : (g : Grammar) (before after old new : Option (List ℕ)) (s : Stream) (t : Standing) (found : Stop) → AfterTurn g before after old new s t (Err found) → Conversed g before after old new (Err found)
-after_stop g before after old new s t stop.Write some = some
-after_stop g before after old new s t stop.Memory some = some
-after_stop g before after old new s t (stop.Frames found) wrong = wrong
-after_stop g before after old new s t stop.Words none = absurd none
-after_stop g before after old new s t (stop.Grammar found) none = absurd none
-after_stop g before after old new s t stop.Read none = absurd none
-after_stop g before after old new s t stop.Limit none = absurd none
+pub after_stop : (g : Grammar) (named : List (List ℕ × List ℕ)) (before after old new : Option (List ℕ)) (s : Stream) (t : Standing) (found : Stop) → AfterTurn g named before after old new s t (Err found) → Conversed g named before after old new (Err found)
+after_stop g named before after old new s t stop.Write some = some
+after_stop g named before after old new s t stop.Memory some = some
+after_stop g named before after old new s t (stop.Frames found) wrong = wrong
+after_stop g named before after old new s t stop.Words none = absurd none
+after_stop g named before after old new s t (stop.Grammar found) none = absurd none
+after_stop g named before after old new s t (stop.File found) none = absurd none
+after_stop g named before after old new s t stop.Read none = absurd none
+after_stop g named before after old new s t stop.Limit none = absurd none
 
 -- the sink has not failed where nothing was answered, nor has the store
 pub sink_of_loss : (now after : Option (List ℕ)) (s : Stream) (found : Stop) → LosesPiece now after s found → (before count : ℕ) → count ≡ before →
@@ -194,41 +198,53 @@ store_of_write (Ok x) before now is fault = is
 store_of_write {T} (Err e) before now is (inl write) = subst (λ (r : Result T Stop). Counts TheStore before now r) (sym write) is
 store_of_write {T} (Err e) before now is (inr memory) = subst (λ (r : Result T Stop). Counts TheStore before now r) (sym memory) tt
 
--- ---- a session by the grammar of a file
+-- ---- a session by the grammar of a file, over the files that are named
 
--- what a session of this grammar came to is what the work answered
-module _ (files : Files) (path : List ℕ) (k : ℕ) (refused before after old new : Option (List ℕ)) (g : Grammar) (holds : HoldsGrammar files path g) (clear : IsClear g k)
+module _ (files : Files) (path : List ℕ) (paths : List (List ℕ)) (k : ℕ) (refused before after old new : Option (List ℕ)) (g : Grammar) (holds : HoldsGrammar files path g) (clear : IsClear g k)
     (settled : AreSettledByBodies g) where
-  of_this : {Fact : Grammar → Type 0} → Fact g → OfGrammar files path k Fact
-  of_this fact = record { grammar = g; holds = holds; clear = clear; only = one_session g settled; fact = fact }
+  of_this : (Fact : Grammar → Type 0) → Fact g → OfGrammar files path k Fact
+  of_this Fact fact = record { grammar = g; holds = holds; clear = clear; only = one_session g settled; fact = fact }
 
-  pub works_by : (r : Result Verdict Stop) → Conversed g before after old new r → ServeComesTo files path k refused before after old new r
-  works_by (Ok Whole) fact = of_this fact
-  works_by (Ok Broken) fact = of_this fact
-  works_by (Err stop.Words) fact = absurd fact
-  works_by (Err (stop.Grammar found)) fact = absurd fact
-  works_by (Err stop.Read) fact = of_this fact
-  works_by (Err stop.Write) fact = of_this fact
-  works_by (Err stop.Memory) fact = inr (of_this fact)
-  works_by (Err (stop.Frames found)) fact = of_this fact
-  works_by (Err stop.Limit) fact = of_this fact
+  -- what a session of this grammar over the texts of these files came to is what the work answered
+  module _ (named : List (List ℕ × List ℕ)) (are : AreNamed files paths named) where
+    conversed : (r : Result Verdict Stop) → Conversed g named before after old new r → OfGrammar files path k (λ g. WithNamed files paths (λ named. Conversed g named before after old new r))
+    conversed r fact = of_this (λ g. WithNamed files paths (λ named. Conversed g named before after old new r)) (named, are, fact)
+
+    pub works_by : (r : Result Verdict Stop) → Conversed g named before after old new r → ServeComesTo files path paths k refused before after old new r
+    works_by (Ok Whole) fact = conversed (Ok Whole) fact
+    works_by (Ok Broken) fact = conversed (Ok Broken) fact
+    works_by (Err stop.Words) fact = absurd fact
+    works_by (Err (stop.Grammar found)) fact = absurd fact
+    works_by (Err (stop.File found)) fact = absurd fact
+    works_by (Err stop.Read) fact = conversed (Err stop.Read) fact
+    works_by (Err stop.Write) fact = conversed (Err stop.Write) fact
+    works_by (Err stop.Memory) fact = inr (conversed (Err stop.Memory) fact)
+    works_by (Err (stop.Frames found)) fact = conversed (Err (stop.Frames found)) fact
+    works_by (Err stop.Limit) fact = conversed (Err stop.Limit) fact
+
+  -- one of these files is not read
+  pub unread_by : (e : Stop) → StopsAtFile (Some files) paths e → Keeps before after → Keeps old new → ServeComesTo files path paths k refused before after old new (Err e)
+  unread_by stop.Words stops untaken unwritten = absurd stops
+  unread_by (stop.Grammar found) stops untaken unwritten = absurd stops
+  unread_by (stop.File found) stops untaken unwritten = (of_this (λ g. IsFirstUnread files paths found) stops, untaken, unwritten)
+  unread_by stop.Read stops untaken unwritten = absurd stops
+  unread_by stop.Write stops untaken unwritten = absurd stops
+  unread_by stop.Memory stops untaken unwritten = inl unwritten
+  unread_by (stop.Frames found) stops untaken unwritten = absurd stops
+  unread_by stop.Limit stops untaken unwritten = absurd stops
 
 -- the same, where the store tells
-pub works_told : (told : Option Files) (path : List ℕ) (k : ℕ) (refused before after old new : Option (List ℕ)) (g h : Grammar) → IfSome told (λ files. HoldsGrammar files path g) → IsClear g k → AreSettledByBodies g → (r : Result Verdict Stop) →
-    h ≡ g → Conversed h before after old new r → IfSome told (λ files. ServeComesTo files path k refused before after old new r)
-works_told None path k refused before after old new g h holds clear settled r same fact = tt
-works_told (Some files) path k refused before after old new g h holds clear settled r same fact =
-    works_by files path k refused before after old new g holds clear settled r (subst (λ h. Conversed h before after old new r) same fact)
+pub works_told : (told : Option Files) (path : List ℕ) (paths : List (List ℕ)) (k : ℕ) (refused before after old new : Option (List ℕ)) (g h : Grammar) → IfSome told (λ files. HoldsGrammar files path g) → IsClear g k →
+    AreSettledByBodies g → (named : List (List ℕ × List ℕ)) → IfSome told (λ files. AreNamed files paths named) → (r : Result Verdict Stop) → h ≡ g → Conversed h named before after old new r →
+    IfSome told (λ files. ServeComesTo files path paths k refused before after old new r)
+works_told None path paths k refused before after old new g h holds clear settled named are r same fact = tt
+works_told (Some files) path paths k refused before after old new g h holds clear settled named are r same fact =
+    works_by files path paths k refused before after old new g holds clear settled named are r (subst (λ h. Conversed h named before after old new r) same fact)
 
--- a session has no fault of the grammar
-pub no_cause_of : (g : Grammar) (before after old new : Option (List ℕ)) (told : Option Files) (path : List ℕ) (k : ℕ) (refused : Option (List ℕ)) (r : Result Verdict Stop) → Conversed g before after old new r →
-    IsCaused told path k refused r
-no_cause_of g before after old new told path k refused (Ok Whole) fact = tt
-no_cause_of g before after old new told path k refused (Ok Broken) fact = tt
-no_cause_of g before after old new told path k refused (Err stop.Words) fact = absurd fact
-no_cause_of g before after old new told path k refused (Err (stop.Grammar found)) fact = absurd fact
-no_cause_of g before after old new told path k refused (Err stop.Read) fact = tt
-no_cause_of g before after old new told path k refused (Err stop.Write) fact = tt
-no_cause_of g before after old new told path k refused (Err stop.Memory) fact = tt
-no_cause_of g before after old new told path k refused (Err (stop.Frames found)) fact = tt
-no_cause_of g before after old new told path k refused (Err stop.Limit) fact = tt
+pub works_unread : (told : Option Files) (path : List ℕ) (paths : List (List ℕ)) (k : ℕ) (refused before old : Option (List ℕ)) (g : Grammar) → IfSome told (λ files. HoldsGrammar files path g) → IsClear g k → AreSettledByBodies g →
+    (e : Stop) (r : Result Verdict Stop) → StopsAtFile told paths e → IsErrAnd r (λ s. s ≡ e) → IfSome told (λ files. ServeComesTo files path paths k refused before before old old r)
+works_unread None path paths k refused before old g holds clear settled e r stops is = tt
+works_unread (Some files) path paths k refused before old g holds clear settled e (Ok verdict) stops is = absurd is
+works_unread (Some files) path paths k refused before old g holds clear settled e (Err s) stops is =
+    subst (λ s. ServeComesTo files path paths k refused before before old old (Err s)) (sym is)
+    (unread_by files path paths k refused before before old old g holds clear settled e stops (Keeps-refl before) (Keeps-refl old))

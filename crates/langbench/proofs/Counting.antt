@@ -19,6 +19,7 @@ module _ (left after : Option (List ℕ)) where
   pub unread_sink : (before now : ℕ) (e : Stop) → StopsReading left after e → now ≡ before → CountsAt TheSink (blame_of e) before now
   unread_sink before now stop.Words stops same = absurd stops
   unread_sink before now (stop.Grammar found) stops same = absurd stops
+  unread_sink before now (stop.File found) stops same = absurd stops
   unread_sink before now stop.Read stops same = same
   unread_sink before now stop.Write stops same = absurd stops
   unread_sink before now stop.Memory stops same = tt
@@ -28,6 +29,7 @@ module _ (left after : Option (List ℕ)) where
   pub unread_store : (before now : ℕ) (e : Stop) → StopsReading left after e → now ≡ before → CountsAt TheStore (blame_of e) before now
   unread_store before now stop.Words stops same = absurd stops
   unread_store before now (stop.Grammar found) stops same = absurd stops
+  unread_store before now (stop.File found) stops same = absurd stops
   unread_store before now stop.Read stops same = same
   unread_store before now stop.Write stops same = absurd stops
   unread_store before now stop.Memory stops same = tt
@@ -37,6 +39,7 @@ module _ (left after : Option (List ℕ)) where
   pub unread_patterns : (before now : ℕ) (e : Stop) → StopsReading left after e → now ≡ before → CountsAt ThePatterns (blame_of e) before now
   unread_patterns before now stop.Words stops same = absurd stops
   unread_patterns before now (stop.Grammar found) stops same = absurd stops
+  unread_patterns before now (stop.File found) stops same = absurd stops
   unread_patterns before now stop.Read stops same = same
   unread_patterns before now stop.Write stops same = absurd stops
   unread_patterns before now stop.Memory stops same = tt
@@ -51,6 +54,7 @@ module _ (left after : Option (List ℕ)) where
       by : (e : Stop) → StopsReading left after e → IsCaused told path k refused (Err e)
       by stop.Words stops = tt
       by (stop.Grammar found) stops = absurd stops
+      by (stop.File found) stops = absurd stops
       by stop.Read stops = tt
       by stop.Write stops = tt
       by stop.Memory stops = tt

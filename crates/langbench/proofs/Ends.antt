@@ -121,6 +121,7 @@ module _ (files : Files) (path : List ℕ) (k : ℕ) (refused : Option (List ℕ
     document_done (Err e) (inr seven) came counts = at_code seven checking.no_memory
     document_done (Err stop.Words) (inl is) came counts = absurd came
     document_done (Err (stop.Grammar found)) (inl is) came counts = at_code (is ∙ only_memory found came.0 counts) checking.no_memory
+    document_done (Err (stop.File found)) (inl is) came counts = absurd came
     document_done (Err stop.Read) (inl is) came counts = absurd (none TheSource (counts TheSource).rose)
     document_done (Err stop.Write) (inl is) came counts = absurd (none TheSink (counts TheSink).rose)
     document_done (Err stop.Memory) (inl is) came counts = at_code is checking.no_memory

@@ -1,5 +1,5 @@
 -- A path holds one grammar at most, and a session has one outcome by one by which its bodies settle it.
-use Rattle.std.proofs.Common.{◌≡◌, ℕ, List, [], sym, ap, ◌∙◌}
+use Rattle.std.proofs.Common.{◌≡◌, ℕ, List, sym, ap, ◌∙◌}
 use Rattle.lw_grammar.specs.declared.grammar.Grammar.{Grammar}
 use Rattle.lw_lang.specs.Compiled.{HoldsGrammar}
 use Rattle.lw_conversation.specs.Standing.{beginning}
@@ -13,4 +13,4 @@ same_grammar files path g holds h other = sym other.same ∙ ap (λ l. l.grammar
 
 -- by such a grammar a session has one outcome
 pub one_session : (g : Grammar) → AreSettledByBodies g → HasOneOutcome g
-one_session g settled bodies found t u p q e f serves also = settled (beginning []) t u bodies found found p q e f serves also
+one_session g settled named bodies found t u p q e f serves also = settled (beginning named) t u bodies found found p q e f serves also

@@ -1,12 +1,15 @@
 pub mod ReportLemmas
 pub mod Grammars
 pub mod OneOutput
+pub mod Loading
+pub mod NamedTexts
 pub mod Ends
 pub mod Commands
 pub mod Working
 pub mod Talks
 pub mod Turns
 pub mod Done
+pub mod Summed
 pub mod Conversing
 pub mod JoinedTexts
 pub mod Counting

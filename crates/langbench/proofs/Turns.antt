@@ -63,8 +63,8 @@ last_of (b ∷ bodies) body n is =
     let same : n ≡ suc (length bodies) = omega (arith, is) in
     ap (slice_get (b ∷ bodies ++ body ∷ [])) same ∙ last_of bodies body (length bodies) refl
 
-module _ (g : Grammar) (before now old mid : Option (List ℕ)) (s : Stream) (standing : Standing) (way : IsUnderway g before now old mid s standing) where
-  talked : Talked g before now old mid s.fed No
+module _ (g : Grammar) (named : List (List ℕ × List ℕ)) (before now old mid : Option (List ℕ)) (s : Stream) (standing : Standing) (way : IsUnderway g named before now old mid s standing) where
+  talked : Talked g named before now old mid s.fed No
   talked = record {
     standing = standing;
     found = way.found;
@@ -76,7 +76,7 @@ module _ (g : Grammar) (before now old mid : Option (List ℕ)) (s : Stream) (st
   }
 
   -- a read failed
-  pub cut_off : (after : Option (List ℕ)) → Keeps now after → length s.fed < LONGEST_SESSION → WasCutOff g before after old mid
+  pub cut_off : (after : Option (List ℕ)) → Keeps now after → length s.fed < LONGEST_SESSION → WasCutOff g named before after old mid
   cut_off after keeps short = (
     s.fed,
     record {
@@ -93,11 +93,11 @@ module _ (g : Grammar) (before now old mid : Option (List ℕ)) (s : Stream) (st
   )
 
   -- too many bytes
-  pub too_long : length s.fed ≡ LONGEST_SESSION → WasTooLong g before now old mid
+  pub too_long : length s.fed ≡ LONGEST_SESSION → WasTooLong g named before now old mid
   too_long is = (s.fed, talked, is, way.sound)
 
   -- memory was refused behind a read
-  pub lost_piece : (after : Option (List ℕ)) (bytes : List ℕ) → Consumes now after bytes → EndsWithin s.fed bytes → TalkedSome g before after old mid
+  pub lost_piece : (after : Option (List ℕ)) (bytes : List ℕ) → Consumes now after bytes → EndsWithin s.fed bytes → TalkedSome g named before after old mid
   lost_piece after bytes consumed within = record {
     taken = s.fed ++ bytes;
     answered = bodies_of s.fed;
@@ -118,7 +118,7 @@ module _ (g : Grammar) (before now old mid : Option (List ℕ)) (s : Stream) (st
 
   -- the source is at its end
   module _ (after : Option (List ℕ)) (ended : IsAtEnd after) (keeps : Keeps now after) (short : length s.fed < LONGEST_SESSION) where
-    over : Talked g before after old mid s.fed No
+    over : Talked g named before after old mid s.fed No
     over = record {
       standing = standing;
       found = way.found;
@@ -129,10 +129,10 @@ module _ (g : Grammar) (before now old mid : Option (List ℕ)) (s : Stream) (st
       written = way.written;
     }
 
-    pub ran_out : fault_of s.fed true ≡ None → RanOut g before after old mid
+    pub ran_out : fault_of s.fed true ≡ None → RanOut g named before after old mid
     ran_out none = (s.fed, over, ended, short, none)
 
-    pub broke_off : (found : FrameFault) → fault_of s.fed true ≡ Some found → WentWrong g before after old mid found
+    pub broke_off : (found : FrameFault) → fault_of s.fed true ≡ Some found → WentWrong g named before after old mid found
     broke_off found is = (s.fed, over, inr (ended, short, is))
 
   -- ---- a piece was taken
@@ -146,11 +146,11 @@ module _ (g : Grammar) (before now old mid : Option (List ℕ)) (s : Stream) (st
       pub none_next : next_body (with_piece s bytes) ≡ None
       none_next = ap (λ bodies. slice_get bodies s.given) same ∙ none_behind (bodies_of s.fed) s.given way.all_given
 
-      serves_all : Serves g (beginning []) (bodies_of (s.fed ++ bytes)) way.found standing way.replies No
-      serves_all = subst (λ bodies. Serves g (beginning []) bodies way.found standing way.replies No) (sym same) way.serves
+      serves_all : Serves g (beginning named) (bodies_of (s.fed ++ bytes)) way.found standing way.replies No
+      serves_all = subst (λ bodies. Serves g (beginning named) bodies way.found standing way.replies No) (sym same) way.serves
 
       -- and no fault: the session goes on
-      goes_on : (new : Option (List ℕ)) → Keeps mid new → fault_of (s.fed ++ bytes) false ≡ None → IsUnderway g before after old new (with_piece s bytes) standing
+      goes_on : (new : Option (List ℕ)) → Keeps mid new → fault_of (s.fed ++ bytes) false ≡ None → IsUnderway g named before after old new (with_piece s bytes) standing
       goes_on new keeps none = record {
         found = way.found;
         replies = way.replies;
@@ -164,7 +164,7 @@ module _ (g : Grammar) (before now old mid : Option (List ℕ)) (s : Stream) (st
       }
 
       -- and a fault
-      went_wrong : (new : Option (List ℕ)) → Keeps mid new → (found : FrameFault) → fault_of (s.fed ++ bytes) false ≡ Some found → WentWrong g before after old new found
+      went_wrong : (new : Option (List ℕ)) → Keeps mid new → (found : FrameFault) → fault_of (s.fed ++ bytes) false ≡ Some found → WentWrong g named before after old new found
       went_wrong new keeps found is = (
         s.fed ++ bytes,
         record {
@@ -188,14 +188,14 @@ module _ (g : Grammar) (before now old mid : Option (List ℕ)) (s : Stream) (st
         abbrev reads : List (List Found)
         reads = way.found ++ responds.found ∷ []
 
-        served : Serves g (beginning []) (bodies_of (s.fed ++ bytes)) reads t (way.replies ++ responds.replies) ended
-        served = subst (λ bodies. Serves g (beginning []) bodies reads t (way.replies ++ responds.replies) ended) (sym one)
-            (Serves-push g (beginning []) standing t (bodies_of s.fed) body way.found responds.found way.replies responds.replies No ended refl way.serves responds.handles)
+        served : Serves g (beginning named) (bodies_of (s.fed ++ bytes)) reads t (way.replies ++ responds.replies) ended
+        served = subst (λ bodies. Serves g (beginning named) bodies reads t (way.replies ++ responds.replies) ended) (sym one)
+            (Serves-push g (beginning named) standing t (bodies_of s.fed) body way.found responds.found way.replies responds.replies No ended refl way.serves responds.handles)
 
         written_all : Appends old new (framed (way.replies ++ responds.replies))
         written_all = subst (Appends old new) (sym (framed-append way.replies responds.replies)) (Appends-trans old mid new _ _ way.written responds.written)
 
-        talked_all : Talked g before after old new (s.fed ++ bytes) ended
+        talked_all : Talked g named before after old new (s.fed ++ bytes) ended
         talked_all = record {
           standing = t;
           found = reads;
@@ -206,7 +206,7 @@ module _ (g : Grammar) (before now old mid : Option (List ℕ)) (s : Stream) (st
           written = written_all;
         }
 
-        pub exited : rest_of (s.fed ++ bytes) ≡ [] → Exited g before after old new ended
+        pub exited : rest_of (s.fed ++ bytes) ≡ [] → Exited g named before after old new ended
         exited nothing = (
           s.fed ++ bytes,
           talked_all,
@@ -222,7 +222,7 @@ module _ (g : Grammar) (before now old mid : Option (List ℕ)) (s : Stream) (st
           nothing,
         )
 
-        pub goes_on_behind : ended ≡ No → fault_of (s.fed ++ bytes) false ≡ None → IsUnderway g before after old new (record (with_piece s bytes) { given = s.given + 1 }) t
+        pub goes_on_behind : ended ≡ No → fault_of (s.fed ++ bytes) false ≡ None → IsUnderway g named before after old new (record (with_piece s bytes) { given = s.given + 1 }) t
         goes_on_behind no_end none = record {
           found = reads;
           replies = way.replies ++ responds.replies;
@@ -231,12 +231,12 @@ module _ (g : Grammar) (before now old mid : Option (List ℕ)) (s : Stream) (st
           sound = none;
           within = fits;
           consumed = consumed_all;
-          serves = subst (λ e. Serves g (beginning []) (bodies_of (s.fed ++ bytes)) reads t (way.replies ++ responds.replies) e) no_end served;
+          serves = subst (λ e. Serves g (beginning named) (bodies_of (s.fed ++ bytes)) reads t (way.replies ++ responds.replies) e) no_end served;
           written = written_all;
         }
 
       -- a part of the replies was written
-      pub wrote_part : (new : Option (List ℕ)) → RespondsPartly g standing mid new body → TalkedSome g before after old new
+      pub wrote_part : (new : Option (List ℕ)) → RespondsPartly g standing mid new body → TalkedSome g named before after old new
       wrote_part new (talking.nothing keeps) = record {
         taken = s.fed ++ bytes;
         answered = bodies_of s.fed;
@@ -260,69 +260,70 @@ module _ (g : Grammar) (before now old mid : Option (List ℕ)) (s : Stream) (st
         ended = ended;
         consumed = consumed_all;
         parts = one ∙ sym (append-nil (bodies_of s.fed ++ body ∷ []));
-        serves = Serves-push g (beginning []) standing t (bodies_of s.fed) body way.found found way.replies replies No ended refl way.serves handles;
+        serves = Serves-push g (beginning named) standing t (bodies_of s.fed) body way.found found way.replies replies No ended refl way.serves handles;
         written = subst (WritesPart old new) (sym (framed-append way.replies replies)) (WritesPart-behind old mid new (framed way.replies) (framed replies) way.written part);
       }
 
 -- ---- the turns, by what the next call answered
 
-abbrev pub AfterTurn : Grammar → Option (List ℕ) → Option (List ℕ) → Option (List ℕ) → Option (List ℕ) → Stream → Standing → Result Ended Stop → Type 0
-AfterTurn g before after old new s t (Ok No) = IsUnderway g before after old new s t
-AfterTurn g before after old new s t (Ok Clean) = Exited g before after old new Clean
-AfterTurn g before after old new s t (Ok Early) = Exited g before after old new Early
-AfterTurn g before after old new s t (Err stop.Write) = TalkedSome g before after old new
-AfterTurn g before after old new s t (Err stop.Memory) = TalkedSome g before after old new
-AfterTurn g before after old new s t (Err (stop.Frames found)) = WentWrong g before after old new found
-AfterTurn g before after old new s t (Err _) = ⊥
+abbrev pub AfterTurn : Grammar → List (List ℕ × List ℕ) → Option (List ℕ) → Option (List ℕ) → Option (List ℕ) → Option (List ℕ) → Stream → Standing → Result Ended Stop → Type 0
+AfterTurn g named before after old new s t (Ok No) = IsUnderway g named before after old new s t
+AfterTurn g named before after old new s t (Ok Clean) = Exited g named before after old new Clean
+AfterTurn g named before after old new s t (Ok Early) = Exited g named before after old new Early
+AfterTurn g named before after old new s t (Err stop.Write) = TalkedSome g named before after old new
+AfterTurn g named before after old new s t (Err stop.Memory) = TalkedSome g named before after old new
+AfterTurn g named before after old new s t (Err (stop.Frames found)) = WentWrong g named before after old new found
+AfterTurn g named before after old new s t (Err _) = ⊥
 
-module _ (g : Grammar) (before now after old mid new : Option (List ℕ)) (s : Stream) (standing : Standing) (way : IsUnderway g before now old mid s standing)
+module _ (g : Grammar) (named : List (List ℕ × List ℕ)) (before now after old mid new : Option (List ℕ)) (s : Stream) (standing : Standing) (way : IsUnderway g named before now old mid s standing)
     (bytes : List ℕ) (consumed : Consumes now after bytes) (fits : length (s.fed ++ bytes) ≤ LONGEST_SESSION) where
   open_fault : (closed : Bool) → s.closed ≡ closed → closed ≡ false → fault_of (s.fed ++ bytes) s.closed ≡ fault_of (s.fed ++ bytes) false
   open_fault closed is false_ = ap (fault_of (s.fed ++ bytes)) (is ∙ false_)
 
   -- no body
   without : (t : Standing) → bodies_of (s.fed ++ bytes) ≡ bodies_of s.fed → (within : EndsWithin s.fed bytes) (fault : Option FrameFault) → fault_of (s.fed ++ bytes) false ≡ fault →
-      (outcome : Result Ended Stop) → AnswersNext g standing mid new (answer_next None fault) t outcome → AfterTurn g before after old new (with_piece s bytes) t outcome
+      (outcome : Result Ended Stop) → AnswersNext g standing mid new (answer_next None fault) t outcome → AfterTurn g named before after old new (with_piece s bytes) t outcome
   without t same within None none outcome answers =
-      subst (AfterTurn g before after old new (with_piece s bytes) t) (sym answers.0)
-      (subst (IsUnderway g before after old new (with_piece s bytes)) (sym answers.1) (goes_on g before now old mid s standing way after bytes consumed within fits same new answers.2 none))
+      subst (AfterTurn g named before after old new (with_piece s bytes) t) (sym answers.0)
+      (subst (IsUnderway g named before after old new (with_piece s bytes)) (sym answers.1) (goes_on g named before now old mid s standing way after bytes consumed within fits same new answers.2 none))
   without t same within (Some found) is outcome answers =
-      subst (AfterTurn g before after old new (with_piece s bytes) t) (sym answers.0) (went_wrong g before now old mid s standing way after bytes consumed within fits same new answers.2 found is)
+      subst (AfterTurn g named before after old new (with_piece s bytes) t) (sym answers.0) (went_wrong g named before now old mid s standing way after bytes consumed within fits same new answers.2 found is)
 
   -- one body
   with_one : (t : Standing) (within : EndsWithin s.fed bytes) (body : List ℕ) → bodies_of (s.fed ++ bytes) ≡ bodies_of s.fed ++ body ∷ [] → rest_of (s.fed ++ bytes) ≡ [] → fault_of (s.fed ++ bytes) false ≡ None →
-      (outcome : Result Ended Stop) → AnswersNext g standing mid new (Ok (Some body)) t outcome → AfterTurn g before after old new (record (with_piece s bytes) { given = s.given + 1 }) t outcome
-  with_one t within body one nothing none (Ok No) responds = goes_on_behind g before now old mid s standing way after bytes consumed within fits body one new t No responds refl none
-  with_one t within body one nothing none (Ok Clean) responds = exited g before now old mid s standing way after bytes consumed within fits body one new t Clean responds nothing
-  with_one t within body one nothing none (Ok Early) responds = exited g before now old mid s standing way after bytes consumed within fits body one new t Early responds nothing
-  with_one t within body one nothing none (Err stop.Write) part = wrote_part g before now old mid s standing way after bytes consumed within fits body one new part
-  with_one t within body one nothing none (Err stop.Memory) part = wrote_part g before now old mid s standing way after bytes consumed within fits body one new part
+      (outcome : Result Ended Stop) → AnswersNext g standing mid new (Ok (Some body)) t outcome → AfterTurn g named before after old new (record (with_piece s bytes) { given = s.given + 1 }) t outcome
+  with_one t within body one nothing none (Ok No) responds = goes_on_behind g named before now old mid s standing way after bytes consumed within fits body one new t No responds refl none
+  with_one t within body one nothing none (Ok Clean) responds = exited g named before now old mid s standing way after bytes consumed within fits body one new t Clean responds nothing
+  with_one t within body one nothing none (Ok Early) responds = exited g named before now old mid s standing way after bytes consumed within fits body one new t Early responds nothing
+  with_one t within body one nothing none (Err stop.Write) part = wrote_part g named before now old mid s standing way after bytes consumed within fits body one new part
+  with_one t within body one nothing none (Err stop.Memory) part = wrote_part g named before now old mid s standing way after bytes consumed within fits body one new part
   with_one t within body one nothing none (Err stop.Words) part = part
   with_one t within body one nothing none (Err (stop.Grammar found)) part = part
+  with_one t within body one nothing none (Err (stop.File found)) part = part
   with_one t within body one nothing none (Err stop.Read) part = part
   with_one t within body one nothing none (Err (stop.Frames found)) part = absurd part
   with_one t within body one nothing none (Err stop.Limit) part = part
 
   -- What a turn leaves: the reader hands out what the piece brought, and it is answered.
   pub turn : (t : Standing) (within : EndsWithin s.fed bytes) (outcome : Result Ended Stop) → AnswersNext g standing mid new (next_answer (with_piece s bytes)) t outcome →
-      AfterTurn g before after old new (after_next (with_piece s bytes)) t outcome
+      AfterTurn g named before after old new (after_next (with_piece s bytes)) t outcome
   turn t (inl same) outcome answers =
-      let none = none_next g before now old mid s standing way after bytes consumed (inl same) fits same in
+      let none = none_next g named before now old mid s standing way after bytes consumed (inl same) fits same in
       let fault = open_fault s.closed refl way.going_on in
       let at : AnswersNext g standing mid new (answer_next None (fault_of (s.fed ++ bytes) false)) t outcome =
       subst (λ f. AnswersNext g standing mid new (answer_next None f) t outcome) fault (subst (λ o. AnswersNext g standing mid new (answer_next o (fault_of (s.fed ++ bytes) s.closed)) t outcome) none answers) in
-      subst (λ o. AfterTurn g before after old new (handed o (with_piece s bytes)) t outcome) (sym none) (without t same (inl same) (fault_of (s.fed ++ bytes) false) refl outcome at)
+      subst (λ o. AfterTurn g named before after old new (handed o (with_piece s bytes)) t outcome) (sym none) (without t same (inl same) (fault_of (s.fed ++ bytes) false) refl outcome at)
   turn t (inr one) outcome answers =
-      let some = one_next g before now old mid s standing way after bytes consumed (inr one) fits one.0 one.1 in
+      let some = one_next g named before now old mid s standing way after bytes consumed (inr one) fits one.0 one.1 in
       let at : AnswersNext g standing mid new (Ok (Some one.0)) t outcome =
       subst (λ o. AnswersNext g standing mid new (answer_next o (fault_of (s.fed ++ bytes) s.closed)) t outcome) some answers in
-      subst (λ o. AfterTurn g before after old new (handed o (with_piece s bytes)) t outcome) (sym some) (with_one t (inr one) one.0 one.1 one.2 (one.3 false) outcome at)
+      subst (λ o. AfterTurn g named before after old new (handed o (with_piece s bytes)) t outcome) (sym some) (with_one t (inr one) one.0 one.1 one.2 (one.3 false) outcome at)
 
 -- nothing was taken yet
-pub underway_start : (g : Grammar) (left written : Option (List ℕ)) (s : Stream) (standing : Standing) → s ≡ start → standing ≡ beginning [] → IsUnderway g left left written written s standing
-underway_start g left written s standing is begins =
-    subst (λ st. IsUnderway g left left written written s st) (sym begins)
-    (subst (λ st. IsUnderway g left left written written st (beginning [])) (sym is) (record {
+pub underway_start : (g : Grammar) (named : List (List ℕ × List ℕ)) (left written : Option (List ℕ)) (s : Stream) (standing : Standing) → s ≡ start → standing ≡ beginning named → IsUnderway g named left left written written s standing
+underway_start g named left written s standing is begins =
+    subst (λ st. IsUnderway g named left left written written s st) (sym begins)
+    (subst (λ st. IsUnderway g named left left written written st (beginning named)) (sym is) (record {
       found = [];
       replies = [];
       going_on = refl;

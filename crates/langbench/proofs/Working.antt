@@ -42,6 +42,7 @@ module _ (files : Files) (path : List ℕ) (k : ℕ) (held : List ℕ) (refused 
   unread : (e : Stop) → StopsReading (Some held) after e → Keeps old new → CheckComesTo files path k held refused after old new (Err e)
   unread stop.Words stops keeps = absurd stops
   unread (stop.Grammar found) stops keeps = absurd stops
+  unread (stop.File found) stops keeps = absurd stops
   unread stop.Read stops keeps = (stops, keeps)
   unread stop.Write stops keeps = absurd stops
   unread stop.Memory stops keeps = inl (stops, keeps)

@@ -4,6 +4,7 @@ ghost use Rattle.lw_conversation.specs.Standing.{beginning};
 ghost use Rattle.langbench.specs.Named.{AreNamed, IsFileText};
 ghost use Rattle.langbench.specs.Reading.{IsUnreadBy, StopsAtFile};
 ghost use Rattle.langbench.specs.Stops.{Counts, TheStore};
+ghost use Rattle.lw_paths.specs.Paths.{address_of};
 
 use crate::stop::Stop;
 use lw_base::{Name, NoMemory};

@@ -1,5 +1,5 @@
 // The session of `serve`: bodies out of the source, replies into the sink.
-ghost use Rattle.std.specs.Prelude.{◌≡◌, ◌+◌, ◌<◌, ◌≤◌, ◌⊎◌, IfOk, IfErr, IfSome, OnOk, OnErr, Err, None, [], false, length};
+ghost use Rattle.std.specs.Prelude.{◌≡◌, ◌+◌, ◌<◌, ◌≤◌, ◌⊎◌, IfOk, IfErr, IfSome, OnOk, OnErr, Err, List, None, false, length, map, ℕ};
 ghost use Rattle.std.specs.Io.KnownBytes.{Appends};
 ghost use Rattle.lw_frame.specs.Frames.{bodies_of, fault_of, frame_of};
 ghost use Rattle.lw_frame.specs.Stream.{after_next, next_answer, next_body};
@@ -13,7 +13,6 @@ ghost use Rattle.langbench.specs.Talking.{AnswersNext, LosesPiece, Responds, Res
 use crate::desk::Desk;
 use crate::named::load_named;
 use crate::report::Verdict;
-use lw_words::Root;
 use crate::stop::Stop;
 use lw_base::{Name, NoMemory, Steps};
 use lw_conversation::one_outcome;
@@ -21,6 +20,7 @@ use lw_frame::{FrameReader, LONGEST_SESSION, header_part};
 use lw_io::{Patterns, Read, Sink, Source, Store, write_all};
 use lw_lang::compile;
 use lw_session::{Ended, Mode, Session};
+use lw_words::Root;
 use std::alloc::Global;
 use std::sync::ledger::Ledger;
 

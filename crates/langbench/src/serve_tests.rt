@@ -28,6 +28,9 @@ const REPLIES: &str =
 const CUT: &str =
     "Content-Length: 58\r\n\r\n{\"jsonrpc\":\"2.0\",\"id\":1,\"method\":\"initialize\",\"params\":";
 
+// The path of a file that is named.
+const NAMED: &str = "/a b.s";
+
 const ONLY_EXIT: &str = "Content-Length: 33\r\n\r\n{\"jsonrpc\":\"2.0\",\"method\":\"exit\"}";
 
 // The bodies, each in a frame.
@@ -105,6 +108,52 @@ fn sessions_end_with_their_status(rt: HostRuntime) -> Result<(), Fail> {
             "",
             note,
         )?;
+    }
+    Ok(())
+}
+
+// `serve` of the grammar and of a file that is named twice, which holds this, and in which the read of the store of this number fails, 0 for none.
+fn serving_file(held: &[u8], file: u64) -> Setting<'_> {
+    Setting {
+        imported_path: NAMED,
+        imported: held,
+        failing: Failing { file, ..NOTHING },
+        ..setting_of(&["serve", "f.langium", NAMED, NAMED], Some(FLAT))
+    }
+}
+
+#[test]
+fn named_files_are_built(rt: HostRuntime) -> Result<(), Fail> {
+    let bytes = framed(rt.alloc(), &[INITIALIZE, SHUTDOWN, EXIT])?;
+    let replies = framed(
+        rt.alloc(),
+        &[
+            HELLO_BODY,
+            "{\"jsonrpc\":\"2.0\",\"method\":\"textDocument/publishDiagnostics\",\"params\":{\"diagnostics\":[{\"code\":2,\"message\":\"Unexpected ID.\",\"range\":{\"end\":{\"character\":9,\"line\":0},\"start\":{\"character\":8,\"line\":0}},\"severity\":1}],\"uri\":\"file:///a%20b.s\"}}",
+            "{\"id\":2,\"jsonrpc\":\"2.0\",\"result\":null}",
+        ],
+    )?;
+    let ran = run_over(rt.alloc(), &serving_file(b"model m x", 0), &bytes)?;
+    assert_eq!(rt; ran.code, 0);
+    assert_eq!(rt; ran.out.as_slice(), replies.as_slice());
+    Ok(())
+}
+
+#[test]
+fn named_files_that_are_not_read_end_a_run(rt: HostRuntime) -> Result<(), Fail> {
+    for (held, file, note) in [
+        (b"".as_slice(), 0, "/a b.s: absent\n"),
+        (b"\xFF", 0, "/a b.s: not UTF-8\n"),
+        (b"model m", 2, "/a b.s: failed\n"),
+        (b"model m", 3, "/a b.s: failed\n"),
+    ] {
+        let bytes = session(rt.alloc())?;
+        let ran = run_over(rt.alloc(), &serving_file(held, file), &bytes)?;
+        assert_eq!(rt; ran.code, 6, "{note}");
+        assert_eq!(rt; ran.notes.as_slice(), note.as_bytes());
+        assert!(rt; ran.out.is_empty());
+        assert_eq!(rt; ran.left.as_slice(), bytes.as_slice());
+        assert!(rt; !ran.is_serving);
     }
     Ok(())
 }

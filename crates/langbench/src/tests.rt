@@ -423,6 +423,36 @@ fn runs_stop_with_a_note(rt: HostRuntime) -> Result<(), Fail> {
     Ok(())
 }
 
+// The state grammar's workspace of twenty has a node and twenty states in each document, with two references each, and two edits more.
+#[test]
+fn workspaces_are_made(rt: HostRuntime) -> Result<(), Fail> {
+    for (count, write, code, out, note) in [
+        (
+            "20",
+            0,
+            0,
+            "documents 20\nnodes 422\nreferences 802\nunresolved 2\ndiagnostics 2\npublished 22\n",
+            "",
+        ),
+        (
+            "1",
+            0,
+            0,
+            "documents 1\nnodes 21\nreferences 40\nunresolved 0\ndiagnostics 0\npublished 1\n",
+            "",
+        ),
+        ("1", 1, 5, "", "write failed\n"),
+    ] {
+        let words: &[&str] = &["make", PATH, count];
+        let setting = Setting {
+            failing: Failing { write, ..NOTHING },
+            ..setting_of(words, Some(MODELS))
+        };
+        ends_as(&rt, rt.alloc(), &setting, b"", code, out, note)?;
+    }
+    Ok(())
+}
+
 // The run over this grammar in `g.langium` ends with this note.
 fn is_refused(rt: &impl Abort, alloc: Global, grammar: &str, note: &str) -> Result<(), NoMemory> {
     let setting = Setting {

@@ -127,6 +127,7 @@ fn act<S: Source, K: Sink, F: Store, P: Patterns, L: Ledger>(
     desk: &mut Desk,
     steps: &mut Steps<L>,
 ) -> Result<Verdict, Stop>
+    requires { (words : List (List ℕ)) × MatchOption command.now (IsNoCommand words) (IsCommand words) }
     ensures { (words : List (List ℕ)) → MatchOption command.now (IsNoCommand words) (IsCommand words) → ComesTo words (record {
       files = F.files store.old;
       left = (S.left source.old, S.left source.new);
@@ -140,15 +141,17 @@ fn act<S: Source, K: Sink, F: Store, P: Patterns, L: Ledger>(
       };
     }) result }
 {
+    let Some(command) = command else {
+        return Err(Stop::Words);
+    };
     match command {
-        Some(Command::Check(root)) => check(alloc, *root, source, out, store, patterns),
-        Some(Command::Serve(root, files)) => {
+        Command::Check(root) => check(alloc, *root, source, out, store, patterns),
+        Command::Serve(root, files) => {
             serve(alloc, *root, files, source, out, store, patterns, desk, steps)
         }
-        Some(Command::Make(root, count)) => {
+        Command::Make(root, count) => {
             make(alloc, *root, *count, out, store, patterns, desk, steps)
         }
-        None => Err(Stop::Words),
     }
 }
 

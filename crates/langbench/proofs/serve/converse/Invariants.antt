@@ -1,4 +1,5 @@
-use Rattle.std.proofs.Common.{◌-◌, ◌≡◌, length}
+use Rattle.std.proofs.Common.{◌-◌, ◌≡◌, ℕ, List, false, length}
+use Rattle.lw_conversation.specs.Standing.{beginning}
 use Rattle.lw_frame.specs.declared.limits.TheConstants.{LONGEST_SESSION}
 use Rattle.langbench.specs.Talking.{IsUnderway}
 use Rattle.langbench.proofs.serve.converse.Given as goal
@@ -6,7 +7,8 @@ use Rattle.langbench.proofs.serve.converse.Given as goal
 -- all that was taken so far was answered, and nothing has failed
 abbrev pub invariant-taking : goal.invariant-taking
 invariant-taking g l = record {
-  way : IsUnderway l.fn.session.grammar (g.S.Source.left l.fn.source) (g.S.Source.left l.source) (g.K.Sink.written l.fn.out) (g.K.Sink.written l.out) l.reader.stream l.session.standing;
+  way : (named : List (List ℕ × List ℕ)) → l.fn.session.standing ≡ beginning named → IsUnderway l.fn.session.grammar named (g.S.Source.left l.fn.source) (g.S.Source.left l.source) (g.K.Sink.written l.fn.out) (g.K.Sink.written l.out) l.reader.stream l.session.standing;
+  going_on : l.reader.stream.closed ≡ false;
   grammar : l.session.grammar ≡ l.fn.session.grammar;
   taken : l.taken ≡ length l.reader.stream.fed;
   source : g.S.Source.count l.source ≡ g.S.Source.count l.fn.source;

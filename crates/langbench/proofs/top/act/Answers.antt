@@ -1,16 +1,52 @@
-use Rattle.langbench.proofs.Commands.{checks, does_nothing, serves}
+use Rattle.std.proofs.Common.{MatchOption, map, subst, sym}
+use Rattle.std.proofs.KnownBytes.{Keeps-refl}
+use Rattle.lw_words.specs.Words.{IsCheck, IsCommand, IsMake, IsNoCommand, IsServe}
+use Rattle.langbench.proofs.Commands.{checks, does_nothing, makes, serves}
 use Rattle.langbench.proofs.Ends.{count_all}
 use Rattle.langbench.proofs.top.act.Goals as goal
 
-pub returns-in-Some-Check : goal.returns-in-Some-Check
-returns-in-Some-Check g c =
-    checks c.args.words.now _ c.in-Some-Check.root.path.now c.in-Some-Check.root.k c.check.result c.check.ensures.not_words c.check.ensures.cause
-    (count_all _ c.check.result c.check.ensures.source c.check.ensures.sink c.check.ensures.store c.check.ensures.patterns) (rw c.in-Some-Check.field-0-is at c.in-Some-Check.ensures) c.check.ensures.works
+pub make-requires-clause-some : goal.make-requires-clause-some
+make-requires-clause-some g c =
+    let words = c.requires.0 in
+    let is : IsMake words c.in-Make.root.path.now c.in-Make.count c.in-Make.root.k =
+    subst (IsCommand words) c.in-Make.is (subst (λ found. MatchOption found (IsNoCommand words) (IsCommand words)) c.in-Some.is c.requires.1) in
+    is.counts.least
 
-pub returns-in-Some-Serve : goal.returns-in-Some-Serve
-returns-in-Some-Serve g c =
-    serves c.args.words.now _ c.in-Some-Serve.root.path.now c.in-Some-Serve.root.k c.serve.result c.serve.ensures.not_words c.serve.ensures.cause
-    (count_all _ c.serve.result c.serve.ensures.source c.serve.ensures.sink c.serve.ensures.store c.serve.ensures.patterns) (rw c.in-Some-Serve.field-0-is at c.in-Some-Serve.ensures) c.serve.ensures.works
+pub make-requires-clause-most : goal.make-requires-clause-most
+make-requires-clause-most g c =
+    let words = c.requires.0 in
+    let is : IsMake words c.in-Make.root.path.now c.in-Make.count c.in-Make.root.k =
+    subst (IsCommand words) c.in-Make.is (subst (λ found. MatchOption found (IsNoCommand words) (IsCommand words)) c.in-Some.is c.requires.1) in
+    is.counts.most
 
-pub returns-in-None : goal.returns-in-None
-returns-in-None g c = does_nothing c.args.words.now _ _ _ _ _ _ _ _ c.in-None.ensures
+pub returns-in-Check : goal.returns-in-Check
+returns-in-Check g c =
+    let root = c.in-Check.root in
+    λ words says.
+    let is : IsCheck words root.path.now root.k = subst (IsCommand words) c.in-Check.is (subst (λ found. MatchOption found (IsNoCommand words) (IsCommand words)) c.in-Some.is says) in
+    checks words _ root.path.now root.k c.check.result c.check.ensures.not_words c.check.ensures.cause
+    (count_all _ c.check.result c.check.ensures.source c.check.ensures.sink c.check.ensures.store c.check.ensures.patterns) is c.check.ensures.works
+
+pub returns-in-Serve : goal.returns-in-Serve
+returns-in-Serve g c =
+    let root = c.in-Serve.root in
+    λ words says.
+    let is : IsServe words root.path.now (map (λ file. file.now) c.in-Serve.files.items) root.k =
+    subst (IsCommand words) c.in-Serve.is (subst (λ found. MatchOption found (IsNoCommand words) (IsCommand words)) c.in-Some.is says) in
+    serves words _ root.path.now root.k c.serve.result c.serve.ensures.not_words c.serve.ensures.cause
+    (count_all _ c.serve.result c.serve.ensures.source c.serve.ensures.sink c.serve.ensures.store c.serve.ensures.patterns) (map (λ file. file.now) c.deref.result.now)
+    (subst (λ items. IsServe words root.path.now (map (λ file. file.now) items) root.k) (sym c.deref.ensures.value) is) c.serve.ensures.works
+
+pub returns-in-Make : goal.returns-in-Make
+returns-in-Make g c =
+    let root = c.in-Make.root in
+    λ words says.
+    let is : IsMake words root.path.now c.in-Make.count root.k =
+    subst (IsCommand words) c.in-Make.is (subst (λ found. MatchOption found (IsNoCommand words) (IsCommand words)) c.in-Some.is says) in
+    makes words _ root.path.now root.k c.make.result c.make.ensures.not_words c.make.ensures.cause
+    (count_all _ c.make.result (c.make.ensures.source _) c.make.ensures.sink c.make.ensures.store c.make.ensures.patterns) c.in-Make.count is
+    (Keeps-refl (g.S.Source.left c.args.source.now)) c.make.ensures.works
+
+pub returns-in_default : goal.returns-in_default
+returns-in_default g c =
+    λ words says. does_nothing words _ _ _ _ _ _ _ _ (subst (λ found. MatchOption found (IsNoCommand words) (IsCommand words)) c.in_default.is says)
