@@ -39,3 +39,6 @@ pub use laws::{
     types_below_a_union,
 };
 pub use table::PropertyTable;
+
+#[cfg(test)]
+mod tests;
