@@ -10,6 +10,7 @@ pub mod Talks
 pub mod Turns
 pub mod Done
 pub mod Summed
+pub mod Running
 pub mod Conversing
 pub mod JoinedTexts
 pub mod Counting
