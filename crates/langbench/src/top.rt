@@ -147,7 +147,9 @@ fn act<S: Source, K: Sink, F: Store, P: Patterns, L: Ledger>(
     match command {
         Command::Check(root) => check(alloc, *root, source, out, store, patterns),
         Command::Serve(root, files) => {
-            serve(alloc, *root, files, source, out, store, patterns, desk, steps)
+            serve(
+                alloc, *root, files, source, out, store, patterns, desk, steps,
+            )
         }
         Command::Make(root, count) => {
             make(alloc, *root, *count, out, store, patterns, desk, steps)
