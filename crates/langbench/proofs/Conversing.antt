@@ -22,7 +22,6 @@ use Rattle.langbench.specs.declared.stop.Stop.{Stop}
 use Rattle.langbench.specs.declared.stop.Stop.TheVariants as stop
 use Rattle.lw_lang.specs.Compiled.{HoldsGrammar, IsClear}
 use Rattle.lw_load.specs.Loading.{Files}
-use Rattle.langbench.specs.Checking.{IsCaused}
 use Rattle.langbench.specs.Stops.{Counts, TheSink, TheStore}
 use Rattle.langbench.specs.Named.{AreNamed, IsFirstUnread}
 use Rattle.langbench.specs.Reading.{StopsAtFile}

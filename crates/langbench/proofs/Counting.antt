@@ -1,5 +1,5 @@
 -- What the outcome of `check` says of the counts and of its cause, when its document was read or could not be.
-use Rattle.std.proofs.Common.{◌≡◌, ◌⊎◌, inl, inr, ℕ, List, Option, Result, Ok, Err, OnErr, IsErrAnd, refl, sym, subst, ◌∙◌}
+use Rattle.std.proofs.Common.{◌≡◌, ◌⊎◌, inl, inr, ℕ, List, Option, Result, Ok, Err, OnErr, IsErrAnd, sym, subst}
 use Rattle.lw_load.specs.Loading.{Files}
 use Rattle.langbench.specs.Checking.{IsCaused, StopsReading}
 use Rattle.langbench.specs.Stops.{Object, TheSource, TheSink, TheStore, ThePatterns, Counts, CountsAt, blame_of}

@@ -1,5 +1,5 @@
 -- The texts of the files that the words name are the only ones, and none of them is unread.
-use Rattle.std.proofs.Common.{◌≡◌, ◌≤◌, ◌<◌, ℕ, List, [], ◌∷◌, ◌++◌, Option, Some, None, length, refl, sym, ap, ap₂, subst, ◌∙◌, arith}
+use Rattle.std.proofs.Common.{◌≡◌, ℕ, List, [], ◌∷◌, ◌++◌, Option, Some, None, refl, sym, ap₂, subst, ◌∙◌, arith}
 use Rattle.lw_io.specs.Store.{FitsFile, file_at}
 use Rattle.lw_io.specs.declared.store.Found.TheVariants as found
 use Rattle.lw_load.specs.Loading.{Files}

@@ -1,7 +1,7 @@
 -- The files that the words name behind a grammar: they are read in their order before anything else comes to the session, and each text is put at the
 -- address of its file. The first that is not read stops the run.
 -- Held against Langium's document lifecycle, "Workspace initialization"; RFC 8089, "The file URI Scheme".
-use Rattle.std.specs.Prelude.{ℕ, ◌≡◌, List, ◌∷◌, ◌++◌, IfSome, Option}
+use Rattle.std.specs.Prelude.{ℕ, ◌≡◌, List, ◌∷◌, ◌++◌}
 use Rattle.std.specs.List.{AllZip}
 use Rattle.lw_io.specs.Store.{FitsFile, file_at}
 use Rattle.lw_io.specs.declared.store.Found.{Found}

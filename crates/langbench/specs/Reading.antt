@@ -1,5 +1,5 @@
 -- The files at some paths, as they are read.
-use Rattle.std.specs.Prelude.{ℕ, ◌≡◌, List, Option, IfSome, map}
+use Rattle.std.specs.Prelude.{ℕ, ◌≡◌, List, Option, IfSome}
 use Rattle.lw_io.specs.Store.{FitsFile, file_at}
 use Rattle.lw_load.specs.Loading.{Files}
 use Rattle.langbench.specs.Named.{IsFirstUnread, answer_of_fault, path_of_fault}

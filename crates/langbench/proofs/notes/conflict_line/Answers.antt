@@ -1,4 +1,4 @@
-use Rattle.std.proofs.Common.{◌≡◌, List, ℕ, ◌++◌, IfOk, string_bytes, codes, ◌∙◌, subst}
+use Rattle.std.proofs.Common.{◌≡◌, List, ℕ, IfOk, string_bytes, codes, ◌∙◌, subst}
 use Rattle.std.specs.Fmt.{decimal}
 use Rattle.langbench.specs.Notes.{placed_line}
 use Rattle.langbench.proofs.JoinedTexts.{eight}
