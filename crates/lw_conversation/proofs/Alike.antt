@@ -10,30 +10,30 @@ use Rattle.lw_conversation.specs.Reading.{AreOfFiles, Asked, FindsFile}
 
 -- ---- lists of which each member has its partner, while both last
 
-abbrev pub Along : {A : Type 0} → (A → A → Type 0) → List A → List A → Type 0
-Along R [] ys = Unit {0}
-Along R (x ∷ xs) [] = Unit {0}
-Along R (x ∷ xs) (y ∷ ys) = R x y × Along R xs ys
+abbrev pub Abreast : {A : Type 0} → (A → A → Type 0) → List A → List A → Type 0
+Abreast R [] ys = Unit {0}
+Abreast R (x ∷ xs) [] = Unit {0}
+Abreast R (x ∷ xs) (y ∷ ys) = R x y × Abreast R xs ys
 
 module _ {A : Type 0} (R : A → A → Type 0) where
-  pub along_itself : ((x : A) → R x x) → (xs : List A) → Along R xs xs
-  along_itself itself [] = tt
-  along_itself itself (x ∷ xs) = (itself x, along_itself itself xs)
+  pub abreast_itself : ((x : A) → R x x) → (xs : List A) → Abreast R xs xs
+  abreast_itself itself [] = tt
+  abreast_itself itself (x ∷ xs) = (itself x, abreast_itself itself xs)
 
-  pub along_where : (P : A → Type 0) → ((x y : A) → P x → P y → R x y) → (xs ys : List A) → All P xs → All P ys → Along R xs ys
-  along_where P both [] ys are were = tt
-  along_where P both (x ∷ xs) [] are were = tt
-  along_where P both (x ∷ xs) (y ∷ ys) are were =
-      (both x y (All-head P x xs are) (All-head P y ys were), along_where P both xs ys (All-tail P x xs are) (All-tail P y ys were))
+  pub abreast_where : (P : A → Type 0) → ((x y : A) → P x → P y → R x y) → (xs ys : List A) → All P xs → All P ys → Abreast R xs ys
+  abreast_where P both [] ys are were = tt
+  abreast_where P both (x ∷ xs) [] are were = tt
+  abreast_where P both (x ∷ xs) (y ∷ ys) are were =
+      (both x y (All-head P x xs are) (All-head P y ys were), abreast_where P both xs ys (All-tail P x xs are) (All-tail P y ys were))
 
-  pub along_front : (xs ys more others : List A) → Along R (xs ++ more) (ys ++ others) → Along R xs ys
-  along_front [] ys more others are = tt
-  along_front (x ∷ xs) [] more others are = tt
-  along_front (x ∷ xs) (y ∷ ys) more others are = (are.0, along_front xs ys more others are.1)
+  pub abreast_front : (xs ys more others : List A) → Abreast R (xs ++ more) (ys ++ others) → Abreast R xs ys
+  abreast_front [] ys more others are = tt
+  abreast_front (x ∷ xs) [] more others are = tt
+  abreast_front (x ∷ xs) (y ∷ ys) more others are = (are.0, abreast_front xs ys more others are.1)
 
-  pub along_behind : (xs more others : List A) → Along R (xs ++ more) (xs ++ others) → Along R more others
-  along_behind [] more others are = are
-  along_behind (x ∷ xs) more others are = along_behind xs more others are.1
+  pub abreast_behind : (xs more others : List A) → Abreast R (xs ++ more) (xs ++ others) → Abreast R more others
+  abreast_behind [] more others are = are
+  abreast_behind (x ∷ xs) more others are = abreast_behind xs more others are.1
 
 -- ---- reads
 
@@ -42,16 +42,16 @@ abbrev pub IsAlike : Asked → Asked → Type 0
 IsAlike a b = a.path ≡ b.path → a.answer ≢ NoMemory → b.answer ≢ NoMemory → a.answer ≡ b.answer
 
 abbrev pub Alike : List Asked → List Asked → Type 0
-Alike = Along IsAlike
+Alike = Abreast IsAlike
 
 pub alike_itself : (asked : List Asked) → Alike asked asked
-alike_itself = along_itself IsAlike (λ a same there also. refl)
+alike_itself = abreast_itself IsAlike (λ a same there also. refl)
 
 -- the store could read, and there was memory
-abbrev IsTold : Found → Type 0
-IsTold found = (found ≢ Failed) × (found ≢ NoMemory)
+abbrev WasRead : Found → Type 0
+WasRead found = (found ≢ Failed) × (found ≢ NoMemory)
 
-absent_alone : (a : Found) → FitsFile None a → IsTold a → a ≡ Absent
+absent_alone : (a : Found) → FitsFile None a → WasRead a → a ≡ Absent
 absent_alone (Text text) fits told = absurd fits
 absent_alone Absent fits told = refl
 absent_alone NotUtf8 fits told = absurd fits
@@ -59,7 +59,7 @@ absent_alone TooLong fits told = absurd fits
 absent_alone Failed fits told = absurd (told.0 refl)
 absent_alone NoMemory fits told = absurd (told.1 refl)
 
-one_of_bytes : (bytes : List ℕ) (a b : Found) → FitsFile (Some bytes) a → FitsFile (Some bytes) b → IsTold a → IsTold b → a ≡ b
+one_of_bytes : (bytes : List ℕ) (a b : Found) → FitsFile (Some bytes) a → FitsFile (Some bytes) b → WasRead a → WasRead b → a ≡ b
 one_of_bytes bytes (Text text) (Text other) is was here there = ap Text (is.0 ∙ sym was.0)
 one_of_bytes bytes (Text text) NotUtf8 is was here there = absurd (was.1 is.2)
 one_of_bytes bytes (Text text) TooLong is was here there = absurd (omega (arith, is.1, was))
@@ -82,7 +82,7 @@ one_of_bytes bytes TooLong Absent is was here there = absurd was
 one_of_bytes bytes TooLong Failed is was here there = absurd (there.0 refl)
 one_of_bytes bytes TooLong NoMemory is was here there = absurd (there.1 refl)
 
-one_of_file : (held : Option (List ℕ)) (a b : Found) → FitsFile held a → FitsFile held b → IsTold a → IsTold b → a ≡ b
+one_of_file : (held : Option (List ℕ)) (a b : Found) → FitsFile held a → FitsFile held b → WasRead a → WasRead b → a ≡ b
 one_of_file None a b is was here there = absent_alone a is here ∙ sym (absent_alone b was there)
 one_of_file (Some bytes) a b is was here there = one_of_bytes bytes a b is was here there
 
@@ -94,7 +94,7 @@ module _ (files : List (List ℕ × List ℕ)) where
 
   -- what the same files give is alike
   pub alike_where : (asked others : List Asked) → AreOfFiles files asked → AreOfFiles files others → Alike asked others
-  alike_where = along_where IsAlike (λ a. FitsFile (file_at files a.path) a.answer × (a.answer ≢ Failed)) alike_of_files
+  alike_where = abreast_where IsAlike (λ a. FitsFile (file_at files a.path) a.answer × (a.answer ≢ Failed)) alike_of_files
 
 -- ---- what is found
 

@@ -90,8 +90,8 @@ module _ (g : Grammar) (one_way : IsReadOneWay g) where
   changes_valid : (m : Documents) (changes : List FileChange) (asked : List Asked) (n : Documents) (replies : List Reply) → SeesChanges g m changes asked n replies →
       IsValid g m → IsValid g n
   changes_valid m changes asked n replies watching.none valid = valid
-  changes_valid m changes asked n replies (watching.change {n = k} {c = c} {others = cs} {asked = a} {more = b} {first = f} {rest = r} sees rest) valid =
-      changes_valid k cs b n r rest (change_valid m c.uri c.kind a k f sees valid)
+  changes_valid m changes asked n replies (watching.change {n = k} {c = c} {others = cs} {asked = a} {more = b} {first = f} {rest = r} saw rest) valid =
+      changes_valid k cs b n r rest (change_valid m c.uri c.kind a k f saw valid)
 
   effect_valid : (m : Documents) (message : Message) (asked : List Asked) (n : Documents) (replies : List Reply) → TakesEffect g m message asked n replies →
       IsValid g m → IsValid g n

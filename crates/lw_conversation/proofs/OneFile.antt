@@ -1,5 +1,5 @@
 -- What becomes of documents whose files are read or have changed is settled by what is found of the files.
-use Rattle.std.proofs.Common.{◌≡◌, ◌≢◌, ℕ, List, [], ◌∷◌, ◌++◌, false, Some, None, codes, inl, inr, ◌⊎◌, sym, refl, ap, ap₂, ◌∙◌, subst, subst₂}
+use Rattle.std.proofs.Common.{◌≡◌, ◌≢◌, ℕ, List, [], ◌∷◌, ◌++◌, false, None, codes, inl, inr, ◌⊎◌, sym, refl, ap, ap₂, ◌∙◌, subst, subst₂}
 use Rattle.std.specs.FinMap.{get, insert}
 use Rattle.lw_grammar.specs.declared.grammar.Grammar.{Grammar}
 use Rattle.lw_io.specs.declared.store.Found.{Found}
@@ -7,7 +7,6 @@ use Rattle.lw_io.specs.declared.store.Found.TheVariants.{Text, Absent, NotUtf8, 
 use Rattle.lw_reading.specs.Laws.{IsReadOneWay}
 use Rattle.lw_rpc.specs.declared.file_change.FileChange.{FileChange}
 use Rattle.lw_rpc.specs.declared.file_change.FileChangeKind.{FileChangeKind}
-use Rattle.lw_rpc.specs.declared.file_change.FileChangeKind.TheVariants.{Deleted}
 use Rattle.lw_rpc.specs.declared.reply.Reply.{Reply}
 use Rattle.lw_rpc.specs.declared.reply.Reply.TheVariants.{Log}
 use Rattle.lw_machine.specs.Documents.{Document, Documents}
@@ -20,7 +19,7 @@ use Rattle.lw_conversation.specs.Reading.{Asked, FindsFile}
 use Rattle.lw_conversation.specs.Removing.{Removes}
 use Rattle.lw_conversation.specs.Watching as watching
 use Rattle.lw_conversation.specs.Watching.{LoadsAgain, SeesChange, SeesChanges}
-use Rattle.lw_conversation.proofs.Alike.{Alike, IsAlike, along_behind, along_front, one_found}
+use Rattle.lw_conversation.proofs.Alike.{Alike, IsAlike, abreast_behind, abreast_front, one_found}
 use Rattle.lw_conversation.proofs.OneEdit.{never_full, never_unknown, same_open}
 use Rattle.lw_conversation.proofs.OneRemoval.{one_removal}
 
@@ -36,18 +35,18 @@ module _ (g : Grammar) (one_way : IsReadOneWay g) (m : Documents) (address : Lis
   -- ---- a document that is closed
 
   -- what becomes of one that is open, by what is found of its file
-  abbrev Closes : Document → Found → Documents → List Reply → Type 0
-  Closes d (Text text) n p = (n ≡ put m address text None false) × (p ≡ [])
-  Closes d Absent n p = Removes g m address n p
-  Closes d NotUtf8 n p = RemovesAndTells (not_text_log address) n p
-  Closes d TooLong n p = RemovesAndTells (too_long_log address) n p
-  Closes d Failed n p = (n ≡ insert m address (closed d)) × (p ≡ failed_log address ∷ [])
-  Closes d NoMemory n p = ⊥
+  abbrev ClosesTo : Document → Found → Documents → List Reply → Type 0
+  ClosesTo d (Text text) n p = (n ≡ put m address text None false) × (p ≡ [])
+  ClosesTo d Absent n p = Removes g m address n p
+  ClosesTo d NotUtf8 n p = RemovesAndTells (not_text_log address) n p
+  ClosesTo d TooLong n p = RemovesAndTells (too_long_log address) n p
+  ClosesTo d Failed n p = (n ≡ insert m address (closed d)) × (p ≡ failed_log address ∷ [])
+  ClosesTo d NoMemory n p = ⊥
 
-  had_memory : (d : Document) (found : Found) (n : Documents) (p : List Reply) → Closes d found n p → found ≢ NoMemory
-  had_memory d found n p does same = subst (λ f. Closes d f n p) same does
+  had_memory : (d : Document) (found : Found) (n : Documents) (p : List Reply) → ClosesTo d found n p → found ≢ NoMemory
+  had_memory d found n p does same = subst (λ f. ClosesTo d f n p) same does
 
-  one_closed : (d : Document) (found : Found) (n o : Documents) (p q : List Reply) → Closes d found n p → Closes d found o q → (n ≡ o) × (p ≡ q)
+  one_closed : (d : Document) (found : Found) (n o : Documents) (p q : List Reply) → ClosesTo d found n p → ClosesTo d found o q → (n ≡ o) × (p ≡ q)
   one_closed d (Text text) n o p q is was = (is.0 ∙ sym was.0, is.1 ∙ sym was.1)
   one_closed d Absent n o p q is was = one_removal g one_way m address n o p q is was
   one_closed d NotUtf8 n o p q is was = one_telling (not_text_log address) n o p q is was
@@ -55,13 +54,13 @@ module _ (g : Grammar) (one_way : IsReadOneWay g) (m : Documents) (address : Lis
   one_closed d Failed n o p q is was = (is.0 ∙ sym was.0, is.1 ∙ sym was.1)
   one_closed d NoMemory n o p q is was = absurd is
 
-  abbrev IsClosed : List Asked → Documents → List Reply → Type 0
-  IsClosed asked n p = (d : Document) × (found : Found) × IsOpenAt m address d × FindsFile address asked found × Closes d found n p
+  abbrev ClosesByFile : List Asked → Documents → List Reply → Type 0
+  ClosesByFile asked n p = (d : Document) × (found : Found) × IsOpenAt m address d × FindsFile address asked found × ClosesTo d found n p
 
-  abbrev IsRefused : Documents → List Reply → Type 0
-  IsRefused n p = IsUnknown m address × (n ≡ m) × (p ≡ Log (codes "unknown document: " ++ address) ∷ [])
+  abbrev StaysUnknown : Documents → List Reply → Type 0
+  StaysUnknown n p = IsUnknown m address × (n ≡ m) × (p ≡ Log (codes "unknown document: " ++ address) ∷ [])
 
-  seen_closed : (asked : List Asked) (n : Documents) (p : List Reply) → ClosesDocument g m address asked n p → IsRefused n p ⊎ IsClosed asked n p
+  seen_closed : (asked : List Asked) (n : Documents) (p : List Reply) → ClosesDocument g m address asked n p → StaysUnknown n p ⊎ ClosesByFile asked n p
   seen_closed asked n p (closing.unknown shut) = inl (shut, refl, refl)
   seen_closed asked n p (closing.text {d = d} {text = t} here finds) = inr (d, Text t, here, finds, (refl, refl))
   seen_closed asked n p (closing.absent {d = d} here finds removes) = inr (d, Absent, here, finds, removes)
@@ -73,34 +72,34 @@ module _ (g : Grammar) (one_way : IsReadOneWay g) (m : Documents) (address : Lis
       ClosesDocument g m address others o q → (n ≡ o) × (p ≡ q)
   one_closing asked others n o p q alike first second = by (seen_closed asked n p first) (seen_closed others o q second)
     where
-      by : IsRefused n p ⊎ IsClosed asked n p → IsRefused o q ⊎ IsClosed others o q → (n ≡ o) × (p ≡ q)
+      by : StaysUnknown n p ⊎ ClosesByFile asked n p → StaysUnknown o q ⊎ ClosesByFile others o q → (n ≡ o) × (p ≡ q)
       by (inl (shut, is, told)) (inl (also, was, telling)) = (is ∙ sym was, told ∙ sym telling)
       by (inl (shut, is, told)) (inr (e, found, there, finding, did)) = never_unknown m address e shut there
       by (inr (d, found, here, finds, does)) (inl (shut, was, telling)) = never_unknown m address d shut here
       by (inr (d, found, here, finds, does)) (inr (e, other, there, finding, did)) =
           let one = one_found address asked others found other alike (had_memory d found n p does) (had_memory e other o q did) finds finding in
-          one_closed d found n o p q does (subst₂ (λ x f. Closes x f o q) (sym (same_open m address d e here there)) (sym one.1) did)
+          one_closed d found n o p q does (subst₂ (λ x f. ClosesTo x f o q) (sym (same_open m address d e here there)) (sym one.1) did)
 
   -- ---- a document whose file was created or changed
 
   -- what becomes of it, by what is found of its file
-  abbrev Loads : Found → Documents → List Reply → Type 0
-  Loads (Text text) n p =
+  abbrev LoadsTo : Found → Documents → List Reply → Type 0
+  LoadsTo (Text text) n p =
       (HasRoom m address × (n ≡ put m address text None false) × (p ≡ []))
       ⊎ (IsFull m address × (n ≡ m) × (p ≡ Log (codes "too many documents: " ++ address) ∷ []))
-  Loads Absent n p = Removes g m address n p ⊎ ((get m address ≡ None) × (n ≡ m) × (p ≡ []))
-  Loads NotUtf8 n p = (n ≡ m) × (p ≡ not_text_log address ∷ [])
-  Loads TooLong n p = (n ≡ m) × (p ≡ too_long_log address ∷ [])
-  Loads Failed n p = (n ≡ m) × (p ≡ failed_log address ∷ [])
-  Loads NoMemory n p = ⊥
+  LoadsTo Absent n p = Removes g m address n p ⊎ ((get m address ≡ None) × (n ≡ m) × (p ≡ []))
+  LoadsTo NotUtf8 n p = (n ≡ m) × (p ≡ not_text_log address ∷ [])
+  LoadsTo TooLong n p = (n ≡ m) × (p ≡ too_long_log address ∷ [])
+  LoadsTo Failed n p = (n ≡ m) × (p ≡ failed_log address ∷ [])
+  LoadsTo NoMemory n p = ⊥
 
-  memory_for : (found : Found) (n : Documents) (p : List Reply) → Loads found n p → found ≢ NoMemory
-  memory_for found n p does same = subst (λ f. Loads f n p) same does
+  memory_for : (found : Found) (n : Documents) (p : List Reply) → LoadsTo found n p → found ≢ NoMemory
+  memory_for found n p does same = subst (λ f. LoadsTo f n p) same does
 
   never_held : {A : Type 0} {n : Documents} {p : List Reply} → get m address ≡ None → Removes g m address n p → A
   never_held none removes = absurd (let same = sym none ∙ removes.held in cc)
 
-  one_loaded : (found : Found) (n o : Documents) (p q : List Reply) → Loads found n p → Loads found o q → (n ≡ o) × (p ≡ q)
+  one_loaded : (found : Found) (n o : Documents) (p q : List Reply) → LoadsTo found n p → LoadsTo found o q → (n ≡ o) × (p ≡ q)
   one_loaded (Text text) n o p q (inl (room, is, told)) (inl (also, was, telling)) = (is ∙ sym was, told ∙ sym telling)
   one_loaded (Text text) n o p q (inl (room, is, told)) (inr (full, was, telling)) = never_full m address full room
   one_loaded (Text text) n o p q (inr (full, is, told)) (inl (room, was, telling)) = never_full m address full room
@@ -114,10 +113,10 @@ module _ (g : Grammar) (one_way : IsReadOneWay g) (m : Documents) (address : Lis
   one_loaded Failed n o p q is was = (is.0 ∙ sym was.0, is.1 ∙ sym was.1)
   one_loaded NoMemory n o p q is was = absurd is
 
-  abbrev IsLoaded : List Asked → Documents → List Reply → Type 0
-  IsLoaded asked n p = (found : Found) × FindsFile address asked found × Loads found n p
+  abbrev LoadsByFile : List Asked → Documents → List Reply → Type 0
+  LoadsByFile asked n p = (found : Found) × FindsFile address asked found × LoadsTo found n p
 
-  seen_loaded : (asked : List Asked) (n : Documents) (p : List Reply) → LoadsAgain g m address asked n p → IsLoaded asked n p
+  seen_loaded : (asked : List Asked) (n : Documents) (p : List Reply) → LoadsAgain g m address asked n p → LoadsByFile asked n p
   seen_loaded asked n p (watching.text {text = t} finds room) = (Text t, finds, inl (room, refl, refl))
   seen_loaded asked n p (watching.too_many {text = t} finds full) = (Text t, finds, inr (full, refl, refl))
   seen_loaded asked n p (watching.gone finds removes) = (Absent, finds, inl removes)
@@ -134,10 +133,10 @@ module _ (g : Grammar) (one_way : IsReadOneWay g) (m : Documents) (address : Lis
       LoadsAgain g m address others o q → AreOne asked n p others o q
   one_loading asked others n o p q alike first second = by (seen_loaded asked n p first) (seen_loaded others o q second)
     where
-      by : IsLoaded asked n p → IsLoaded others o q → AreOne asked n p others o q
+      by : LoadsByFile asked n p → LoadsByFile others o q → AreOne asked n p others o q
       by (found, finds, does) (other, finding, did) =
           let one = one_found address asked others found other alike (memory_for found n p does) (memory_for other o q did) finds finding in
-          let end = one_loaded found n o p q does (subst (λ f. Loads f o q) (sym one.1) did) in
+          let end = one_loaded found n o p q does (subst (λ f. LoadsTo f o q) (sym one.1) did) in
           (one.0, end.0, end.1)
 
   -- ---- changes of files
@@ -173,7 +172,7 @@ module _ (g : Grammar) (one_way : IsReadOneWay g) where
   one_watching m changes asked others n o p q alike
       (watching.change {n = k} {c = c} {others = cs} {asked = a} {more = x} {first = f} {rest = r} sees rest)
       (watching.change {n = l} {asked = b} {more = y} {first = h} {rest = s} saw more) =
-      let one = one_change g one_way m c.uri c.kind a b k l f h (along_front IsAlike a b x y alike) sees saw in
-      let behind = along_behind IsAlike a x y (subst (λ z. Alike (a ++ x) (z ++ y)) (sym one.0) alike) in
+      let one = one_change g one_way m c.uri c.kind a b k l f h (abreast_front IsAlike a b x y alike) sees saw in
+      let behind = abreast_behind IsAlike a x y (subst (λ z. Alike (a ++ x) (z ++ y)) (sym one.0) alike) in
       let end = one_watching k cs x y n o r s behind rest (subst (λ z. SeesChanges g z cs y o s) (sym one.1) more) in
       (end.0, ap₂ (λ v w. v ++ w) one.2 end.1)

@@ -20,7 +20,7 @@ use Rattle.lw_conversation.specs.Laws.{AreSettledByFiles}
 use Rattle.lw_conversation.specs.Publishing.{as_reply}
 use Rattle.lw_conversation.specs.Reading.{AreOfFiles, Asked}
 use Rattle.lw_conversation.specs.Sessions.{Handles, Serves, unbuilt, built, waits, ends, goes_on}
-use Rattle.lw_conversation.proofs.Alike.{Alike, Along, alike_itself, alike_where, along_itself, along_where}
+use Rattle.lw_conversation.proofs.Alike.{Alike, Abreast, alike_itself, alike_where, abreast_itself, abreast_where}
 use Rattle.lw_conversation.proofs.OneEdit.{one_editing, one_opening}
 use Rattle.lw_conversation.proofs.OneFile.{one_closing, one_watching}
 use Rattle.lw_conversation.proofs.OneReply.{HasOneList, one_reply}
@@ -94,7 +94,7 @@ module _ (g : Grammar) (one_way : IsReadOneWay g) (one_list : HasOneList g) wher
       (ap₂ with_documents one.0 end.0, ap₂ (λ x y. x ++ map as_reply y) one.1 end.1, one.2)
 
   -- where what was asked and answered is alike body by body
-  one_session : (s t u : Standing) (bodies : List (List ℕ)) (asked others : List (List Asked)) (p q : List Reply) (e f : Ended) → Along Alike asked others →
+  one_session : (s t u : Standing) (bodies : List (List ℕ)) (asked others : List (List Asked)) (p q : List Reply) (e f : Ended) → Abreast Alike asked others →
       Serves g s bodies asked t p e → Serves g s bodies others u q f → AreOne t p e u q f
   one_session s t u bodies asked others p q e f alike waits waits = (refl, refl, refl)
   one_session s t u bodies asked others p q e f alike (ends {body = b} {asked = h} first over) (ends {asked = k} second done) =
@@ -114,9 +114,9 @@ module _ (g : Grammar) (one_way : IsReadOneWay g) (one_list : HasOneList g) wher
   pub settled_by_answers : (s t u : Standing) (bodies : List (List ℕ)) (asked : List (List Asked)) (p q : List Reply) (e f : Ended) → Serves g s bodies asked t p e →
       Serves g s bodies asked u q f → AreOne t p e u q f
   settled_by_answers s t u bodies asked p q e f first second =
-      one_session s t u bodies asked asked p q e f (along_itself Alike alike_itself asked) first second
+      one_session s t u bodies asked asked p q e f (abreast_itself Alike alike_itself asked) first second
 
   -- and by the files that it has, where it could read
   pub settled_by_files : AreSettledByFiles g
   settled_by_files files s t u bodies asked others p q e f are were first second =
-      one_session s t u bodies asked others p q e f (along_where Alike (AreOfFiles files) (alike_where files) asked others are were) first second
+      one_session s t u bodies asked others p q e f (abreast_where Alike (AreOfFiles files) (alike_where files) asked others are were) first second

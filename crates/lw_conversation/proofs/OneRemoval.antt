@@ -1,5 +1,5 @@
 -- A removal has one outcome, since links and diagnostics have: each of the other documents settles in one way.
-use Rattle.std.proofs.Common.{◌≡◌, ◌≢◌, ℕ, List, map, Option, Some, inl, inr, ◌⊎◌, sym, refl, ap, ◌∙◌, subst, arith}
+use Rattle.std.proofs.Common.{◌≡◌, ◌≢◌, ℕ, List, map, Option, Some, inl, inr, ◌⊎◌, sym, refl, ap, ◌∙◌, arith}
 use Rattle.std.specs.FinMap.{get, remove}
 use Rattle.std.proofs.lemmas.Option.{same_Some}
 use Rattle.lw_grammar.specs.declared.grammar.Grammar.{Grammar}

@@ -241,8 +241,8 @@ module _ (g : Grammar) where
   changes_in_order : (m : Documents) (changes : List FileChange) (asked : List Asked) (n : Documents) (replies : List Reply) → SeesChanges g m changes asked n replies →
       All HasOrderedEdits replies
   changes_in_order m changes asked n replies watching.none = none_to_order
-  changes_in_order m changes asked n replies (watching.change {n = k} {c = c} {others = cs} {asked = a} {more = b} {first = f} {rest = r} sees rest) =
-      All-append HasOrderedEdits f r (change_in_order m c.uri c.kind a k f sees) (changes_in_order k cs b n r rest)
+  changes_in_order m changes asked n replies (watching.change {n = k} {c = c} {others = cs} {asked = a} {more = b} {first = f} {rest = r} saw rest) =
+      All-append HasOrderedEdits f r (change_in_order m c.uri c.kind a k f saw) (changes_in_order k cs b n r rest)
 
   effect_in_order : (m : Documents) (message : Message) (asked : List Asked) (n : Documents) (replies : List Reply) → TakesEffect g m message asked n replies →
       All HasOrderedEdits replies

@@ -27,7 +27,7 @@ module _ (g : Grammar) where
   -- the documents after some of a message's changes, from the first on: after none, after the first ones of files that are watched, or after all
   pub data ChangesInPart (s : Standing) (m : Message) : Documents → Type 0 where
     none : ChangesInPart s m s.documents
-    first : {changes behind : List FileChange} {asked : List Asked} {n : Documents} {replies : List Reply} → gate s.phase m ≡ Passes →
+    first : {changes : List FileChange} (behind : List FileChange) {asked : List Asked} {n : Documents} {replies : List Reply} → gate s.phase m ≡ Passes →
         m ≡ DidChangeWatchedFiles (changes ++ behind) → SeesChanges g s.documents changes asked n replies → ChangesInPart s m n
     all : {asked : List Asked} {t : Standing} {replies : List Reply} {ended : Ended} → Answered s m asked t replies ended → ChangesInPart s m t.documents
 

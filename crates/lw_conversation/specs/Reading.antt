@@ -1,6 +1,6 @@
 -- What a session asks of the store, and what it finds.
 -- Language Server Protocol 3.17, "DidCloseTextDocument Notification": once a document is closed, its truth is the file; RFC 8089, "The file URI Scheme".
-use Rattle.std.specs.Prelude.{ℕ, ◌≡◌, ◌≢◌, List, [], ◌∷◌, All, Option}
+use Rattle.std.specs.Prelude.{ℕ, ◌≢◌, List, [], ◌∷◌, All, Option}
 use Rattle.lw_io.specs.Store.{AnswersFile, FitsFile, file_at}
 use Rattle.lw_io.specs.declared.store.Found.{Found}
 use Rattle.lw_io.specs.declared.store.Found.TheVariants.{Absent, Failed}

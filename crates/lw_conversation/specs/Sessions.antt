@@ -22,8 +22,8 @@ use Rattle.lw_conversation.specs.declared.ended.Ended.{Ended}
 use Rattle.lw_conversation.specs.declared.ended.Ended.TheVariants.{No}
 
 module _ (g : Grammar) where
-  -- A message, and the build behind it: the session before and after it, what the store was asked and answered, the replies with what is published behind them, and whether the
-  -- session is over.
+  -- A message, and the build behind it: the session before and after it, what the store was asked and answered, the replies with what is published behind
+  -- them, and whether the session is over.
   pub data Handles (s : Standing) (m : Message) (asked : List Asked) : Standing → List Reply → Ended → Type 0 where
     -- nothing is built before `initialize`
     unbuilt : {t : Standing} {replies : List Reply} {ended : Ended} → Answered g s m asked t replies ended → t.phase.initialized ≡ false →

@@ -2,7 +2,7 @@
 -- changed is read: a text is put, and where there is no file any more the document is removed; one that was deleted is removed. What went
 -- wrong is told in the log. The changes of a message are taken each by itself, in their order.
 -- Language Server Protocol 3.17, "DidChangeWatchedFiles Notification".
-use Rattle.std.specs.Prelude.{ℕ, ◌≡◌, ◌≢◌, List, [], ◌∷◌, ◌++◌, None, Some, false, codes}
+use Rattle.std.specs.Prelude.{ℕ, ◌≡◌, ◌≢◌, List, [], ◌∷◌, ◌++◌, None, false, codes}
 use Rattle.std.specs.FinMap.{get}
 use Rattle.lw_grammar.specs.declared.grammar.Grammar.{Grammar}
 use Rattle.lw_io.specs.declared.store.Found.TheVariants.{Text, Absent, NotUtf8, TooLong, Failed}

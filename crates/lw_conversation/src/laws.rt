@@ -15,8 +15,9 @@ ghost use Rattle.lw_conversation.specs.declared.ended.Ended.{Ended};
 
 use lw_offers::one_list;
 
-/// By a grammar by which a text is read in one way, what a session does with the bodies of a stream is settled by what the store answers at its reads: where it
-/// stands after them, what it replies and publishes, and whether it is over. Where no read failed, the bodies and the files of the store settle it.
+/// By a grammar by which a text is read in one way, what a session does with the bodies of a stream is settled by what the store answers at its reads:
+/// where it stands after them, what it replies and publishes, and whether it is over. Where no read failed, the bodies and the files of the store settle
+/// it.
 pub fn one_outcome()
     ensures reads { (g : Grammar) → IsReadOneWay g → (s t u : Standing) (bodies : List (List ℕ)) (asked : List (List Asked)) (p q : List Reply) (e f : Ended) →
         Serves g s bodies asked t p e → Serves g s bodies asked u q f → (t ≡ u) × (p ≡ q) × (e ≡ f) }
