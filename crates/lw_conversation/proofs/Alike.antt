@@ -4,7 +4,7 @@ use Rattle.std.proofs.lemmas.List.Elements.{All-head, All-tail}
 use Rattle.lw_io.specs.Store.{FitsFile, file_at}
 use Rattle.lw_io.specs.declared.store.Found.{Found}
 use Rattle.lw_io.specs.declared.store.Found.TheVariants.{Text, Absent, NotUtf8, TooLong, Failed, NoMemory}
-use Rattle.lw_paths.proofs.OnePath.{one_path}
+use Rattle.lw_paths.specs.Paths.{IsPathOf}
 use Rattle.lw_conversation.specs.Reading as reading
 use Rattle.lw_conversation.specs.Reading.{AreOfFiles, Asked, FindsFile}
 
@@ -98,13 +98,18 @@ module _ (files : List (List ℕ × List ℕ)) where
 
 -- ---- what is found
 
--- where reads are alike the same is found, by the same reads, where there was memory
-pub one_found : (address : List ℕ) (asked others : List Asked) (a b : Found) → Alike asked others → a ≢ NoMemory → b ≢ NoMemory → FindsFile address asked a →
-    FindsFile address others b → (asked ≡ others) × (a ≡ b)
-one_found address asked others a b alike here there (reading.no_path none) (reading.no_path also) = (refl, refl)
-one_found address asked others a b alike here there (reading.no_path none) (reading.asked {path = p} is) = absurd (none p is)
-one_found address asked others a b alike here there (reading.asked {path = p} is) (reading.no_path none) = absurd (none p is)
-one_found address asked others a b alike here there (reading.asked {path = p} is) (reading.asked {path = q} was) =
-    let paths = one_path address p q is was in
-    let answers = alike.0 paths here there in
-    (ap₂ (λ path found. record { path = path; answer = found } ∷ []) paths answers, answers)
+-- an address has one path at most
+abbrev pub HasOnePath : Type 0
+HasOnePath = (address path other : List ℕ) → IsPathOf address path → IsPathOf address other → path ≡ other
+
+module _ (one_path : HasOnePath) (address : List ℕ) where
+  -- where reads are alike the same is found, by the same reads, where there was memory
+  pub one_found : (asked others : List Asked) (a b : Found) → Alike asked others → a ≢ NoMemory → b ≢ NoMemory → FindsFile address asked a →
+      FindsFile address others b → (asked ≡ others) × (a ≡ b)
+  one_found asked others a b alike here there (reading.no_path none) (reading.no_path also) = (refl, refl)
+  one_found asked others a b alike here there (reading.no_path none) (reading.asked {path = p} is) = absurd (none p is)
+  one_found asked others a b alike here there (reading.asked {path = p} is) (reading.no_path none) = absurd (none p is)
+  one_found asked others a b alike here there (reading.asked {path = p} is) (reading.asked {path = q} was) =
+      let paths = one_path address p q is was in
+      let answers = alike.0 paths here there in
+      (ap₂ (λ path found. record { path = path; answer = found } ∷ []) paths answers, answers)

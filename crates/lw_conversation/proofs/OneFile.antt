@@ -19,11 +19,11 @@ use Rattle.lw_conversation.specs.Reading.{Asked, FindsFile}
 use Rattle.lw_conversation.specs.Removing.{Removes}
 use Rattle.lw_conversation.specs.Watching as watching
 use Rattle.lw_conversation.specs.Watching.{LoadsAgain, SeesChange, SeesChanges}
-use Rattle.lw_conversation.proofs.Alike.{Alike, IsAlike, abreast_behind, abreast_front, one_found}
+use Rattle.lw_conversation.proofs.Alike.{Alike, HasOnePath, IsAlike, abreast_behind, abreast_front, one_found}
 use Rattle.lw_conversation.proofs.OneEdit.{never_full, never_unknown, same_open}
 use Rattle.lw_conversation.proofs.OneRemoval.{one_removal}
 
-module _ (g : Grammar) (one_way : IsReadOneWay g) (m : Documents) (address : List ℕ) where
+module _ (g : Grammar) (one_way : IsReadOneWay g) (one_path : HasOnePath) (m : Documents) (address : List ℕ) where
   -- it is removed, and what is wrong with its file is told behind that
   abbrev RemovesAndTells : Reply → Documents → List Reply → Type 0
   RemovesAndTells log n p = (farewells : List Reply) × Removes g m address n farewells × (p ≡ farewells ++ log ∷ [])
@@ -77,7 +77,7 @@ module _ (g : Grammar) (one_way : IsReadOneWay g) (m : Documents) (address : Lis
       by (inl (shut, is, told)) (inr (e, found, there, finding, did)) = never_unknown m address e shut there
       by (inr (d, found, here, finds, does)) (inl (shut, was, telling)) = never_unknown m address d shut here
       by (inr (d, found, here, finds, does)) (inr (e, other, there, finding, did)) =
-          let one = one_found address asked others found other alike (had_memory d found n p does) (had_memory e other o q did) finds finding in
+          let one = one_found one_path address asked others found other alike (had_memory d found n p does) (had_memory e other o q did) finds finding in
           one_closed d found n o p q does (subst₂ (λ x f. ClosesTo x f o q) (sym (same_open m address d e here there)) (sym one.1) did)
 
   -- ---- a document whose file was created or changed
@@ -135,7 +135,7 @@ module _ (g : Grammar) (one_way : IsReadOneWay g) (m : Documents) (address : Lis
     where
       by : LoadsByFile asked n p → LoadsByFile others o q → AreOne asked n p others o q
       by (found, finds, does) (other, finding, did) =
-          let one = one_found address asked others found other alike (memory_for found n p does) (memory_for other o q did) finds finding in
+          let one = one_found one_path address asked others found other alike (memory_for found n p does) (memory_for other o q did) finds finding in
           let end = one_loaded found n o p q does (subst (λ f. LoadsTo f o q) (sym one.1) did) in
           (one.0, end.0, end.1)
 
@@ -165,14 +165,14 @@ module _ (g : Grammar) (one_way : IsReadOneWay g) (m : Documents) (address : Lis
   one_change kind asked others n o p q alike (watching.not_held gone none) (watching.removed also shut removes) = never_held none removes
   one_change kind asked others n o p q alike (watching.not_held gone none) (watching.not_held also too) = (refl, refl, refl)
 
-module _ (g : Grammar) (one_way : IsReadOneWay g) where
+module _ (g : Grammar) (one_way : IsReadOneWay g) (one_path : HasOnePath) where
   pub one_watching : (m : Documents) (changes : List FileChange) (asked others : List Asked) (n o : Documents) (p q : List Reply) → Alike asked others →
       SeesChanges g m changes asked n p → SeesChanges g m changes others o q → (n ≡ o) × (p ≡ q)
   one_watching m changes asked others n o p q alike watching.none watching.none = (refl, refl)
   one_watching m changes asked others n o p q alike
       (watching.change {n = k} {c = c} {others = cs} {asked = a} {more = x} {first = f} {rest = r} sees rest)
       (watching.change {n = l} {asked = b} {more = y} {first = h} {rest = s} saw more) =
-      let one = one_change g one_way m c.uri c.kind a b k l f h (abreast_front IsAlike a b x y alike) sees saw in
+      let one = one_change g one_way one_path m c.uri c.kind a b k l f h (abreast_front IsAlike a b x y alike) sees saw in
       let behind = abreast_behind IsAlike a x y (subst (λ z. Alike (a ++ x) (z ++ y)) (sym one.0) alike) in
       let end = one_watching k cs x y n o r s behind rest (subst (λ z. SeesChanges g z cs y o s) (sym one.1) more) in
       (end.0, ap₂ (λ v w. v ++ w) one.2 end.1)

@@ -20,7 +20,7 @@ use Rattle.lw_conversation.specs.Laws.{AreSettledByFiles}
 use Rattle.lw_conversation.specs.Publishing.{as_reply}
 use Rattle.lw_conversation.specs.Reading.{AreOfFiles, Asked}
 use Rattle.lw_conversation.specs.Sessions.{Handles, Serves, unbuilt, built, waits, ends, goes_on}
-use Rattle.lw_conversation.proofs.Alike.{Alike, Abreast, alike_itself, alike_where, abreast_itself, abreast_where}
+use Rattle.lw_conversation.proofs.Alike.{Abreast, Alike, HasOnePath, alike_itself, alike_where, abreast_itself, abreast_where}
 use Rattle.lw_conversation.proofs.OneEdit.{one_editing, one_opening}
 use Rattle.lw_conversation.proofs.OneFile.{one_closing, one_watching}
 use Rattle.lw_conversation.proofs.OneReply.{HasOneList, one_reply}
@@ -41,7 +41,7 @@ no_closing replies = elim replies [ ]
 no_watching : {A : Type 0} {g : Grammar} {m : Documents} {changes : List FileChange} {reply : Reply} → RepliesTo g m (DidChangeWatchedFiles changes) reply → A
 no_watching replies = elim replies [ ]
 
-module _ (g : Grammar) (one_way : IsReadOneWay g) (one_list : HasOneList g) where
+module _ (g : Grammar) (one_way : IsReadOneWay g) (one_list : HasOneList g) (one_path : HasOnePath) where
   one_question : (m : Documents) (message : Message) (n o : Documents) (h k : List Published) (p q : Reply) → BuildsToEnd g m n h → RepliesTo g n message p →
       BuildsToEnd g m o k → RepliesTo g o message q → (n ≡ o) × (map as_reply h ++ p ∷ [] ≡ map as_reply k ++ q ∷ [])
   one_question m message n o h k p q builds replies build reply =
@@ -56,9 +56,9 @@ module _ (g : Grammar) (one_way : IsReadOneWay g) (one_list : HasOneList g) wher
   one_effect m message asked others n o p q alike (edits {address = a} {version = v} {changes = c} first) (edits second) = one_editing m a v c n o p q first second
   one_effect m message asked others n o p q alike (edits first) (asks published reply builds replies) = no_editing replies
   one_effect m message asked others n o p q alike (closes {address = a} first) (closes second) =
-      one_closing g one_way m a asked others n o p q alike first second
+      one_closing g one_way one_path m a asked others n o p q alike first second
   one_effect m message asked others n o p q alike (closes first) (asks published reply builds replies) = no_closing replies
-  one_effect m message asked others n o p q alike (sees {changes = c} first) (sees second) = one_watching g one_way m c asked others n o p q alike first second
+  one_effect m message asked others n o p q alike (sees {changes = c} first) (sees second) = one_watching g one_way one_path m c asked others n o p q alike first second
   one_effect m message asked others n o p q alike (sees first) (asks published reply builds replies) = no_watching replies
   one_effect m message asked others n o p q alike (asks published reply builds replies) (opens second) = no_opening replies
   one_effect m message asked others n o p q alike (asks published reply builds replies) (edits second) = no_editing replies

@@ -14,6 +14,7 @@ ghost use Rattle.lw_conversation.specs.Standing.{Standing, beginning};
 ghost use Rattle.lw_conversation.specs.declared.ended.Ended.{Ended};
 
 use lw_offers::one_list;
+use lw_paths::one_path;
 
 /// By a grammar by which a text is read in one way, what a session does with the bodies of a stream is settled by what the store answers at its reads:
 /// where it stands after them, what it replies and publishes, and whether it is over. Where no read failed, the bodies and the files of the store settle
@@ -24,6 +25,7 @@ pub fn one_outcome()
     ensures files { (g : Grammar) → IsReadOneWay g → AreSettledByFiles g }
 {
     one_list();
+    one_path();
 }
 
 /// By a grammar by which a text is read in one way, whatever texts were put before and whatever bodies come, what holds of documents at every moment
