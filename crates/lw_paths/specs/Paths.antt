@@ -1,16 +1,16 @@
 -- The addresses of files, and their paths.
 -- RFC 8089, "The file URI Scheme"; RFC 3986, "Percent-Encoding", "Query" and "Fragment".
-use Rattle.std.specs.Prelude.{ℕ, ◌≡◌, List, [], ◌∷◌, ◌++◌, Contains, codes}
-use Rattle.std.specs.Str.{IsUtf8}
+use Rattle.std.specs.Prelude.{ℕ, ◌≡◌, Bool, not, ◌||◌, ◌==◌, List, ◌++◌, Contains, IsUtf8, codes, take_while}
 use Rattle.percent_encoding.specs.Percent.{percent_decode, percent_encode}
 use Rattle.lw_paths.specs.declared.paths.TheConstants.{ESCAPED}
 
--- what stands before a query or a fragment: up to the first `?`, which is 63, or `#`, which is 35
+-- a query begins with `?`, which is 63, and a fragment with `#`, which is 35
+abbrev pub ends_path : ℕ → Bool
+ends_path byte = byte == 63 || byte == 35
+
+-- what stands before a query or a fragment
 abbrev pub before_query : List ℕ → List ℕ
-before_query [] = []
-before_query (63 ∷ rest) = []
-before_query (35 ∷ rest) = []
-before_query (byte ∷ rest) = byte ∷ before_query rest
+before_query bytes = take_while (λ byte. not (ends_path byte)) bytes
 
 -- The address has this path: what stands behind `file://`, from a slash on and before a query or a fragment, with its escapes read, where that is
 -- UTF-8 and has no byte 0, which no path of a file has.

@@ -1,0 +1,4 @@
+mod Bytes
+mod Escaped
+mod RoundTrip
+mod WrittenPaths
