@@ -41,6 +41,9 @@ message_of-no_text body no_text = rw no_text refl
 
 -- ---- from a rule to the definition
 
+pub other_text : (a b : List ℕ) → bytes_eq a b ≡ false → ¬ (a ≡ b)
+other_text a b other same = false-and-true other ((bytes_eq-Decides a b).1 same)
+
 bytes_eq-other : (a b : List ℕ) → ¬ (a ≡ b) → bytes_eq a b ≡ false
 bytes_eq-other a b other = false_from_ne_true _ (λ same. other ((bytes_eq-Decides a b).0 same))
 
@@ -100,6 +103,12 @@ unknown_message None method params not_known =
     let fourth : bytes_eq method (codes "textDocument/didClose") ≡ false = bytes_eq-other _ _ (λ e. not_known (inr (inr (inr (inl e))))) in
     let fifth : bytes_eq method (codes "workspace/didChangeWatchedFiles") ≡ false = bytes_eq-other _ _ (λ e. not_known (inr (inr (inr (inr e))))) in
     rw (first, second, third, fourth, fifth) refl
+
+-- no parameters say what has no method
+pub without_method-params : (version id params : Option Data) → call_message (without_method version id) params ≡ call_message (without_method version id) None
+without_method-params (Some version) (Some id) params = refl
+without_method-params (Some version) None params = refl
+without_method-params None id params = refl
 
 -- ---- from the definition to a rule
 

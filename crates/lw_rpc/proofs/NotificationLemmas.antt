@@ -6,7 +6,7 @@ use Rattle.lw_rpc.specs.Causes.{HasValue, IsCall, ClosesDocument, TellsOfFiles, 
 use Rattle.lw_rpc.specs.FileChangeParams.{file_changes_of}
 use Rattle.lw_rpc.specs.Params.{member_at, text_at, file_changes_at, did_close, did_change_watched_files}
 use Rattle.lw_rpc.proofs.FileChangeLemmas.{file_changes_of-AreFileChanges, AreFileChanges-file_changes_of}
-use Rattle.lw_rpc.proofs.Found.{str_of, list_of, inside, found_in, mapped, none-and-some}
+use Rattle.lw_rpc.proofs.Found.{str_of, list_of, inside, mapped, none-and-some}
 use Rattle.lw_rpc.specs.declared.file_change.FileChange.{FileChange}
 use Rattle.lw_rpc.specs.declared.message.Message.{Message}
 use Rattle.lw_rpc.specs.declared.message.Message.TheVariants.{BadParams, DidClose, DidChangeWatchedFiles}

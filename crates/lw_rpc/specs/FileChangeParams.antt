@@ -1,5 +1,5 @@
 -- What the changes of files must have, and what they say. Language Server Protocol 3.17, "FileEvent" and "FileChangeType".
-use Rattle.std.specs.Prelude.{ℕ, List, [], ◌∷◌, ◌==◌, codes, if◌then◌else◌, Option, Some, None, option_and_then}
+use Rattle.std.specs.Prelude.{ℕ, List, [], ◌==◌, codes, if◌then◌else◌, Option, Some, None, option_and_then}
 use Rattle.serde_json.specs.Data.{Data, Items, no_items, item}
 use Rattle.serde_json.specs.Find.{get, as_str, as_number, as_u64}
 use Rattle.lw_rpc.specs.ChangeParams.{followed}
