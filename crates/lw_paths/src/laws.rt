@@ -12,7 +12,7 @@ pub fn one_path()
     ensures { (address path other : List ℕ) → spec.IsPathOf address path → spec.IsPathOf address other → path ≡ other }
 {}
 
-/// The address of a path has that path.
+/// The address of a path that begins with a slash, is UTF-8 and has no byte 0 has that path.
 pub fn addresses_have_their_paths()
     ensures { (path rest : List ℕ) → path ≡ codes "/" ++ rest → IsUtf8 path → ¬ Contains path 0 → spec.IsPathOf (spec.address_of path) path }
 {}

@@ -4,7 +4,8 @@
 //! path an address has, if any, and what the address of a path is.
 //!
 //! It promises that the calls give exactly what is defined and fail only for want of memory, that an address has one
-//! path at most, and that the address of a path has just that path.
+//! path at most, that the address of a path which begins with a slash has just that path, and which bytes are escaped.
+//! Each call takes time in proportion to the bytes that it is given.
 #![tactic(auto)]
 
 mod laws;
