@@ -3,7 +3,7 @@ use Rattle.std.proofs.Common.{◌≡◌, ◌≢◌, ℕ, List, true, Option, Som
 use Rattle.std.specs.FinMap.{get, insert}
 use Rattle.std.proofs.lemmas.Option.{same_Some, none-some}
 use Rattle.lw_base.specs.declared.numbers.DocId.{DocId}
-use Rattle.lw_docs.specs.Documents.{ByAddress, IsHeld, Numbered, Turns, numbered}
+use Rattle.lw_docs.specs.Documents.{AreNumbered, ByAddress, IsHeld, Numbered, Turns, numbered}
 use Rattle.lw_docs.specs.declared.doc.Doc.{Doc}
 use Rattle.lw_grammar.specs.declared.grammar.Grammar.{Grammar}
 use Rattle.lw_machine.specs.Documents.{Document, shown_texts}
@@ -23,7 +23,17 @@ use Rattle.lw_build.proofs.Linked.{linked_still}
 use Rattle.lw_build.proofs.Maps.{put_here, put_elsewhere}
 use Rattle.lw_build.proofs.Reading.{read_still}
 
--- what stays of a document that is closed
+-- ---- the document that is closed
+
+pub shut_at : (kept after : ByAddress) → AreNumbered kept → (a : List ℕ) (d : DocId) (x : Doc) → get kept a ≡ Some (numbered d x) →
+    Turns kept after d (λ x. record x { version = None; is_open = false }) → after ≡ insert kept a (numbered d (record x { version = None; is_open = false }))
+shut_at kept after are a d x at turns =
+    let uri : x.uri ≡ a = are.addresses a (numbered d x) at in
+    turns x (ap (get kept) uri ∙ at) ∙ ap (λ q. insert kept q (numbered d (record x { version = None; is_open = false }))) uri
+
+-- ---- what stays of each
+
+-- its number, address and text, and its last list
 record Lasting : Type 0 where
   number : DocId
   uri : List ℕ
