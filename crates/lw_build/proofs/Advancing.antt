@@ -1,7 +1,6 @@
 -- What a build of all documents comes to.
 use Rattle.std.proofs.Common.{◌≡◌, ℕ, ℤ, List, [], ◌∷◌, map, Bool, true, Option, Some, None, option_and_then, option_map, refl, sym, ap, subst, ◌∙◌, inl, inr}
 use Rattle.std.specs.FinMap.{get, entries}
-use Rattle.std.specs.Str.{IsUtf8}
 use Rattle.std.proofs.lemmas.Option.{same_Some, none-some}
 use Rattle.lw_base.specs.declared.numbers.DocId.{DocId}
 use Rattle.lw_docs.specs.Documents.{AreNumbered, ByAddress, Numbered, numbered}
@@ -28,17 +27,17 @@ use Rattle.lw_build.specs.Agreeing.{Agrees, Known, known, known_here}
 use Rattle.lw_build.specs.Built.{AreBuilt}
 use Rattle.lw_refs.specs.Led.{Led}
 use Rattle.lw_build.specs.Linked.{AreLinked}
-use Rattle.lw_build.specs.Readings.{AreDocumentsRead, IsDocumentRead, IsReadingOfText, reading_at, present_texts_of}
+use Rattle.lw_build.specs.Readings.{AreDocumentsRead, present_texts_of}
 use Rattle.lw_build.specs.Telling as telling
 use Rattle.lw_build.specs.Telling.{AreListsTaken, AreListsTold, IsListTaken, numbered_places, with_list}
 use Rattle.lw_build.specs.View.{documents_of}
-use Rattle.lw_build.specs.declared.readings.Reading.{Reading}
 use Rattle.lw_build.specs.declared.readings.Readings.{Readings}
 use Rattle.lw_build.proofs.Agreeing.{held_of, same_list, view}
 use Rattle.lw_build.proofs.Documents.{alike_entries, document_of, entries_documents, get_document, held_here}
 use Rattle.lw_build.proofs.Linked.{linked_still}
 use Rattle.lw_build.proofs.News.{after_taken, before_taken, held_place, is_news, own_at}
 use Rattle.lw_build.proofs.Places.{entry_held}
+use Rattle.lw_build.proofs.Reading.{read_still}
 
 module _ (g : Grammar) (one_way : IsReadOneWay g) (types : Types) (known_types : AreTypesOf g types) where
   -- documents to which the present ones of a workspace are built
@@ -117,22 +116,9 @@ module _ (own : List (DocId × List Shown)) (kept after : ByAddress) (taken : Ar
 
   -- what is kept of texts is that of the same texts
   pub read_taken : (g : Grammar) (texts : List (List ℕ)) (readings : Readings) → AreDocumentsRead g texts kept readings → AreDocumentsRead g texts after readings
-  read_taken g texts readings read = record { each = each; nothing_else = read.nothing_else }
-    where
-      each : (n : ℕ) (reading : Reading) → reading_at readings n ≡ Some reading → IsDocumentRead g texts after readings.index n reading
-      each n reading is =
-          let r = read.each n reading is in
-          let (now, there, like) = after_taken own (get kept r.held.doc.uri) (get after r.held.doc.uri) (taken r.held.doc.uri) r.held r.here in
-          record {
-            held = now;
-            number = ap (λ (d : DocId). d.0) (sym like.number) ∙ r.number;
-            here = ap (get after) (sym like.uri) ∙ there;
-            utf8 = subst IsUtf8 like.text r.utf8;
-            reads = subst (λ t. IsReadingOfText g texts t reading) like.text r.reads;
-            exports = r.exports;
-            indexed = r.indexed ∙ ap (λ u. Some (record { uri = u; exports = r.exports })) like.uri;
-            entered = r.entered;
-          }
+  read_taken g texts = read_still g texts kept after (λ q held at.
+      let (now, there, like) = after_taken own (get kept q) (get after q) (taken q) held at in
+      (now, there, record { number = like.number; uri = like.uri; text = like.text }))
 
   -- and so are the links
   pub linked_taken : (g : Grammar) (readings : Readings) (led : Led) → AreLinked g kept readings led → AreLinked g after readings led

@@ -7,7 +7,7 @@ use Rattle.lw_docs.specs.Documents.{ByAddress, Numbered, changed, numbered}
 use Rattle.lw_docs.specs.declared.doc.Doc.{Doc}
 use Rattle.lw_grammar.specs.declared.grammar.Grammar.{Grammar}
 use Rattle.lw_machine.specs.Documents.{Document, Documents, rank, shown_texts}
-use Rattle.lw_machine.specs.Events.{put, edited, with_text, puts, edits, removes}
+use Rattle.lw_machine.specs.Events.{put, edited, closed, with_text, puts, edits, closes, removes}
 use Rattle.lw_machine.specs.Settling.{IsSettled}
 use Rattle.lw_machine.specs.Validity.{IsValid}
 use Rattle.lw_machine.proofs.Places.{one_or_two}
@@ -156,6 +156,15 @@ module _ (g : Grammar) (one_way : IsReadOneWay g) (kept : ByAddress) (b c : Bool
             (stays_valid g one_way m (insert m a (edited d text version)) [] agrees.valid (edits a d changes version there (made d texts)))
             (agrees.readable a d there),
       )
+
+  pub closed_so : (held : Numbered) → get kept a ≡ Some held → (d : Document) → get m a ≡ Some d →
+      Agrees (view g (insert kept a (numbered held.number (record held.doc { version = None; is_open = false }))) c) (insert m a (closed d))
+  closed_so held at d there =
+      let (own, here, same) = held_of (view g kept b) m agrees a d there in
+      with_document (closed d) (numbered held.number (record held.doc { version = None; is_open = false }))
+      (ap (λ (k : Known). record k { version = None; is_open = false }) (same ∙ ap known_here (same_Some own held (sym here ∙ at))))
+      (stays_valid g one_way m (insert m a (closed d)) [] agrees.valid (closes a d there))
+      (agrees.readable a d there)
 
   pub removed : (held : Numbered) → get kept a ≡ Some held → (n : Documents) → IsSettled g (shown_texts m) a (remove m a) n → Agrees (view g (remove kept a) c) n
   removed held at n settled =

@@ -1,4 +1,5 @@
 pub mod Maps
+pub mod Turning
 pub mod Places
 pub mod Documents
 pub mod Texts
@@ -7,8 +8,10 @@ pub mod Trees
 pub mod Linked
 pub mod News
 pub mod Agreeing
+pub mod Settling
 pub mod Advancing
 pub mod Finding
+pub mod Closing
 pub mod Empty
 pub mod Leading
 pub mod Views

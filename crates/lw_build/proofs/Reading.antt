@@ -19,6 +19,12 @@ use Rattle.lw_build.specs.declared.readings.Reading.{Reading}
 use Rattle.lw_build.specs.declared.readings.Readings.{Readings}
 use Rattle.lw_build.proofs.Maps.{number_put, number_stays, number_gone, number_left}
 
+-- a document of the same number, address and text
+pub record HasSameText (held now : Numbered) : Type 0 where
+  pub number : held.number ≡ now.number
+  pub uri : held.doc.uri ≡ now.doc.uri
+  pub text : held.doc.text ≡ now.doc.text
+
 module _ (g : Grammar) (texts : List (List ℕ)) where
   -- the same, where the index holds the same of this number, and the document is held
   pub moved : (kept after : ByAddress) (index later : Indexed) (n : ℕ) (reading : Reading) → (is : IsDocumentRead g texts kept index n reading) →
@@ -107,6 +113,27 @@ module _ (g : Grammar) (texts : List (List ℕ)) where
           | inl same ↦ absurd (none-some reading (sym none ∙ ap (reading_at after) same ∙ here))
           | inr other ↦ ap (λ m. get m n) index ∙ number_stays readings.index d.0 document n other ∙ read.nothing_else n (sym (others n other) ∙ none)
         ]
+
+  -- each document has become one of the same text
+  pub read_still : (kept after : ByAddress) →
+      ((q : List ℕ) (held : Numbered) → get kept q ≡ Some held → (now : Numbered) × (get after q ≡ Some now) × HasSameText held now) →
+      (readings : Readings) → AreDocumentsRead g texts kept readings → AreDocumentsRead g texts after readings
+  read_still kept after become readings read = record { each = each; nothing_else = read.nothing_else }
+    where
+      each : (n : ℕ) (reading : Reading) → reading_at readings n ≡ Some reading → IsDocumentRead g texts after readings.index n reading
+      each n reading is =
+          let r = read.each n reading is in
+          let (now, there, like) = become r.held.doc.uri r.held r.here in
+          record {
+            held = now;
+            number = ap (λ (d : DocId). d.0) (sym like.number) ∙ r.number;
+            here = ap (get after) (sym like.uri) ∙ there;
+            utf8 = subst IsUtf8 like.text r.utf8;
+            reads = subst (λ t. IsReadingOfText g texts t reading) like.text r.reads;
+            exports = r.exports;
+            indexed = r.indexed ∙ ap (λ u. Some (record { uri = u; exports = r.exports })) like.uri;
+            entered = r.entered;
+          }
 
   -- the document at one address changes, and what is kept of it goes out
   module _ (kept after : ByAddress) (address : List ℕ) (others : (q : List ℕ) → q ≢ address → get after q ≡ get kept q) (readings : Readings)

@@ -1,6 +1,6 @@
 //! A workspace: documents that are read, linked with one another and checked.
 //!
-//! A [`Workspace`] is what a session and a command line keep of many documents. Texts are put, edited and removed by address; then
+//! A [`Workspace`] is what a session and a command line keep of many documents. They are put, edited, closed and removed by address; then
 //! [`Workspace::advance`] builds all documents to the end, and answers the lists of diagnostics that are news, in the order of
 //! addresses. A list that was published last is not published again.
 //!

@@ -1,5 +1,5 @@
 // A workspace.
-ghost use Rattle.std.specs.Prelude.{ℕ, List, ◌≡◌, ◌≢◌, ◌≤◌, ◌<◌, ◌↔◌, ◌+◌, Some, None, Ok, Err, IfOk, IfErr, OnOk, OnErr, MatchOption, IsTrue, true, length, map};
+ghost use Rattle.std.specs.Prelude.{ℕ, List, ◌≡◌, ◌≢◌, ◌≤◌, ◌<◌, ◌↔◌, ◌+◌, Some, None, Ok, Err, IfOk, IfErr, OnOk, OnErr, MatchOption, IsTrue, true, false, length, map};
 ghost use Rattle.std.specs.FinMap as all;
 ghost use Rattle.std.specs.FinMap.{get};
 ghost use Rattle.std.specs.Map.Iter.{ShowsInOrder, deref_pair};
@@ -11,7 +11,7 @@ ghost use Rattle.lw_machine.specs.Building.{BuildsToEnd};
 ghost use Rattle.lw_link.specs.Indexed.{IsIndexOf};
 ghost use Rattle.lw_link.specs.Visible.{IsNumberAt};
 ghost use Rattle.lw_machine.specs.Documents.{Document, Documents, present_texts, shown_texts};
-ghost use Rattle.lw_machine.specs.Events.{put, edited, farewell};
+ghost use Rattle.lw_machine.specs.Events.{put, edited, closed, farewell};
 ghost use Rattle.lw_machine.specs.Settling.{IsSettled};
 ghost use Rattle.lw_query.specs.Built.{AreBuiltViews, texts_seen};
 ghost use Rattle.lw_query.specs.Viewed.{AreViewsOf};
@@ -118,6 +118,15 @@ fn last_words(
         version: None,
         list: Items::new(alloc),
     }))
+}
+
+/// Says of a document that no editor has it open, and that it has no version.
+fn shut(docs: &mut Docs, d: DocId)
+    requires { IsHeld docs.old d }
+    ensures { Turns docs.old docs.new d (λ x. record x { version = None; is_open = false }) }
+{
+    docs.set_version(d, None);
+    docs.set_open(d, false);
 }
 
 /// Gives a document another text, version and open flag.
@@ -253,10 +262,28 @@ impl Workspace {
         Ok(())
     }
 
+    /// Says that no editor has the document at an address open any more, and that it has no version. Its text and its last list stay, and
+    /// what was read and built of it. Where there is none it does nothing. It takes no memory, and the time is logarithmic in the documents.
+    pub fn set_closed(&mut self, uri: &Name)
+        ensures agrees { (m : Documents) → Agrees self.old m → (d : Document) → get m uri.now ≡ Some d → Agrees self.new (all.insert m uri.now (closed d)) }
+        ensures kept { (held : Numbered) → get self.old.kept uri.now ≡ Some held →
+            self.new.kept ≡ all.insert self.old.kept uri.now (numbered held.number (record held.doc { version = None; is_open = false })) }
+        ensures absent { get self.old.kept uri.now ≡ None → self.new ≡ self.old }
+        ensures built { self.new.is_built ≡ self.old.is_built }
+        ensures grammar { self.new.grammar ≡ self.old.grammar }
+    {
+        let Some(d) = self.docs.find(uri) else {
+            return;
+        };
+        shut(&mut self.docs, d);
+        self.docs.numbered();
+    }
+
     /// Takes a document out, and answers what is to be published then: an empty list, where its last list had an entry. Errors:
     /// [`WorkFault::NoDocument`] and want of memory.
     pub fn remove(&mut self, uri: &Name) -> Result<Option<Published>, WorkFault>
-        ensures agrees { OnOk result ((m n : Documents) → Agrees self.old m → IsSettled self.old.grammar (shown_texts m) uri.now (all.remove m uri.now) n → Agrees self.new n) }
+        ensures agrees { OnOk result ((m : Documents) → Agrees self.old m →
+            (n : Documents) × IsSettled self.old.grammar (shown_texts m) uri.now (all.remove m uri.now) n × Agrees self.new n) }
         ensures told { IfOk result (λ told. (held : Numbered) × (get self.old.kept uri.now ≡ Some held) × (farewell uri.now held.doc.published ≡ option_to_list told)) }
         ensures fault { IfErr result (IsRemovalFault self.old uri.now) }
         ensures refused { OnErr result (self.new ≡ self.old) }
@@ -269,6 +296,7 @@ impl Workspace {
             Ok(told) => told,
             Err(_) => return Err(WorkFault::NoMemory),
         };
+        let _ = self.language.types();
         self.docs.take_out(gone);
         self.readings.forget(gone);
         self.refs.remove(gone);

@@ -5,6 +5,7 @@ use Rattle.std.proofs.lemmas.Bool.{false≢true}
 use Rattle.lw_docs.specs.Documents.{ByAddress, numbered}
 use Rattle.lw_machine.specs.Documents.{Documents, shown_texts}
 use Rattle.lw_machine.specs.Settling.{IsSettled}
+use Rattle.lw_outcomes.proofs.Types.{tells_types}
 use Rattle.lw_build.specs.Agreeing.{Agrees}
 use Rattle.lw_build.specs.Faults as faults
 use Rattle.lw_build.specs.Faults.{IsRemovalFault}
@@ -14,6 +15,7 @@ use Rattle.lw_build.proofs.Finding.{at_address, none_found, same_uri, seen}
 use Rattle.lw_build.proofs.Maps.{taken_elsewhere}
 use Rattle.lw_build.proofs.Leading.{unread_forgotten}
 use Rattle.lw_build.proofs.Reading.{forgotten}
+use Rattle.lw_build.proofs.Settling.{others_settle}
 use Rattle.lw_build.proofs.workspace.Workspace.remove.Goals as goal
 
 pub returns-in_default-clause-fault : goal.returns-in_default-clause-fault
@@ -48,8 +50,13 @@ returns-clause-agrees c =
     let is = sym c.in-Some.is ∙ c.find.ensures.number in
     let uri = same_uri docs c.args.uri.now c.self.invariant.numbered c.in-Some.gone is x c.take_out.ensures.doc in
     let at = at_address docs c.args.uri.now c.self.invariant.numbered c.in-Some.gone is x c.take_out.ensures.doc in
-    subst (λ v. (m n : Documents) → Agrees v m → IsSettled v.grammar (shown_texts m) c.args.uri.now (all.remove m c.args.uri.now) n →
-    Agrees (view of c.take_out.new.self false) n) c.self.view_is
-    (λ m n agrees settled. seen (view of c.take_out.new.self false) of (all.remove docs c.args.uri.now) n refl
-    (c.take_out.ensures.gone ∙ ap (all.remove docs) uri)
-    (removed of c.self.invariant.one_way docs c.self.inside.is_built false m agrees c.args.uri.now (numbered c.in-Some.gone x) at n settled))
+    subst (λ v. (m : Documents) → Agrees v m →
+    (n : Documents) × IsSettled v.grammar (shown_texts m) c.args.uri.now (all.remove m c.args.uri.now) n × Agrees (view c.take_out.new.self false) n) c.self.view_is
+    (λ m agrees.
+    let tells = tells_types of c.types.result.now.types.subtypes c.types.ensures.types.subtypes in
+    let (n, settled) = others_settle of tells m agrees.valid agrees.readable c.args.uri.now in (
+      n,
+      settled,
+      seen (view c.take_out.new.self false) of (all.remove docs c.args.uri.now) n refl (c.take_out.ensures.gone ∙ ap (all.remove docs) uri)
+          (removed of c.self.invariant.one_way docs c.self.inside.is_built false m agrees c.args.uri.now (numbered c.in-Some.gone x) at n settled),
+    ))
