@@ -34,6 +34,3 @@ mod written;
 
 pub use completion::complete;
 pub use item::{Item, KEYWORD_ITEM, REFERENCE_ITEM};
-
-#[cfg(test)]
-mod tests;

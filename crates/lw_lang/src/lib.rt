@@ -26,6 +26,8 @@ mod language;
 mod laws;
 #[cfg(test)]
 mod reading_tests;
+#[cfg(test)]
+mod syntax_tests;
 mod told_look;
 mod told_term;
 

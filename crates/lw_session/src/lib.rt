@@ -35,4 +35,6 @@ pub use lw_conversation::{Ended, Phase};
 pub use session::{Handled, Mode, Session};
 
 #[cfg(test)]
+mod completion_tests;
+#[cfg(test)]
 mod tests;

@@ -126,6 +126,3 @@ fn end_of(text: &Name) -> Span
     let end = text.bytes().len() as u32;
     Span { start: end, end }
 }
-
-#[cfg(test)]
-mod tests;

@@ -1,9 +1,10 @@
-use crate::{ReadFault, read_grammar};
+// What no clause says of reading a grammar file: that each form is read where there is memory, and where a file goes wrong. Worked by hand.
 use lw_base::{Items, Name, Span};
 use lw_grammar::{
     Action, Attribute, Element, Grammar, Interface, Member, Op, Primitive, Rule, RuleResult,
     TermElement, Terminal, UnionDef, Value0,
 };
+use lw_syntax::{ReadFault, read_grammar};
 use std::alloc::{AllocError, Global};
 use std::process::Abort;
 use std::test::Fail;

@@ -2,8 +2,8 @@
 ghost use Rattle.std.specs.Prelude.{IfOk};
 ghost use Rattle.lw_reading.specs.Laws.{IsReadOneWay};
 
-use crate::{Item, complete};
 use lw_base::{DocId, Name, NoMemory};
+use lw_complete::{Item, complete};
 use lw_index::Index;
 use lw_io::{MemPatterns, MemStore};
 use lw_lang::{Language, Parsed, compile};
