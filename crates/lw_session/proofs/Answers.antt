@@ -30,11 +30,12 @@ use Rattle.lw_conversation.specs.Answered as answer
 use Rattle.lw_conversation.specs.Asking.{RepliesTo}
 use Rattle.lw_conversation.specs.Editing as editing
 use Rattle.lw_conversation.specs.Editing.{IsOpenAt, IsUnknown}
-use Rattle.lw_conversation.specs.Effects.{TakesEffect, as_reply}
+use Rattle.lw_conversation.specs.Effects.{TakesEffect}
 use Rattle.lw_conversation.specs.Effects as effect
 use Rattle.lw_conversation.specs.Gate.{Passes, gate}
 use Rattle.lw_conversation.specs.Opening as opening
 use Rattle.lw_conversation.specs.Opening.{HasRoom, IsFull}
+use Rattle.lw_conversation.specs.Publishing.{as_reply}
 use Rattle.lw_conversation.specs.declared.phase.Phase.{Phase}
 use Rattle.lw_session.specs.Answering.{IsAnswered}
 use Rattle.lw_session.specs.Lifecycle.{IsLive, opened_message, edited_message, asked_message, question_message, passage_of, telling}

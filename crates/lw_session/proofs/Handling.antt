@@ -14,7 +14,7 @@ use Rattle.lw_machine.specs.declared.published.Published.{Published}
 use Rattle.lw_machine.proofs.Contents.{to_end_same}
 use Rattle.lw_conversation.specs.Answered as answer
 use Rattle.lw_conversation.specs.Answered.{IsCutShort}
-use Rattle.lw_conversation.specs.Effects.{as_reply}
+use Rattle.lw_conversation.specs.Publishing.{as_reply}
 use Rattle.lw_conversation.specs.Sessions as session
 use Rattle.lw_conversation.specs.Sessions.{Handles}
 use Rattle.lw_conversation.specs.Standing.{Standing}

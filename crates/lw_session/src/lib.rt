@@ -19,8 +19,10 @@
 #![tactic(auto)]
 
 mod asking;
+mod closing;
 mod completing;
 mod editing;
+mod files;
 mod lifecycle;
 mod locating;
 mod opening;
@@ -29,6 +31,7 @@ mod said;
 mod serving;
 mod session;
 mod texts;
+mod watching;
 
 pub use lw_build::{WorkFault, Workspace};
 pub use lw_conversation::{Ended, Phase};

@@ -134,14 +134,14 @@ impl Session {
         store: &mut F,
         steps: &mut Steps<L>,
     ) -> Result<Handled, NoMemory>
-        ensures handles { IfOk result (λ handled. HandlesBody self.old.grammar self.old.standing body.now (F.count store.old) (F.count store.new)
-            self.new.standing handled.replies handled.ended) }
+        ensures handles { IfOk result (λ handled. HandlesBody self.old.grammar self.old.standing body.now (F.files store.old) (F.count store.old)
+            (F.count store.new) self.new.standing handled.replies handled.ended) }
         ensures cut_short { OnErr result (IsCutShort self.old.grammar self.old.standing (message_of body.now) self.new.standing) }
         ensures grammar { self.new.grammar ≡ self.old.grammar }
         ensures files { F.files store.new ≡ F.files store.old }
     {
         let message = read_message(self.alloc, body)?;
-        let served = serve(self.alloc, &mut self.workspace, self.phase, message, steps)?;
+        let served = serve(self.alloc, &mut self.workspace, self.phase, message, store, steps)?;
         self.workspace.agrees();
         let told = served.told;
         let replies = texts_of(self.alloc, told.replies.as_slice(), served.lists.as_slice())?;

@@ -2,7 +2,7 @@ use Rattle.std.proofs.Common.{[], ◌∷◌, ◌++◌, List, map, sym, ap, ◌�
 use Rattle.std.proofs.lemmas.Result.{IfOk-weaker}
 use Rattle.lw_build.specs.View.{documents}
 use Rattle.lw_conversation.specs.Asking.{RepliesTo}
-use Rattle.lw_conversation.specs.Effects.{as_reply}
+use Rattle.lw_conversation.specs.Publishing.{as_reply}
 use Rattle.lw_machine.specs.declared.published.Published.{Published}
 use Rattle.lw_session.specs.Answering.{IsAnswered}
 use Rattle.lw_session.specs.Lifecycle.{asked_message, telling}

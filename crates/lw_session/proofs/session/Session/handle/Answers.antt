@@ -1,5 +1,5 @@
 use Rattle.std.proofs.Common.{◌++◌, [], map, refl, subst}
-use Rattle.lw_conversation.specs.Effects.{as_reply}
+use Rattle.lw_conversation.specs.Publishing.{as_reply}
 use Rattle.lw_machine.specs.Validity.{IsValid}
 use Rattle.lw_build.specs.View.{documents}
 use Rattle.lw_grammar.specs.declared.grammar.Grammar.{Grammar}
