@@ -36,6 +36,7 @@ use Rattle.lw_conversation.specs.Gate.{Passes, gate}
 use Rattle.lw_conversation.specs.Opening as opening
 use Rattle.lw_conversation.specs.Opening.{HasRoom, IsFull}
 use Rattle.lw_conversation.specs.Publishing.{as_reply}
+use Rattle.lw_conversation.specs.Reading as asks_store
 use Rattle.lw_conversation.specs.declared.phase.Phase.{Phase}
 use Rattle.lw_session.specs.Answering.{IsAnswered}
 use Rattle.lw_session.specs.Lifecycle.{IsLive, opened_message, edited_message, asked_message, question_message, passage_of, telling}
@@ -45,17 +46,18 @@ use Rattle.lw_session.specs.declared.said.Edited.{Edited}
 use Rattle.lw_session.specs.declared.said.Question.{Question}
 use Rattle.lw_session.specs.declared.said.Question.TheVariants as question
 use Rattle.lw_session.specs.declared.said.Opened.{Opened}
-use Rattle.lw_session.proofs.Known.{same_len, same_contains, is_held, is_kept}
+use Rattle.lw_session.proofs.Known.{same_len, same_contains, is_held, is_kept, none_open}
 
 -- what stops at the gate
 pub stops : (v : WorkspaceView) (phase : Phase) (message : Message) (told : Told) → Agrees v (documents v) → gate phase message ≡ passage_of told →
-    IsAnswered v v phase message told
+    IsAnswered v v phase message [] told
 stops v phase message told agrees is = record { changed = documents v; agrees = agrees; answered = answer.stops is; stays = λ off. refl }
 
 -- what passes it, in a session that is live
 module _ (v w : WorkspaceView) (phase : Phase) (live : IsLive phase) (message : Message) (through : gate phase message ≡ Passes) where
-  effective : (n : Documents) (replies : _) → Agrees w n → TakesEffect v.grammar (documents v) message [] n replies → IsAnswered v w phase message (telling phase replies)
-  effective n replies agrees effect = record {
+  pub effective : (asked : List asks_store.Asked) (n : Documents) (replies : List Reply) → Agrees w n → TakesEffect v.grammar (documents v) message asked n replies →
+      IsAnswered v w phase message asked (telling phase replies)
+  effective asked n replies agrees effect = record {
     changed = n;
     agrees = agrees;
     answered = answer.passes through effect;
@@ -75,74 +77,65 @@ edits : (phase : Phase) → IsLive phase → (edited : Edited) → gate phase (e
 edits phase live edited = rw (live.0, live.1) refl
 
 -- the room that is left, by what is kept
-module _ (v : WorkspaceView) (agrees : Agrees v (documents v)) (address : List ℕ) where
-  pub full : HasNoRoom v address → IsFull (documents v) address
-  full full_up = (same_contains v (documents v) agrees address ∙ full_up.0, let same = same_len v.is_built v.kept in let all = full_up.1 in omega arith)
+module _ (v : WorkspaceView) (m : Documents) (agrees : Agrees v m) (address : List ℕ) where
+  pub full : HasNoRoom v address → IsFull m address
+  full full_up = (same_contains v m agrees address ∙ full_up.0, let same = same_len v m agrees in let all = full_up.1 in omega arith)
 
-  pub room : len v.kept ≤ MOST_DOCUMENTS → ¬ (HasNoRoom v address) → HasRoom (documents v) address
+  pub room : len v.kept ≤ MOST_DOCUMENTS → ¬ (HasNoRoom v address) → HasRoom m address
   room few free = by (contains_key v.kept address) refl (cases_lt (len v.kept) MOST_DOCUMENTS)
     where
-      by : (b : Bool) → contains_key v.kept address ≡ b → (len v.kept < MOST_DOCUMENTS) ⊎ (MOST_DOCUMENTS ≤ len v.kept) → HasRoom (documents v) address
-      by true is either = inl (same_contains v (documents v) agrees address ∙ is)
-      by false is (inl less) = inr (let same = same_len v.is_built v.kept in omega arith)
+      by : (b : Bool) → contains_key v.kept address ≡ b → (len v.kept < MOST_DOCUMENTS) ⊎ (MOST_DOCUMENTS ≤ len v.kept) → HasRoom m address
+      by true is either = inl (same_contains v m agrees address ∙ is)
+      by false is (inl less) = inr (let same = same_len v m agrees in omega arith)
       by false is (inr most) = absurd (free (is, omega arith))
 
 module _ (v w : WorkspaceView) (phase : Phase) (live : IsLive phase) (agrees : Agrees v (documents v)) where
   module _ (opened : Opened) where
     pub puts : Agrees w (put (documents v) opened.id.address opened.text (Some opened.id.version) true) → length opened.text ≤ LONGEST_TEXT →
-        len v.kept ≤ MOST_DOCUMENTS → ¬ (HasNoRoom v opened.id.address) → IsAnswered v w phase (opened_message opened) (telling phase [])
+        len v.kept ≤ MOST_DOCUMENTS → ¬ (HasNoRoom v opened.id.address) → IsAnswered v w phase (opened_message opened) [] (telling phase [])
     puts after short few free =
-        effective v w phase live (opened_message opened) (opens phase live opened) _ _ after
-        (effect.opens (opening.puts short (room v agrees opened.id.address few free)))
+        effective v w phase live (opened_message opened) (opens phase live opened) [] _ _ after
+        (effect.opens (opening.puts short (room v (documents v) agrees opened.id.address few free)))
 
   -- a question, where the build has come to its end
   pub answers : (asked : Asked) (lists : List Published) (reply : Reply) → Agrees w (documents w) → BuildsToEnd v.grammar (documents v) (documents w) lists →
-      RepliesTo v.grammar (documents w) (asked_message asked) reply → IsAnswered v w phase (asked_message asked) (telling phase (map as_reply lists ++ reply ∷ []))
+      RepliesTo v.grammar (documents w) (asked_message asked) reply → IsAnswered v w phase (asked_message asked) [] (telling phase (map as_reply lists ++ reply ∷ []))
   answers asked lists reply after builds replies =
-      effective v w phase live (asked_message asked) (asks phase live asked.id asked.address asked.at asked.question) _ _ after (effect.asks lists reply builds replies)
+      effective v w phase live (asked_message asked) (asks phase live asked.id asked.address asked.at asked.question) [] _ _ after (effect.asks lists reply builds replies)
 
   module _ (edited : Edited) where
     pub changes : (d : Document) (text : List ℕ) (held : Numbered) → get (documents v) edited.id.address ≡ Some d → Changes Utf16 d.text edited.changes (Ok text) →
         Agrees w (insert (documents v) edited.id.address (event.edited d text edited.id.version)) → get v.kept edited.id.address ≡ Some held → held.doc.is_open ≡ true →
-        IsAnswered v w phase (edited_message edited) (telling phase [])
+        IsAnswered v w phase (edited_message edited) [] (telling phase [])
     changes d text held at does after kept on =
         let found = is_kept v (documents v) agrees edited.id.address d at in
         let same : Some held ≡ Some found.0 = sym kept ∙ found.1 in
         let one : held ≡ found.0 = cc in
         let is_open : d.is_open ≡ true = ap (λ (k : Known). k.is_open) found.2 ∙ ap (λ (h : Numbered). h.doc.is_open) (sym one) ∙ on in
-        effective v w phase live (edited_message edited) (edits phase live edited) _ _ after
+        effective v w phase live (edited_message edited) (edits phase live edited) [] _ _ after
         (effect.edits (editing.edits (record { held = at; is_open = is_open }) does))
 
 module _ (v : WorkspaceView) (phase : Phase) (live : IsLive phase) (agrees : Agrees v (documents v)) where
   module _ (opened : Opened) where
     logged : (line : List ℕ) → opening.OpensDocument (documents v) opened.id.address opened.id.version opened.text (documents v) (Log line ∷ []) →
-        IsAnswered v v phase (opened_message opened) (telling phase (Log line ∷ []))
-    logged line does = effective v v phase live (opened_message opened) (opens phase live opened) _ _ agrees (effect.opens does)
+        IsAnswered v v phase (opened_message opened) [] (telling phase (Log line ∷ []))
+    logged line does = effective v v phase live (opened_message opened) (opens phase live opened) [] _ _ agrees (effect.opens does)
 
-    pub too_long : LONGEST_TEXT < length opened.text → IsAnswered v v phase (opened_message opened) (telling phase (Log (codes "text too long: " ++ opened.id.address) ∷ []))
+    pub too_long : LONGEST_TEXT < length opened.text → IsAnswered v v phase (opened_message opened) [] (telling phase (Log (codes "text too long: " ++ opened.id.address) ∷ []))
     too_long long = logged _ (opening.too_long long)
 
     pub too_many : length opened.text ≤ LONGEST_TEXT → HasNoRoom v opened.id.address →
-        IsAnswered v v phase (opened_message opened) (telling phase (Log (codes "too many documents: " ++ opened.id.address) ∷ []))
-    too_many short full_up = logged _ (opening.too_many short (full v agrees opened.id.address full_up))
+        IsAnswered v v phase (opened_message opened) [] (telling phase (Log (codes "too many documents: " ++ opened.id.address) ∷ []))
+    too_many short full_up = logged _ (opening.too_many short (full v (documents v) agrees opened.id.address full_up))
 
   module _ (edited : Edited) where
     refused : (line : List ℕ) → editing.EditsDocument (documents v) edited.id.address edited.id.version edited.changes (documents v) (Log line ∷ []) →
-        IsAnswered v v phase (edited_message edited) (telling phase (Log line ∷ []))
-    refused line does = effective v v phase live (edited_message edited) (edits phase live edited) _ _ agrees (effect.edits does)
+        IsAnswered v v phase (edited_message edited) [] (telling phase (Log line ∷ []))
+    refused line does = effective v v phase live (edited_message edited) (edits phase live edited) [] _ _ agrees (effect.edits does)
 
     pub unknown : ¬ ((held : Numbered) × (get v.kept edited.id.address ≡ Some held) × (held.doc.is_open ≡ true)) →
-        IsAnswered v v phase (edited_message edited) (telling phase (Log (codes "unknown document: " ++ edited.id.address) ∷ []))
-    unknown none = refused _ (editing.unknown closed)
-      where
-        closed : IsUnknown (documents v) edited.id.address
-        closed d at =
-            let found = is_kept v (documents v) agrees edited.id.address d at in
-            by d.is_open refl (λ on. none (found.0, found.1, ap (λ (k : Known). k.is_open) (sym found.2) ∙ on))
-          where
-            by : (b : Bool) → d.is_open ≡ b → ¬ (d.is_open ≡ true) → d.is_open ≡ false
-            by true is not_open = absurd (not_open is)
-            by false is not_open = is
+        IsAnswered v v phase (edited_message edited) [] (telling phase (Log (codes "unknown document: " ++ edited.id.address) ∷ []))
+    unknown none = refused _ (editing.unknown (none_open v (documents v) agrees edited.id.address none))
 
     module _ (held other : Numbered) (kept : get v.kept edited.id.address ≡ Some held) (on : held.doc.is_open ≡ true) (at : get v.kept edited.id.address ≡ Some other) where
       one : held ≡ other
@@ -160,7 +153,7 @@ module _ (v : WorkspaceView) (phase : Phase) (live : IsLive phase) (agrees : Agr
           )
 
       pub bad_range : (number : ℕ) → Changes Utf16 other.doc.text edited.changes (Err (edit.BadRange number)) →
-          IsAnswered v v phase (edited_message edited)
+          IsAnswered v v phase (edited_message edited) []
           (telling phase (Log (codes "bad range in change " ++ decimal number ++ codes " of " ++ edited.id.address) ∷ []))
       bad_range number fault =
           refused _
@@ -168,7 +161,7 @@ module _ (v : WorkspaceView) (phase : Phase) (live : IsLive phase) (agrees : Agr
           (subst (λ (t : List ℕ). Changes Utf16 t edited.changes (Err (edit.BadRange number))) opened_here.2 fault))
 
       pub edit_too_long : (size : ℕ) → Changes Utf16 other.doc.text edited.changes (Err (edit.TooLong size)) →
-          IsAnswered v v phase (edited_message edited) (telling phase (Log (codes "text too long: " ++ edited.id.address) ∷ []))
+          IsAnswered v v phase (edited_message edited) [] (telling phase (Log (codes "text too long: " ++ edited.id.address) ∷ []))
       edit_too_long size fault =
           refused _
           (editing.too_long opened_here.1 (subst (λ (t : List ℕ). Changes Utf16 t edited.changes (Err (edit.TooLong size))) opened_here.2 fault))

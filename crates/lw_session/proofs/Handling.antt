@@ -15,6 +15,7 @@ use Rattle.lw_machine.proofs.Contents.{to_end_same}
 use Rattle.lw_conversation.specs.Answered as answer
 use Rattle.lw_conversation.specs.Answered.{IsCutShort}
 use Rattle.lw_conversation.specs.Publishing.{as_reply}
+use Rattle.lw_conversation.specs.Reading.{Asked}
 use Rattle.lw_conversation.specs.Sessions as session
 use Rattle.lw_conversation.specs.Sessions.{Handles}
 use Rattle.lw_conversation.specs.Standing.{Standing}
@@ -45,16 +46,17 @@ error_unchanged (Err e) v w phase m same =
     subst (λ (x : WorkspaceView). IsCutShort v.grammar (standing_of v phase) m (standing_of x phase)) (sym same) (not_begun v.grammar (standing_of v phase) m)
 
 -- where memory is refused behind the build, the documents are those behind it
-cut_behind : (g : Grammar) (s t : Standing) (m : Message) (replies : List Reply) (ended : Ended) → Handles g s m [] t replies ended → IsValid g t.documents →
+cut_behind : (g : Grammar) (s t : Standing) (m : Message) (asked : List Asked) (replies : List Reply) (ended : Ended) → Handles g s m asked t replies ended →
+    IsValid g t.documents →
     IsCutShort g s m (record { documents = t.documents; phase = s.phase })
-cut_behind g s t m replies ended (session.unbuilt answered off) valid = record {
+cut_behind g s t m asked replies ended (session.unbuilt answered off) valid = record {
   changed = t.documents;
   changes = answer.all answered;
   content = λ address. refl;
   phase = inl refl;
   valid = λ before. valid;
 }
-cut_behind g s t m replies ended (session.built {t = u} {n = n} {published = p} answered on to_end) valid = record {
+cut_behind g s t m asked replies ended (session.built {t = u} {n = n} {published = p} answered on to_end) valid = record {
   changed = u.documents;
   changes = answer.all answered;
   content = to_end_same g u.documents n p to_end;
@@ -62,10 +64,10 @@ cut_behind g s t m replies ended (session.built {t = u} {n = n} {published = p} 
   valid = λ before. valid;
 }
 
-pub error_behind : {A E : Type 0} (r : Result A E) (g : Grammar) (s t : Standing) (m : Message) (replies : List Reply) (ended : Ended) →
-    Handles g s m [] t replies ended → IsValid g t.documents → OnErr r (IsCutShort g s m (record { documents = t.documents; phase = s.phase }))
-error_behind (Ok x) g s t m replies ended handles valid = tt
-error_behind (Err e) g s t m replies ended handles valid = cut_behind g s t m replies ended handles valid
+pub error_behind : {A E : Type 0} (r : Result A E) (g : Grammar) (s t : Standing) (m : Message) (asked : List Asked) (replies : List Reply) (ended : Ended) →
+    Handles g s m asked t replies ended → IsValid g t.documents → OnErr r (IsCutShort g s m (record { documents = t.documents; phase = s.phase }))
+error_behind (Ok x) g s t m asked replies ended handles valid = tt
+error_behind (Err e) g s t m asked replies ended handles valid = cut_behind g s t m asked replies ended handles valid
 
 -- where it is refused behind a build alone, nothing but what was computed has changed
 pub cut_by_build : (v w : WorkspaceView) (phase : Phase) (m : Message) (lists : List Published) → BuildsToEnd v.grammar (documents v) (documents w) lists →
@@ -78,7 +80,8 @@ cut_by_build v w phase m lists to_end agrees same = record {
   valid = λ before. subst (λ g. IsValid g (documents w)) same agrees.valid;
 }
 
-module _ (v w : WorkspaceView) (phase : Phase) (message : Message) (told : Told) (is : IsAnswered v w phase message told) (same : w.grammar ≡ v.grammar) where
+module _ (v w : WorkspaceView) (phase : Phase) (message : Message) (asked : List Asked) (told : Told) (is : IsAnswered v w phase message asked told)
+    (same : w.grammar ≡ v.grammar) where
   -- where it is refused before the build, they are those that the message leaves
   pub error_between : {A E : Type 0} (r : Result A E) → Agrees w (documents w) → OnErr r (IsCutShort v.grammar (standing_of v phase) message (standing_of w phase))
   error_between (Ok x) agrees = tt
@@ -92,10 +95,10 @@ module _ (v w : WorkspaceView) (phase : Phase) (message : Message) (told : Told)
 
   -- a message and the build behind it
   pub served : (x : WorkspaceView) (lists : List Published) → IsBuiltBehind w x told.phase is.changed lists →
-      Handles v.grammar (standing_of v phase) message [] (standing_of x told.phase) (told.replies ++ map as_reply lists) told.ended
+      Handles v.grammar (standing_of v phase) message asked (standing_of x told.phase) (told.replies ++ map as_reply lists) told.ended
   served x lists (waits off stays) =
-      subst (λ replies. Handles v.grammar (standing_of v phase) message [] (standing_of x told.phase) replies told.ended) (sym (append-nil told.replies))
-      (subst (λ (m : Documents). Handles v.grammar (standing_of v phase) message [] (record { documents = m; phase = told.phase }) told.replies told.ended)
+      subst (λ replies. Handles v.grammar (standing_of v phase) message asked (standing_of x told.phase) replies told.ended) (sym (append-nil told.replies))
+      (subst (λ (m : Documents). Handles v.grammar (standing_of v phase) message asked (record { documents = m; phase = told.phase }) told.replies told.ended)
       (is.stays off ∙ ap documents (sym stays)) (session.unbuilt is.answered off))
   served x lists (builds on to_end) = session.built is.answered on (subst (λ g. BuildsToEnd g is.changed (documents x) lists) same to_end)
 

@@ -25,7 +25,7 @@ loaded (Ok x) v w phase address text before after same few puts fits =
     let now = puts (documents v) before in
     record {
       fits = fits.0;
-      room = room v before address few fits.1;
+      room = room v (documents v) before address few fits.1;
       content = same_content w (with_loaded_file (documents v) address text) (documents w) now after;
       lists = same_lists w (with_loaded_file (documents v) address text) (documents w) now after;
       valid = subst (λ g. IsValid g (documents w)) same after.valid;
@@ -36,7 +36,7 @@ loaded (Err e) v w phase address text before after same few puts fits = tt
 load_fault : (v : WorkspaceView) (address text : List ℕ) (fault : WorkFault) → Agrees v (documents v) → IsPutFault v address text fault →
     IsLoadFault (documents v) address text fault
 load_fault v address text fault before (faults.IsPutFault.too_long long) = loading.IsLoadFault.too_long long
-load_fault v address text fault before (faults.IsPutFault.too_many short none) = loading.IsLoadFault.too_many short (full v before address none)
+load_fault v address text fault before (faults.IsPutFault.too_many short none) = loading.IsLoadFault.too_many short (full v (documents v) before address none)
 load_fault v address text fault before faults.IsPutFault.no_memory = loading.IsLoadFault.no_memory
 
 pub not_loaded : {T : Type 0} (r : Result T WorkFault) (v : WorkspaceView) (address text : List ℕ) → Agrees v (documents v) → IfErr r (IsPutFault v address text) →

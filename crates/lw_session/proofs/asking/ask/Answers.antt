@@ -30,7 +30,7 @@ returns-clause-answered g c =
     let replies = subst (λ of. RepliesTo of (documents w) (asked_message asked) reply) c.in_ok-lists.ensures.grammar c.in_ok-reply.ensures in
     IfOk-weaker c.tells_behind.result _ _
     (λ told is.
-    subst (IsAnswered v w c.args.phase (asked_message asked))
+    subst (IsAnswered v w c.args.phase (asked_message asked) [])
     (ap (λ (lists : List Published). telling c.args.phase (map as_reply lists ++ reply ∷ [])) (sym c.as_slice.ensures) ∙ sym is)
     (answers v w c.args.phase c.requires c.agrees.ensures.agrees asked c.in_ok-lists.lists reply c.agrees-2.ensures.agrees
     (c.in_ok-lists.ensures.builds (documents v) c.agrees.ensures.agrees) replies))
