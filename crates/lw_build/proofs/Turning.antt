@@ -1,5 +1,5 @@
 -- A document that turned stands where it stood, and may turn again.
-use Rattle.std.proofs.Common.{◌≡◌, List, ℕ, Some, ap, ◌∙◌}
+use Rattle.std.proofs.Common.{◌≡◌, List, ℕ, ap, ◌∙◌}
 use Rattle.std.specs.FinMap.{get, insert}
 use Rattle.lw_base.specs.declared.numbers.DocId.{DocId}
 use Rattle.lw_docs.specs.Documents.{ByAddress, IsAt, IsHeld, Turns, numbered}

@@ -1,8 +1,8 @@
-use Rattle.std.proofs.Common.{◌≡◌, ℕ, List, Some, None, true, false, sym, refl, ap, subst, ◌∙◌}
+use Rattle.std.proofs.Common.{◌≡◌, Some, None, false, sym, refl, ap, subst, ◌∙◌}
 use Rattle.std.specs.FinMap as all
 use Rattle.std.specs.FinMap.{get}
 use Rattle.std.proofs.lemmas.Option.{same_Some, none-some}
-use Rattle.lw_docs.specs.Documents.{IsHeld, Numbered, numbered}
+use Rattle.lw_docs.specs.Documents.{Numbered, numbered}
 use Rattle.lw_machine.specs.Documents.{Document, Documents}
 use Rattle.lw_machine.specs.Events.{closed}
 use Rattle.lw_build.specs.Agreeing.{Agrees}
