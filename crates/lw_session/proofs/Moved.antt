@@ -17,7 +17,10 @@ use Rattle.lw_rpc.specs.declared.file_change.FileChangeKind.TheVariants.{Deleted
 use Rattle.lw_rpc.specs.declared.reply.Reply.{Reply}
 use Rattle.lw_rpc.specs.declared.reply.Reply.TheVariants.{Log}
 use Rattle.lw_build.specs.Agreeing.{Agrees, Known}
-use Rattle.lw_build.specs.Faults.{HasNoRoom}
+use Rattle.lw_build.specs.Faults as faults
+use Rattle.lw_build.specs.Faults.{HasNoRoom, IsRemovalFault}
+use Rattle.lw_build.specs.declared.fault.WorkFault.{WorkFault}
+use Rattle.lw_build.specs.declared.fault.WorkFault.TheVariants as work
 use Rattle.lw_build.specs.View.{WorkspaceView}
 use Rattle.lw_machine.specs.Documents.{Document, Documents, shown_texts}
 use Rattle.lw_machine.specs.Events.{closed, farewell, put}
@@ -28,6 +31,7 @@ use Rattle.lw_conversation.specs.Closing.{ClosesDocument, failed_log, not_text_l
 use Rattle.lw_conversation.specs.Editing.{IsOpenAt, IsUnknown}
 use Rattle.lw_conversation.specs.Publishing.{as_reply}
 use Rattle.lw_conversation.specs.Reading as reading
+use Rattle.lw_conversation.specs.Removing.{Removes}
 use Rattle.lw_conversation.specs.Reading.{AreAnswered, Asked, FindsFile}
 use Rattle.lw_conversation.specs.Sessions.{count_after, count_behind}
 use Rattle.lw_conversation.specs.Watching as watching
@@ -54,7 +58,10 @@ counted_both before (a ∷ asked) more = counted_both (count_behind before a.ans
 
 module _ (files : Option (List (List ℕ × List ℕ))) (before now : ℕ) (address : List ℕ) where
   pub not_asked : HasNoPath address → now ≡ before → IsFoundInStore files before now address Absent
-  not_asked none same = record { asked = []; finds = reading.no_path none; by_store = All-nil _; counted = same }
+  not_asked none same = record { asked = []; finds = reading.no_path none; by_store = All-nil (λ a. AnswersFile files a.path a.answer); counted = same }
+
+  abbrev Answers : Asked → Type 0
+  Answers a = AnswersFile files a.path a.answer
 
   pub asked_once : (path : List ℕ) (found : Found) → IsPathOf address path → AnswersFile files path found → CountsFind before now found →
       IsFoundInStore files before now address found
@@ -63,7 +70,7 @@ module _ (files : Option (List (List ℕ × List ℕ))) (before now : ℕ) (addr
       record {
         asked = a ∷ [];
         finds = reading.asked is;
-        by_store = All-push (λ (b : Asked). AnswersFile files b.path b.answer) [] a (All-nil _) answers;
+        by_store = All-push Answers [] a (All-nil Answers) answers;
         counted = counted_behind before now found counts;
       }
 
@@ -79,7 +86,7 @@ module _ {v w : WorkspaceView} {P Q : Documents → Documents → Type 0} where
 
 pub stays_done : (files : Option (List (List ℕ × List ℕ))) (before now : ℕ) (v : WorkspaceView) (Does : Documents → List Asked → Documents → List Reply → Type 0)
     (replies : List Reply) → now ≡ before → ((m : Documents) → Agrees v m → Does m [] m replies) → IsDoneByReads files before now v v Does replies
-stays_done files before now v Does replies same does = record { asked = []; moves = λ m agrees. (m, agrees, does m agrees); by_store = All-nil _; counted = same }
+stays_done files before now v Does replies same does = record { asked = []; moves = λ m agrees. (m, agrees, does m agrees); by_store = All-nil (λ a. AnswersFile files a.path a.answer); counted = same }
 
 -- what is done once a file is found
 module _ (files : Option (List (List ℕ × List ℕ))) (before now : ℕ) (v w : WorkspaceView) (Does : Documents → List Asked → Documents → List Reply → Type 0)
@@ -117,6 +124,11 @@ module _ (v : WorkspaceView) (address : List ℕ) where
   pub none_removed : get v.kept address ≡ None → Moves v v (λ m n. RemovesHeld v.grammar m address n [])
   none_removed none m agrees = (m, agrees, moving.not_held (is_absent v m agrees address none))
 
+-- a document that is not removed since there is none
+pub not_there : (v : WorkspaceView) (address : List ℕ) (fault : WorkFault) → fault ≡ work.NoDocument → IsRemovalFault v address fault → get v.kept address ≡ None
+not_there v address fault is (faults.IsRemovalFault.no_document none) = none
+not_there v address fault is faults.IsRemovalFault.no_memory = absurd cc
+
 -- ---- a document is closed
 
 module _ (v : WorkspaceView) (address : List ℕ) (held : Numbered) (at : get v.kept address ≡ Some held) (on : held.doc.is_open ≡ true) (m : Documents)
@@ -124,25 +136,27 @@ module _ (v : WorkspaceView) (address : List ℕ) (held : Numbered) (at : get v.
   open_here : (d : Document) × IsOpenAt m address d
   open_here = is_open v m agrees address held at on
 
-  module _ (asked : List Asked) (n : Documents) (replies : List Reply) where
-    pub closes_text : (text : List ℕ) → FindsFile address asked (Text text) → PutsFile m address text n replies → ClosesDocument v.grammar m address asked n replies
-    closes_text text finds (moving.puts free) = closing.text open_here.1 finds
-    closes_text text finds (moving.too_many full) = never_full m address full (inl (ap is_some open_here.1.held))
+  module _ (asked : List Asked) where
+    pub closes_text : (text : List ℕ) (n : Documents) (replies : List Reply) → FindsFile address asked (Text text) → PutsFile m address text n replies →
+        ClosesDocument v.grammar m address asked n replies
+    closes_text text n replies finds (moving.puts free) = closing.text open_here.1 finds
+    closes_text text n replies finds (moving.too_many none) = never_full m address none (inl (ap is_some open_here.1.held))
 
-    removal : RemovesHeld v.grammar m address n replies → Removes v.grammar m address n replies
-    removal (moving.held removes) = removes
-    removal (moving.not_held none) = absurd (none-some open_here.0 (sym none ∙ open_here.1.held))
+    removal : (n : Documents) (replies : List Reply) → RemovesHeld v.grammar m address n replies → Removes v.grammar m address n replies
+    removal n replies (moving.held removes) = removes
+    removal n replies (moving.not_held none) = absurd (none-some open_here.0 (sym none ∙ open_here.1.held))
 
-    pub closes_absent : FindsFile address asked Absent → RemovesHeld v.grammar m address n replies → ClosesDocument v.grammar m address asked n replies
-    closes_absent finds removes = closing.absent open_here.1 finds (removal removes)
+    pub closes_absent : (n : Documents) (replies : List Reply) → FindsFile address asked Absent → RemovesHeld v.grammar m address n replies →
+        ClosesDocument v.grammar m address asked n replies
+    closes_absent n replies finds removes = closing.absent open_here.1 finds (removal n replies removes)
 
-    pub closes_not_text : FindsFile address asked NotUtf8 → RemovesHeld v.grammar m address n replies →
+    pub closes_not_text : (n : Documents) (replies : List Reply) → FindsFile address asked NotUtf8 → RemovesHeld v.grammar m address n replies →
         ClosesDocument v.grammar m address asked n (replies ++ not_text_log address ∷ [])
-    closes_not_text finds removes = closing.not_text open_here.1 finds (removal removes)
+    closes_not_text n replies finds removes = closing.not_text open_here.1 finds (removal n replies removes)
 
-    pub closes_too_long : FindsFile address asked TooLong → RemovesHeld v.grammar m address n replies →
+    pub closes_too_long : (n : Documents) (replies : List Reply) → FindsFile address asked TooLong → RemovesHeld v.grammar m address n replies →
         ClosesDocument v.grammar m address asked n (replies ++ too_long_log address ∷ [])
-    closes_too_long finds removes = closing.too_long open_here.1 finds (removal removes)
+    closes_too_long n replies finds removes = closing.too_long open_here.1 finds (removal n replies removes)
 
 pub closes_unread : (v w : WorkspaceView) (address : List ℕ) (held : Numbered) → get v.kept address ≡ Some held → held.doc.is_open ≡ true →
     ((m : Documents) → Agrees v m → (d : Document) → get m address ≡ Some d → Agrees w (insert m address (closed d))) → (asked : List Asked) →
@@ -153,14 +167,16 @@ closes_unread v w address held at on closes asked finds m agrees =
 
 -- ---- a file has changed
 
-module _ (g : Grammar) (m : Documents) (address : List ℕ) (asked : List Asked) (n : Documents) (replies : List Reply) where
-  pub loads_text : (text : List ℕ) → FindsFile address asked (Text text) → PutsFile m address text n replies → LoadsAgain g m address asked n replies
-  loads_text text finds (moving.puts free) = watching.text finds free
-  loads_text text finds (moving.too_many full) = watching.too_many finds full
+module _ (g : Grammar) (m : Documents) (address : List ℕ) (asked : List Asked) where
+  pub loads_text : (text : List ℕ) (n : Documents) (replies : List Reply) → FindsFile address asked (Text text) → PutsFile m address text n replies →
+      LoadsAgain g m address asked n replies
+  loads_text text n replies finds (moving.puts free) = watching.text finds free
+  loads_text text n replies finds (moving.too_many none) = watching.too_many finds none
 
-  pub loads_absent : FindsFile address asked Absent → RemovesHeld g m address n replies → LoadsAgain g m address asked n replies
-  loads_absent finds (moving.held removes) = watching.gone finds removes
-  loads_absent finds (moving.not_held none) = watching.never_there finds none
+  pub loads_absent : (n : Documents) (replies : List Reply) → FindsFile address asked Absent → RemovesHeld g m address n replies →
+      LoadsAgain g m address asked n replies
+  loads_absent n replies finds (moving.held removes) = watching.gone finds removes
+  loads_absent n replies finds (moving.not_held none) = watching.never_there finds none
 
 pub sees_removal : (g : Grammar) (m : Documents) (address : List ℕ) (kind : FileChangeKind) (n : Documents) (replies : List Reply) → kind ≡ Deleted → IsUnknown m address →
     RemovesHeld g m address n replies → SeesChange g m address kind [] n replies
@@ -169,13 +185,13 @@ sees_removal g m address kind n replies is unknown (moving.not_held none) = watc
 
 -- one more change is seen
 module _ (g : Grammar) where
-  sees_more : {m : Documents} {changes : List FileChange} {asked : List Asked} {n : Documents} {first : List Reply} → SeesChanges g m changes asked n first →
+  pub sees_more : (m : Documents) (changes : List FileChange) (asked : List Asked) (n : Documents) (first : List Reply) → SeesChanges g m changes asked n first →
       (c : FileChange) (more : List Asked) (o : Documents) (rest : List Reply) → SeesChange g n c.uri c.kind more o rest →
       SeesChanges g m (changes ++ c ∷ []) (asked ++ more) o (first ++ rest)
-  sees_more watching.none c more o rest sees =
-      subst₂ (λ (asked : List Asked) (told : List Reply). SeesChanges g _ (c ∷ []) asked o told) (append-nil more) (append-nil rest)
+  sees_more m [] [] n [] watching.none c more o rest sees =
+      subst₂ (λ (asks : List Asked) (tells : List Reply). SeesChanges g m (c ∷ []) asks o tells) (append-nil more) (append-nil rest)
       (watching.change {c = c} sees watching.none)
-  sees_more (watching.change {c = b} {asked = before} {more = behind} {first = told} {rest = tells} sees others) c more o rest also =
-      subst₂ (λ (asked : List Asked) (told : List Reply). SeesChanges g _ (b ∷ _) asked o told) (sym (append_assoc before behind more))
+  sees_more m changes asked n first (watching.change {n = k} {c = b} {others = others} {asked = before} {more = behind} {first = told} {rest = tells} sees also) c more o rest last =
+      subst₂ (λ (asks : List Asked) (all : List Reply). SeesChanges g m (b ∷ others ++ c ∷ []) asks o all) (sym (append_assoc before behind more))
       (sym (append_assoc told tells rest))
-      (watching.change {c = b} sees (sees_more others c more o rest also))
+      (watching.change {c = b} sees (sees_more k others behind n tells also c more o rest last))
