@@ -1,6 +1,7 @@
 -- What opening and changing a document come to.
-use Rattle.std.proofs.Common.{◌≡◌, ℕ, ◌<◌, ◌≤◌, ◌⊎◌, inl, inr, List, [], ◌∷◌, ◌++◌, length, map, Bool, true, false, Some, Ok, Err, codes, decimal, refl, sym, ap, ◌∙◌, subst, true≢false, arith}
+use Rattle.std.proofs.Common.{◌≡◌, ℕ, ◌<◌, ◌≤◌, ◌⊎◌, inl, inr, List, [], ◌∷◌, ◌++◌, length, map, Bool, true, false, Option, Some, Ok, Err, codes, decimal, refl, sym, ap, ◌∙◌, subst, true≢false, arith}
 use Rattle.std.proofs.lemmas.Bool.{cases_lt}
+use Rattle.std.proofs.lemmas.List.Elements.{All-nil}
 use Rattle.std.specs.FinMap.{get, insert, len, contains_key}
 use Rattle.lw_base.specs.declared.limits.TheConstants.{LONGEST_TEXT}
 use Rattle.lw_docs.specs.Documents.{Numbered}
@@ -11,7 +12,10 @@ use Rattle.lw_text.specs.declared.change.EditFault.{EditFault}
 use Rattle.lw_text.specs.declared.change.EditFault.TheVariants as edit
 use Rattle.lw_text.specs.declared.units.Encoding.TheVariants.{Utf16}
 use Rattle.lw_rpc.specs.declared.message.Id.{Id}
+use Rattle.lw_io.specs.Store.{AnswersFile}
+use Rattle.lw_rpc.specs.declared.file_change.FileChange.{FileChange}
 use Rattle.lw_rpc.specs.declared.message.Message.{Message}
+use Rattle.lw_rpc.specs.declared.message.Message.TheVariants.{DidClose, DidChangeWatchedFiles}
 use Rattle.lw_rpc.specs.declared.reply.Reply.{Reply}
 use Rattle.lw_rpc.specs.declared.reply.Reply.TheVariants.{Log}
 use Rattle.lw_build.specs.Agreeing.{Agrees, Known}
@@ -36,9 +40,10 @@ use Rattle.lw_conversation.specs.Gate.{Passes, gate}
 use Rattle.lw_conversation.specs.Opening as opening
 use Rattle.lw_conversation.specs.Opening.{HasRoom, IsFull}
 use Rattle.lw_conversation.specs.Publishing.{as_reply}
-use Rattle.lw_conversation.specs.Reading as asks_store
+use Rattle.lw_conversation.specs.Reading as reads
 use Rattle.lw_conversation.specs.declared.phase.Phase.{Phase}
-use Rattle.lw_session.specs.Answering.{IsAnswered}
+use Rattle.lw_session.specs.Answering.{IsAnswered, IsAnsweredBy}
+use Rattle.lw_session.specs.Moving.{IsDoneByReads}
 use Rattle.lw_session.specs.Lifecycle.{IsLive, opened_message, edited_message, asked_message, question_message, passage_of, telling}
 use Rattle.lw_session.specs.declared.lifecycle.Told.{Told}
 use Rattle.lw_session.specs.declared.said.Asked.{Asked}
@@ -55,7 +60,7 @@ stops v phase message told agrees is = record { changed = documents v; agrees = 
 
 -- what passes it, in a session that is live
 module _ (v w : WorkspaceView) (phase : Phase) (live : IsLive phase) (message : Message) (through : gate phase message ≡ Passes) where
-  pub effective : (asked : List asks_store.Asked) (n : Documents) (replies : List Reply) → Agrees w n → TakesEffect v.grammar (documents v) message asked n replies →
+  pub effective : (asked : List reads.Asked) (n : Documents) (replies : List Reply) → Agrees w n → TakesEffect v.grammar (documents v) message asked n replies →
       IsAnswered v w phase message asked (telling phase replies)
   effective asked n replies agrees effect = record {
     changed = n;
@@ -63,6 +68,32 @@ module _ (v w : WorkspaceView) (phase : Phase) (live : IsLive phase) (message : 
     answered = answer.passes through effect;
     stays = λ off. absurd (true≢false (sym live.0 ∙ off));
   }
+
+-- what is answered where the store is not asked
+pub unasked : (files : Option (List (List ℕ × List ℕ))) (count : ℕ) (v w : WorkspaceView) (phase : Phase) (message : Message) (told : Told) →
+    IsAnswered v w phase message [] told → IsAnsweredBy files count count v w phase message told
+unasked files count v w phase message told is =
+    record { asked = []; answered = is; by_store = All-nil (λ a. AnswersFile files a.path a.answer); counted = refl }
+
+-- and where it is
+pub by_reads : (files : Option (List (List ℕ × List ℕ))) (before now : ℕ) (v w : WorkspaceView) (phase : Phase) → IsLive phase → (message : Message) →
+    gate phase message ≡ Passes → (Does : Documents → List reads.Asked → Documents → List Reply → Type 0) →
+    ((asked : List reads.Asked) (n : Documents) (replies : List Reply) → Does (documents v) asked n replies → TakesEffect v.grammar (documents v) message asked n replies) →
+    Agrees v (documents v) → (replies : List Reply) → IsDoneByReads files before now v w Does replies → IsAnsweredBy files before now v w phase message (telling phase replies)
+by_reads files before now v w phase live message through Does effect agrees replies is =
+    let to = is.moves (documents v) agrees in
+    record {
+      asked = is.asked;
+      answered = effective v w phase live message through is.asked to.0 replies to.1 (effect is.asked to.0 replies to.2);
+      by_store = is.by_store;
+      counted = is.counted;
+    }
+
+pub closes : (phase : Phase) → IsLive phase → (address : List ℕ) → gate phase (DidClose address) ≡ Passes
+closes phase live address = rw (live.0, live.1) refl
+
+pub watches : (phase : Phase) → IsLive phase → (changes : List FileChange) → gate phase (DidChangeWatchedFiles changes) ≡ Passes
+watches phase live changes = rw (live.0, live.1) refl
 
 opens : (phase : Phase) → IsLive phase → (opened : Opened) → gate phase (opened_message opened) ≡ Passes
 opens phase live opened = rw (live.0, live.1) refl

@@ -1,11 +1,13 @@
 -- What a session does with a message, by what the message makes of it and the build behind it.
-use Rattle.std.proofs.Common.{◌≡◌, ℕ, List, [], ◌∷◌, ◌++◌, map, Result, Ok, Err, OnErr, refl, sym, ap, ap₂, subst, append-nil, inl, ◌∙◌}
+use Rattle.std.proofs.Common.{◌≡◌, ℕ, List, [], ◌∷◌, ◌++◌, map, Result, Ok, Err, OnErr, refl, sym, ap, ap₂, subst, append-nil, inl, inr, ◌∙◌}
 use Rattle.std.proofs.lemmas.List.{map-append}
 use Rattle.lw_build.specs.Agreeing.{Agrees}
 use Rattle.lw_build.specs.View.{WorkspaceView, documents}
 use Rattle.lw_grammar.specs.declared.grammar.Grammar.{Grammar}
 use Rattle.lw_rpc.specs.Replies.{reply_bytes}
+use Rattle.lw_rpc.specs.declared.file_change.FileChange.{FileChange}
 use Rattle.lw_rpc.specs.declared.message.Message.{Message}
+use Rattle.lw_rpc.specs.declared.message.Message.TheVariants.{DidChangeWatchedFiles}
 use Rattle.lw_rpc.specs.declared.reply.Reply.{Reply}
 use Rattle.lw_machine.specs.Building.{BuildsToEnd}
 use Rattle.lw_machine.specs.Documents.{Documents}
@@ -13,7 +15,9 @@ use Rattle.lw_machine.specs.Validity.{IsValid}
 use Rattle.lw_machine.specs.declared.published.Published.{Published}
 use Rattle.lw_machine.proofs.Contents.{to_end_same}
 use Rattle.lw_conversation.specs.Answered as answer
-use Rattle.lw_conversation.specs.Answered.{IsCutShort}
+use Rattle.lw_conversation.specs.Answered.{ChangesInPart, IsCutShort}
+use Rattle.lw_conversation.specs.Effects.{TakesEffect}
+use Rattle.lw_conversation.specs.Gate.{Passes, gate}
 use Rattle.lw_conversation.specs.Publishing.{as_reply}
 use Rattle.lw_conversation.specs.Reading.{Asked}
 use Rattle.lw_conversation.specs.Sessions as session
@@ -22,6 +26,7 @@ use Rattle.lw_conversation.specs.Standing.{Standing}
 use Rattle.lw_conversation.specs.declared.ended.Ended.{Ended}
 use Rattle.lw_conversation.specs.declared.phase.Phase.{Phase}
 use Rattle.lw_session.specs.Answering.{IsAnswered, IsBuiltBehind, waits, builds, standing_of}
+use Rattle.lw_session.specs.Moving.{AreSeenInPart, MayBeDone}
 use Rattle.lw_session.specs.declared.lifecycle.Told.{Told}
 use Rattle.lw_session.proofs.Known.{same_content}
 
@@ -79,6 +84,34 @@ cut_by_build v w phase m lists to_end agrees same = record {
   phase = inl refl;
   valid = λ before. subst (λ g. IsValid g (documents w)) same agrees.valid;
 }
+
+-- where it is refused at what passes the gate, nothing has changed, or all that the message says, or the first of its changes of files
+module _ (v w : WorkspaceView) (phase : Phase) (message : Message) (through : gate phase message ≡ Passes) (agrees : Agrees v (documents v)) (after : Agrees w (documents w))
+    (same : w.grammar ≡ v.grammar) where
+  cut_at : (n : Documents) → Agrees w n → ChangesInPart v.grammar (standing_of v phase) message n →
+      IsCutShort v.grammar (standing_of v phase) message (standing_of w phase)
+  cut_at n agrees changes = record {
+    changed = n;
+    changes = changes;
+    content = same_content w n (documents w) agrees after;
+    phase = inl refl;
+    valid = λ before. subst (λ g. IsValid g (documents w)) same after.valid;
+  }
+
+  pub cut_in_message : (Does : Documents → List Asked → Documents → List Reply → Type 0) →
+      ((asked : List Asked) (n : Documents) (replies : List Reply) → Does (documents v) asked n replies → TakesEffect v.grammar (documents v) message asked n replies) →
+      MayBeDone v w Does → IsCutShort v.grammar (standing_of v phase) message (standing_of w phase)
+  cut_in_message Does effect (inl stays) =
+      subst (λ (x : WorkspaceView). IsCutShort v.grammar (standing_of v phase) message (standing_of x phase)) (sym stays) (not_begun v.grammar (standing_of v phase) message)
+  cut_in_message Does effect (inr moves) =
+      let to = moves (documents v) agrees in
+      cut_at to.0 to.1 (answer.all (answer.passes through (effect to.2.0 to.0 to.2.1 to.2.2)))
+
+  pub cut_between : (changes : List FileChange) → message ≡ DidChangeWatchedFiles changes → AreSeenInPart v w changes →
+      IsCutShort v.grammar (standing_of v phase) message (standing_of w phase)
+  cut_between changes says is =
+      let to = is.moves (documents v) agrees in
+      cut_at to.0 to.1 (answer.first is.behind through (says ∙ ap DidChangeWatchedFiles is.joined) to.2.2)
 
 module _ (v w : WorkspaceView) (phase : Phase) (message : Message) (asked : List Asked) (told : Told) (is : IsAnswered v w phase message asked told)
     (same : w.grammar ≡ v.grammar) where
