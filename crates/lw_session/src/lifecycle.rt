@@ -228,11 +228,14 @@ fn error(alloc: Global, id: Option<Id>, code: i32, message: &str) -> Result<Repl
 pub(crate) fn log(alloc: Global, phase: Phase, head: &str, name: &Name) -> Result<Told, NoMemory>
     ensures { IfOk result (λ told. told ≡ telling phase (reply_.Log (head.now ++ name.now) ∷ [])) }
 {
-    let line = format!(in alloc; "{head}{name}")?;
-    tells(alloc, phase, Reply::Log(Name::from_string(line)))
+    Ok(Told {
+        replies: logs(alloc, head, name)?,
+        ended: Ended::No,
+        phase,
+    })
 }
 
-/// The list of a line for the log alone.
+/// A line for the log, alone in a list.
 pub(crate) fn logs(alloc: Global, head: &str, name: &Name) -> Result<Items<Reply>, NoMemory>
     ensures { IfOk result (λ replies. replies ≡ reply_.Log (head.now ++ name.now) ∷ []) }
 {

@@ -125,6 +125,12 @@ impl Session {
     /// editor's log, and so are changes of a document that no editor has open, or whose range ends before it
     /// starts. A list of changes that is refused changes nothing.
     ///
+    /// A document that an editor closes is its file from then on, and a file that an editor watches is read when it
+    /// is created or changed, unless an editor has it open. Its text is put; where there is no such file the document
+    /// goes out, and an empty list clears what was published of it. What is wrong with a file is told by a
+    /// line for the editor's log. The store is read at most once for each document that is closed, and for each change
+    /// of a file.
+    ///
     /// Where memory is refused ([`NoMemory`]) the replies are lost. The texts are then those after some of the
     /// message's changes, from the first on, none to all of them, and the phase is the one before the message
     /// or the one behind it.
