@@ -75,8 +75,8 @@ module _ (v : WorkspaceView) (m : Documents) (agrees : Agrees v m) where
   same_len =
       sym (len_turned known m)
       ∙ ap len
-          (same_map nat_list_cmp_total (slice_cmp-IsAntisymmetric nat_cmp-IsAntisymmetric) (turned known m) (turned known_here v.kept)
-          (λ a. get_turned known m a ∙ agrees.same a ∙ sym (get_turned known_here v.kept a)))
+      (same_map nat_list_cmp_total (slice_cmp-IsAntisymmetric nat_cmp-IsAntisymmetric) (turned known m) (turned known_here v.kept)
+      (λ a. get_turned known m a ∙ agrees.same a ∙ sym (get_turned known_here v.kept a)))
       ∙ len_turned known_here v.kept
 
 module _ (v : WorkspaceView) (m : Documents) (agrees : Agrees v m) (address : List ℕ) where

@@ -1,6 +1,5 @@
 -- What becomes of the documents of a workspace by their files.
-use Rattle.std.proofs.Common.{◌≡◌, ◌≢◌, ℕ, ◌+◌, ◌<◌, ◌≤◌, length, take, drop, get_or, List, [], ◌∷◌, ◌++◌, map, Result, Ok, Err, IfOk, OnOk, OnErr, Option, Some, None, true, false, is_some, codes, ◌⊎◌, inl, inr, refl, sym, ap, ap₂, ◌∙◌, subst, subst₂, append-nil, append_assoc}
-use Rattle.std.specs.List.{All}
+use Rattle.std.proofs.Common.{◌≡◌, ◌≢◌, ℕ, ◌+◌, ◌<◌, ◌≤◌, length, take, drop, get_or, List, [], ◌∷◌, ◌++◌, map, Result, Ok, Err, IfOk, OnOk, OnErr, Option, Some, None, true, false, is_some, codes, ◌⊎◌, inl, inr, refl, sym, ap, ◌∙◌, subst, subst₂, append-nil, append_assoc}
 use Rattle.std.proofs.lemmas.List.Elements.{All-nil, All-push, All-append}
 use Rattle.std.proofs.lemmas.List.{take_more, take-append-drop}
 use Rattle.std.proofs.lemmas.Option.{none-some}
@@ -27,7 +26,6 @@ use Rattle.lw_build.specs.View.{WorkspaceView}
 use Rattle.lw_machine.specs.Documents.{Document, Documents, shown_texts}
 use Rattle.lw_machine.specs.Events.{closed, farewell, put}
 use Rattle.lw_machine.specs.Settling.{IsSettled}
-use Rattle.lw_machine.specs.declared.published.Published.{Published}
 use Rattle.lw_conversation.specs.Closing as closing
 use Rattle.lw_conversation.specs.Closing.{ClosesDocument, failed_log, not_text_log, too_long_log}
 use Rattle.lw_conversation.specs.Editing.{IsOpenAt, IsUnknown}
@@ -167,12 +165,12 @@ module _ (v : WorkspaceView) (address : List ℕ) where
         left.0,
         left.2,
         moving.held
-        (record {
-          d = found.0;
-          held = found.1;
-          settled = left.1;
-          told = is ∙ ap (λ (k : Known). map as_reply (farewell address k.published)) (sym found.2);
-        }),
+            (record {
+              d = found.0;
+              held = found.1;
+              settled = left.1;
+              told = is ∙ ap (λ (k : Known). map as_reply (farewell address k.published)) (sym found.2);
+            }),
       )
 
   pub none_removed : get v.kept address ≡ None → Moves v v (λ m n. RemovesHeld v.grammar m address n [])
@@ -221,10 +219,10 @@ pub closes_unread : {E : Type 0} (r : Result (List Reply) E) (files : Option (Li
 closes_unread (Ok replies) files before now v w address held at on is told closes = record {
   asked = is.asked;
   moves = λ m agrees. (let here = is_open v m agrees address held at on in (
-        insert m address (closed here.0),
-        closes m agrees here.0 here.1.held,
-        subst (ClosesDocument v.grammar m address is.asked (insert m address (closed here.0))) (sym told) (closing.failed here.1 is.finds),
-      ));
+    insert m address (closed here.0),
+    closes m agrees here.0 here.1.held,
+    subst (ClosesDocument v.grammar m address is.asked (insert m address (closed here.0))) (sym told) (closing.failed here.1 is.finds),
+  ));
   by_store = is.by_store;
   counted = is.counted;
 }

@@ -147,7 +147,14 @@ impl Session {
         ensures files { F.files store.new ≡ F.files store.old }
     {
         let message = read_message(self.alloc, body)?;
-        let served = serve(self.alloc, &mut self.workspace, self.phase, message, store, steps)?;
+        let served = serve(
+            self.alloc,
+            &mut self.workspace,
+            self.phase,
+            message,
+            store,
+            steps,
+        )?;
         self.workspace.agrees();
         let told = served.told;
         let replies = texts_of(self.alloc, told.replies.as_slice(), served.lists.as_slice())?;

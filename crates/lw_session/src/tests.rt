@@ -80,11 +80,7 @@ fn played<L: Ledger>(
 }
 
 // Files by path, of which reads of these numbers fail.
-fn store_of(
-    alloc: Global,
-    files: &[(&str, &[u8])],
-    failing: &[u64],
-) -> Result<MemStore, NoMemory> {
+fn store_of(alloc: Global, files: &[(&str, &[u8])], failing: &[u64]) -> Result<MemStore, NoMemory> {
     let mut held = Vec::new(alloc);
     'files: for (path, bytes) in files {
         held.push((Name::from_text(alloc, path)?, bytes.to_vec(alloc)?))?;
@@ -586,7 +582,11 @@ fn what_may_be_written_is_offered(rt: HostRuntime) -> Result<(), Fail> {
 // The fourth read fails: the text stays, and no editor has the document open.
 #[test]
 fn a_closed_document_is_its_file(rt: HostRuntime) -> Result<(), Fail> {
-    let store = store_of(rt.alloc(), &[("/a.s", b"model a"), ("/bad.s", b"\xff")], &[4])?;
+    let store = store_of(
+        rt.alloc(),
+        &[("/a.s", b"model a"), ("/bad.s", b"\xff")],
+        &[4],
+    )?;
     play_over(
         &rt,
         rt.alloc(),
@@ -738,7 +738,15 @@ fn a_document_that_goes_out_is_told_to_others(rt: HostRuntime) -> Result<(), Fai
 // The reads of the numbers 7, 8 and 14 fail. An open document is left alone.
 #[test]
 fn changes_of_files_are_seen(rt: HostRuntime) -> Result<(), Fail> {
-    let store = store_of(rt.alloc(), &[("/a.s", b"model"), ("/b c.s", b"model m"), ("/bad.s", b"\xff")], &[7, 8, 14])?;
+    let store = store_of(
+        rt.alloc(),
+        &[
+            ("/a.s", b"model"),
+            ("/b c.s", b"model m"),
+            ("/bad.s", b"\xff"),
+        ],
+        &[7, 8, 14],
+    )?;
     play_over(
         &rt,
         rt.alloc(),

@@ -1,8 +1,7 @@
-use Rattle.std.proofs.Common.{◌≡◌, [], ◌∷◌, ◌++◌, List, codes, refl, sym, subst, true≢false}
+use Rattle.std.proofs.Common.{◌≡◌, [], ◌∷◌, ◌++◌, List, refl, sym, subst, true≢false}
 use Rattle.std.proofs.lemmas.Result.{IfOk-weaker}
 use Rattle.lw_conversation.specs.Closing as closing
 use Rattle.lw_conversation.specs.Closing.{ClosesDocument, not_text_log, too_long_log}
-use Rattle.lw_machine.specs.Documents.{Documents}
 use Rattle.lw_rpc.specs.declared.reply.Reply.{Reply}
 use Rattle.lw_session.specs.Moving.{IsFoundInStore, PutsFile, RemovesHeld}
 use Rattle.lw_session.proofs.Known.{none_open}
@@ -90,10 +89,10 @@ returns-in-NotUtf8-clause-lost g c =
     if_lost c.remove_and_log.result v c.remove_and_log.new.workspace (λ m n. (replies : List Reply) × RemovesHeld v.grammar m address n replies)
     (λ m. ClosesDocument v.grammar m address)
     (λ m n agrees left. (
-        is.asked,
-        left.0 ++ not_text_log address ∷ [],
-        closes_not_text v address here.0 here.1 here.2 m agrees is.asked n left.0 is.finds left.1,
-      ))
+      is.asked,
+      left.0 ++ not_text_log address ∷ [],
+      closes_not_text v address here.0 here.1 here.2 m agrees is.asked n left.0 is.finds left.1,
+    ))
     c.remove_and_log.ensures.lost
 
 pub returns-in-TooLong-clause-closes : goal.returns-in-TooLong-clause-closes
@@ -124,10 +123,10 @@ returns-in-TooLong-clause-lost g c =
     if_lost c.remove_and_log-in-TooLong.result v c.remove_and_log-in-TooLong.new.workspace (λ m n. (replies : List Reply) × RemovesHeld v.grammar m address n replies)
     (λ m. ClosesDocument v.grammar m address)
     (λ m n agrees left. (
-        is.asked,
-        left.0 ++ too_long_log address ∷ [],
-        closes_too_long v address here.0 here.1 here.2 m agrees is.asked n left.0 is.finds left.1,
-      ))
+      is.asked,
+      left.0 ++ too_long_log address ∷ [],
+      closes_too_long v address here.0 here.1 here.2 m agrees is.asked n left.0 is.finds left.1,
+    ))
     c.remove_and_log-in-TooLong.ensures.lost
 
 pub returns-in-Failed-clause-closes : goal.returns-in-Failed-clause-closes

@@ -1,4 +1,4 @@
-use Rattle.std.proofs.Common.{◌≡◌, [], ◌∷◌, ◌++◌, List, ap, inr, ◌∙◌}
+use Rattle.std.proofs.Common.{◌++◌, List, ap, inr, ◌∙◌}
 use Rattle.lw_rpc.specs.declared.reply.Reply.{Reply}
 use Rattle.lw_session.proofs.Handling.{error_there}
 use Rattle.lw_session.proofs.Moved.{moves_on}

@@ -1,4 +1,4 @@
-use Rattle.std.proofs.Common.{◌≡◌, List, ℕ, IfOk, sym, subst}
+use Rattle.std.proofs.Common.{List, IfOk, sym, subst}
 use Rattle.std.proofs.lemmas.Result.{IfOk-weaker}
 use Rattle.lw_build.specs.View.{WorkspaceView}
 use Rattle.lw_rpc.specs.declared.reply.Reply.{Reply}

@@ -1,4 +1,4 @@
-use Rattle.std.proofs.Common.{◌≡◌, List, [], map, IfOk, ap, refl, sym, subst, inr, ◌∙◌}
+use Rattle.std.proofs.Common.{List, map, ap, refl, sym, subst, inr, ◌∙◌}
 use Rattle.std.proofs.lemmas.Result.{IfOk-weaker}
 use Rattle.lw_build.specs.View.{WorkspaceView}
 use Rattle.lw_conversation.specs.Publishing.{as_reply}

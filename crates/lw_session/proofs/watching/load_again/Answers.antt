@@ -1,4 +1,4 @@
-use Rattle.std.proofs.Common.{◌≡◌, [], ◌∷◌, ◌++◌, List, codes, refl, sym, subst}
+use Rattle.std.proofs.Common.{[], ◌∷◌, List, subst}
 use Rattle.lw_conversation.specs.Closing.{failed_log, not_text_log, too_long_log}
 use Rattle.lw_conversation.specs.Watching as watching
 use Rattle.lw_conversation.specs.Watching.{LoadsAgain}

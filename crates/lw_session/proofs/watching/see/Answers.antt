@@ -1,4 +1,4 @@
-use Rattle.std.proofs.Common.{◌≡◌, [], List, refl, sym, subst, true≢false}
+use Rattle.std.proofs.Common.{[], List, refl, sym, subst, true≢false}
 use Rattle.std.proofs.lemmas.Result.{IfOk-weaker}
 use Rattle.lw_build.specs.Agreeing.{Agrees}
 use Rattle.lw_conversation.specs.Reading.{Asked}
@@ -40,11 +40,11 @@ returns-in-Deleted-clause-lost g c =
     if_lost c.remove_document.result v c.remove_document.new.workspace (λ m n. (replies : List Reply) × RemovesHeld v.grammar m change.uri n replies)
     (λ m. SeesChange v.grammar m change.uri change.kind)
     (λ m n agrees left. (
-        [],
-        left.0,
-        sees_removal v.grammar m change.uri change.kind n left.0 c.in-Deleted.is
-        (none_open v m agrees change.uri (λ here. true≢false (sym (c.if-is_open.ensures.1 here)))) left.1,
-      ))
+      [],
+      left.0,
+      sees_removal v.grammar m change.uri change.kind n left.0 c.in-Deleted.is
+          (none_open v m agrees change.uri (λ here. true≢false (sym (c.if-is_open.ensures.1 here)))) left.1,
+    ))
     c.remove_document.ensures.lost
 
 pub returns-in-Created : goal.returns-in-Created
@@ -52,8 +52,8 @@ returns-in-Created g c =
     let v = c.args.workspace.now in
     let change = c.args.change.now in
     let sees = λ (m n : Documents) (asked : List Asked) (replies : List Reply) (agrees : Agrees v m) (loads : LoadsAgain v.grammar m change.uri asked n replies).
-        watching.loads (not_deleted change.kind c.in-Created.is)
-        (none_open v m agrees change.uri (λ here. true≢false (sym (c.if-is_open.ensures.1 here)))) loads in
+    watching.loads (not_deleted change.kind c.in-Created.is)
+    (none_open v m agrees change.uri (λ here. true≢false (sym (c.if-is_open.ensures.1 here)))) loads in
     record {
       sees = IfOk-weaker c.load_again.result _ _
           (λ replies is.

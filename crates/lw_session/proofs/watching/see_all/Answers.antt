@@ -1,4 +1,4 @@
-use Rattle.std.proofs.Common.{◌≡◌, [], ◌∷◌, ◌++◌, ◌+◌, List, Option, ℕ, drop, take, refl, sym, ap, subst, subst₂, arith, ◌∙◌}
+use Rattle.std.proofs.Common.{[], ◌∷◌, ◌++◌, ◌+◌, List, Option, ℕ, drop, take, refl, sym, ap, subst, subst₂, arith, ◌∙◌}
 use Rattle.std.proofs.lemmas.List.{take_all, take-append-drop}
 use Rattle.lw_conversation.specs.Watching as watching
 use Rattle.lw_conversation.specs.Watching.{SeesChange, SeesChanges}
@@ -34,8 +34,8 @@ changes-preserved g c =
     let i = c.changes.change-index in
     let change = c.change-item.result in
     let one = subst
-        (λ (told : Option (List (List ℕ × List ℕ))). IsDoneByReads told between now v w (λ m. SeesChange v.grammar m change.uri change.kind) c.in_ok-told.told)
-        c.changes.invariant.files c.in_ok-told.ensures.sees in
+    (λ (told : Option (List (List ℕ × List ℕ))). IsDoneByReads told between now v w (λ m. SeesChange v.grammar m change.uri change.kind) c.in_ok-told.told)
+    c.changes.invariant.files c.in_ok-told.ensures.sees in
     record {
       seen = subst₂ (λ (seen : List FileChange) (replies : List Reply). IsDoneByReads files before now u w (λ m. SeesChanges u.grammar m seen) replies)
           (sym (seen_next changes i change (omega arith) c.change-item.is)) (sym c.in_ok-append.ensures)
@@ -67,8 +67,8 @@ returns-in_err-append-clause-in_part g c =
     let i = c.changes.change-index in
     let change = c.change-item.result in
     let one = subst
-        (λ (told : Option (List (List ℕ × List ℕ))). IsDoneByReads told between now v w (λ m. SeesChange v.grammar m change.uri change.kind) c.in_ok-told.told)
-        c.changes.invariant.files c.in_ok-told.ensures.sees in
+    (λ (told : Option (List (List ℕ × List ℕ))). IsDoneByReads told between now v w (λ m. SeesChange v.grammar m change.uri change.kind) c.in_ok-told.told)
+    c.changes.invariant.files c.in_ok-told.ensures.sees in
     error_there c.from_residual-in_err-append.result _
     (cut_behind_seen files before now u w (take i changes ++ change ∷ []) changes (drop (i + 1) changes) (c.changes.replies ++ c.in_ok-told.told)
     (sym (take-append-drop (i + 1) changes)
