@@ -43,8 +43,11 @@ put_len m a d = omega (arith, len-insert nat_list_cmp_total m a d, at_most_one (
 len_of : (count : ℕ) (m : Documents) (numbers : List ℕ) → len (with_made count m numbers) ≤ len m + length numbers
 len_of count m [] = omega arith
 len_of count m (n ∷ numbers) =
-    omega (arith, len_of count (put m (made_address n) (made_text n count) None false) numbers,
-    put_len m (made_address n) (with_text (get m (made_address n)) (made_text n count) None false))
+    omega (
+      arith,
+      len_of count (put m (made_address n) (made_text n count) None false) numbers,
+      put_len m (made_address n) (with_text (get m (made_address n)) (made_text n count) None false),
+    )
 
 pub made_len : (count n : ℕ) → len (made count n) ≤ n
 made_len count n = omega (arith, len_of count empty (range_with_len 0 n), len-empty order Document, length-range_with_len 0 n)

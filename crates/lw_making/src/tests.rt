@@ -1,11 +1,12 @@
 // What no clause says: that the calls succeed where there is memory, and what a workspace of a known language comes to.
-ghost use Rattle.std.specs.Prelude.{◌≡◌, ◌<◌, IfOk};
+ghost use Rattle.std.specs.Prelude.{◌≡◌, ◌<◌, ◌≤◌, IfOk};
 ghost use Rattle.lw_reading.specs.Laws.{IsReadOneWay};
 
 use crate::{make, summary_text};
 use lw_base::{Name, NoMemory, Steps};
 use lw_io::{MemPatterns, MemStore};
 use lw_lang::{Language, compile};
+use lw_make::GREATEST_WORKSPACE;
 use std::alloc::Global;
 use std::marker::Brand;
 use std::process::Abort;
@@ -43,7 +44,7 @@ fn made<L: Ledger>(
     requires name { blank.name ≡ L.name }
     requires parts { blank.parts ≡ L.parts }
     requires some { 0 < blank.parts }
-    requires greatest { count ≤ 9999 }
+    requires greatest { count ≤ GREATEST_WORKSPACE }
 {
     let (book, share) = blank.open::<L>();
     let mut steps = Steps::new(book, share);
@@ -52,7 +53,7 @@ fn made<L: Ledger>(
 }
 
 fn lines(rt: &impl Abort, alloc: Global, count: u32) -> Result<Name, NoMemory>
-    requires { count ≤ 9999 }
+    requires { count ≤ GREATEST_WORKSPACE }
 {
     made::<Brand>(rt, alloc, Blank::new(1), count)
 }
