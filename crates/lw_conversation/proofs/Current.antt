@@ -2,8 +2,9 @@
 use Rattle.std.proofs.Common.{◌≡◌, ℕ, ℤ, List, [], ◌∷◌, true, false, Some, None, Ok, sym, ◌∙◌, true≢false}
 use Rattle.std.specs.FinMap.{empty, insert}
 use Rattle.lw_grammar.specs.declared.grammar.Grammar.{Grammar}
-use Rattle.lw_io.specs.declared.store.Found.{Found}
 use Rattle.lw_rpc.specs.Messages.{message_of}
+use Rattle.lw_rpc.specs.declared.file_change.FileChange.{FileChange}
+use Rattle.lw_rpc.specs.declared.file_change.FileChangeKind.{FileChangeKind}
 use Rattle.lw_rpc.specs.declared.message.Message.{Message}
 use Rattle.lw_rpc.specs.declared.reply.Reply.{Reply}
 use Rattle.lw_text.specs.Changes.{AreMade, Changes, made}
@@ -11,7 +12,7 @@ use Rattle.lw_text.specs.declared.change.Change.{Change}
 use Rattle.lw_text.specs.declared.units.Encoding.TheVariants.{Utf16}
 use Rattle.lw_reading.specs.Laws.{IsReadOneWay}
 use Rattle.lw_machine.specs.Documents.{Documents}
-use Rattle.lw_machine.specs.Events.{put, edited}
+use Rattle.lw_machine.specs.Events.{closed, edited, farewell, put}
 use Rattle.lw_machine.specs.Events as event
 use Rattle.lw_machine.specs.Validity.{IsValid, AreCurrent}
 use Rattle.lw_machine.proofs.Validity.{begins_valid, stays_valid, end_is_valid, end_is_current}
@@ -19,8 +20,13 @@ use Rattle.lw_conversation.specs.Standing.{Standing, beginning, with_texts}
 use Rattle.lw_conversation.specs.Opening.{OpensDocument, too_long, too_many, puts}
 use Rattle.lw_conversation.specs.Editing.{EditsDocument, unknown, bad_range}
 use Rattle.lw_conversation.specs.Editing as editing
-use Rattle.lw_conversation.specs.Effects.{TakesEffect, opens, asks}
-use Rattle.lw_conversation.specs.Effects as effects
+use Rattle.lw_conversation.specs.Reading.{Asked}
+use Rattle.lw_conversation.specs.Removing.{Removes}
+use Rattle.lw_conversation.specs.Closing.{ClosesDocument}
+use Rattle.lw_conversation.specs.Closing as closing
+use Rattle.lw_conversation.specs.Watching.{LoadsAgain, SeesChange, SeesChanges}
+use Rattle.lw_conversation.specs.Watching as watching
+use Rattle.lw_conversation.specs.Effects.{TakesEffect, opens, edits, closes, sees, asks}
 use Rattle.lw_conversation.specs.Answered.{Answered, stops, passes}
 use Rattle.lw_conversation.specs.Sessions.{Handles, Serves, unbuilt, built, waits, ends, goes_on}
 use Rattle.lw_conversation.specs.declared.ended.Ended.{Ended}
@@ -50,46 +56,85 @@ module _ (g : Grammar) (one_way : IsReadOneWay g) where
   editing_valid m address version changes n replies (editing.edits {d = d} {text = t} here does) valid =
       stays_valid g one_way m (insert m address (edited d t version)) [] valid (event.edits address d changes version here.held (are_made d.text t changes does))
 
-  effect_valid : (m : Documents) (message : Message) (found : List Found) (n : Documents) (replies : List Reply) → TakesEffect g m message found n replies →
-      IsValid g m → IsValid g n
-  effect_valid m message found n replies (opens {address = a} {text = t} {version = v} does) valid = opening_valid m a v t n replies does valid
-  effect_valid m message found n replies (effects.edits {address = a} {version = v} {changes = c} does) valid = editing_valid m a v c n replies does valid
-  effect_valid m message found n replies (asks p reply builds replied) valid = end_is_valid g one_way m n p valid builds
+  removal_valid : (m : Documents) (address : List ℕ) (n : Documents) (replies : List Reply) → Removes g m address n replies → IsValid g m → IsValid g n
+  removal_valid m address n replies removes valid =
+      stays_valid g one_way m n (farewell address removes.d.published) valid (event.removes address removes.d removes.held removes.settled)
 
-  pub answered_valid : (s : Standing) (m : Message) (found : List Found) (t : Standing) (replies : List Reply) (ended : Ended) →
-      Answered g s m found t replies ended → IsValid g s.documents → IsValid g t.documents
-  answered_valid s m found t replies ended (stops is) valid = valid
-  answered_valid s m found t replies ended (passes {n = n} is effect) valid = effect_valid s.documents m found n replies effect valid
+  closing_valid : (m : Documents) (address : List ℕ) (asked : List Asked) (n : Documents) (replies : List Reply) → ClosesDocument g m address asked n replies →
+      IsValid g m → IsValid g n
+  closing_valid m address asked n replies (closing.unknown shut) valid = valid
+  closing_valid m address asked n replies (closing.text {text = t} here finds) valid = put_valid m address t None false valid
+  closing_valid m address asked n replies (closing.absent here finds removes) valid = removal_valid m address n replies removes valid
+  closing_valid m address asked n replies (closing.not_text {replies = r} here finds removes) valid = removal_valid m address n r removes valid
+  closing_valid m address asked n replies (closing.too_long {replies = r} here finds removes) valid = removal_valid m address n r removes valid
+  closing_valid m address asked n replies (closing.failed {d = d} here finds) valid =
+      stays_valid g one_way m (insert m address (closed d)) [] valid (event.closes address d here.held)
+
+  loading_valid : (m : Documents) (address : List ℕ) (asked : List Asked) (n : Documents) (replies : List Reply) → LoadsAgain g m address asked n replies →
+      IsValid g m → IsValid g n
+  loading_valid m address asked n replies (watching.text {text = t} finds room) valid = put_valid m address t None false valid
+  loading_valid m address asked n replies (watching.too_many finds full) valid = valid
+  loading_valid m address asked n replies (watching.gone finds removes) valid = removal_valid m address n replies removes valid
+  loading_valid m address asked n replies (watching.never_there finds none) valid = valid
+  loading_valid m address asked n replies (watching.not_text finds) valid = valid
+  loading_valid m address asked n replies (watching.too_long finds) valid = valid
+  loading_valid m address asked n replies (watching.failed finds) valid = valid
+
+  change_valid : (m : Documents) (address : List ℕ) (kind : FileChangeKind) (asked : List Asked) (n : Documents) (replies : List Reply) →
+      SeesChange g m address kind asked n replies → IsValid g m → IsValid g n
+  change_valid m address kind asked n replies (watching.is_open here) valid = valid
+  change_valid m address kind asked n replies (watching.loads stays shut loads) valid = loading_valid m address asked n replies loads valid
+  change_valid m address kind asked n replies (watching.removed gone shut removes) valid = removal_valid m address n replies removes valid
+  change_valid m address kind asked n replies (watching.not_held gone none) valid = valid
+
+  changes_valid : (m : Documents) (changes : List FileChange) (asked : List Asked) (n : Documents) (replies : List Reply) → SeesChanges g m changes asked n replies →
+      IsValid g m → IsValid g n
+  changes_valid m changes asked n replies watching.none valid = valid
+  changes_valid m changes asked n replies (watching.change {n = k} {c = c} {others = cs} {asked = a} {more = b} {first = f} {rest = r} saw rest) valid =
+      changes_valid k cs b n r rest (change_valid m c.uri c.kind a k f saw valid)
+
+  effect_valid : (m : Documents) (message : Message) (asked : List Asked) (n : Documents) (replies : List Reply) → TakesEffect g m message asked n replies →
+      IsValid g m → IsValid g n
+  effect_valid m message asked n replies (opens {address = a} {text = t} {version = v} does) valid = opening_valid m a v t n replies does valid
+  effect_valid m message asked n replies (edits {address = a} {version = v} {changes = c} does) valid = editing_valid m a v c n replies does valid
+  effect_valid m message asked n replies (closes {address = a} does) valid = closing_valid m a asked n replies does valid
+  effect_valid m message asked n replies (sees {changes = c} does) valid = changes_valid m c asked n replies does valid
+  effect_valid m message asked n replies (asks p reply builds replied) valid = end_is_valid g one_way m n p valid builds
+
+  pub answered_valid : (s : Standing) (m : Message) (asked : List Asked) (t : Standing) (replies : List Reply) (ended : Ended) →
+      Answered g s m asked t replies ended → IsValid g s.documents → IsValid g t.documents
+  answered_valid s m asked t replies ended (stops is) valid = valid
+  answered_valid s m asked t replies ended (passes {n = n} is effect) valid = effect_valid s.documents m asked n replies effect valid
 
   -- what holds of a session between messages
   record IsKept (s : Standing) : Type 0 where
     pub valid : IsValid g s.documents
     pub current : s.phase.initialized ≡ true → AreCurrent g s.documents
 
-  handled : (s : Standing) (m : Message) (found : List Found) (t : Standing) (replies : List Reply) (ended : Ended) → Handles g s m found t replies ended →
+  handled : (s : Standing) (m : Message) (asked : List Asked) (t : Standing) (replies : List Reply) (ended : Ended) → Handles g s m asked t replies ended →
       IsKept s → IsKept t
-  handled s m found t replies ended (unbuilt answered before) kept = record {
-    valid = answered_valid s m found t replies ended answered kept.valid;
+  handled s m asked t replies ended (unbuilt answered before) kept = record {
+    valid = answered_valid s m asked t replies ended answered kept.valid;
     current = λ since. absurd (true≢false (sym since ∙ before));
   }
-  handled s m found t replies ended (built {t = u} {replies = r} {n = n} {published = p} answered since builds) kept =
-      let valid = answered_valid s m found u r ended answered kept.valid in
+  handled s m asked t replies ended (built {t = u} {replies = r} {n = n} {published = p} answered since builds) kept =
+      let valid = answered_valid s m asked u r ended answered kept.valid in
       record { valid = end_is_valid g one_way u.documents n p valid builds; current = λ _. end_is_current g one_way u.documents n p valid builds }
 
-  served : (s t : Standing) (bodies : List (List ℕ)) (found : List (List Found)) (replies : List Reply) (ended : Ended) → Serves g s bodies found t replies ended →
+  served : (s t : Standing) (bodies : List (List ℕ)) (asked : List (List Asked)) (replies : List Reply) (ended : Ended) → Serves g s bodies asked t replies ended →
       IsKept s → IsKept t
-  served s t bodies found replies ended waits kept = kept
-  served s t bodies found replies ended (ends {body = b} {found = h} does over) kept = handled s (message_of b) h t replies ended does kept
-  served s t bodies found replies ended (goes_on {t = v} {body = b} {others = bs} {found = h} {more = hs} {first = f} {replies = r} does rest) kept =
+  served s t bodies asked replies ended waits kept = kept
+  served s t bodies asked replies ended (ends {body = b} {asked = h} does over) kept = handled s (message_of b) h t replies ended does kept
+  served s t bodies asked replies ended (goes_on {t = v} {body = b} {others = bs} {asked = h} {more = hs} {first = f} {replies = r} does rest) kept =
       served v t bs hs r ended rest (handled s (message_of b) h v f _ does kept)
 
   begins : (files : List (List ℕ × List ℕ)) → IsKept (beginning files)
   begins files = record { valid = texts_valid empty files (begins_valid g); current = λ since. absurd (true≢false (sym since)) }
 
-  pub session_valid : (files : List (List ℕ × List ℕ)) (bodies : List (List ℕ)) (found : List (List Found)) (t : Standing) (replies : List Reply) (ended : Ended) →
-      Serves g (beginning files) bodies found t replies ended → IsValid g t.documents
-  session_valid files bodies found t replies ended serves = (served (beginning files) t bodies found replies ended serves (begins files)).valid
+  pub session_valid : (files : List (List ℕ × List ℕ)) (bodies : List (List ℕ)) (asked : List (List Asked)) (t : Standing) (replies : List Reply) (ended : Ended) →
+      Serves g (beginning files) bodies asked t replies ended → IsValid g t.documents
+  session_valid files bodies asked t replies ended serves = (served (beginning files) t bodies asked replies ended serves (begins files)).valid
 
-  pub session_current : (files : List (List ℕ × List ℕ)) (bodies : List (List ℕ)) (found : List (List Found)) (t : Standing) (replies : List Reply) (ended : Ended) →
-      Serves g (beginning files) bodies found t replies ended → t.phase.initialized ≡ true → AreCurrent g t.documents
-  session_current files bodies found t replies ended serves = (served (beginning files) t bodies found replies ended serves (begins files)).current
+  pub session_current : (files : List (List ℕ × List ℕ)) (bodies : List (List ℕ)) (asked : List (List Asked)) (t : Standing) (replies : List Reply) (ended : Ended) →
+      Serves g (beginning files) bodies asked t replies ended → t.phase.initialized ≡ true → AreCurrent g t.documents
+  session_current files bodies asked t replies ended serves = (served (beginning files) t bodies asked replies ended serves (begins files)).current

@@ -7,19 +7,21 @@ use Rattle.std.specs.Ordering.{nat_cmp}
 use Rattle.std.specs.Str.{bytes_eq}
 use Rattle.std.specs.declared.cmp.Ordering.TheVariants.{Less}
 use Rattle.std.proofs.lemmas.Cmp.{nat_list_cmp_total}
-use Rattle.std.proofs.lemmas.List.Elements.{All-cons}
+use Rattle.std.proofs.lemmas.List.Elements.{All-append, All-cons}
 use Rattle.std.proofs.lemmas.List.Kept.{AllPairs-cons}
 use Rattle.std.proofs.lemmas.Slice.Eq.{bytes_eq-Decides}
 use Rattle.lw_base.specs.declared.token.Span.{Span}
 use Rattle.lw_grammar.specs.declared.grammar.Grammar.{Grammar}
-use Rattle.lw_io.specs.declared.store.Found.{Found}
 use Rattle.lw_rpc.specs.Replies.{AreOrdered, HasOrderedEdits}
 use Rattle.lw_rpc.specs.declared.message.Id.{Id}
+use Rattle.lw_rpc.specs.declared.file_change.FileChange.{FileChange}
+use Rattle.lw_rpc.specs.declared.file_change.FileChangeKind.{FileChangeKind}
 use Rattle.lw_rpc.specs.declared.message.Message.{Message}
 use Rattle.lw_rpc.specs.declared.message.Message.TheVariants as message
 use Rattle.lw_rpc.specs.declared.reply.FileEdits.{FileEdits}
 use Rattle.lw_rpc.specs.declared.reply.Reply.{Reply}
 use Rattle.lw_machine.specs.Documents.{Documents}
+use Rattle.lw_machine.specs.Events.{farewell}
 use Rattle.lw_machine.specs.declared.published.Published.{Published}
 use Rattle.lw_places.specs.Mentions.{Mention, MentionPrecedes, by_address, by_start, by_end}
 use Rattle.lw_renaming.specs.Renamed as rename
@@ -29,13 +31,19 @@ use Rattle.lw_text.specs.declared.change.Change.{Change}
 use Rattle.lw_conversation.specs.Answered.{Answered, stops, passes}
 use Rattle.lw_conversation.specs.Asking as ask
 use Rattle.lw_conversation.specs.Asking.{AreEditsOf, RepliesTo, TellsCompletion, TellsRename, TellsDefinition, TellsReferences, by_document, with_mention}
+use Rattle.lw_conversation.specs.Closing as closing
+use Rattle.lw_conversation.specs.Closing.{ClosesDocument}
 use Rattle.lw_conversation.specs.Editing.{EditsDocument}
 use Rattle.lw_conversation.specs.Editing as editing
-use Rattle.lw_conversation.specs.Effects.{TakesEffect, as_reply, opens, asks}
-use Rattle.lw_conversation.specs.Effects as effects
+use Rattle.lw_conversation.specs.Effects.{TakesEffect, opens, edits, closes, sees, asks}
 use Rattle.lw_conversation.specs.Gate.{Passage, Stops, Passes, gate, invalid_request, not_initialized, notification, replies_at, request}
 use Rattle.lw_conversation.specs.Opening.{OpensDocument, too_long, too_many, puts}
+use Rattle.lw_conversation.specs.Publishing.{as_reply}
+use Rattle.lw_conversation.specs.Reading.{Asked}
+use Rattle.lw_conversation.specs.Removing.{Removes}
 use Rattle.lw_conversation.specs.Standing.{Standing}
+use Rattle.lw_conversation.specs.Watching as watching
+use Rattle.lw_conversation.specs.Watching.{LoadsAgain, SeesChange, SeesChanges}
 use Rattle.lw_conversation.specs.declared.ended.Ended.{Ended}
 use Rattle.lw_conversation.specs.declared.phase.Phase.{Phase}
 
@@ -174,6 +182,8 @@ module _ (phase : Phase) where
   gate_in_order (message.BadParams None method) = notification_in_order _ (one_in_order _ tt)
   gate_in_order (message.DidOpen address version text) = notification_in_order Passes tt
   gate_in_order (message.DidChange address version changes) = notification_in_order Passes tt
+  gate_in_order (message.DidClose address) = notification_in_order Passes tt
+  gate_in_order (message.DidChangeWatchedFiles changes) = notification_in_order Passes tt
   gate_in_order (message.Definition id address at) = request_in_order id Passes tt
   gate_in_order (message.References id address at declaration) = request_in_order id Passes tt
   gate_in_order (message.Rename id address at new) = request_in_order id Passes tt
@@ -191,19 +201,60 @@ editing_in_order (editing.bad_range _ _) = one_in_order _ tt
 editing_in_order (editing.too_long _ _) = one_in_order _ tt
 editing_in_order (editing.edits _ _) = none_to_order
 
-lists_in_order : (lists : List Published) (reply : Reply) → HasOrderedEdits reply → All HasOrderedEdits (map as_reply lists ++ reply ∷ [])
-lists_in_order [] reply is = one_in_order reply is
-lists_in_order (l ∷ ls) reply is = All-cons HasOrderedEdits (as_reply l) (map as_reply ls ++ reply ∷ []) tt (lists_in_order ls reply is)
+lists_in_order : (lists : List Published) → All HasOrderedEdits (map as_reply lists)
+lists_in_order [] = none_to_order
+lists_in_order (l ∷ ls) = All-cons HasOrderedEdits (as_reply l) (map as_reply ls) tt (lists_in_order ls)
+
+one_more_reply : (replies : List Reply) (last : Reply) → All HasOrderedEdits replies → HasOrderedEdits last → All HasOrderedEdits (replies ++ last ∷ [])
+one_more_reply replies last are is = All-append HasOrderedEdits replies (last ∷ []) are (one_in_order last is)
 
 module _ (g : Grammar) where
-  effect_in_order : (m : Documents) (message : Message) (found : List Found) (n : Documents) (replies : List Reply) → TakesEffect g m message found n replies →
+  removal_in_order : (m : Documents) (address : List ℕ) (n : Documents) (replies : List Reply) → Removes g m address n replies → All HasOrderedEdits replies
+  removal_in_order m address n replies removes = subst (All HasOrderedEdits) (sym removes.told) (lists_in_order (farewell address removes.d.published))
+
+  closing_in_order : (m : Documents) (address : List ℕ) (asked : List Asked) (n : Documents) (replies : List Reply) → ClosesDocument g m address asked n replies →
       All HasOrderedEdits replies
-  effect_in_order m message found n replies (opens does) = opening_in_order does
-  effect_in_order m message found n replies (effects.edits does) = editing_in_order does
-  effect_in_order m message found n replies (asks lists reply builds is) = lists_in_order lists reply (question_in_order g n message reply is)
+  closing_in_order m address asked n replies (closing.unknown shut) = one_in_order _ tt
+  closing_in_order m address asked n replies (closing.text here finds) = none_to_order
+  closing_in_order m address asked n replies (closing.absent here finds removes) = removal_in_order m address n replies removes
+  closing_in_order m address asked n replies (closing.not_text {replies = r} here finds removes) = one_more_reply r _ (removal_in_order m address n r removes) tt
+  closing_in_order m address asked n replies (closing.too_long {replies = r} here finds removes) = one_more_reply r _ (removal_in_order m address n r removes) tt
+  closing_in_order m address asked n replies (closing.failed here finds) = one_in_order _ tt
+
+  loading_in_order : (m : Documents) (address : List ℕ) (asked : List Asked) (n : Documents) (replies : List Reply) → LoadsAgain g m address asked n replies →
+      All HasOrderedEdits replies
+  loading_in_order m address asked n replies (watching.text finds room) = none_to_order
+  loading_in_order m address asked n replies (watching.too_many finds full) = one_in_order _ tt
+  loading_in_order m address asked n replies (watching.gone finds removes) = removal_in_order m address n replies removes
+  loading_in_order m address asked n replies (watching.never_there finds none) = none_to_order
+  loading_in_order m address asked n replies (watching.not_text finds) = one_in_order _ tt
+  loading_in_order m address asked n replies (watching.too_long finds) = one_in_order _ tt
+  loading_in_order m address asked n replies (watching.failed finds) = one_in_order _ tt
+
+  change_in_order : (m : Documents) (address : List ℕ) (kind : FileChangeKind) (asked : List Asked) (n : Documents) (replies : List Reply) →
+      SeesChange g m address kind asked n replies → All HasOrderedEdits replies
+  change_in_order m address kind asked n replies (watching.is_open here) = none_to_order
+  change_in_order m address kind asked n replies (watching.loads stays shut loads) = loading_in_order m address asked n replies loads
+  change_in_order m address kind asked n replies (watching.removed gone shut removes) = removal_in_order m address n replies removes
+  change_in_order m address kind asked n replies (watching.not_held gone none) = none_to_order
+
+  changes_in_order : (m : Documents) (changes : List FileChange) (asked : List Asked) (n : Documents) (replies : List Reply) → SeesChanges g m changes asked n replies →
+      All HasOrderedEdits replies
+  changes_in_order m changes asked n replies watching.none = none_to_order
+  changes_in_order m changes asked n replies (watching.change {n = k} {c = c} {others = cs} {asked = a} {more = b} {first = f} {rest = r} saw rest) =
+      All-append HasOrderedEdits f r (change_in_order m c.uri c.kind a k f saw) (changes_in_order k cs b n r rest)
+
+  effect_in_order : (m : Documents) (message : Message) (asked : List Asked) (n : Documents) (replies : List Reply) → TakesEffect g m message asked n replies →
+      All HasOrderedEdits replies
+  effect_in_order m message asked n replies (opens does) = opening_in_order does
+  effect_in_order m message asked n replies (edits does) = editing_in_order does
+  effect_in_order m message asked n replies (closes {address = a} does) = closing_in_order m a asked n replies does
+  effect_in_order m message asked n replies (sees {changes = c} does) = changes_in_order m c asked n replies does
+  effect_in_order m message asked n replies (asks lists reply builds is) =
+      one_more_reply (map as_reply lists) reply (lists_in_order lists) (question_in_order g n message reply is)
 
   -- where a message is answered with edits, their addresses are in order
-  pub answers_in_order : (s : Standing) (m : Message) (found : List Found) (t : Standing) (replies : List Reply) (ended : Ended) → Answered g s m found t replies ended →
+  pub answers_in_order : (s : Standing) (m : Message) (asked : List Asked) (t : Standing) (replies : List Reply) (ended : Ended) → Answered g s m asked t replies ended →
       All HasOrderedEdits replies
-  answers_in_order s m found t replies ended (stops is) = subst IsOrderedPassage is (gate_in_order s.phase m)
-  answers_in_order s m found t replies ended (passes {n = n} is effect) = effect_in_order s.documents m found n replies effect
+  answers_in_order s m asked t replies ended (stops is) = subst IsOrderedPassage is (gate_in_order s.phase m)
+  answers_in_order s m asked t replies ended (passes {n = n} is effect) = effect_in_order s.documents m asked n replies effect

@@ -5,7 +5,7 @@
 use Rattle.std.specs.Prelude.{ℕ, ℤ, List, [], ◌∷◌, ◌++◌, true, ◌&&◌, not, if◌then◌else◌, Option, Some, None, codes}
 use Rattle.lw_rpc.specs.declared.message.Id.{Id}
 use Rattle.lw_rpc.specs.declared.message.Message.{Message}
-use Rattle.lw_rpc.specs.declared.message.Message.TheVariants.{BadJson, BadRequest, Response, Unknown, BadParams, Initialize, Shutdown, Exit, DidOpen, DidChange, Definition, References, Rename, Completion}
+use Rattle.lw_rpc.specs.declared.message.Message.TheVariants.{BadJson, BadRequest, Response, Unknown, BadParams, Initialize, Shutdown, Exit, DidOpen, DidChange, DidClose, DidChangeWatchedFiles, Definition, References, Rename, Completion}
 use Rattle.lw_rpc.specs.declared.reply.Outcome.TheVariants.{Nothing, Hello}
 use Rattle.lw_rpc.specs.declared.reply.Reply.{Reply}
 use Rattle.lw_rpc.specs.declared.reply.Reply.TheVariants.{Done, Error, Log}
@@ -64,6 +64,8 @@ gate phase (BadParams (Some id) method) = request phase id (invalid_params phase
 gate phase (BadParams None method) = notification phase (replies_at phase (Log (codes "bad params: " ++ method) ∷ []))
 gate phase (DidOpen address version text) = notification phase Passes
 gate phase (DidChange address version changes) = notification phase Passes
+gate phase (DidClose address) = notification phase Passes
+gate phase (DidChangeWatchedFiles changes) = notification phase Passes
 gate phase (Definition id address at) = request phase id Passes
 gate phase (References id address at declaration) = request phase id Passes
 gate phase (Rename id address at new) = request phase id Passes

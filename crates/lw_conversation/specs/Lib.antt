@@ -1,7 +1,12 @@
 pub mod Standing
 pub mod Gate
+pub mod Publishing
+pub mod Reading
+pub mod Removing
 pub mod Opening
 pub mod Editing
+pub mod Closing
+pub mod Watching
 pub mod Asking
 pub mod Effects
 pub mod Answered

@@ -7,15 +7,21 @@
 //! - `Standing.antt`: a session between two messages, and the one that begins once texts were put.
 //! - `Gate.antt`: what the life of the session makes of a message: it is answered at once, or it has its effect.
 //! - `Effects.antt`: what a message that passes the gate makes of the documents, one relation for each method
-//!   (`Opening.antt`, `Editing.antt`), with what the store answered at each of its reads. The build stands before the reply to a
-//!   question, which `Asking.antt` says over the documents that it leaves.
+//!   (`Opening.antt`, `Editing.antt`, `Closing.antt`, `Watching.antt`), with what the store was asked and
+//!   answered at each of its reads. The build stands before the reply to a question, which `Asking.antt` says
+//!   over the documents that it leaves.
+//! - `Reading.antt`: what is asked of the store about the file at an address, and what is found.
+//! - `Removing.antt`: a document goes out, and the list that was told of it is cleared (`Publishing.antt`: a list
+//!   as a reply).
 //! - `Answered.antt`: both together, and what may stand where memory is refused at a message.
 //! - `Sessions.antt`: the build stands behind every message once `initialize` was answered, and so on through all
 //!   bodies up to `exit`.
 //!
 //! There is no code here but the types [`Ended`] and [`Phase`] and the codes of errors. Each function has an empty body, and its contract is
-//! a law that a reader would expect: what a session does is settled ([`one_outcome`]), and leaves nothing to do
-//! behind a message ([`sessions_stay_current`]); edits are told of documents in the order of their addresses ([`edits_are_in_order`]).
+//! a law that a reader would expect: what a session does is settled by its bodies and by what the store answers, or
+//! by its files where no read failed ([`one_outcome`]), and leaves nothing to do behind a message
+//! ([`sessions_stay_current`]); edits are told of documents in the order of their addresses
+//! ([`edits_are_in_order`]).
 #![tactic(auto)]
 
 mod ended;

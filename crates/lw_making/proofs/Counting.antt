@@ -1,11 +1,11 @@
 -- What is counted document by document are the sums of a summary.
-use Rattle.std.proofs.Common.{◌≡◌, ◌≢◌, ℕ, zero, suc, ◌+◌, ◌<◌, ◌≤◌, List, [], ◌∷◌, length, map, drop, get_or, Bool, true, false, cond, Option, Some, None, All, AllPairs, Contains, option_and_then, option_map, refl, sym, ap, ap₂, ◌∙◌, subst, arith, add-one, drop-cons}
+use Rattle.std.proofs.Common.{◌≡◌, ℕ, zero, suc, ◌+◌, ◌<◌, ◌≤◌, List, [], ◌∷◌, length, map, drop, get_or, Bool, true, false, cond, Option, Some, None, AllPairs, Contains, option_and_then, option_map, refl, sym, ap, ap₂, ◌∙◌, subst, arith, add-one, drop-cons}
 use Rattle.std.specs.Cmp.Lexicographic.{slice_cmp}
 use Rattle.std.specs.FinMap.{entries, get, keys, len, len-entries}
 use Rattle.std.specs.List.{AllZip, sum}
 use Rattle.std.specs.Ordering.{nat_cmp, ordering_reverse}
 use Rattle.std.specs.Str.{bytes_eq}
-use Rattle.std.specs.declared.cmp.Ordering.TheVariants.{Less, Greater}
+use Rattle.std.specs.declared.cmp.Ordering.TheVariants.{Less}
 use Rattle.std.proofs.lemmas.Cmp.{nat_list_cmp_total}
 use Rattle.std.proofs.lemmas.List.{drop_all, length-map}
 use Rattle.std.proofs.lemmas.List.Sums.{sum_by-cons}
@@ -30,7 +30,7 @@ use Rattle.lw_tree.specs.Parts.{Parts}
 use Rattle.lw_build.specs.View.{WorkspaceView, documents, documents_of}
 use Rattle.lw_build.proofs.Documents.{document_of, entries_documents, get_document}
 use Rattle.lw_build.proofs.Places.{entry_held}
-use Rattle.lw_making.specs.Counting.{last_of, missing_in, nodes_in, of_none, references_in, with_all, with_one}
+use Rattle.lw_making.specs.Counting.{last_of, missing_in, nodes_seen, of_none, references_in, with_all, with_one}
 use Rattle.lw_making.specs.Summaries.{HasSizes, IsSummary, Sizes, broken, listed, unresolved_in, whole}
 use Rattle.lw_making.specs.declared.summary.Summary.{Summary}
 
@@ -129,7 +129,7 @@ seen_among (w ∷ views) ascending v (suc i, inside, is) =
 -- ---- how much each holds
 
 abbrev pub sizes_of : View → Sizes
-sizes_of v = record { nodes = nodes_in (tree_seen v); references = references_in (tree_seen v); unresolved = missing_in v.answers.now }
+sizes_of v = record { nodes = nodes_seen (tree_seen v); references = references_in (tree_seen v); unresolved = missing_in v.answers.now }
 
 module _ (g : Grammar) (views : List View) (are : AreBuiltViews g views) (texts : Texts) (same : (address : List ℕ) → texts_seen views address ≡ texts address) where
   built_at : (v : View) → Contains views v → IsBuiltView g views v
@@ -147,7 +147,7 @@ module _ (g : Grammar) (views : List View) (are : AreBuiltViews g views) (texts 
       there = sym (same v.uri.now) ∙ (seen_among views are.ascending v has).0
 
       by : (o : Option Parts) → tree_seen v ≡ o → IsTreeOfText g (Some v.text.now) o →
-          HasSizes g texts v.uri.now (record { nodes = nodes_in o; references = references_in o; unresolved = missing_in v.answers.now })
+          HasSizes g texts v.uri.now (record { nodes = nodes_seen o; references = references_in o; unresolved = missing_in v.answers.now })
       by (Some tree) is (scope.whole reads) =
           let led = led_alike (IsNumberBelow g) (StandsAmong views) (trees_seen views) v.uri.now tree tree.refs v.answers.now ((built_at v has).linked tree is) in
           subst (λ n. HasSizes g texts v.uri.now (record { nodes = length tree.nodes; references = length tree.refs; unresolved = n })) led.nowhere
@@ -274,7 +274,7 @@ module _ (g : Grammar) (kept : ByAddress) (views : List View) (are : AreBuiltVie
     sizes = map sizes_of views;
     have = sizes_here;
     documents = from_zero (counted kept views start) how_many;
-    nodes = from_zero (summed kept (λ s. s.nodes) (λ v. nodes_in (tree_seen v)) (λ s v. refl) views start) (ap sum (sym (map_twice (λ z. z.nodes) views)));
+    nodes = from_zero (summed kept (λ s. s.nodes) (λ v. nodes_seen (tree_seen v)) (λ s v. refl) views start) (ap sum (sym (map_twice (λ z. z.nodes) views)));
     references = from_zero (summed kept (λ s. s.references) (λ v. references_in (tree_seen v)) (λ s v. refl) views start) (ap sum (sym (map_twice (λ z. z.references) views)));
     unresolved = from_zero (summed kept (λ s. s.unresolved) (λ v. missing_in v.answers.now) (λ s v. refl) views start) (ap sum (sym (map_twice (λ z. z.unresolved) views)));
     diagnostics = from_zero (summed kept (λ s. s.diagnostics) (last_count kept) (λ s v. refl) views start) lasts_here;

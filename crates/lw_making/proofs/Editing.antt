@@ -1,6 +1,6 @@
 -- The edits of a workspace that is being made, one by one: what they publish, and which documents are still to be edited.
-use Rattle.std.proofs.Common.{◌≡◌, ◌≢◌, ℕ, ℤ, Bool, ◌+◌, ◌<◌, ◌≤◌, List, [], ◌∷◌, ◌++◌, Option, Some, None, Ok, option_map, refl, sym, ap, ◌∙◌, subst, subst₂, inl, inr, arith, append_assoc}
-use Rattle.std.specs.FinMap.{empty, get, insert}
+use Rattle.std.proofs.Common.{◌≡◌, ◌≢◌, ℕ, ℤ, Bool, ◌+◌, ◌<◌, ◌≤◌, List, [], ◌∷◌, ◌++◌, Option, Some, None, Ok, option_map, refl, sym, ap, ◌∙◌, subst, subst₂, arith, append_assoc}
+use Rattle.std.specs.FinMap.{get, insert}
 use Rattle.std.proofs.lemmas.List.{append-nil}
 use Rattle.lw_grammar.specs.declared.grammar.Grammar.{Grammar}
 use Rattle.lw_machine.specs.Building.{BuildsToEnd}
@@ -10,7 +10,7 @@ use Rattle.lw_machine.specs.Validity.{content}
 use Rattle.lw_machine.specs.declared.published.Published.{Published}
 use Rattle.lw_machine.proofs.Contents.{to_end_same}
 use Rattle.lw_machine.proofs.Places.{put_elsewhere}
-use Rattle.lw_make.specs.Made.{edit_count, made_address, made_edit, made_text}
+use Rattle.lw_make.specs.Made.{edit_count, made_address, made_edit}
 use Rattle.lw_make.specs.declared.edits.MadeEdit.{MadeEdit}
 use Rattle.lw_make.specs.declared.documents.TheConstants.{GREATEST_WORKSPACE}
 use Rattle.lw_text.specs.Changes.{AreMade, Changes, made as is_made}

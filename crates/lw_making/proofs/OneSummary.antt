@@ -1,6 +1,6 @@
 -- A workspace of so many comes to one end and has one summary.
-use Rattle.std.proofs.Common.{◌≡◌, ℕ, List, [], ◌∷◌, ◌++◌, length, map, Some, Ok, refl, sym, ap, ap₂, ◌∙◌, subst, subst₂}
-use Rattle.std.specs.FinMap.{empty, entries, get, insert, len}
+use Rattle.std.proofs.Common.{◌≡◌, ℕ, List, [], ◌∷◌, ◌++◌, length, map, Ok, refl, sym, ap, ap₂, ◌∙◌, subst, subst₂}
+use Rattle.std.specs.FinMap.{entries, insert}
 use Rattle.std.specs.List.{AllZip, range_with_len, sum}
 use Rattle.std.proofs.lemmas.Option.{same_Some}
 use Rattle.lw_grammar.specs.declared.grammar.Grammar.{Grammar}
@@ -14,18 +14,15 @@ use Rattle.lw_reading.specs.Laws.{IsReadOneWay}
 use Rattle.lw_reading.specs.Reading.{Reads}
 use Rattle.lw_reading.specs.declared.parsed.Parsed.TheVariants.{Whole, Broken}
 use Rattle.lw_reading.proofs.OneReading.{one_reading}
-use Rattle.lw_scopes.specs.Links.{AreLinks, Texts}
+use Rattle.lw_scopes.specs.Links.{Texts}
 use Rattle.lw_scopes.proofs.OneList.{one_list_of_links}
 use Rattle.lw_scopes.proofs.SameTexts.{not_both, same_trees}
-use Rattle.lw_scoping.specs.Links.{Link}
 use Rattle.lw_text.specs.Changes.{AreMade, made}
 use Rattle.lw_text.specs.declared.change.Change.{Change}
 use Rattle.lw_text.specs.declared.units.Encoding.TheVariants.{Utf16}
 use Rattle.lw_text.proofs.Outcomes.{Changes-only}
-use Rattle.lw_tree.specs.declared.issue.Issue.{Issue}
-use Rattle.lw_tree.specs.Parts.{Parts}
 use Rattle.lw_making.specs.Making.{AreEdited, done, edits, IsMade}
-use Rattle.lw_making.specs.Summaries.{HasSizes, IsSummary, Sizes, broken, listed, unresolved_in, whole}
+use Rattle.lw_making.specs.Summaries.{HasSizes, IsSummary, Sizes, broken, unresolved_in, whole}
 use Rattle.lw_making.specs.declared.summary.Summary.{Summary}
 
 one_text : (text a b : List ℕ) (changes : List Change) → AreMade Utf16 text changes a → AreMade Utf16 text changes b → a ≡ b

@@ -37,7 +37,7 @@ at_most_one : (b : Bool) (n : ℕ) → cond b n (n + 1) ≤ n + 1
 at_most_one true n = omega arith
 at_most_one false n = omega arith
 
-put_len : (m : Documents) (a : List ℕ) (d : Document) → len (insert m a d) ≤ len m + 1
+pub put_len : (m : Documents) (a : List ℕ) (d : Document) → len (insert m a d) ≤ len m + 1
 put_len m a d = omega (arith, len-insert nat_list_cmp_total m a d, at_most_one (contains_key m a) (len m))
 
 len_of : (count : ℕ) (m : Documents) (numbers : List ℕ) → len (with_made count m numbers) ≤ len m + length numbers

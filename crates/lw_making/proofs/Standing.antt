@@ -1,16 +1,15 @@
 -- What a workspace stands for while its documents are put, and that there is room for each of them.
-use Rattle.std.proofs.Common.{◌≡◌, ℕ, ◌+◌, ◌<◌, ◌≤◌, List, map, length, Bool, true, false, Option, Some, None, Ok, Err, option_map, refl, sym, ap, ◌∙◌, subst, subst₂, arith}
+use Rattle.std.proofs.Common.{◌≡◌, ℕ, ◌+◌, ◌<◌, ◌≤◌, List, length, Bool, true, false, Option, Some, None, Ok, Err, option_map, refl, sym, ap, ◌∙◌, subst, subst₂, arith}
 use Rattle.std.specs.FinMap.{empty, entries, get, get-empty, len, len-entries}
-use Rattle.std.specs.List.{range_with_len}
 use Rattle.std.proofs.lemmas.List.{length-map}
 use Rattle.std.proofs.lemmas.Option.{none-some, same_Some}
 use Rattle.lw_base.specs.declared.limits.TheConstants.{LONGEST_TEXT}
 use Rattle.lw_docs.specs.Documents.{ByAddress, Numbered}
 use Rattle.lw_docs.specs.declared.docs.TheConstants.{MOST_DOCUMENTS}
-use Rattle.lw_machine.specs.Documents.{Document, Documents, present_texts}
+use Rattle.lw_machine.specs.Documents.{Documents, present_texts}
 use Rattle.lw_machine.specs.Events.{put}
 use Rattle.lw_machine.proofs.Places.{order, same_documents}
-use Rattle.lw_build.specs.Agreeing.{Agrees, Known, known, known_here}
+use Rattle.lw_build.specs.Agreeing.{Agrees, known, known_here}
 use Rattle.lw_build.specs.Faults as fault
 use Rattle.lw_build.specs.Faults.{HasNoRoom, IsEditFault, IsPutFault, bad_range, no_document, no_memory, too_long, too_many}
 use Rattle.lw_build.specs.declared.fault.WorkFault.{WorkFault}

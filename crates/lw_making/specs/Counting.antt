@@ -18,9 +18,9 @@ missing_in (Missing ∷ answers) = missing_in answers + 1
 missing_in (Found _ ∷ answers) = missing_in answers
 
 -- how many nodes a document has, and how many references, where it has a tree
-abbrev pub nodes_in : Option Parts → ℕ
-nodes_in None = 0
-nodes_in (Some tree) = length tree.nodes
+abbrev pub nodes_seen : Option Parts → ℕ
+nodes_seen None = 0
+nodes_seen (Some tree) = length tree.nodes
 
 abbrev pub references_in : Option Parts → ℕ
 references_in None = 0
@@ -38,7 +38,7 @@ of_none published = record { documents = 0; nodes = 0; references = 0; unresolve
 abbrev pub with_one : Summary → View → ℕ → Summary
 with_one s v diagnostics = record {
   documents = s.documents + 1;
-  nodes = s.nodes + nodes_in (tree_seen v);
+  nodes = s.nodes + nodes_seen (tree_seen v);
   references = s.references + references_in (tree_seen v);
   unresolved = s.unresolved + missing_in v.answers.now;
   diagnostics = s.diagnostics + diagnostics;

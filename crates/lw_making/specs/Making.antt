@@ -10,7 +10,6 @@ use Rattle.lw_machine.specs.Documents.{Document, Documents}
 use Rattle.lw_machine.specs.Events.{edited, put}
 use Rattle.lw_machine.specs.declared.published.Published.{Published}
 use Rattle.lw_make.specs.Made.{edit_count, made_address, made_edit, made_text}
-use Rattle.lw_make.specs.declared.edits.MadeEdit.{MadeEdit}
 use Rattle.lw_text.specs.Changes.{AreMade}
 use Rattle.lw_text.specs.declared.units.Encoding.TheVariants.{Utf16}
 

@@ -3,7 +3,7 @@ ghost use Rattle.std.specs.Prelude.{◌≡◌, ◌+◌, ◌++◌, ◌∷◌, [],
 ghost use Rattle.std.specs.Option.{option_map};
 ghost use Rattle.lw_build.specs.View.{documents};
 ghost use Rattle.lw_machine.specs.declared.published.Published.{Published};
-ghost use Rattle.lw_making.specs.Counting.{last_of, missing_in, nodes_in, references_in, with_one};
+ghost use Rattle.lw_making.specs.Counting.{last_of, missing_in, nodes_seen, references_in, with_one};
 ghost use Rattle.lw_making.specs.Summaries.{IsSummary, listed, summary_line, summary_text as lines_of};
 
 use lw_base::{Name, NoMemory};
@@ -64,7 +64,7 @@ fn missing(answers: &[Answer]) -> usize
 
 /// How many nodes and references a document has, where it has a tree.
 fn tables_of(tree: Option<&Tree>) -> (usize, usize)
-    ensures nodes { result.0 ≡ nodes_in (option_map (λ tree. tree.now) tree.entry) }
+    ensures nodes { result.0 ≡ nodes_seen (option_map (λ tree. tree.now) tree.entry) }
     ensures references { result.1 ≡ references_in (option_map (λ tree. tree.now) tree.entry) }
 {
     match tree {

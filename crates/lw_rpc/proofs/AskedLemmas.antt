@@ -6,7 +6,7 @@ use Rattle.lw_text.specs.declared.place.Pos.{Pos}
 use Rattle.lw_rpc.specs.Causes.{HasValue, IsCall, NamesPoint, AsksAtPlace, AsksReferences, AsksRename, IsMessage, asks_definition, not_definition, asks_references, not_references, asks_rename, not_rename, asks_completion, not_completion}
 use Rattle.lw_rpc.specs.Params.{member_at, text_at, truth_at, point_by, point_of, asked_at_place, definition_asked, flag_beside, point_and_flag, references_asked, name_beside, point_and_name, rename_asked, completion_asked}
 use Rattle.lw_rpc.proofs.ChangeLemmas.{position_of-HasPos, HasPos-found}
-use Rattle.lw_rpc.proofs.Found.{str_of, inside, found_in}
+use Rattle.lw_rpc.proofs.Found.{str_of, inside, found_in, mapped, none-and-some}
 use Rattle.lw_rpc.specs.declared.message.Id.{Id}
 use Rattle.lw_rpc.specs.declared.message.Message.{Message}
 use Rattle.lw_rpc.specs.declared.message.Message.TheVariants.{BadParams, Definition, References, Rename, Completion}
@@ -46,10 +46,6 @@ truth_of (Some (number n)) b same = cc
 truth_of (Some (string s)) b same = cc
 truth_of (Some (array items)) b same = cc
 truth_of (Some (object _)) b same = cc
-
-mapped : {A B : Type 0} (f : A → B) (found : Option A) (made : B) → option_map f found ≡ Some made → (a : A) × (found ≡ Some a) × (made ≡ f a)
-mapped f (Some a) made same = (a, refl, cc)
-mapped f None made same = absurd (cc)
 
 point_by-parts : (uri : Option (List ℕ)) (at : Option Pos) (point : List ℕ × Pos) → point_by uri at ≡ Some point → (uri ≡ Some point.0) × (at ≡ Some point.1)
 point_by-parts (Some uri) (Some at) point same =
@@ -129,9 +125,6 @@ AsksRename-rename_asked d id m same =
     )
 
 -- ---- the rule that the parameters meet
-
-none-and-some : {A : Type 0} {found : Option A} {x : A} → found ≡ None → found ≡ Some x → ⊥
-none-and-some e f = absurd (cc)
 
 module _ (body : List ℕ) (d : Data) (id : Id) (has : HasValue body d) where
   -- whatever message is made of the place

@@ -10,25 +10,23 @@ use Rattle.serde_json.specs.Find.{get, as_str, as_i64}
 use Rattle.serde_json.specs.Read.{read}
 use Rattle.lw_rpc.specs.Calls.{Call, request, notification, neither, is_version, id_of, id_from, request_with, named, with_method, without_method, call_from, call_of}
 use Rattle.lw_rpc.specs.Calls as call
-use Rattle.lw_rpc.specs.Causes.{HasValue, IsId, text_id, whole_id, HasId, IsCall, IsResponse, IsKnown, Opens, Edits, IsMessage, bad_json, bad_request, response, unknown, initialize, shutdown, asks_definition, not_definition, asks_references, not_references, asks_rename, not_rename, asks_completion, not_completion, exit, opened, not_opened, edited, not_edited}
+use Rattle.lw_rpc.specs.Causes.{HasValue, IsId, text_id, whole_id, HasId, IsCall, IsResponse, IsKnown, Opens, Edits, IsMessage, bad_json, bad_request, response, unknown, initialize, shutdown, asks_definition, not_definition, asks_references, not_references, asks_rename, not_rename, asks_completion, not_completion, exit, opened, not_opened, edited, not_edited, document_closed, not_document_closed, files_changed, not_files_changed}
 use Rattle.lw_rpc.specs.Messages.{call_message, value_message, read_value_message, value_of_body, message_of}
 use Rattle.lw_rpc.specs.Params as params
 use Rattle.lw_rpc.specs.ChangeParams.{changes_of}
-use Rattle.lw_rpc.specs.Params.{did_open, did_change, definition_asked, references_asked, rename_asked, completion_asked, member_at, text_at, whole_at, changes_at}
+use Rattle.lw_rpc.specs.Params.{did_open, did_change, did_close, did_change_watched_files, definition_asked, references_asked, rename_asked, completion_asked, member_at, text_at, whole_at, changes_at}
 use Rattle.lw_text.specs.declared.change.Change.{Change}
 use Rattle.lw_rpc.proofs.AskedLemmas.{asked_at_place-AsksAtPlace, references_asked-AsksReferences, rename_asked-AsksRename, definition-met, references-met, rename-met, completion-met, no_place, no_references, no_rename}
 use Rattle.lw_rpc.proofs.ChangeLemmas.{changes_of-AreChanges, AreChanges-changes_of}
-use Rattle.lw_rpc.proofs.Found.{str_of, whole_of, list_of, inside, found_in}
+use Rattle.lw_rpc.proofs.Found.{str_of, whole_of, list_of, inside, found_in, none-and-some}
+use Rattle.lw_rpc.proofs.NotificationLemmas.{did_close-ClosesDocument, did_change_watched_files-TellsOfFiles, did_close-met, did_change_watched_files-met, no_close, no_file_changes}
 use Rattle.lw_rpc.specs.declared.message.Id.{Id}
 use Rattle.lw_rpc.specs.declared.message.Id.TheVariants.{Whole, Words}
 use Rattle.lw_rpc.specs.declared.message.Message.{Message}
-use Rattle.lw_rpc.specs.declared.message.Message.TheVariants.{BadJson, BadRequest, Response, Unknown, BadParams, Initialize, Shutdown, Definition, References, Rename, Completion, Exit, DidOpen, DidChange}
+use Rattle.lw_rpc.specs.declared.message.Message.TheVariants.{BadJson, BadRequest, Response, Unknown, BadParams, Initialize, Shutdown, Definition, References, Rename, Completion, Exit, DidOpen, DidChange, DidClose, DidChangeWatchedFiles}
 
 false-and-true : {b : Bool} → b ≡ false → b ≡ true → ⊥
 false-and-true e f = absurd (cc)
-
-none-and-some : {A : Type 0} {found : Option A} {x : A} → found ≡ None → found ≡ Some x → ⊥
-none-and-some e f = absurd (cc)
 
 neither-and-response : {c : Call} → c ≡ neither → c ≡ call.response → ⊥
 neither-and-response e f = absurd (cc)
@@ -42,6 +40,9 @@ unfolding message_of
 message_of-no_text body no_text = rw no_text refl
 
 -- ---- from a rule to the definition
+
+pub other_text : (a b : List ℕ) → bytes_eq a b ≡ false → ¬ (a ≡ b)
+other_text a b other same = false-and-true other ((bytes_eq-Decides a b).1 same)
 
 bytes_eq-other : (a b : List ℕ) → ¬ (a ≡ b) → bytes_eq a b ≡ false
 bytes_eq-other a b other = false_from_ne_true _ (λ same. other ((bytes_eq-Decides a b).0 same))
@@ -98,8 +99,16 @@ unknown_message (Some id) method params not_known =
 unknown_message None method params not_known =
     let first : bytes_eq method (codes "exit") ≡ false = bytes_eq-other _ _ (λ e. not_known (inl e)) in
     let second : bytes_eq method (codes "textDocument/didOpen") ≡ false = bytes_eq-other _ _ (λ e. not_known (inr (inl e))) in
-    let third : bytes_eq method (codes "textDocument/didChange") ≡ false = bytes_eq-other _ _ (λ e. not_known (inr (inr e))) in
-    rw (first, second, third) refl
+    let third : bytes_eq method (codes "textDocument/didChange") ≡ false = bytes_eq-other _ _ (λ e. not_known (inr (inr (inl e)))) in
+    let fourth : bytes_eq method (codes "textDocument/didClose") ≡ false = bytes_eq-other _ _ (λ e. not_known (inr (inr (inr (inl e))))) in
+    let fifth : bytes_eq method (codes "workspace/didChangeWatchedFiles") ≡ false = bytes_eq-other _ _ (λ e. not_known (inr (inr (inr (inr e))))) in
+    rw (first, second, third, fourth, fifth) refl
+
+-- no parameters say what has no method
+pub without_method-params : (version id params : Option Data) → call_message (without_method version id) params ≡ call_message (without_method version id) None
+without_method-params (Some version) (Some id) params = refl
+without_method-params (Some version) None params = refl
+without_method-params None id params = refl
 
 -- ---- from the definition to a rule
 
@@ -341,32 +350,48 @@ module _ (body : List ℕ) (d : Data) (has : HasValue body d) where
       subst (IsMessage body) (sym parts.3) (edited d has is parts.4)
   did_change-met None is e = not_edited d has is (λ u v c edits. none-and-some e (did_change-Edits d u v c edits))
 
-  notification-met : (method : List ℕ) (first second third : Bool) → IsCall d None method → bytes_eq method (codes "exit") ≡ first → bytes_eq method (codes "textDocument/didOpen") ≡ second
-      → bytes_eq method (codes "textDocument/didChange") ≡ third
+  notification-met : (method : List ℕ) (first second third fourth fifth : Bool) → IsCall d None method → bytes_eq method (codes "exit") ≡ first → bytes_eq method (codes "textDocument/didOpen") ≡ second
+      → bytes_eq method (codes "textDocument/didChange") ≡ third → bytes_eq method (codes "textDocument/didClose") ≡ fourth → bytes_eq method (codes "workspace/didChangeWatchedFiles") ≡ fifth
       → IsMessage body (if first then Exit else (if second then unwrap_or (did_open (get (codes "params") d)) (BadParams None method)
-      else (if third then unwrap_or (did_change (get (codes "params") d)) (BadParams None method) else Unknown None method)))
-  notification-met method true second third is e f h = exit d has (subst (IsCall d None) ((bytes_eq-Decides _ _).0 e) is)
-  notification-met method false true third is e f h =
+      else (if third then unwrap_or (did_change (get (codes "params") d)) (BadParams None method)
+      else (if fourth then unwrap_or (did_close (get (codes "params") d)) (BadParams None method)
+      else (if fifth then unwrap_or (did_change_watched_files (get (codes "params") d)) (BadParams None method) else Unknown None method)))))
+  notification-met method true second third fourth fifth is e f g h k = exit d has (subst (IsCall d None) ((bytes_eq-Decides _ _).0 e) is)
+  notification-met method false true third fourth fifth is e f g h k =
       let same : method ≡ codes "textDocument/didOpen" = (bytes_eq-Decides _ _).0 f in
       subst (λ name. IsMessage body (unwrap_or (did_open (get (codes "params") d)) (BadParams None name))) (sym same)
       (did_open-met (did_open (get (codes "params") d)) (subst (IsCall d None) same is) refl)
-  notification-met method false false true is e f h =
-      let same : method ≡ codes "textDocument/didChange" = (bytes_eq-Decides _ _).0 h in
+  notification-met method false false true fourth fifth is e f g h k =
+      let same : method ≡ codes "textDocument/didChange" = (bytes_eq-Decides _ _).0 g in
       subst (λ name. IsMessage body (unwrap_or (did_change (get (codes "params") d)) (BadParams None name))) (sym same)
       (did_change-met (did_change (get (codes "params") d)) (subst (IsCall d None) same is) refl)
-  notification-met method false false false is e f h =
+  notification-met method false false false true fifth is e f g h k =
+      let same : method ≡ codes "textDocument/didClose" = (bytes_eq-Decides _ _).0 h in
+      subst (λ name. IsMessage body (unwrap_or (did_close (get (codes "params") d)) (BadParams None name))) (sym same)
+      (did_close-met body d has (did_close (get (codes "params") d)) (subst (IsCall d None) same is) refl)
+  notification-met method false false false false true is e f g h k =
+      let same : method ≡ codes "workspace/didChangeWatchedFiles" = (bytes_eq-Decides _ _).0 k in
+      subst (λ name. IsMessage body (unwrap_or (did_change_watched_files (get (codes "params") d)) (BadParams None name))) (sym same)
+      (did_change_watched_files-met body d has (did_change_watched_files (get (codes "params") d)) (subst (IsCall d None) same is) refl)
+  notification-met method false false false false false is e f g h k =
       unknown d has is
       (λ known. elim known [
         | inl same ↦ false-and-true e ((bytes_eq-Decides _ _).1 same)
-        | inr other ↦ elim other [
+        | inr known ↦ elim known [
           | inl same ↦ false-and-true f ((bytes_eq-Decides _ _).1 same)
-          | inr same ↦ false-and-true h ((bytes_eq-Decides _ _).1 same)
+          | inr known ↦ elim known [
+            | inl same ↦ false-and-true g ((bytes_eq-Decides _ _).1 same)
+            | inr known ↦ elim known [
+              | inl same ↦ false-and-true h ((bytes_eq-Decides _ _).1 same)
+              | inr same ↦ false-and-true k ((bytes_eq-Decides _ _).1 same)
+            ]
+          ]
         ]
       ])
 
   call-met : (c : Call) → call_of d ≡ c → IsMessage body (call_message c (get (codes "params") d))
   call-met (request id method) same = request-met id method _ _ (IsCall-call_of d (Some id) method same) refl refl
-  call-met (notification method) same = notification-met method _ _ _ (IsCall-call_of d None method same) refl refl refl
+  call-met (notification method) same = notification-met method _ _ _ _ _ (IsCall-call_of d None method same) refl refl refl refl refl
   call-met call.response same = response d has (IsResponse-call_of d same)
   call-met neither same = bad_request d has (λ is. neither-and-response same (call_of-IsResponse d is)) (λ id method is. neither-the_call id method (sym same ∙ call_of-IsCall d id method is))
 
@@ -436,6 +461,18 @@ message_of-IsMessage body (DidChange u v c) (edited d has is edits) =
 message_of-IsMessage body (BadParams None _) (not_edited d has is closed) =
     message_of-value body d has ∙ value_message-call d None (codes "textDocument/didChange") is
     ∙ ap (λ found. unwrap_or found (BadParams None (codes "textDocument/didChange"))) (no_edits d _ refl closed)
+message_of-IsMessage body (DidClose u) (document_closed d has is closes) =
+    message_of-value body d has ∙ value_message-call d None (codes "textDocument/didClose") is
+    ∙ ap (λ found. unwrap_or found (BadParams None (codes "textDocument/didClose"))) (did_close-ClosesDocument d u closes)
+message_of-IsMessage body (BadParams None _) (not_document_closed d has is closed) =
+    message_of-value body d has ∙ value_message-call d None (codes "textDocument/didClose") is
+    ∙ ap (λ found. unwrap_or found (BadParams None (codes "textDocument/didClose"))) (no_close d _ refl closed)
+message_of-IsMessage body (DidChangeWatchedFiles c) (files_changed d has is tells) =
+    message_of-value body d has ∙ value_message-call d None (codes "workspace/didChangeWatchedFiles") is
+    ∙ ap (λ found. unwrap_or found (BadParams None (codes "workspace/didChangeWatchedFiles"))) (did_change_watched_files-TellsOfFiles d c tells)
+message_of-IsMessage body (BadParams None _) (not_files_changed d has is closed) =
+    message_of-value body d has ∙ value_message-call d None (codes "workspace/didChangeWatchedFiles") is
+    ∙ ap (λ found. unwrap_or found (BadParams None (codes "workspace/didChangeWatchedFiles"))) (no_file_changes d _ refl closed)
 message_of-IsMessage body (BadParams (Some id) _) (not_definition d has is closed) =
     message_of-value body d has ∙ value_message-call d (Some id) (codes "textDocument/definition") is
     ∙ ap (λ found. unwrap_or found (BadParams (Some id) (codes "textDocument/definition"))) (no_place (Definition id) d _ refl closed)

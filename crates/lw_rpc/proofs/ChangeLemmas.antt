@@ -112,9 +112,9 @@ pub AreChanges-changes_of : (values : Items) (changes : List Change) → changes
 AreChanges-changes_of no_items changes same = let e : [] ≡ changes = cc in subst (AreChanges no_items) e none
 AreChanges-changes_of (item d others) changes same = AreChanges-followed d others _ _ changes refl refl (AreChanges-changes_of others) same
 
--- ---- one change after the other
+-- ---- one after the other
 
--- some changes, and those that come behind them, if there are such
-abbrev pub behind : List Change → Option (List Change) → Option (List Change)
+-- some things, and those that come behind them, if there are such
+abbrev pub behind : {A : Type 0} → List A → Option (List A) → Option (List A)
 behind first (Some others) = Some (first ++ others)
 behind first None = None

@@ -1,5 +1,5 @@
 -- What was found in a value, by what was made of it.
-use Rattle.std.proofs.Common.{◌≡◌, ℕ, ℤ, List, Option, Some, None, option_and_then, refl, ap, sym, ◌∙◌}
+use Rattle.std.proofs.Common.{◌≡◌, ℕ, ℤ, List, Option, Some, None, option_map, option_and_then, refl, ap, sym, ◌∙◌}
 use Rattle.serde_json.specs.Data.{Data, Num, Items, null, boolean, number, string, array, object}
 use Rattle.serde_json.specs.Find.{get, as_str, as_number, as_array, as_i64}
 use Rattle.lw_rpc.specs.Params.{member_at}
@@ -38,3 +38,11 @@ inside look None found same = absurd (cc)
 
 pub found_in : (value : Option Data) (w found : Data) (key : List ℕ) → value ≡ Some w → member_at key value ≡ Some found → get key w ≡ Some found
 found_in value w found key e same = ap (option_and_then (get key)) (sym e) ∙ same
+
+-- what was made of a found thing
+pub mapped : {A B : Type 0} (f : A → B) (found : Option A) (made : B) → option_map f found ≡ Some made → (a : A) × (found ≡ Some a) × (made ≡ f a)
+mapped f (Some a) made same = (a, refl, cc)
+mapped f None made same = absurd (cc)
+
+pub none-and-some : {A : Type 0} {found : Option A} {x : A} → found ≡ None → found ≡ Some x → ⊥
+none-and-some e f = absurd (cc)

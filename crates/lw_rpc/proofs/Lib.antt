@@ -7,6 +7,8 @@ pub mod ReadLemmas
 pub mod PartLemmas
 pub mod Found
 pub mod ChangeLemmas
+pub mod FileChangeLemmas
 pub mod AskedLemmas
+pub mod NotificationLemmas
 pub mod CauseLemmas
 pub mod MemberLemmas

@@ -1,16 +1,20 @@
 -- When a body is which message, one rule for each. JSON-RPC 2.0, "Request object", "Notification" and "Response object"; Language Server
 -- Protocol 3.17, "Base types", "Request Message", "DidOpenTextDocumentParams", "TextDocumentItem", "DidChangeTextDocumentParams",
--- "TextDocumentContentChangeEvent", "TextDocumentPositionParams", "ReferenceParams", "RenameParams" and "CompletionParams".
+-- "TextDocumentContentChangeEvent", "TextDocumentPositionParams", "ReferenceParams", "RenameParams", "CompletionParams",
+-- "DidCloseTextDocumentParams", "DidChangeWatchedFilesParams", "FileEvent" and "FileChangeType".
 use Rattle.std.specs.Prelude.{◌≡◌, ◌⊎◌, ◌<◌, ◌^◌, ℕ, ℤ, List, [], ◌∷◌, Bool, codes, Option, Some, None, IsSome, IsUtf8}
 use Rattle.serde_json.specs.Data.{Data, Num, Items, no_items, item, unsigned, boolean, string, number, array}
 use Rattle.serde_json.specs.Find.{get, as_i64}
 use Rattle.serde_json.specs.Read.{read}
 use Rattle.lw_text.specs.declared.change.Change.{Change}
 use Rattle.lw_text.specs.declared.place.Pos.{Pos}
+use Rattle.lw_rpc.specs.declared.file_change.FileChange.{FileChange}
+use Rattle.lw_rpc.specs.declared.file_change.FileChangeKind.{FileChangeKind}
+use Rattle.lw_rpc.specs.declared.file_change.FileChangeKind.TheVariants.{Created, Changed, Deleted}
 use Rattle.lw_rpc.specs.declared.message.Id.{Id}
 use Rattle.lw_rpc.specs.declared.message.Id.TheVariants.{Whole, Words}
 use Rattle.lw_rpc.specs.declared.message.Message.{Message}
-use Rattle.lw_rpc.specs.declared.message.Message.TheVariants.{BadJson, BadRequest, Response, Unknown, BadParams, Initialize, Shutdown, Definition, References, Rename, Completion, Exit, DidOpen, DidChange}
+use Rattle.lw_rpc.specs.declared.message.Message.TheVariants.{BadJson, BadRequest, Response, Unknown, BadParams, Initialize, Shutdown, Definition, References, Rename, Completion, Exit, DidOpen, DidChange, DidClose, DidChangeWatchedFiles}
 
 -- the body is UTF-8 and reads as the value
 pub record HasValue (body : List ℕ) (d : Data) : Type 0 where
@@ -45,7 +49,9 @@ IsKnown (Some id) method =
     (method ≡ codes "initialize") ⊎ ((method ≡ codes "shutdown")
     ⊎ ((method ≡ codes "textDocument/definition") ⊎ ((method ≡ codes "textDocument/references")
     ⊎ ((method ≡ codes "textDocument/rename") ⊎ (method ≡ codes "textDocument/completion")))))
-IsKnown None method = (method ≡ codes "exit") ⊎ ((method ≡ codes "textDocument/didOpen") ⊎ (method ≡ codes "textDocument/didChange"))
+IsKnown None method =
+    (method ≡ codes "exit") ⊎ ((method ≡ codes "textDocument/didOpen") ⊎ ((method ≡ codes "textDocument/didChange")
+    ⊎ ((method ≡ codes "textDocument/didClose") ⊎ (method ≡ codes "workspace/didChangeWatchedFiles"))))
 
 -- the parameters of `textDocument/didOpen`
 pub record Opens (d : Data) (uri : List ℕ) (version : ℤ) (text : List ℕ) : Type 0 where
@@ -106,6 +112,38 @@ pub record Edits (d : Data) (uri : List ℕ) (version : ℤ) (changes : List Cha
   pub has_changes : get (codes "contentChanges") params ≡ Some (array values)
   pub are_changes : AreChanges values changes
 
+-- the parameters of `textDocument/didClose`
+pub record ClosesDocument (d : Data) (uri : List ℕ) : Type 0 where
+  pub params : Data
+  pub document : Data
+  pub has_params : get (codes "params") d ≡ Some params
+  pub has_document : get (codes "textDocument") params ≡ Some document
+  pub has_uri : get (codes "uri") document ≡ Some (string uri)
+
+-- the number of what was done to a file
+abbrev pub number_of_kind : FileChangeKind → ℕ
+number_of_kind Created = 1
+number_of_kind Changed = 2
+number_of_kind Deleted = 3
+
+-- the value is the change of a file
+pub record IsFileChange (d : Data) (change : FileChange) : Type 0 where
+  pub has_uri : get (codes "uri") d ≡ Some (string change.uri)
+  pub has_type : get (codes "type") d ≡ Some (number (unsigned (number_of_kind change.kind)))
+
+-- the values are the changes of files, one each
+pub data AreFileChanges : Items → List FileChange → Type 0 where
+  no_files : AreFileChanges no_items []
+  next_file : {d : Data} {others : Items} {change : FileChange} {changes : List FileChange} → IsFileChange d change → AreFileChanges others changes → AreFileChanges (item d others) (change ∷ changes)
+
+-- the parameters of `workspace/didChangeWatchedFiles`
+pub record TellsOfFiles (d : Data) (changes : List FileChange) : Type 0 where
+  pub params : Data
+  pub values : Items
+  pub has_params : get (codes "params") d ≡ Some params
+  pub has_changes : get (codes "changes") params ≡ Some (array values)
+  pub are_changes : AreFileChanges values changes
+
 -- the parameters name a place in a document
 pub record NamesPoint (params : Data) (uri : List ℕ) (at : Pos) : Type 0 where
   pub document : Data
@@ -165,3 +203,8 @@ pub data IsMessage (body : List ℕ) : Message → Type 0 where
   not_opened : (d : Data) → HasValue body d → IsCall d None (codes "textDocument/didOpen") → ((uri : List ℕ) (version : ℤ) (text : List ℕ) → ¬ Opens d uri version text) → IsMessage body (BadParams None (codes "textDocument/didOpen"))
   edited : (d : Data) {uri : List ℕ} {version : ℤ} {changes : List Change} → HasValue body d → IsCall d None (codes "textDocument/didChange") → Edits d uri version changes → IsMessage body (DidChange uri version changes)
   not_edited : (d : Data) → HasValue body d → IsCall d None (codes "textDocument/didChange") → ((uri : List ℕ) (version : ℤ) (changes : List Change) → ¬ Edits d uri version changes) → IsMessage body (BadParams None (codes "textDocument/didChange"))
+  document_closed : (d : Data) {uri : List ℕ} → HasValue body d → IsCall d None (codes "textDocument/didClose") → ClosesDocument d uri → IsMessage body (DidClose uri)
+  not_document_closed : (d : Data) → HasValue body d → IsCall d None (codes "textDocument/didClose") → ((uri : List ℕ) → ¬ ClosesDocument d uri) → IsMessage body (BadParams None (codes "textDocument/didClose"))
+  files_changed : (d : Data) {changes : List FileChange} → HasValue body d → IsCall d None (codes "workspace/didChangeWatchedFiles") → TellsOfFiles d changes → IsMessage body (DidChangeWatchedFiles changes)
+  not_files_changed : (d : Data) → HasValue body d → IsCall d None (codes "workspace/didChangeWatchedFiles") → ((changes : List FileChange) → ¬ TellsOfFiles d changes)
+      → IsMessage body (BadParams None (codes "workspace/didChangeWatchedFiles"))

@@ -46,10 +46,11 @@ replacing None text = None
 abbrev pub change_of : Data → Option Change
 change_of value = replacing (optional_range (get (codes "range") value)) (option_and_then as_str (get (codes "text") value))
 
-abbrev pub followed : Option Change → Option (List Change) → Option (List Change)
-followed (Some change) (Some changes) = Some (change ∷ changes)
-followed (Some change) None = None
-followed None changes = None
+-- one thing and those that come behind it, if there are such
+abbrev pub followed : {A : Type 0} → Option A → Option (List A) → Option (List A)
+followed (Some one) (Some others) = Some (one ∷ others)
+followed (Some one) None = None
+followed None others = None
 
 -- the changes that these values are, where each of them is one
 abbrev pub changes_of : Items → Option (List Change)

@@ -1,5 +1,6 @@
 pub mod Calls
 pub mod ChangeParams
+pub mod FileChangeParams
 pub mod Params
 pub mod Messages
 pub mod Values

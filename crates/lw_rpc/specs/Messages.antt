@@ -6,7 +6,7 @@ use Rattle.serde_json.specs.Data.{Data}
 use Rattle.serde_json.specs.Find.{get}
 use Rattle.serde_json.specs.Read.{read}
 use Rattle.lw_rpc.specs.Calls.{Call, request, notification, response, neither, call_of}
-use Rattle.lw_rpc.specs.Params.{did_open, did_change, definition_asked, references_asked, rename_asked, completion_asked}
+use Rattle.lw_rpc.specs.Params.{did_open, did_change, did_close, did_change_watched_files, definition_asked, references_asked, rename_asked, completion_asked}
 use Rattle.lw_rpc.specs.declared.message.Id.{Id}
 use Rattle.lw_rpc.specs.declared.message.Message.{Message}
 use Rattle.lw_rpc.specs.declared.message.Message.TheVariants.{BadJson, BadRequest, Response, Unknown, BadParams, Initialize, Shutdown, Exit}
@@ -28,7 +28,9 @@ notification_message method params =
     if bytes_eq method (codes "exit") then Exit
     else (if bytes_eq method (codes "textDocument/didOpen") then unwrap_or (did_open params) (BadParams None method)
     else (if bytes_eq method (codes "textDocument/didChange") then unwrap_or (did_change params) (BadParams None method)
-    else Unknown None method))
+    else (if bytes_eq method (codes "textDocument/didClose") then unwrap_or (did_close params) (BadParams None method)
+    else (if bytes_eq method (codes "workspace/didChangeWatchedFiles") then unwrap_or (did_change_watched_files params) (BadParams None method)
+    else Unknown None method))))
 
 -- by the kind of the message and its parameters
 abbrev pub call_message : Call → Option Data → Message

@@ -1,15 +1,17 @@
 -- What the parameters of a method must have, and what they say. Language Server Protocol 3.17, "DidOpenTextDocumentParams",
 -- "TextDocumentItem", "DidChangeTextDocumentParams", "VersionedTextDocumentIdentifier", "TextDocumentPositionParams", "ReferenceParams",
--- "RenameParams" and "CompletionParams". Further keys are ignored, and of a key that stands twice the last value counts.
+-- "RenameParams", "CompletionParams", "DidCloseTextDocumentParams" and "DidChangeWatchedFilesParams". Further keys are ignored, and of a key that stands twice the last value counts.
 use Rattle.std.specs.Prelude.{ℕ, ℤ, List, Bool, codes, Option, Some, None, option_map, option_and_then}
 use Rattle.serde_json.specs.Data.{Data}
 use Rattle.serde_json.specs.Find.{get, as_bool, as_str, as_number, as_array, as_i64}
 use Rattle.lw_text.specs.declared.change.Change.{Change}
 use Rattle.lw_text.specs.declared.place.Pos.{Pos}
 use Rattle.lw_rpc.specs.ChangeParams.{position_of, changes_of}
+use Rattle.lw_rpc.specs.FileChangeParams.{file_changes_of}
+use Rattle.lw_rpc.specs.declared.file_change.FileChange.{FileChange}
 use Rattle.lw_rpc.specs.declared.message.Id.{Id}
 use Rattle.lw_rpc.specs.declared.message.Message.{Message}
-use Rattle.lw_rpc.specs.declared.message.Message.TheVariants.{Definition, References, Rename, Completion, DidOpen, DidChange}
+use Rattle.lw_rpc.specs.declared.message.Message.TheVariants.{Definition, References, Rename, Completion, DidOpen, DidChange, DidClose, DidChangeWatchedFiles}
 
 -- the member under the key, where there is a value and it is an object with the key
 abbrev pub member_at : List ℕ → Option Data → Option Data
@@ -54,6 +56,18 @@ document_edit document changes = edit_by (text_at (codes "uri") document) (whole
 -- `textDocument/didChange`: such a document under `textDocument`, and a list of changes under `contentChanges`, which may be empty
 abbrev pub did_change : Option Data → Option Message
 did_change params = document_edit (member_at (codes "textDocument") params) (changes_at (codes "contentChanges") params)
+
+-- `textDocument/didClose`: a document with its address under `textDocument`
+abbrev pub did_close : Option Data → Option Message
+did_close params = option_map DidClose (text_at (codes "uri") (member_at (codes "textDocument") params))
+
+-- the changes of files under the key, which is a list of them
+abbrev pub file_changes_at : List ℕ → Option Data → Option (List FileChange)
+file_changes_at key value = option_and_then file_changes_of (option_and_then as_array (member_at key value))
+
+-- `workspace/didChangeWatchedFiles`: a list of changes of files under `changes`, which may be empty
+abbrev pub did_change_watched_files : Option Data → Option Message
+did_change_watched_files params = option_map DidChangeWatchedFiles (file_changes_at (codes "changes") params)
 
 -- the position under the key
 abbrev pub position_at : List ℕ → Option Data → Option Pos

@@ -5,8 +5,8 @@
 //! [`Message`], by way of the JSON value that `serde_json` reads, the kind of the value by its keys
 //! (`specs/Calls.antt`) and the shape of its parameters (`specs/Params.antt`); `specs/Causes.antt` says the
 //! same as rules, one for each message. The changes of a text are `lw_text`'s, and their shape is in
-//! `specs/ChangeParams.antt`. `specs/Replies.antt` gives the bytes of a [`Reply`], and
-//! `specs/Values.antt` the JSON value that they are.
+//! `specs/ChangeParams.antt`; that of the changes of files is in `specs/FileChangeParams.antt`.
+//! `specs/Replies.antt` gives the bytes of a [`Reply`], and `specs/Values.antt` the JSON value that they are.
 //!
 //! It promises that [`read_message`] gives exactly that message, each refusal by its own rule alone; that
 //! [`reply_text`] gives exactly those bytes, and that they read back as that value. Either call may be
@@ -27,6 +27,7 @@
 mod asked;
 mod changes;
 mod edits;
+mod file_change;
 mod hello;
 mod lists;
 mod locations;
@@ -40,8 +41,10 @@ mod ranges;
 mod reading;
 mod reply;
 mod texts;
+mod watched;
 mod writing;
 
+pub use file_change::{FileChange, FileChangeKind};
 pub use message::{Id, Message};
 pub use reading::read_message;
 pub use reply::{CompletionItem, FileEdits, Location, Outcome, Reply, TextEdit};

@@ -1,4 +1,5 @@
 // What a body says.
+use crate::FileChange;
 use lw_base::{Items, Name};
 use lw_text::{Change, Pos};
 
@@ -84,5 +85,14 @@ pub enum Message {
         uri: Name,
         version: i64,
         changes: Items<Change>,
+    },
+    /// The notification `textDocument/didClose`: the document's address.
+    DidClose {
+        uri: Name,
+    },
+    /// The notification `workspace/didChangeWatchedFiles`: what was done to files that the editor watches, in
+    /// the order in which it is told, of which there may be nothing.
+    DidChangeWatchedFiles {
+        changes: Items<FileChange>,
     },
 }

@@ -4,7 +4,7 @@ ghost use Rattle.serde_json.specs.View.{view};
 ghost use Rattle.lw_rpc.specs.Messages.{request_message, notification_message};
 
 use crate::asked::{completion, definition, references, rename};
-use crate::params::{did_change, did_open};
+use crate::params::{did_change, did_change_watched_files, did_close, did_open};
 use crate::{Id, Message};
 use lw_base::{Name, NoMemory};
 use serde_json::Value;
@@ -36,6 +36,10 @@ pub fn notification(alloc: Global, method: Name, params: Option<Value>) -> Resul
         "exit" => Ok(Message::Exit),
         "textDocument/didOpen" => Ok(or_bad_params(did_open(params), method)),
         "textDocument/didChange" => Ok(or_bad_params(did_change(alloc, params)?, method)),
+        "textDocument/didClose" => Ok(or_bad_params(did_close(params), method)),
+        "workspace/didChangeWatchedFiles" => {
+            Ok(or_bad_params(did_change_watched_files(alloc, params)?, method))
+        }
         _ => Ok(Message::Unknown { id: None, method }),
     }
 }

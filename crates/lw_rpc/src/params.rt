@@ -7,6 +7,7 @@ ghost use Rattle.lw_rpc.specs.Params as shape;
 use crate::Message;
 use crate::changes::taken_changes;
 use crate::members::{member_at, taken_text, taken_value};
+use crate::watched::taken_file_changes;
 use lw_base::{Items, NoMemory};
 use lw_text::Change;
 use serde_json::{Map, Value};
@@ -78,4 +79,26 @@ fn edited_by(mut identifier: Map<String, Value>, changes: Items<Change>) -> Opti
         version,
         changes,
     })
+}
+
+/// What `textDocument/didClose` says, or None where its parameters are not of its shape.
+pub fn did_close(params: Option<Value>) -> Option<Message>
+    ensures { result ≡ shape.did_close (option_map view params) }
+{
+    let document = member_at(params, "textDocument");
+    let uri = taken_text(member_at(document, "uri")?)?;
+    Some(Message::DidClose { uri })
+}
+
+/// What `workspace/didChangeWatchedFiles` says, or None where its parameters are not of its shape.
+pub fn did_change_watched_files(
+    alloc: Global,
+    params: Option<Value>,
+) -> Result<Option<Message>, NoMemory>
+    ensures { IfOk result (λ message. message ≡ shape.did_change_watched_files (option_map view params)) }
+{
+    match taken_file_changes(alloc, member_at(params, "changes"))? {
+        Some(changes) => Ok(Some(Message::DidChangeWatchedFiles { changes })),
+        None => Ok(None),
+    }
 }

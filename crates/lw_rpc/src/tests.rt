@@ -80,7 +80,7 @@ const IDS: [Row; 16] = [
 ];
 
 /// The members of a body beside its version: each method in its own kind of message.
-const METHODS: [Row; 16] = [
+const METHODS: [Row; 38] = [
     (
         r#""id":1,"method":"initialize""#,
         "Initialize { id: Whole(1) }",
@@ -138,6 +138,88 @@ const METHODS: [Row; 16] = [
     (
         r#""method":"textDocument/completion","params":{"textDocument":{"uri":"u"},"position":{"line":0,"character":0}}"#,
         r#"Unknown { id: None, method: Name { text: "textDocument/completion" } }"#,
+    ),
+    (
+        r#""id":1,"method":"textDocument/didClose","params":{"textDocument":{"uri":"u"}}"#,
+        r#"Unknown { id: Some(Whole(1)), method: Name { text: "textDocument/didClose" } }"#,
+    ),
+    (
+        r#""id":1,"method":"workspace/didChangeWatchedFiles","params":{"changes":[]}"#,
+        r#"Unknown { id: Some(Whole(1)), method: Name { text: "workspace/didChangeWatchedFiles" } }"#,
+    ),
+    (
+        r#""method":"textDocument/didClose","params":{"a":1,"textDocument":{"version":null,"uri":"file:///m.s"}}"#,
+        r#"DidClose { uri: Name { text: "file:///m.s" } }"#,
+    ),
+    (r#""method":"textDocument/didClose""#, BAD_CLOSE),
+    (
+        r#""method":"textDocument/didClose","params":{"uri":"u"}"#,
+        BAD_CLOSE,
+    ),
+    (
+        r#""method":"textDocument/didClose","params":{"textDocument":"u"}"#,
+        BAD_CLOSE,
+    ),
+    (
+        r#""method":"textDocument/didClose","params":{"textDocument":{"uri":null}}"#,
+        BAD_CLOSE,
+    ),
+    (
+        r#""method":"workspace/didChangeWatchedFiles","params":{"changes":[{"uri":"a","type":1},{"more":[],"type":2,"uri":""},{"uri":"c","type":7,"type":3}],"b":0}"#,
+        r#"DidChangeWatchedFiles { changes: Items { items: [FileChange { uri: Name { text: "a" }, kind: Created }, FileChange { uri: Name { text: "" }, kind: Changed }, FileChange { uri: Name { text: "c" }, kind: Deleted }] } }"#,
+    ),
+    (
+        r#""method":"workspace/didChangeWatchedFiles","params":{"changes":[]}"#,
+        "DidChangeWatchedFiles { changes: Items { items: [] } }",
+    ),
+    (r#""method":"workspace/didChangeWatchedFiles""#, BAD_FILES),
+    (
+        r#""method":"workspace/didChangeWatchedFiles","params":[]"#,
+        BAD_FILES,
+    ),
+    (
+        r#""method":"workspace/didChangeWatchedFiles","params":{"changes":{"uri":"a","type":1}}"#,
+        BAD_FILES,
+    ),
+    (
+        r#""method":"workspace/didChangeWatchedFiles","params":{"changes":["a"]}"#,
+        BAD_FILES,
+    ),
+    (
+        r#""method":"workspace/didChangeWatchedFiles","params":{"changes":[{"uri":"a","type":1},{"type":1}]}"#,
+        BAD_FILES,
+    ),
+    (
+        r#""method":"workspace/didChangeWatchedFiles","params":{"changes":[{"uri":7,"type":1}]}"#,
+        BAD_FILES,
+    ),
+    (
+        r#""method":"workspace/didChangeWatchedFiles","params":{"changes":[{"uri":"a"}]}"#,
+        BAD_FILES,
+    ),
+    (
+        r#""method":"workspace/didChangeWatchedFiles","params":{"changes":[{"uri":"a","type":0}]}"#,
+        BAD_FILES,
+    ),
+    (
+        r#""method":"workspace/didChangeWatchedFiles","params":{"changes":[{"uri":"a","type":4}]}"#,
+        BAD_FILES,
+    ),
+    (
+        r#""method":"workspace/didChangeWatchedFiles","params":{"changes":[{"uri":"a","type":-1}]}"#,
+        BAD_FILES,
+    ),
+    (
+        r#""method":"workspace/didChangeWatchedFiles","params":{"changes":[{"uri":"a","type":"1"}]}"#,
+        BAD_FILES,
+    ),
+    (
+        r#""method":"workspace/didChangeWatchedFiles","params":{"changes":[{"uri":"a","type":1.0}]}"#,
+        BAD_FILES,
+    ),
+    (
+        r#""method":"workspace/didChangeWatchedFiles","params":{"changes":[{"uri":"a","type":1e0}]}"#,
+        BAD_FILES,
     ),
 ];
 
@@ -258,6 +340,11 @@ const ASKED: [Row; 26] = [
 const BAD: &str = r#"BadParams { id: None, method: Name { text: "textDocument/didOpen" } }"#;
 
 const BAD_EDIT: &str = r#"BadParams { id: None, method: Name { text: "textDocument/didChange" } }"#;
+
+const BAD_CLOSE: &str = r#"BadParams { id: None, method: Name { text: "textDocument/didClose" } }"#;
+
+const BAD_FILES: &str =
+    r#"BadParams { id: None, method: Name { text: "workspace/didChangeWatchedFiles" } }"#;
 
 const OPENED: &str =
     r#"DidOpen { uri: Name { text: "u" }, version: -9223372036854775808, text: Name { text: "" } }"#;

@@ -1,11 +1,13 @@
 -- What a session does with a message, by what the message makes of it and the build behind it.
-use Rattle.std.proofs.Common.{◌≡◌, ℕ, List, [], ◌∷◌, ◌++◌, map, Result, Ok, Err, OnErr, refl, sym, ap, ap₂, subst, append-nil, inl, ◌∙◌}
+use Rattle.std.proofs.Common.{◌≡◌, ℕ, List, [], ◌∷◌, ◌++◌, map, Result, Ok, Err, OnErr, refl, sym, ap, ap₂, subst, append-nil, inl, inr, ◌∙◌}
 use Rattle.std.proofs.lemmas.List.{map-append}
 use Rattle.lw_build.specs.Agreeing.{Agrees}
 use Rattle.lw_build.specs.View.{WorkspaceView, documents}
 use Rattle.lw_grammar.specs.declared.grammar.Grammar.{Grammar}
 use Rattle.lw_rpc.specs.Replies.{reply_bytes}
+use Rattle.lw_rpc.specs.declared.file_change.FileChange.{FileChange}
 use Rattle.lw_rpc.specs.declared.message.Message.{Message}
+use Rattle.lw_rpc.specs.declared.message.Message.TheVariants.{DidChangeWatchedFiles}
 use Rattle.lw_rpc.specs.declared.reply.Reply.{Reply}
 use Rattle.lw_machine.specs.Building.{BuildsToEnd}
 use Rattle.lw_machine.specs.Documents.{Documents}
@@ -13,14 +15,18 @@ use Rattle.lw_machine.specs.Validity.{IsValid}
 use Rattle.lw_machine.specs.declared.published.Published.{Published}
 use Rattle.lw_machine.proofs.Contents.{to_end_same}
 use Rattle.lw_conversation.specs.Answered as answer
-use Rattle.lw_conversation.specs.Answered.{IsCutShort}
-use Rattle.lw_conversation.specs.Effects.{as_reply}
+use Rattle.lw_conversation.specs.Answered.{ChangesInPart, IsCutShort}
+use Rattle.lw_conversation.specs.Effects.{TakesEffect}
+use Rattle.lw_conversation.specs.Gate.{Passes, gate}
+use Rattle.lw_conversation.specs.Publishing.{as_reply}
+use Rattle.lw_conversation.specs.Reading.{Asked}
 use Rattle.lw_conversation.specs.Sessions as session
 use Rattle.lw_conversation.specs.Sessions.{Handles}
 use Rattle.lw_conversation.specs.Standing.{Standing}
 use Rattle.lw_conversation.specs.declared.ended.Ended.{Ended}
 use Rattle.lw_conversation.specs.declared.phase.Phase.{Phase}
 use Rattle.lw_session.specs.Answering.{IsAnswered, IsBuiltBehind, waits, builds, standing_of}
+use Rattle.lw_session.specs.Moving.{AreSeenInPart, MayBeDone}
 use Rattle.lw_session.specs.declared.lifecycle.Told.{Told}
 use Rattle.lw_session.proofs.Known.{same_content}
 
@@ -45,16 +51,17 @@ error_unchanged (Err e) v w phase m same =
     subst (λ (x : WorkspaceView). IsCutShort v.grammar (standing_of v phase) m (standing_of x phase)) (sym same) (not_begun v.grammar (standing_of v phase) m)
 
 -- where memory is refused behind the build, the documents are those behind it
-cut_behind : (g : Grammar) (s t : Standing) (m : Message) (replies : List Reply) (ended : Ended) → Handles g s m [] t replies ended → IsValid g t.documents →
+cut_behind : (g : Grammar) (s t : Standing) (m : Message) (asked : List Asked) (replies : List Reply) (ended : Ended) → Handles g s m asked t replies ended →
+    IsValid g t.documents →
     IsCutShort g s m (record { documents = t.documents; phase = s.phase })
-cut_behind g s t m replies ended (session.unbuilt answered off) valid = record {
+cut_behind g s t m asked replies ended (session.unbuilt answered off) valid = record {
   changed = t.documents;
   changes = answer.all answered;
   content = λ address. refl;
   phase = inl refl;
   valid = λ before. valid;
 }
-cut_behind g s t m replies ended (session.built {t = u} {n = n} {published = p} answered on to_end) valid = record {
+cut_behind g s t m asked replies ended (session.built {t = u} {n = n} {published = p} answered on to_end) valid = record {
   changed = u.documents;
   changes = answer.all answered;
   content = to_end_same g u.documents n p to_end;
@@ -62,10 +69,10 @@ cut_behind g s t m replies ended (session.built {t = u} {n = n} {published = p} 
   valid = λ before. valid;
 }
 
-pub error_behind : {A E : Type 0} (r : Result A E) (g : Grammar) (s t : Standing) (m : Message) (replies : List Reply) (ended : Ended) →
-    Handles g s m [] t replies ended → IsValid g t.documents → OnErr r (IsCutShort g s m (record { documents = t.documents; phase = s.phase }))
-error_behind (Ok x) g s t m replies ended handles valid = tt
-error_behind (Err e) g s t m replies ended handles valid = cut_behind g s t m replies ended handles valid
+pub error_behind : {A E : Type 0} (r : Result A E) (g : Grammar) (s t : Standing) (m : Message) (asked : List Asked) (replies : List Reply) (ended : Ended) →
+    Handles g s m asked t replies ended → IsValid g t.documents → OnErr r (IsCutShort g s m (record { documents = t.documents; phase = s.phase }))
+error_behind (Ok x) g s t m asked replies ended handles valid = tt
+error_behind (Err e) g s t m asked replies ended handles valid = cut_behind g s t m asked replies ended handles valid
 
 -- where it is refused behind a build alone, nothing but what was computed has changed
 pub cut_by_build : (v w : WorkspaceView) (phase : Phase) (m : Message) (lists : List Published) → BuildsToEnd v.grammar (documents v) (documents w) lists →
@@ -78,7 +85,36 @@ cut_by_build v w phase m lists to_end agrees same = record {
   valid = λ before. subst (λ g. IsValid g (documents w)) same agrees.valid;
 }
 
-module _ (v w : WorkspaceView) (phase : Phase) (message : Message) (told : Told) (is : IsAnswered v w phase message told) (same : w.grammar ≡ v.grammar) where
+-- where it is refused at what passes the gate, nothing has changed, or all that the message says, or the first of its changes of files
+module _ (v w : WorkspaceView) (phase : Phase) (message : Message) (through : gate phase message ≡ Passes) (agrees : Agrees v (documents v)) (after : Agrees w (documents w))
+    (same : w.grammar ≡ v.grammar) where
+  cut_at : (n : Documents) → Agrees w n → ChangesInPart v.grammar (standing_of v phase) message n →
+      IsCutShort v.grammar (standing_of v phase) message (standing_of w phase)
+  cut_at n agrees changes = record {
+    changed = n;
+    changes = changes;
+    content = same_content w n (documents w) agrees after;
+    phase = inl refl;
+    valid = λ before. subst (λ g. IsValid g (documents w)) same after.valid;
+  }
+
+  pub cut_in_message : (Does : Documents → List Asked → Documents → List Reply → Type 0) →
+      ((asked : List Asked) (n : Documents) (replies : List Reply) → Does (documents v) asked n replies → TakesEffect v.grammar (documents v) message asked n replies) →
+      MayBeDone v w Does → IsCutShort v.grammar (standing_of v phase) message (standing_of w phase)
+  cut_in_message Does effect (inl stays) =
+      subst (λ (x : WorkspaceView). IsCutShort v.grammar (standing_of v phase) message (standing_of x phase)) (sym stays) (not_begun v.grammar (standing_of v phase) message)
+  cut_in_message Does effect (inr moves) =
+      let to = moves (documents v) agrees in
+      cut_at to.0 to.1 (answer.all (answer.passes through (effect to.2.0 to.0 to.2.1 to.2.2)))
+
+  pub cut_between : (changes : List FileChange) → message ≡ DidChangeWatchedFiles changes → AreSeenInPart v w changes →
+      IsCutShort v.grammar (standing_of v phase) message (standing_of w phase)
+  cut_between changes says is =
+      let to = is.moves (documents v) agrees in
+      cut_at to.0 to.1 (answer.first is.behind through (says ∙ ap DidChangeWatchedFiles is.joined) to.2.2)
+
+module _ (v w : WorkspaceView) (phase : Phase) (message : Message) (asked : List Asked) (told : Told) (is : IsAnswered v w phase message asked told)
+    (same : w.grammar ≡ v.grammar) where
   -- where it is refused before the build, they are those that the message leaves
   pub error_between : {A E : Type 0} (r : Result A E) → Agrees w (documents w) → OnErr r (IsCutShort v.grammar (standing_of v phase) message (standing_of w phase))
   error_between (Ok x) agrees = tt
@@ -92,10 +128,10 @@ module _ (v w : WorkspaceView) (phase : Phase) (message : Message) (told : Told)
 
   -- a message and the build behind it
   pub served : (x : WorkspaceView) (lists : List Published) → IsBuiltBehind w x told.phase is.changed lists →
-      Handles v.grammar (standing_of v phase) message [] (standing_of x told.phase) (told.replies ++ map as_reply lists) told.ended
+      Handles v.grammar (standing_of v phase) message asked (standing_of x told.phase) (told.replies ++ map as_reply lists) told.ended
   served x lists (waits off stays) =
-      subst (λ replies. Handles v.grammar (standing_of v phase) message [] (standing_of x told.phase) replies told.ended) (sym (append-nil told.replies))
-      (subst (λ (m : Documents). Handles v.grammar (standing_of v phase) message [] (record { documents = m; phase = told.phase }) told.replies told.ended)
+      subst (λ replies. Handles v.grammar (standing_of v phase) message asked (standing_of x told.phase) replies told.ended) (sym (append-nil told.replies))
+      (subst (λ (m : Documents). Handles v.grammar (standing_of v phase) message asked (record { documents = m; phase = told.phase }) told.replies told.ended)
       (is.stays off ∙ ap documents (sym stays)) (session.unbuilt is.answered off))
   served x lists (builds on to_end) = session.built is.answered on (subst (λ g. BuildsToEnd g is.changed (documents x) lists) same to_end)
 

@@ -99,12 +99,12 @@ module _ (v w : WorkspaceView) (phase : Phase) (address text : List ℕ) (before
 module _ (v : WorkspaceView) (address text : List ℕ) (before : Agrees v (documents v)) where
   pub fits : {T E : Type 0} (r : Result T E) → len v.kept ≤ MOST_DOCUMENTS → OnOk r ((length text ≤ LONGEST_TEXT) × (¬ HasNoRoom v address)) →
       OnOk r ((length text ≤ LONGEST_TEXT) × HasRoom (documents v) address)
-  fits (Ok x) few (short, free) = (short, room v before address few free)
+  fits (Ok x) few (short, free) = (short, room v (documents v) before address few free)
   fits (Err e) few fit = tt
 
   load_fault : (fault : WorkFault) → IsPutFault v address text fault → IsLoadFault (documents v) address text fault
   load_fault fault (faults.IsPutFault.too_long long) = loading.IsLoadFault.too_long long
-  load_fault fault (faults.IsPutFault.too_many short none) = loading.IsLoadFault.too_many short (full v before address none)
+  load_fault fault (faults.IsPutFault.too_many short none) = loading.IsLoadFault.too_many short (full v (documents v) before address none)
   load_fault fault faults.IsPutFault.no_memory = loading.IsLoadFault.no_memory
 
   pub not_loaded : {T : Type 0} (r : Result T WorkFault) → IfErr r (IsPutFault v address text) → IfErr r (IsLoadFault (documents v) address text)

@@ -1,6 +1,7 @@
 pub mod View
 pub mod Lifecycle
 pub mod Answering
+pub mod Moving
 pub mod Loading
 pub mod Seen
 pub mod Locating

@@ -2,7 +2,7 @@
 -- Language Server Protocol 3.17, "Server lifecycle".
 use Rattle.std.specs.Prelude.{◌≡◌, List, true, false}
 use Rattle.lw_rpc.specs.declared.message.Message.{Message}
-use Rattle.lw_rpc.specs.declared.message.Message.TheVariants.{DidOpen, DidChange, Definition, References, Rename, Completion}
+use Rattle.lw_rpc.specs.declared.message.Message.TheVariants.{DidOpen, DidChange, DidClose, DidChangeWatchedFiles, Definition, References, Rename, Completion}
 use Rattle.lw_rpc.specs.declared.reply.Reply.{Reply}
 use Rattle.lw_conversation.specs.Gate.{Passage, gate}
 use Rattle.lw_conversation.specs.Gate as at_gate
@@ -50,9 +50,11 @@ question_message id address at question.Completion = Completion id address at
 abbrev pub asked_message : Asked → Message
 asked_message asked = question_message asked.id asked.address asked.at asked.question
 
--- the step for a message: it stops at the gate, or it opens or changes a document, or asks, in a session that is live
+-- the step for a message: it stops at the gate, or it opens, changes or closes a document, tells changes of files, or asks, in a session that is live
 abbrev pub IsStep : Phase → Message → Step → Type 0
 IsStep phase message (step.Stops told) = gate phase message ≡ passage_of told
 IsStep phase message (step.Opens opened) = (message ≡ opened_message opened) × IsLive phase
 IsStep phase message (step.Edits edited) = (message ≡ edited_message edited) × IsLive phase
+IsStep phase message (step.Closes address) = (message ≡ DidClose address) × IsLive phase
+IsStep phase message (step.Watches changes) = (message ≡ DidChangeWatchedFiles changes) × IsLive phase
 IsStep phase message (step.Asks asked) = (message ≡ asked_message asked) × IsLive phase

@@ -3,7 +3,7 @@ ghost use Rattle.std.specs.Prelude.{◌≡◌, ◌∷◌, ◌++◌, [], IfOk, On
 ghost use Rattle.lw_build.specs.View.{documents};
 ghost use Rattle.lw_conversation.specs.Answered.{IsCutShort};
 ghost use Rattle.lw_conversation.specs.Asking.{RepliesTo, TellsDefinition, TellsReferences};
-ghost use Rattle.lw_conversation.specs.Effects.{as_reply};
+ghost use Rattle.lw_conversation.specs.Publishing.{as_reply};
 ghost use Rattle.lw_session.specs.Answering.{IsAnswered, standing_of};
 ghost use Rattle.lw_session.specs.Lifecycle.{IsLive, asked_message, telling};
 
@@ -32,7 +32,7 @@ pub(crate) fn ask<L: Ledger>(
     steps: &mut Steps<L>,
 ) -> Result<Told, NoMemory>
     requires { IsLive phase }
-    ensures answered { IfOk result (IsAnswered workspace.old workspace.new phase (asked_message asked)) }
+    ensures answered { IfOk result (IsAnswered workspace.old workspace.new phase (asked_message asked) []) }
     ensures cut_short { OnErr result (IsCutShort workspace.old.grammar (standing_of workspace.old phase) (asked_message asked) (standing_of workspace.new phase)) }
     ensures grammar { workspace.new.grammar ≡ workspace.old.grammar }
 {

@@ -20,7 +20,7 @@ pub(crate) fn edit(
     edited: Edited,
 ) -> Result<Told, NoMemory>
     requires { IsLive phase }
-    ensures answered { IfOk result (IsAnswered workspace.old workspace.new phase (edited_message edited)) }
+    ensures answered { IfOk result (IsAnswered workspace.old workspace.new phase (edited_message edited) []) }
     ensures refused { OnErr result (workspace.new ≡ workspace.old) }
     ensures grammar { workspace.new.grammar ≡ workspace.old.grammar }
 {

@@ -7,22 +7,25 @@
 //! lists alone and computes everything else anew by the grammar.
 //!
 //! It promises that [`Session::handle`] does with each body exactly what is said there, a build to its end
-//! behind it. Where it is refused memory the replies are lost, and the texts and the phase are such as they
-//! may be in the middle of the message. The grammar stays, and so do the files of the store. Before the first
-//! body [`Session::load_file`] puts texts at addresses, one behind the other: the session is then exactly one in
-//! which these were put.
+//! behind it, by what the store answers at its reads. Where it is refused memory the replies are lost, and the
+//! texts and the phase are such as they may be in the middle of the message. The grammar stays, and so do the
+//! files of the store. Before the first body [`Session::load_file`] puts texts at addresses, one behind the other:
+//! the session is then exactly one in which these were put.
 //!
 //! How it is made: `lifecycle` decides a message by the two facts of a session alone; `opening` puts a text
-//! and `editing` makes the changes of one in the workspace (`lw_build`), `asking` answers what is asked about a place, over
+//! and `editing` makes the changes of one in the workspace (`lw_build`), `closing` makes a file the truth of a document again
+//! and `watching` sees what was done to files (both by `files`, which asks the store), `asking` answers what is asked about a place, over
 //! documents that are built (`locating`, `renaming`, `completing`), `serving` builds all documents behind a message,
 //! and `texts` makes bytes of what is told. The documents of the standing are those of the machine that the
 //! workspace stands for (`specs/Seen.antt`), and a message is handled over any documents that it may stand for
-//! (`specs/Answering.antt`), since a build comes to the same from all of them.
+//! (`specs/Answering.antt`, `specs/Moving.antt`), since a build comes to the same from all of them.
 #![tactic(auto)]
 
 mod asking;
+mod closing;
 mod completing;
 mod editing;
+mod files;
 mod lifecycle;
 mod locating;
 mod opening;
@@ -31,6 +34,7 @@ mod said;
 mod serving;
 mod session;
 mod texts;
+mod watching;
 
 pub use lw_build::{WorkFault, Workspace};
 pub use lw_conversation::{Ended, Phase};

@@ -11,7 +11,7 @@ use lw_conversation::{
     Ended, INVALID_PARAMS, INVALID_REQUEST, METHOD_NOT_FOUND, PARSE_ERROR, Phase,
     SERVER_NOT_INITIALIZED,
 };
-use lw_rpc::{Id, Message, Outcome, Reply};
+use lw_rpc::{FileChange, Id, Message, Outcome, Reply};
 use lw_text::Pos;
 use std::alloc::Global;
 
@@ -32,6 +32,10 @@ pub(crate) enum Step {
     Opens(Opened),
     /// It changes a document, in a session that is live.
     Edits(Edited),
+    /// It closes the document at this address, in a session that is live.
+    Closes(Name),
+    /// It tells changes of files, in a session that is live.
+    Watches(Items<FileChange>),
     /// It asks about a place, in a session that is live.
     Asks(Asked),
 }
@@ -75,6 +79,8 @@ pub(crate) fn decide(alloc: Global, phase: Phase, message: Message) -> Result<St
             };
             Ok(edits(alloc, phase, Edited { id, changes }))
         }
+        Message::DidClose { uri } => Ok(closes(alloc, phase, uri)),
+        Message::DidChangeWatchedFiles { changes } => Ok(watches(alloc, phase, changes)),
         Message::Definition { id, uri, position } => {
             asks(alloc, phase, id, uri, position, Question::Definition)
         }
@@ -118,6 +124,26 @@ fn edits(alloc: Global, phase: Phase, edited: Edited) -> Step
 {
     if is_live(phase) {
         Step::Edits(edited)
+    } else {
+        Step::Stops(keeps_silent(alloc, phase))
+    }
+}
+
+fn closes(alloc: Global, phase: Phase, address: Name) -> Step
+    ensures { IsStep phase (message_.DidClose address) result }
+{
+    if is_live(phase) {
+        Step::Closes(address)
+    } else {
+        Step::Stops(keeps_silent(alloc, phase))
+    }
+}
+
+fn watches(alloc: Global, phase: Phase, changes: Items<FileChange>) -> Step
+    ensures { IsStep phase (message_.DidChangeWatchedFiles changes) result }
+{
+    if is_live(phase) {
+        Step::Watches(changes)
     } else {
         Step::Stops(keeps_silent(alloc, phase))
     }
@@ -202,8 +228,21 @@ fn error(alloc: Global, id: Option<Id>, code: i32, message: &str) -> Result<Repl
 pub(crate) fn log(alloc: Global, phase: Phase, head: &str, name: &Name) -> Result<Told, NoMemory>
     ensures { IfOk result (λ told. told ≡ telling phase (reply_.Log (head.now ++ name.now) ∷ [])) }
 {
+    Ok(Told {
+        replies: logs(alloc, head, name)?,
+        ended: Ended::No,
+        phase,
+    })
+}
+
+/// A line for the log, alone in a list.
+pub(crate) fn logs(alloc: Global, head: &str, name: &Name) -> Result<Items<Reply>, NoMemory>
+    ensures { IfOk result (λ replies. replies ≡ reply_.Log (head.now ++ name.now) ∷ []) }
+{
     let line = format!(in alloc; "{head}{name}")?;
-    tells(alloc, phase, Reply::Log(Name::from_string(line)))
+    let mut replies = Items::new(alloc);
+    replies.push(Reply::Log(Name::from_string(line)))?;
+    Ok(replies)
 }
 
 // A request is refused: before `initialize` and after `shutdown` for that, else for its own cause.

@@ -1,5 +1,5 @@
 // The opening of a document: its text is put.
-ghost use Rattle.std.specs.Prelude.{◌≡◌, IfOk, OnErr};
+ghost use Rattle.std.specs.Prelude.{◌≡◌, [], IfOk, OnErr};
 ghost use Rattle.lw_session.specs.Answering.{IsAnswered};
 ghost use Rattle.lw_session.specs.Lifecycle.{IsLive, opened_message};
 
@@ -18,7 +18,7 @@ pub(crate) fn open(
     opened: Opened,
 ) -> Result<Told, NoMemory>
     requires { IsLive phase }
-    ensures answered { IfOk result (IsAnswered workspace.old workspace.new phase (opened_message opened)) }
+    ensures answered { IfOk result (IsAnswered workspace.old workspace.new phase (opened_message opened) []) }
     ensures refused { OnErr result (workspace.new ≡ workspace.old) }
     ensures grammar { workspace.new.grammar ≡ workspace.old.grammar }
 {

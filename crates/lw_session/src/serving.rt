@@ -1,21 +1,23 @@
 // A message and the build behind it.
-ghost use Rattle.std.specs.Prelude.{◌≡◌, ◌++◌, [], IfOk, OnErr, All, map};
+ghost use Rattle.std.specs.Prelude.{◌≡◌, ◌++◌, IfOk, OnErr, All, map};
 ghost use Rattle.lw_build.specs.Agreeing.{Agrees};
 ghost use Rattle.lw_build.specs.View.{documents};
 ghost use Rattle.lw_conversation.specs.Answered.{IsCutShort};
-ghost use Rattle.lw_conversation.specs.Effects.{as_reply};
-ghost use Rattle.lw_conversation.specs.Sessions.{Handles};
+ghost use Rattle.lw_conversation.specs.Publishing.{as_reply};
 ghost use Rattle.lw_machine.specs.Documents.{Documents};
 ghost use Rattle.lw_rpc.specs.Replies.{HasOrderedEdits};
-ghost use Rattle.lw_session.specs.Answering.{IsAnswered, IsBuiltBehind, standing_of};
+ghost use Rattle.lw_session.specs.Answering.{IsAnsweredBy, IsBuiltBehind, IsServedBy, standing_of};
 
 use crate::asking::ask;
+use crate::closing::close;
 use crate::editing::edit;
 use crate::lifecycle::{Step, Told, decide};
 use crate::opening::open;
+use crate::watching::watch;
 use lw_base::{Items, NoMemory, Steps};
 use lw_build::Workspace;
 use lw_conversation::Phase;
+use lw_io::Store;
 use lw_machine::Published;
 use lw_rpc::Message;
 use std::alloc::Global;
@@ -29,36 +31,40 @@ pub(crate) struct Served {
 }
 
 /// Does what a message says, and builds what it leaves to build.
-pub(crate) fn serve<L: Ledger>(
+pub(crate) fn serve<F: Store, L: Ledger>(
     alloc: Global,
     workspace: &mut Workspace,
     phase: Phase,
     message: Message,
+    store: &mut F,
     steps: &mut Steps<L>,
 ) -> Result<Served, NoMemory>
-    ensures handles { IfOk result (λ served. Handles workspace.old.grammar (standing_of workspace.old phase) message []
-        (standing_of workspace.new served.told.phase) (served.told.replies ++ map as_reply served.lists) served.told.ended) }
+    ensures served { IfOk result (λ served. IsServedBy (F.files store.old) (F.count store.old) (F.count store.new) workspace.old.grammar (standing_of workspace.old phase)
+        message (standing_of workspace.new served.told.phase) (served.told.replies ++ map as_reply served.lists) served.told.ended) }
     ensures ordered { IfOk result (λ served. All HasOrderedEdits served.told.replies) }
     ensures cut_short { OnErr result (IsCutShort workspace.old.grammar (standing_of workspace.old phase) message (standing_of workspace.new phase)) }
     ensures grammar { workspace.new.grammar ≡ workspace.old.grammar }
+    ensures files { F.files store.new ≡ F.files store.old }
 {
-    let told = answer(alloc, workspace, phase, message, steps)?;
+    let told = answer(alloc, workspace, phase, message, store, steps)?;
     workspace.agrees();
     let lists = build(alloc, workspace, told.phase, steps)?;
     Ok(Served { told, lists })
 }
 
 // Does what a message says.
-fn answer<L: Ledger>(
+fn answer<F: Store, L: Ledger>(
     alloc: Global,
     workspace: &mut Workspace,
     phase: Phase,
     message: Message,
+    store: &mut F,
     steps: &mut Steps<L>,
 ) -> Result<Told, NoMemory>
-    ensures answered { IfOk result (IsAnswered workspace.old workspace.new phase message) }
+    ensures answered { IfOk result (IsAnsweredBy (F.files store.old) (F.count store.old) (F.count store.new) workspace.old workspace.new phase message) }
     ensures cut_short { OnErr result (IsCutShort workspace.old.grammar (standing_of workspace.old phase) message (standing_of workspace.new phase)) }
     ensures grammar { workspace.new.grammar ≡ workspace.old.grammar }
+    ensures files { F.files store.new ≡ F.files store.old }
 {
     match decide(alloc, phase, message)? {
         Step::Stops(told) => {
@@ -67,6 +73,8 @@ fn answer<L: Ledger>(
         }
         Step::Opens(opened) => open(alloc, workspace, phase, opened),
         Step::Edits(edited) => edit(alloc, workspace, phase, edited),
+        Step::Closes(address) => close(alloc, workspace, phase, &address, store),
+        Step::Watches(changes) => watch(alloc, workspace, phase, changes.as_slice(), store),
         Step::Asks(asked) => ask(alloc, workspace, phase, asked, steps),
     }
 }

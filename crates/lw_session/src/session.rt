@@ -131,6 +131,12 @@ impl Session {
     /// editor's log, and so are changes of a document that no editor has open, or whose range ends before it
     /// starts. A list of changes that is refused changes nothing.
     ///
+    /// A document that an editor closes is its file from then on, and a file that an editor watches is read when it
+    /// is created or changed, unless an editor has it open. Its text is put; where there is no such file the document
+    /// goes out, and an empty list clears what was published of it. What is wrong with a file is told by a
+    /// line for the editor's log. The store is read at most once for each document that is closed, and for each change
+    /// of a file.
+    ///
     /// Where memory is refused ([`NoMemory`]) the replies are lost. The texts are then those after some of the
     /// message's changes, from the first on, none to all of them, and the phase is the one before the message
     /// or the one behind it.
@@ -140,14 +146,21 @@ impl Session {
         store: &mut F,
         steps: &mut Steps<L>,
     ) -> Result<Handled, NoMemory>
-        ensures handles { IfOk result (λ handled. HandlesBody self.old.grammar self.old.standing body.now (F.count store.old) (F.count store.new)
-            self.new.standing handled.replies handled.ended) }
+        ensures handles { IfOk result (λ handled. HandlesBody self.old.grammar self.old.standing body.now (F.files store.old) (F.count store.old)
+            (F.count store.new) self.new.standing handled.replies handled.ended) }
         ensures cut_short { OnErr result (IsCutShort self.old.grammar self.old.standing (message_of body.now) self.new.standing) }
         ensures grammar { self.new.grammar ≡ self.old.grammar }
         ensures files { F.files store.new ≡ F.files store.old }
     {
         let message = read_message(self.alloc, body)?;
-        let served = serve(self.alloc, &mut self.workspace, self.phase, message, steps)?;
+        let served = serve(
+            self.alloc,
+            &mut self.workspace,
+            self.phase,
+            message,
+            store,
+            steps,
+        )?;
         self.workspace.agrees();
         let told = served.told;
         let replies = texts_of(self.alloc, told.replies.as_slice(), served.lists.as_slice())?;

@@ -1,6 +1,6 @@
 // Replies and publications as bytes.
 ghost use Rattle.std.specs.Prelude.{◌≡◌, ◌++◌, IfOk, All, map};
-ghost use Rattle.lw_conversation.specs.Effects.{as_reply};
+ghost use Rattle.lw_conversation.specs.Publishing.{as_reply};
 ghost use Rattle.lw_rpc.specs.Replies.{HasOrderedEdits, reply_bytes};
 
 use lw_base::{Items, Name, NoMemory};

@@ -1,27 +1,15 @@
 -- How the command that words are is found.
-use Rattle.std.proofs.Common.{◌≡◌, ℕ, ◌<◌, ◌≤◌, ◌^◌, List, [], ◌∷◌, All, Option, Some, None, MatchOption, unwrap_or, codes, length, length-append, map, refl, sym, ap, subst, ◌∙◌, arith, Bor, zero, suc}
+use Rattle.std.proofs.Common.{◌≡◌, ℕ, ◌<◌, ◌≤◌, ◌^◌, List, [], ◌∷◌, All, Option, unwrap_or, codes, length, map, refl, sym, subst, ◌∙◌, arith, Bor, zero, suc}
 use Rattle.std.proofs.lemmas.List.{length-map}
 use Rattle.std.proofs.lemmas.Str.Parse.{digits_value_short, numerals_by_value, tells_digits}
 use Rattle.std.specs.Str.Parse.{AllDigits, IsNumeral, digits_value}
 use Rattle.lw_words.specs.Said.{IsDepth, SaysDepth, SaysOperands}
 use Rattle.lw_words.specs.Said as said
-use Rattle.lw_words.specs.Words.{SaysBehind, AreFiles, IsFile, IsCount, IsCheck, IsServe, IsMake, IsCommand, IsNoCommand, NamesFile, root_of}
-use Rattle.lw_words.specs.Words as words
-use Rattle.lw_words.specs.declared.words.Command.{Command}
-use Rattle.lw_words.specs.declared.words.Command.TheVariants.{Check, Serve, Make}
+use Rattle.lw_words.specs.Words.{SaysBehind, AreFiles, IsFile, IsCount, IsNoCommand, NamesFile}
 use Rattle.lw_words.proofs.SaidLemmas.{none-cons, says_one}
 use Rattle.lw_words.proofs.OneCommand.{Fits, named, says_same, to_check, to_serve, to_make, check_no_serve, check_no_make, serve_no_make}
 
--- a command names the grammar that it is over
-pub names_root : (all : List (List ℕ)) (command : Command) → IsCommand all command → NamesFile all (root_of command).path.now (root_of command).k
-names_root all (Check root) is = words.checks is
-names_root all (Serve root files) is = words.serves is
-names_root all (Make root count) is = words.makes is
-
 -- ---- words that are no command
-
-pub no_words : {all : List (List ℕ)} → all ≡ [] → IsNoCommand all
-no_words none path k names = none-cons (sym none ∙ (named names).2.are)
 
 module _ {all behind : List (List ℕ)} {name : List ℕ} (are : all ≡ name ∷ behind) where
   -- what a command says behind its name
@@ -30,9 +18,6 @@ module _ {all behind : List (List ℕ)} {name : List ℕ} (are : all ≡ name �
       let is = (named names).2 in
       let same : is.behind ≡ behind = cc in
       ((named names).1, is.depth, subst (λ ws. SaysOperands ws (path ∷ (named names).1) is.depth) same is.said)
-
-  pub no_saying : ((os : List (List ℕ)) (d : Option ℕ) → ¬ SaysOperands behind os d) → IsNoCommand all
-  no_saying none path k names = let is = told names in none (path ∷ is.0) is.1 is.2
 
   pub no_operand : {d : Option ℕ} {os : List (List ℕ)} → os ≡ [] → SaysOperands behind os d → IsNoCommand all
   no_operand none says path k names = let is = told names in none-cons (sym none ∙ (says_one says is.2).0)

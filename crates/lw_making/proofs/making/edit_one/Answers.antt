@@ -1,4 +1,4 @@
-use Rattle.std.proofs.Common.{◌≡◌, ◌+◌, ◌*◌, ◌%◌, ◌++◌, ◌∷◌, [], ℕ, ℤ, List, Some, Ok, length, ap, sym, subst, ◌∙◌, arith, rules, to_z, of_z, w64}
+use Rattle.std.proofs.Common.{◌≡◌, ◌+◌, ◌*◌, ◌%◌, ◌++◌, ◌∷◌, [], ℕ, ℤ, List, Ok, ap, sym, subst, ◌∙◌, arith, rules, to_z, of_z, w64}
 use Rattle.std.specs.FinMap.{insert}
 use Rattle.lw_build.specs.Agreeing.{Agrees}
 use Rattle.lw_build.specs.View.{documents}

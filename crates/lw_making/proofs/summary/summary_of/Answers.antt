@@ -1,12 +1,8 @@
-use Rattle.std.proofs.Common.{◌≡◌, ℕ, List, ap, sym, subst, ◌∙◌, map}
-use Rattle.std.specs.FinMap.{keys}
+use Rattle.std.proofs.Common.{◌≡◌, ap, sym, subst, ◌∙◌}
 use Rattle.lw_build.specs.View.{documents}
-use Rattle.lw_machine.specs.Documents.{present_texts}
-use Rattle.lw_machine.specs.declared.published.Published.{Published}
 use Rattle.lw_query.specs.declared.view.View.{View}
 use Rattle.lw_making.specs.Counting.{of_none, with_all, with_one}
 use Rattle.lw_making.specs.Summaries.{IsSummary}
-use Rattle.lw_making.specs.declared.summary.Summary.{Summary}
 use Rattle.lw_making.proofs.Counting.{all_summed, last_count, one_summed, summary_here}
 use Rattle.lw_making.proofs.summary.summary_of.Goals as goal
 

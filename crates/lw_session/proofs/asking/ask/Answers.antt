@@ -2,7 +2,7 @@ use Rattle.std.proofs.Common.{[], ◌∷◌, ◌++◌, List, map, sym, ap, ◌�
 use Rattle.std.proofs.lemmas.Result.{IfOk-weaker}
 use Rattle.lw_build.specs.View.{documents}
 use Rattle.lw_conversation.specs.Asking.{RepliesTo}
-use Rattle.lw_conversation.specs.Effects.{as_reply}
+use Rattle.lw_conversation.specs.Publishing.{as_reply}
 use Rattle.lw_machine.specs.declared.published.Published.{Published}
 use Rattle.lw_session.specs.Answering.{IsAnswered}
 use Rattle.lw_session.specs.Lifecycle.{asked_message, telling}
@@ -30,7 +30,7 @@ returns-clause-answered g c =
     let replies = subst (λ of. RepliesTo of (documents w) (asked_message asked) reply) c.in_ok-lists.ensures.grammar c.in_ok-reply.ensures in
     IfOk-weaker c.tells_behind.result _ _
     (λ told is.
-    subst (IsAnswered v w c.args.phase (asked_message asked))
+    subst (IsAnswered v w c.args.phase (asked_message asked) [])
     (ap (λ (lists : List Published). telling c.args.phase (map as_reply lists ++ reply ∷ [])) (sym c.as_slice.ensures) ∙ sym is)
     (answers v w c.args.phase c.requires c.agrees.ensures.agrees asked c.in_ok-lists.lists reply c.agrees-2.ensures.agrees
     (c.in_ok-lists.ensures.builds (documents v) c.agrees.ensures.agrees) replies))

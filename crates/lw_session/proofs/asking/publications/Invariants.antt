@@ -1,5 +1,5 @@
 use Rattle.std.proofs.Common.{◌≡◌, take, map}
-use Rattle.lw_conversation.specs.Effects.{as_reply}
+use Rattle.lw_conversation.specs.Publishing.{as_reply}
 use Rattle.lw_session.proofs.asking.publications.Given as goal
 
 abbrev pub invariant-lists : goal.invariant-lists

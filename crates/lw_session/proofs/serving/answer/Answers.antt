@@ -1,14 +1,15 @@
 use Rattle.std.proofs.Common.{subst}
 use Rattle.lw_session.specs.Answering.{standing_of}
 use Rattle.lw_session.specs.Lifecycle.{IsStep}
-use Rattle.lw_session.proofs.Answers.{stops}
+use Rattle.lw_session.proofs.Answers.{stops, unasked}
 use Rattle.lw_session.proofs.Handling.{error_not_begun, error_unchanged}
 use Rattle.lw_session.proofs.serving.answer.Goals as goal
 
 pub returns-in-Stops-clause-answered : goal.returns-in-Stops-clause-answered
 returns-in-Stops-clause-answered g c =
-    stops c.args.workspace.now c.args.phase c.args.message c.in-Stops.told c.agrees.ensures.agrees
-    (subst (IsStep c.args.phase c.args.message) c.in-Stops.is c.in_ok-told.ensures)
+    let v = c.args.workspace.now in
+    unasked (g.F.Store.files c.args.store.now) (g.F.Store.count c.args.store.now) v v c.args.phase c.args.message c.in-Stops.told
+    (stops v c.args.phase c.args.message c.in-Stops.told c.agrees.ensures.agrees (subst (IsStep c.args.phase c.args.message) c.in-Stops.is c.in_ok-told.ensures))
 
 pub returns-in-Opens-clause-cut_short : goal.returns-in-Opens-clause-cut_short
 returns-in-Opens-clause-cut_short g c =

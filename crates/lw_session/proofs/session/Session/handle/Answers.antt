@@ -1,5 +1,5 @@
-use Rattle.std.proofs.Common.{◌++◌, [], map, refl, subst}
-use Rattle.lw_conversation.specs.Effects.{as_reply}
+use Rattle.std.proofs.Common.{◌++◌, map, subst}
+use Rattle.lw_conversation.specs.Publishing.{as_reply}
 use Rattle.lw_machine.specs.Validity.{IsValid}
 use Rattle.lw_build.specs.View.{documents}
 use Rattle.lw_grammar.specs.declared.grammar.Grammar.{Grammar}
@@ -20,11 +20,12 @@ returns-in_err-replies-clause-cut_short g c =
     let w = c.serve.new.workspace in
     let phase = c.self.inside.phase in
     let told = c.in_ok-served.served.told in
+    let by = c.in_ok-served.ensures.served in
     let replies = told.replies ++ map as_reply c.in_ok-served.served.lists in
     rw (← c.self.view_is)
-    (error_behind c.from_residual-in_err-replies.result v.grammar (standing_of v phase) (standing_of w told.phase) (message_of c.args.body.now) replies told.ended
-    (subst (λ (m : Message). Handles v.grammar (standing_of v phase) m [] (standing_of w told.phase) replies told.ended) c.in_ok-message.ensures.message
-    c.in_ok-served.ensures.handles) (subst (λ (h : Grammar). IsValid h (documents w)) c.in_ok-served.ensures.grammar c.agrees.ensures.agrees.valid))
+    (error_behind c.from_residual-in_err-replies.result v.grammar (standing_of v phase) (standing_of w told.phase) (message_of c.args.body.now) by.asked replies told.ended
+    (subst (λ (m : Message). Handles v.grammar (standing_of v phase) m by.asked (standing_of w told.phase) replies told.ended) c.in_ok-message.ensures.message
+    by.handles) (subst (λ (h : Grammar). IsValid h (documents w)) c.in_ok-served.ensures.grammar c.agrees.ensures.agrees.valid))
 
 pub returns-clause-handles : goal.returns-clause-handles
 returns-clause-handles g c =
@@ -32,15 +33,17 @@ returns-clause-handles g c =
     let w = c.serve.new.workspace in
     let phase = c.self.inside.phase in
     let told = c.in_ok-served.served.told in
+    let by = c.in_ok-served.ensures.served in
     let lists = c.in_ok-served.served.lists in
     rw (← c.self.view_is)
     (record {
-      found = [];
+      asked = by.asked;
       replies = told.replies ++ map as_reply lists;
       handles = subst
-          (λ (m : Message). Handles v.grammar (standing_of v phase) m [] (standing_of w told.phase) (told.replies ++ map as_reply lists) told.ended)
-          c.in_ok-message.ensures.message c.in_ok-served.ensures.handles;
+          (λ (m : Message). Handles v.grammar (standing_of v phase) m by.asked (standing_of w told.phase) (told.replies ++ map as_reply lists) told.ended)
+          c.in_ok-message.ensures.message by.handles;
       told = told_texts c.in_ok-replies.replies c.as_slice.result.now told.replies c.as_slice-2.result.now lists c.in_ok-replies.ensures c.as_slice.ensures
           c.as_slice-2.ensures;
-      counted = refl;
+      answered = by.by_store;
+      counted = by.counted;
     })
