@@ -17,7 +17,7 @@ use Rattle.langbench.specs.Checking.{CheckComesTo, IsCaused}
 use Rattle.langbench.specs.Making.{MakeComesTo}
 use Rattle.langbench.specs.Run.{Work, ComesTo}
 use Rattle.langbench.specs.Serving.{ServeComesTo}
-use Rattle.langbench.specs.Stops.{TheSource, TheSink, TheStore, ThePatterns}
+use Rattle.langbench.specs.Stops.{Counts, TheSource, TheSink, TheStore, ThePatterns}
 use Rattle.langbench.proofs.Ends.{CountsAll}
 
 -- a command names its grammar
@@ -40,13 +40,15 @@ module _ (words : List (List ℕ)) (w : Work) (p : List ℕ) (j : ℕ) (outcome 
       let same = one_grammar is also in
       subst (λ i. IsCaused w.files path i w.refused outcome) same.1 (subst (λ q. IsCaused w.files q j w.refused outcome) same.0 caused)
 
-  pub checks : IsCheck words p j → IfSome w.files (λ files. IfSome w.left.0 (λ held. CheckComesTo files p j held w.refused w.left.1 w.written.0 w.written.1 outcome)) →
+  pub checks : IsCheck words p j → Counts TheStore w.faults.store.0 w.faults.store.1 outcome → IfSome w.files (λ files. IfSome w.left.0 (λ held. CheckComesTo files p j held w.refused w.left.1 w.written.0 w.written.1 outcome)) →
       ComesTo words w outcome
-  checks is came = record {
+  checks is store came = record {
     check = λ path k also.
-        let same = one_check is also in
-        subst (λ i. IfSome w.files (λ files. IfSome w.left.0 (λ held. CheckComesTo files path i held w.refused w.left.1 w.written.0 w.written.1 outcome))) same.1
-        (subst (λ q. IfSome w.files (λ files. IfSome w.left.0 (λ held. CheckComesTo files q j held w.refused w.left.1 w.written.0 w.written.1 outcome))) same.0 came);
+        let same = one_check is also in (
+          store,
+          subst (λ i. IfSome w.files (λ files. IfSome w.left.0 (λ held. CheckComesTo files path i held w.refused w.left.1 w.written.0 w.written.1 outcome))) same.1
+              (subst (λ q. IfSome w.files (λ files. IfSome w.left.0 (λ held. CheckComesTo files q j held w.refused w.left.1 w.written.0 w.written.1 outcome))) same.0 came),
+        );
     serve = λ path paths k also. absurd (not_check_and_serve is also);
     make = λ path count k also. absurd (not_check_and_make is also);
     none = λ none. absurd (none p j (said.checks is));
@@ -55,15 +57,15 @@ module _ (words : List (List ℕ)) (w : Work) (p : List ℕ) (j : ℕ) (outcome 
     counts = counts;
   }
 
-  pub serves : (paths : List (List ℕ)) → IsServe words p paths j → IfSome w.files (λ files. ServeComesTo files p paths j w.refused w.left.0 w.left.1 w.written.0 w.written.1 outcome) →
+  pub serves : (paths : List (List ℕ)) → IsServe words p paths j → IfSome w.files (λ files. ServeComesTo files p paths j w.refused w.left.0 w.left.1 w.written.0 w.written.1 w.faults.store outcome) →
       ComesTo words w outcome
   serves paths is came = record {
     check = λ path k also. absurd (not_check_and_serve also is);
     serve = λ path others k also.
         let same = one_serve is also in
-        subst (λ i. IfSome w.files (λ files. ServeComesTo files path others i w.refused w.left.0 w.left.1 w.written.0 w.written.1 outcome)) same.2
-        (subst (λ ps. IfSome w.files (λ files. ServeComesTo files path ps j w.refused w.left.0 w.left.1 w.written.0 w.written.1 outcome)) same.1
-        (subst (λ q. IfSome w.files (λ files. ServeComesTo files q paths j w.refused w.left.0 w.left.1 w.written.0 w.written.1 outcome)) same.0 came));
+        subst (λ i. IfSome w.files (λ files. ServeComesTo files path others i w.refused w.left.0 w.left.1 w.written.0 w.written.1 w.faults.store outcome)) same.2
+        (subst (λ ps. IfSome w.files (λ files. ServeComesTo files path ps j w.refused w.left.0 w.left.1 w.written.0 w.written.1 w.faults.store outcome)) same.1
+        (subst (λ q. IfSome w.files (λ files. ServeComesTo files q paths j w.refused w.left.0 w.left.1 w.written.0 w.written.1 w.faults.store outcome)) same.0 came));
     make = λ path count k also. absurd (not_serve_and_make is also);
     none = λ none. absurd (none p j (said.serves is));
     unnamed = λ stops. absurd (other stops);
@@ -71,14 +73,15 @@ module _ (words : List (List ℕ)) (w : Work) (p : List ℕ) (j : ℕ) (outcome 
     counts = counts;
   }
 
-  pub makes : (count : ℕ) → IsMake words p count j → Keeps w.left.0 w.left.1 → IfSome w.files (λ files. MakeComesTo files p j count w.refused w.written.0 w.written.1 outcome) →
+  pub makes : (count : ℕ) → IsMake words p count j → Keeps w.left.0 w.left.1 → Counts TheStore w.faults.store.0 w.faults.store.1 outcome → IfSome w.files (λ files. MakeComesTo files p j count w.refused w.written.0 w.written.1 outcome) →
       ComesTo words w outcome
-  makes count is untaken came = record {
+  makes count is untaken store came = record {
     check = λ path k also. absurd (not_check_and_make also is);
     serve = λ path paths k also. absurd (not_serve_and_make also is);
     make = λ path n k also.
         let same = one_make is also in (
           untaken,
+          store,
           subst (λ i. IfSome w.files (λ files. MakeComesTo files path i n w.refused w.written.0 w.written.1 outcome)) same.2
               (subst (λ m. IfSome w.files (λ files. MakeComesTo files path j m w.refused w.written.0 w.written.1 outcome)) same.1
               (subst (λ q. IfSome w.files (λ files. MakeComesTo files q j count w.refused w.written.0 w.written.1 outcome)) same.0 came)),
@@ -120,7 +123,7 @@ module _ (words : List (List ℕ)) (files : Option Files) (left written refused 
   unsaid : CountsAll untouched.faults (Err stop.Memory)
   unsaid TheSource = tt
   unsaid TheSink = tt
-  unsaid TheStore = tt
+  unsaid TheStore = ([], tt)
   unsaid ThePatterns = tt
 
   checks_nothing : (told : Option Files) (held : Option (List ℕ)) (path : List ℕ) (k : ℕ) →
@@ -129,7 +132,7 @@ module _ (words : List (List ℕ)) (files : Option Files) (left written refused 
   checks_nothing (Some files) None path k = tt
   checks_nothing (Some files) (Some bytes) path k = inl (([], omega arith, Consumes-nil (Some bytes)), Keeps-refl written)
 
-  serves_nothing : (told : Option Files) (path : List ℕ) (paths : List (List ℕ)) (k : ℕ) → IfSome told (λ files. ServeComesTo files path paths k refused left left written written (Err stop.Memory))
+  serves_nothing : (told : Option Files) (path : List ℕ) (paths : List (List ℕ)) (k : ℕ) → IfSome told (λ files. ServeComesTo files path paths k refused left left written written (c, c) (Err stop.Memory))
   serves_nothing None path paths k = tt
   serves_nothing (Some files) path paths k = inl (Keeps-refl written)
 
@@ -139,9 +142,9 @@ module _ (words : List (List ℕ)) (files : Option Files) (left written refused 
 
   pub reads_no_words : ComesTo words untouched (Err stop.Memory)
   reads_no_words = record {
-    check = λ path k is. checks_nothing files left path k;
+    check = λ path k is. (tt, checks_nothing files left path k);
     serve = λ path paths k is. serves_nothing files path paths k;
-    make = λ path count k is. (Keeps-refl left, makes_nothing files path count k);
+    make = λ path count k is. (Keeps-refl left, tt, makes_nothing files path count k);
     none = λ none. (inr refl, Keeps-refl left, Keeps-refl written);
     unnamed = λ stops. absurd (let apart : ⊥ = cc in apart);
     cause = λ path k names. tt;

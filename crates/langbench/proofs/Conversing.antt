@@ -11,10 +11,7 @@ use Rattle.lw_frame.specs.Wanted.{EndsWithin}
 use Rattle.lw_frame.specs.declared.limits.TheConstants.{LONGEST_SESSION}
 use Rattle.lw_io.specs.Whole.{WritesFront}
 use Rattle.lw_conversation.specs.Standing.{Standing}
-use Rattle.lw_rpc.specs.Messages.{message_of}
-use Rattle.lw_conversation.specs.Laws.{AreSettledByBodies}
-use Rattle.lw_conversation.specs.Sessions.{HandlesBody, count_after, framed}
-use Rattle.lw_conversation.proofs.OneOutcome.{handled_reads}
+use Rattle.lw_conversation.specs.Sessions.{HandlesBody, framed}
 use Rattle.lw_conversation.specs.declared.ended.Ended.{Ended}
 use Rattle.langbench.specs.declared.report.Verdict.{Verdict}
 use Rattle.langbench.specs.declared.report.Verdict.TheVariants.{Whole, Broken}
@@ -22,15 +19,14 @@ use Rattle.langbench.specs.declared.stop.Stop.{Stop}
 use Rattle.langbench.specs.declared.stop.Stop.TheVariants as stop
 use Rattle.lw_lang.specs.Compiled.{HoldsGrammar, IsClear}
 use Rattle.lw_load.specs.Loading.{Files}
-use Rattle.langbench.specs.Stops.{Counts, TheSink, TheStore}
-use Rattle.langbench.specs.Named.{AreNamed, IsFirstUnread}
+use Rattle.langbench.specs.Stops.{Counts, TheSink}
+use Rattle.langbench.specs.Named.{AreFileTexts, IsFirstUnread}
 use Rattle.langbench.specs.Reading.{StopsAtFile}
-use Rattle.langbench.specs.Serving.{WritesPart, Conversed, OfGrammar, ServeComesTo, WithNamed}
+use Rattle.langbench.specs.Serving.{WritesPart, Conversed, CountsSession, HasOneOutcome, OfGrammar, ServeComesTo, WithNamed}
 use Rattle.langbench.specs.Talking as talking
-use Rattle.langbench.specs.Talking.{IsUnderway, TakesPiece, LosesPiece, Responds, RespondsPartly, AnswersNext, RunsOut, in_frames}
-use Rattle.langbench.proofs.Grammars.{one_session}
+use Rattle.langbench.specs.Talking.{IsUnderway, TakesPiece, LosesPiece, Responds, RespondsInPart, StopsResponding, AnswersNext, RunsOut, in_frames}
 use Rattle.langbench.proofs.Talks.{in_frames-map}
-use Rattle.langbench.proofs.Turns.{WritesPart-behind, WritesPart-some, part_in_front, AfterTurn, none_behind, cut_off, lost_piece, ran_out, broke_off, turn}
+use Rattle.langbench.proofs.Turns.{WritesPart-behind, WritesPart-some, part_in_front, AfterStop, AfterTurn, none_behind, cut_off, lost_piece, ran_out, broke_off, turn}
 
 -- ---- what was taken
 
@@ -49,24 +45,25 @@ same_fed : (o : Option (List ℕ)) (s : Stream) → (handed o s).fed ≡ s.fed
 same_fed None s = refl
 same_fed (Some body) s = refl
 
-module _ (g : Grammar) (named : List (List ℕ × List ℕ)) (before now after old mid : Option (List ℕ)) (s : Stream) (standing : Standing) (way : IsUnderway g named before now old mid s standing) where
+module _ (g : Grammar) (told : Option Files) (named : List (List ℕ × List ℕ)) (before now after old mid : Option (List ℕ)) (began here : ℕ) (s : Stream) (standing : Standing)
+    (way : IsUnderway g told named before now old mid (began, here) s standing) where
   -- a read failed, or memory was refused behind it
-  pub lost : (found : Stop) → length s.fed < LONGEST_SESSION → LosesPiece now after s found → Conversed g named before after old mid (Err found)
-  lost _ short (talking.unread keeps) = cut_off g named before now old mid s standing way after keeps short
-  lost _ short (talking.lost bytes consumed within) = lost_piece g named before now old mid s standing way after bytes consumed within
+  pub lost : (found : Stop) → length s.fed < LONGEST_SESSION → LosesPiece now after s found → Conversed g told named before after old mid (began, here) (Err found)
+  lost _ short (talking.unread keeps) = cut_off g told named before now old mid began here s standing way after keeps short
+  lost _ short (talking.lost bytes consumed within) = lost_piece g told named before now old mid began here s standing way after bytes consumed within
 
   -- the bytes are over
   pub over : (t : Stream) (n : ℕ) (r : Result Verdict Stop) → n ≡ 0 → length s.fed < LONGEST_SESSION → TakesPiece now after s t n → RunsOut t.fed r →
-      Conversed g named before after old mid r
+      Conversed g told named before after old mid (began, here) r
   over t n r none short took ends = by r (subst (λ st. RunsOut st.fed r) is.0 ends)
     where
       is : (t ≡ s) × IsAtEnd after × Keeps now after
       is = at_end_of n now after s t none took
 
-      by : (r : Result Verdict Stop) → RunsOut s.fed r → Conversed g named before after old mid r
+      by : (r : Result Verdict Stop) → RunsOut s.fed r → Conversed g told named before after old mid (began, here) r
       by (Ok Whole) ends = absurd ends
-      by (Ok Broken) ends = inr (ran_out g named before now old mid s standing way after is.1 is.2 short ends)
-      by (Err (stop.Frames found)) ends = broke_off g named before now old mid s standing way after is.1 is.2 short found ends
+      by (Ok Broken) ends = inr (ran_out g told named before now old mid began here s standing way after is.1 is.2 short ends)
+      by (Err (stop.Frames found)) ends = broke_off g told named before now old mid began here s standing way after is.1 is.2 short found ends
       by (Err stop.Words) ends = absurd ends
       by (Err (stop.Grammar found)) ends = absurd ends
       by (Err (stop.File found)) ends = absurd ends
@@ -82,15 +79,17 @@ module _ (g : Grammar) (named : List (List ℕ × List ℕ)) (before now after o
       ap next_body is.0 ∙ none_behind (bodies_of s.fed) s.given way.all_given
 
   -- a turn, and how many bytes it took
-  module _ (new : Option (List ℕ)) (u : Stream) (n : ℕ) (some : n ≢ 0) (fits : length s.fed + n ≤ LONGEST_SESSION)
+  module _ (new : Option (List ℕ)) (there : ℕ) (u : Stream) (n : ℕ) (some : n ≢ 0) (fits : length s.fed + n ≤ LONGEST_SESSION)
       (took : TakesPiece now after s u n) (next : Stream) (next_is : next ≡ after_next u) (t : Standing) (outcome : Result Ended Stop)
-      (h : Grammar) (same : h ≡ g) (answers : AnswersNext h standing mid new (next_answer u) t outcome) where
-    pub turned : AfterTurn g named before after old new next t outcome
+      (h : Grammar) (same : h ≡ g) (l : Option Files) (tells : l ≡ told) (answers : AnswersNext h l standing mid new (here, there) (next_answer u) t outcome) where
+    pub turned : AfterTurn g told named before after old new (began, there) next t outcome
     turned =
         let is = piece_of n now after s u some took in
-        let at = subst (λ st. AnswersNext g standing mid new (next_answer st) t outcome) is.1 (subst (λ k. AnswersNext k standing mid new (next_answer u) t outcome) same answers) in
-        subst (λ st. AfterTurn g named before after old new st t outcome) (ap after_next (sym is.1) ∙ sym next_is)
-        (turn g named before now after old mid new s standing way is.0 is.3 (omega (arith, length-append s.fed is.0, is.2, fits)) t is.4 outcome at)
+        let by_grammar = subst (λ k. AnswersNext k l standing mid new (here, there) (next_answer u) t outcome) same answers in
+        let by_files = subst (λ f. AnswersNext g f standing mid new (here, there) (next_answer u) t outcome) tells by_grammar in
+        let at = subst (λ st. AnswersNext g told standing mid new (here, there) (next_answer st) t outcome) is.1 by_files in
+        subst (λ st. AfterTurn g told named before after old new (began, there) st t outcome) (ap after_next (sym is.1) ∙ sym next_is)
+        (turn g told named before now after old mid new began here there s standing way is.0 is.3 (omega (arith, length-append s.fed is.0, is.2, fits)) t is.4 outcome at)
 
     pub taken_more : length next.fed ≡ length s.fed + n
     taken_more =
@@ -99,26 +98,22 @@ module _ (g : Grammar) (named : List (List ℕ × List ℕ)) (before now after o
         omega (arith, ap length fed, length-append s.fed is.0, is.2)
 
 -- a turn that stops the session
-pub after_stop : (g : Grammar) (named : List (List ℕ × List ℕ)) (before after old new : Option (List ℕ)) (s : Stream) (t : Standing) (found : Stop) → AfterTurn g named before after old new s t (Err found) → Conversed g named before after old new (Err found)
-after_stop g named before after old new s t stop.Write some = some
-after_stop g named before after old new s t stop.Memory some = some
-after_stop g named before after old new s t (stop.Frames found) wrong = wrong
-after_stop g named before after old new s t stop.Words none = absurd none
-after_stop g named before after old new s t (stop.Grammar found) none = absurd none
-after_stop g named before after old new s t (stop.File found) none = absurd none
-after_stop g named before after old new s t stop.Read none = absurd none
-after_stop g named before after old new s t stop.Limit none = absurd none
+pub after_stop : (g : Grammar) (told : Option Files) (named : List (List ℕ × List ℕ)) (before after old new : Option (List ℕ)) (count : ℕ × ℕ) (found : Stop) →
+    AfterStop g told named before after old new count found → Conversed g told named before after old new count (Err found)
+after_stop g told named before after old new count stop.Write some = some
+after_stop g told named before after old new count stop.Memory some = some
+after_stop g told named before after old new count (stop.Frames found) wrong = wrong
+after_stop g told named before after old new count stop.Words none = absurd none
+after_stop g told named before after old new count (stop.Grammar found) none = absurd none
+after_stop g told named before after old new count (stop.File found) none = absurd none
+after_stop g told named before after old new count stop.Read none = absurd none
+after_stop g told named before after old new count stop.Limit none = absurd none
 
--- the sink has not failed where nothing was answered, nor has the store
+-- the sink has not failed where nothing was answered
 pub sink_of_loss : (now after : Option (List ℕ)) (s : Stream) (found : Stop) → LosesPiece now after s found → (before count : ℕ) → count ≡ before →
     Counts {T = Verdict} TheSink before count (Err found)
 sink_of_loss now after s _ (talking.unread keeps) before count is = is
 sink_of_loss now after s _ (talking.lost bytes consumed within) before count is = tt
-
-pub store_of_loss : (now after : Option (List ℕ)) (s : Stream) (found : Stop) → LosesPiece now after s found → (before count : ℕ) → count ≡ before →
-    Counts {T = Verdict} TheStore before count (Err found)
-store_of_loss now after s _ (talking.unread keeps) before count is = is
-store_of_loss now after s _ (talking.lost bytes consumed within) before count is = tt
 
 -- ---- what was written of the replies
 
@@ -169,47 +164,67 @@ module _ (old mid new : Option (List ℕ)) (reply header text : List ℕ) (is_he
   pub part_of_text : Appends old mid header → WritesFront mid new text → WritesPart old new (frame_of reply)
   part_of_text first front = subst (WritesPart old new) both_parts (WritesPart-behind old mid new header text first (WritesPart-some mid new text front))
 
--- what holds anyway holds of an error
-pub on_err_of : {S E : Type 0} (r : Result S E) (P : Type 0) → P → OnErr r P
-on_err_of (Ok x) P p = tt
-on_err_of (Err e) P p = p
-
 -- ---- a body
 
-module _ (g : Grammar) (s t : Standing) (body : List ℕ) (before now : ℕ) (texts : List (List ℕ)) (ended : Ended) (handles : HandlesBody g s body before now t texts ended)
-    (old new : Option (List ℕ)) where
+module _ (g : Grammar) (told : Option Files) (s t : Standing) (body : List ℕ) (before now : ℕ) (texts : List (List ℕ)) (ended : Ended)
+    (handles : HandlesBody g s body told before now t texts ended) (old new : Option (List ℕ)) where
   same_bytes : in_frames texts ≡ framed handles.replies
   same_bytes = ap in_frames handles.told ∙ in_frames-map handles.replies
 
-  pub responds : Appends old new (in_frames texts) → Responds g s old new body t ended
-  responds written = record { found = handles.found; replies = handles.replies; handles = handles.handles; written = subst (Appends old new) same_bytes written }
+  pub responds : Appends old new (in_frames texts) → Responds g told s old new (before, now) body t ended
+  responds written = record {
+    asked = handles.asked;
+    replies = handles.replies;
+    handles = handles.handles;
+    written = subst (Appends old new) same_bytes written;
+    answered = handles.answered;
+    counted = handles.counted;
+  }
 
-  -- the store was not read
-  pub store_stands : now ≡ before
-  store_stands = handles.counted ∙ ap (count_after before) (handled_reads g s (message_of body) handles.found t handles.replies ended handles.handles)
+  in_part : WritesPart old new (in_frames texts) → RespondsInPart g told s old new (before, now) body
+  in_part part = record {
+    standing = t;
+    asked = handles.asked;
+    replies = handles.replies;
+    ended = ended;
+    handles = handles.handles;
+    written = subst (WritesPart old new) same_bytes part;
+    answered = handles.answered;
+    counted = handles.counted;
+  }
 
-  pub responds_partly : WritesPart old new (in_frames texts) → RespondsPartly g s old new body
-  responds_partly part = talking.part handles.handles (subst (WritesPart old new) same_bytes part)
+  -- a reply was not written whole
+  pub stops_writing : {T U : Type 0} (e : Stop) (r : Result T Stop) (u : Result U Stop) → r ≡ Err e → OnErr r ((r ≡ Err stop.Write) ⊎ (r ≡ Err stop.Memory)) →
+      OnErr r (WritesPart old new (in_frames texts)) → IsErrAnd u (λ f. f ≡ e) → IfErr u (StopsResponding g told s old new (before, now) body)
+  stops_writing e r (Ok x) is fault part same = absurd same
+  stops_writing {T} e r (Err f) is fault part same = subst (StopsResponding g told s old new (before, now) body) (sym same) (by r is fault part)
+    where
+      of : (e : Stop) (f : Stop) → Err {T = T} e ≡ Err f → e ≡ f
+      of e f is = cc
 
--- nor was it where a write failed behind it
-pub store_of_write : {T : Type 0} (r : Result T Stop) (before now : ℕ) → now ≡ before → OnErr r ((r ≡ Err stop.Write) ⊎ (r ≡ Err stop.Memory)) → Counts TheStore before now r
-store_of_write (Ok x) before now is fault = is
-store_of_write {T} (Err e) before now is (inl write) = subst (λ (r : Result T Stop). Counts TheStore before now r) (sym write) is
-store_of_write {T} (Err e) before now is (inr memory) = subst (λ (r : Result T Stop). Counts TheStore before now r) (sym memory) tt
+      by_cause : (e : Stop) → (Err {T = T} e ≡ Err stop.Write) ⊎ (Err {T = T} e ≡ Err stop.Memory) → WritesPart old new (in_frames texts) →
+          StopsResponding g told s old new (before, now) body e
+      by_cause e (inl write) part = subst (StopsResponding g told s old new (before, now) body) (sym (of e stop.Write write)) (in_part part)
+      by_cause e (inr memory) part = subst (StopsResponding g told s old new (before, now) body) (sym (of e stop.Memory memory)) (inr (in_part part))
+
+      by : (r : Result T Stop) → r ≡ Err e → OnErr r ((r ≡ Err stop.Write) ⊎ (r ≡ Err stop.Memory)) → OnErr r (WritesPart old new (in_frames texts)) →
+          StopsResponding g told s old new (before, now) body e
+      by (Ok x) is fault part = absurd (let apart : ⊥ = cc in apart)
+      by (Err d) is fault part = subst (StopsResponding g told s old new (before, now) body) (of d e is) (by_cause d fault part)
 
 -- ---- a session by the grammar of a file, over the files that are named
 
-module _ (files : Files) (path : List ℕ) (paths : List (List ℕ)) (k : ℕ) (refused before after old new : Option (List ℕ)) (g : Grammar) (holds : HoldsGrammar files path g) (clear : IsClear g k)
-    (settled : AreSettledByBodies g) where
+module _ (files : Files) (path : List ℕ) (paths : List (List ℕ)) (k : ℕ) (refused before after old new : Option (List ℕ)) (count : ℕ × ℕ) (g : Grammar) (holds : HoldsGrammar files path g) (clear : IsClear g k)
+    (one : HasOneOutcome files g) where
   of_this : (Fact : Grammar → Type 0) → Fact g → OfGrammar files path k Fact
-  of_this Fact fact = record { grammar = g; holds = holds; clear = clear; only = one_session g settled; fact = fact }
+  of_this Fact fact = record { grammar = g; holds = holds; clear = clear; only = one; fact = fact }
 
   -- what a session of this grammar over the texts of these files came to is what the work answered
-  module _ (named : List (List ℕ × List ℕ)) (are : AreNamed files paths named) where
-    conversed : (r : Result Verdict Stop) → Conversed g named before after old new r → OfGrammar files path k (λ g. WithNamed files paths (λ named. Conversed g named before after old new r))
-    conversed r fact = of_this (λ g. WithNamed files paths (λ named. Conversed g named before after old new r)) (named, are, fact)
+  module _ (named : List (List ℕ × List ℕ)) (are : AreFileTexts files paths named) where
+    conversed : (r : Result Verdict Stop) → Conversed g (Some files) named before after old new count r → OfGrammar files path k (λ g. WithNamed files paths (λ named. Conversed g (Some files) named before after old new count r))
+    conversed r fact = of_this (λ g. WithNamed files paths (λ named. Conversed g (Some files) named before after old new count r)) (named, are, fact)
 
-    pub works_by : (r : Result Verdict Stop) → Conversed g named before after old new r → ServeComesTo files path paths k refused before after old new r
+    pub works_by : (r : Result Verdict Stop) → Conversed g (Some files) named before after old new count r → ServeComesTo files path paths k refused before after old new count r
     works_by (Ok Whole) fact = conversed (Ok Whole) fact
     works_by (Ok Broken) fact = conversed (Ok Broken) fact
     works_by (Err stop.Words) fact = absurd fact
@@ -222,7 +237,7 @@ module _ (files : Files) (path : List ℕ) (paths : List (List ℕ)) (k : ℕ) (
     works_by (Err stop.Limit) fact = conversed (Err stop.Limit) fact
 
   -- one of these files is not read
-  pub unread_by : (e : Stop) → StopsAtFile (Some files) paths e → Keeps before after → Keeps old new → ServeComesTo files path paths k refused before after old new (Err e)
+  pub unread_by : (e : Stop) → StopsAtFile (Some files) paths e → Keeps before after → Keeps old new → ServeComesTo files path paths k refused before after old new count (Err e)
   unread_by stop.Words stops untaken unwritten = absurd stops
   unread_by (stop.Grammar found) stops untaken unwritten = absurd stops
   unread_by (stop.File found) stops untaken unwritten = (of_this (λ g. IsFirstUnread files paths found) stops, untaken, unwritten)
@@ -233,17 +248,37 @@ module _ (files : Files) (path : List ℕ) (paths : List (List ℕ)) (k : ℕ) (
   unread_by stop.Limit stops untaken unwritten = absurd stops
 
 -- the same, where the store tells
-pub works_told : (told : Option Files) (path : List ℕ) (paths : List (List ℕ)) (k : ℕ) (refused before after old new : Option (List ℕ)) (g h : Grammar) → IfSome told (λ files. HoldsGrammar files path g) → IsClear g k →
-    AreSettledByBodies g → (named : List (List ℕ × List ℕ)) → IfSome told (λ files. AreNamed files paths named) → (r : Result Verdict Stop) → h ≡ g → Conversed h named before after old new r →
-    IfSome told (λ files. ServeComesTo files path paths k refused before after old new r)
-works_told None path paths k refused before after old new g h holds clear settled named are r same fact = tt
-works_told (Some files) path paths k refused before after old new g h holds clear settled named are r same fact =
-    works_by files path paths k refused before after old new g holds clear settled named are r (subst (λ h. Conversed h named before after old new r) same fact)
+pub works_told : (told : Option Files) (path : List ℕ) (paths : List (List ℕ)) (k : ℕ) (refused before after old new : Option (List ℕ)) (count : ℕ × ℕ) (g h : Grammar) →
+    IfSome told (λ files. HoldsGrammar files path g) → IsClear g k → ((files : Files) → HasOneOutcome files g) → (named : List (List ℕ × List ℕ)) →
+    IfSome told (λ files. AreFileTexts files paths named) → (r : Result Verdict Stop) → h ≡ g → Conversed h told named before after old new count r →
+    IfSome told (λ files. ServeComesTo files path paths k refused before after old new count r)
+works_told None path paths k refused before after old new count g h holds clear one named are r same fact = tt
+works_told (Some files) path paths k refused before after old new count g h holds clear one named are r same fact =
+    works_by files path paths k refused before after old new count g holds clear (one files) named are r
+    (subst (λ h. Conversed h (Some files) named before after old new count r) same fact)
 
-pub works_unread : (told : Option Files) (path : List ℕ) (paths : List (List ℕ)) (k : ℕ) (refused before old : Option (List ℕ)) (g : Grammar) → IfSome told (λ files. HoldsGrammar files path g) → IsClear g k → AreSettledByBodies g →
-    (e : Stop) (r : Result Verdict Stop) → StopsAtFile told paths e → IsErrAnd r (λ s. s ≡ e) → IfSome told (λ files. ServeComesTo files path paths k refused before before old old r)
-works_unread None path paths k refused before old g holds clear settled e r stops is = tt
-works_unread (Some files) path paths k refused before old g holds clear settled e (Ok verdict) stops is = absurd is
-works_unread (Some files) path paths k refused before old g holds clear settled e (Err s) stops is =
-    subst (λ s. ServeComesTo files path paths k refused before before old old (Err s)) (sym is)
-    (unread_by files path paths k refused before before old old g holds clear settled e stops (Keeps-refl before) (Keeps-refl old))
+pub works_unread : (told : Option Files) (path : List ℕ) (paths : List (List ℕ)) (k : ℕ) (refused before old : Option (List ℕ)) (count : ℕ × ℕ) (g : Grammar) →
+    IfSome told (λ files. HoldsGrammar files path g) → IsClear g k → ((files : Files) → HasOneOutcome files g) → (e : Stop) (r : Result Verdict Stop) →
+    StopsAtFile told paths e → IsErrAnd r (λ s. s ≡ e) → IfSome told (λ files. ServeComesTo files path paths k refused before before old old count r)
+works_unread None path paths k refused before old count g holds clear one e r stops is = tt
+works_unread (Some files) path paths k refused before old count g holds clear one e (Ok verdict) stops is = absurd is
+works_unread (Some files) path paths k refused before old count g holds clear one e (Err s) stops is =
+    subst (λ s. ServeComesTo files path paths k refused before before old old count (Err s)) (sym is)
+    (unread_by files path paths k refused before before old old count g holds clear (one files) e stops (Keeps-refl before) (Keeps-refl old))
+
+-- ---- the count of the store
+
+-- what a session was answered, and where it began
+pub counts_of : (g : Grammar) (told : Option Files) (named : List (List ℕ × List ℕ)) (before after old new : Option (List ℕ)) (count : ℕ × ℕ) (r : Result Verdict Stop) →
+    Conversed g told named before after old new count r → CountsSession count r
+counts_of g told named before after old new count (Ok Whole) fact = (fact.1.asked, fact.1.counted)
+counts_of g told named before after old new count (Ok Broken) (inl fact) = (fact.1.asked, fact.1.counted)
+counts_of g told named before after old new count (Ok Broken) (inr fact) = (fact.1.asked, fact.1.counted)
+counts_of g told named before after old new count (Err stop.Words) fact = absurd fact
+counts_of g told named before after old new count (Err (stop.Grammar found)) fact = absurd fact
+counts_of g told named before after old new count (Err (stop.File found)) fact = absurd fact
+counts_of g told named before after old new count (Err stop.Read) fact = (fact.1.asked, fact.1.counted)
+counts_of g told named before after old new count (Err stop.Write) fact = (fact.0.asked, fact.1)
+counts_of g told named before after old new count (Err stop.Memory) fact = ([], tt)
+counts_of g told named before after old new count (Err (stop.Frames found)) fact = (fact.1.asked, fact.1.counted)
+counts_of g told named before after old new count (Err stop.Limit) fact = (fact.1.asked, fact.1.counted)

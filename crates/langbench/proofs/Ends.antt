@@ -32,21 +32,34 @@ use Rattle.langbench.specs.Checked.{Checked, ok_line}
 use Rattle.langbench.specs.Checking as checking
 use Rattle.lw_load.specs.Loading.{Files}
 use Rattle.langbench.specs.Checking.{CheckComesTo, CheckDone, most_read}
-use Rattle.langbench.specs.Run.{Faults, NoneRose, count_of, Work, Ends, ChecksAll}
+use Rattle.langbench.specs.Run.{Faults, NoneRose, count_of, CountsRun, Work, Ends, ChecksAll}
+use Rattle.langbench.specs.Serving.{CountsSession}
 use Rattle.langbench.specs.Stops.{Object, TheSource, TheSink, TheStore, ThePatterns, Counts, EndsWith, fault_code, load_code}
 use Rattle.langbench.proofs.Grammars.{same_grammar}
 
 -- the counts of all objects, by an outcome
 abbrev pub CountsAll : Faults → Result Verdict Stop → Type 0
-CountsAll faults outcome = (object : Object) → Counts object (count_of faults object).0 (count_of faults object).1 outcome
+CountsAll faults outcome = (object : Object) → CountsRun object (count_of faults object) outcome
 
 pub count_all : (faults : Faults) (outcome : Result Verdict Stop) → Counts TheSource faults.source.0 faults.source.1 outcome →
-    Counts TheSink faults.sink.0 faults.sink.1 outcome → Counts TheStore faults.store.0 faults.store.1 outcome →
+    Counts TheSink faults.sink.0 faults.sink.1 outcome → CountsSession faults.store outcome →
     Counts ThePatterns faults.patterns.0 faults.patterns.1 outcome → CountsAll faults outcome
 count_all faults outcome source sink store patterns TheSource = source
 count_all faults outcome source sink store patterns TheSink = sink
 count_all faults outcome source sink store patterns TheStore = store
 count_all faults outcome source sink store patterns ThePatterns = patterns
+
+-- the store was asked nothing in a session, since there was none, or it had not begun
+pub unasked : (count : ℕ × ℕ) (outcome : Result Verdict Stop) → Counts TheStore count.0 count.1 outcome → CountsSession count outcome
+unasked count (Ok verdict) counts = ([], counts)
+unasked count (Err stop.Words) counts = counts
+unasked count (Err (stop.Grammar found)) counts = counts
+unasked count (Err (stop.File found)) counts = counts
+unasked count (Err stop.Read) counts = ([], counts)
+unasked count (Err stop.Write) counts = ([], counts)
+unasked count (Err stop.Memory) counts = ([], counts)
+unasked count (Err (stop.Frames found)) counts = ([], counts)
+unasked count (Err stop.Limit) counts = ([], counts)
 
 -- where the path holds a grammar that is built and nothing fails, memory alone can be wanting
 module _ (files : Files) (path : List ℕ) (k : ℕ) (refused : Option (List ℕ)) (faults : Faults) (g : Grammar) (holds : HoldsGrammar files path g) (clear : IsClear g k) (none : NoneRose faults) where
@@ -140,4 +153,4 @@ checks_all words w notes failures code ends path k is =
     (λ files. if_told w.left.0
     (λ held came g holds clear none.
     document_done files path k w.refused w.faults g holds clear none held w.left.1 w.written.0 w.written.1 code ends.outcome ends.status came ends.comes_to.counts))
-    (ends.comes_to.check path k is)
+    (ends.comes_to.check path k is).1

@@ -3,6 +3,7 @@ pub mod Grammars
 pub mod OneOutput
 pub mod Loading
 pub mod NamedTexts
+pub mod NoneFailed
 pub mod Ends
 pub mod Commands
 pub mod Working

@@ -1,11 +1,23 @@
 -- The files that the words name, read one behind the other.
-use Rattle.std.proofs.Common.{◌≡◌, ◌+◌, ◌<◌, ℕ, suc, List, [], ◌∷◌, ◌++◌, length, take, drop, map, get_or, Option, Some, None, Result, Ok, Err, IfErr, IfSome, IsErrAnd, sym, ap, subst, ◌∙◌, arith}
+use Rattle.std.proofs.Common.{◌≡◌, ◌+◌, ◌<◌, ◌≤◌, ℕ, suc, List, [], ◌∷◌, ◌++◌, length, take, drop, map, get_or, false, Option, Some, None, Result, Ok, Err, IfErr, IfSome, IsErrAnd, refl, sym, ap, subst, ◌∙◌, arith}
+use Rattle.std.specs.FinMap.{empty, get, len, len-empty}
 use Rattle.std.proofs.lemmas.List.{map-append, take-append-drop}
 use Rattle.std.proofs.Math.Seq.{take-suc, drop-cons}
 use denote.Ref.{Bor}
+use Rattle.lw_base.specs.declared.limits.TheConstants.{LONGEST_TEXT}
+use Rattle.lw_build.specs.declared.fault.WorkFault.{WorkFault}
+use Rattle.lw_build.specs.declared.fault.WorkFault.TheVariants.{NoMemory}
+use Rattle.lw_conversation.specs.Opening.{most_documents}
+use Rattle.lw_conversation.specs.Standing.{Standing, beginning, with_texts}
 use Rattle.lw_io.specs.Store.{FitsFile, file_at}
+use Rattle.lw_machine.specs.Documents.{Document, Documents}
+use Rattle.lw_machine.specs.Events.{put, with_text}
+use Rattle.lw_machine.proofs.Places.{order}
+use Rattle.lw_making.proofs.Putting.{put_len}
+use Rattle.lw_session.specs.Loading as session
+use Rattle.lw_session.specs.Loading.{IsLoadFault}
 use Rattle.lw_load.specs.Loading.{Files}
-use Rattle.langbench.specs.Named.{AreNamed, IsFileText, answer_of_fault}
+use Rattle.langbench.specs.Named.{AreFileTexts, IsFileText, answer_of_fault}
 use Rattle.langbench.specs.Reading.{IsUnreadBy, StopsAtFile}
 use Rattle.langbench.specs.declared.stop.Stop.{Stop}
 use Rattle.langbench.specs.declared.stop.Stop.TheVariants as stop
@@ -36,19 +48,19 @@ module _ (paths : List (Bor (List ℕ))) (i : ℕ) (path : Bor (List ℕ)) (insi
       ∙ map-append (λ (p : Bor (List ℕ)). p.now) (take i paths) (path ∷ drop (suc i) paths)
 
   -- one file more is read
-  pub one_named_more : (told : Option Files) (named : List (List ℕ × List ℕ)) (put : List ℕ × List ℕ) → IfSome told (λ files. AreNamed files (paths_of (take i paths)) named) →
-      IfSome told (λ files. IsFileText files path.now put) → IfSome told (λ files. AreNamed files (paths_of (take (i + 1) paths)) (named ++ put ∷ []))
+  pub one_named_more : (told : Option Files) (named : List (List ℕ × List ℕ)) (put : List ℕ × List ℕ) → IfSome told (λ files. AreFileTexts files (paths_of (take i paths)) named) →
+      IfSome told (λ files. IsFileText files path.now put) → IfSome told (λ files. AreFileTexts files (paths_of (take (i + 1) paths)) (named ++ put ∷ []))
   one_named_more None named put are is = tt
-  one_named_more (Some files) named put are is = subst (λ ps. AreNamed files ps (named ++ put ∷ [])) (sym before_next) (pushed (paths_of (take i paths)) named are)
+  one_named_more (Some files) named put are is = subst (λ ps. AreFileTexts files ps (named ++ put ∷ [])) (sym before_next) (pushed (paths_of (take i paths)) named are)
     where
-      pushed : (ps : List (List ℕ)) (texts : List (List ℕ × List ℕ)) → AreNamed files ps texts → AreNamed files (ps ++ path.now ∷ []) (texts ++ put ∷ [])
+      pushed : (ps : List (List ℕ)) (texts : List (List ℕ × List ℕ)) → AreFileTexts files ps texts → AreFileTexts files (ps ++ path.now ∷ []) (texts ++ put ∷ [])
       pushed [] [] are = (is, tt)
       pushed [] (t ∷ texts) are = absurd are
       pushed (p ∷ ps) [] are = absurd are
       pushed (p ∷ ps) (t ∷ texts) are = (are.0, pushed ps texts are.1)
 
   -- or this one is the first that is not
-  pub first_unread : (told : Option Files) (named : List (List ℕ × List ℕ)) (e : Stop) → IfSome told (λ files. AreNamed files (paths_of (take i paths)) named) → IsUnreadBy told path.now e →
+  pub first_unread : (told : Option Files) (named : List (List ℕ × List ℕ)) (e : Stop) → IfSome told (λ files. AreFileTexts files (paths_of (take i paths)) named) → IsUnreadBy told path.now e →
       StopsAtFile told (paths_of paths) e
   first_unread told named stop.Words are is = absurd is
   first_unread told named (stop.Grammar found) are is = absurd is
@@ -66,6 +78,25 @@ module _ (paths : List (Bor (List ℕ))) (i : ℕ) (path : Bor (List ℕ)) (insi
   first_unread told named stop.Memory are is = tt
   first_unread told named (stop.Frames found) are is = absurd is
   first_unread told named stop.Limit are is = absurd is
+
+-- ---- there is room for each of them
+
+texts_len : (m : Documents) (files : List (List ℕ × List ℕ)) → len (with_texts m files) ≤ len m + length files
+texts_len m [] = omega arith
+texts_len m (file ∷ files) =
+    omega (arith, texts_len (put m file.0 file.1 None false) files, put_len m file.0 (with_text (get m file.0) file.1 None false))
+
+module _ (s : Standing) (named : List (List ℕ × List ℕ)) (begins : s ≡ beginning named) (few : length named < most_documents) where
+  few_documents : len s.documents < most_documents
+  few_documents =
+      let same : s.documents ≡ with_texts empty named = ap (λ (s : Standing). s.documents) begins in
+      omega (arith, ap len same, texts_len empty named, len-empty order Document, few)
+
+  -- so nothing but memory is refused
+  pub refused_memory : (address text : List ℕ) (fault : WorkFault) → length text ≤ LONGEST_TEXT → IsLoadFault s.documents address text fault → fault ≡ NoMemory
+  refused_memory address text _ short (session.too_long long) = absurd (omega (arith, short, long))
+  refused_memory address text _ short (session.too_many also full) = absurd (omega (arith, few_documents, full.1))
+  refused_memory address text _ short session.no_memory = refl
 
 -- a stop that is handed on has what it had
 pub handed_on : {T : Type 0} (P : Stop → Type 0) (e : Stop) (r : Result T Stop) → IsErrAnd r (λ s. s ≡ e) → P e → IfErr r P

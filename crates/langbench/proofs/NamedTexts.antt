@@ -3,7 +3,7 @@ use Rattle.std.proofs.Common.{◌≡◌, ℕ, List, [], ◌∷◌, ◌++◌, Opt
 use Rattle.lw_io.specs.Store.{FitsFile, file_at}
 use Rattle.lw_io.specs.declared.store.Found.TheVariants as found
 use Rattle.lw_load.specs.Loading.{Files}
-use Rattle.langbench.specs.Named.{AreNamed, IsFileText, IsFirstUnread, answer_of_fault, path_of_fault}
+use Rattle.langbench.specs.Named.{AreFileTexts, IsFileText, IsFirstUnread, answer_of_fault, path_of_fault}
 use Rattle.langbench.specs.declared.named.FileFault.{FileFault}
 
 -- ---- what a path holds is one text, or none
@@ -33,7 +33,7 @@ module _ (files : Files) where
       let text : put.1 ≡ other.1 = one_text (file_at files path) put.1 other.1 is.text also.text in
       ap₂ (λ a t. (a, t)) address text
 
-  pub same_named : (paths : List (List ℕ)) (named others : List (List ℕ × List ℕ)) → AreNamed files paths named → AreNamed files paths others → named ≡ others
+  pub same_named : (paths : List (List ℕ)) (named others : List (List ℕ × List ℕ)) → AreFileTexts files paths named → AreFileTexts files paths others → named ≡ others
   same_named [] [] [] are also = refl
   same_named [] [] (o ∷ others) are also = absurd also
   same_named [] (n ∷ named) others are also = absurd are
@@ -45,7 +45,7 @@ module _ (files : Files) where
       cc
 
   -- each of the paths has its text
-  text_at : (before : List (List ℕ)) (path : List ℕ) (behind : List (List ℕ)) (named : List (List ℕ × List ℕ)) → AreNamed files (before ++ path ∷ behind) named →
+  text_at : (before : List (List ℕ)) (path : List ℕ) (behind : List (List ℕ)) (named : List (List ℕ × List ℕ)) → AreFileTexts files (before ++ path ∷ behind) named →
       (put : List ℕ × List ℕ) × IsFileText files path put
   text_at [] path behind [] are = absurd are
   text_at [] path behind (n ∷ named) are = (n, are.0)
@@ -53,8 +53,8 @@ module _ (files : Files) where
   text_at (b ∷ before) path behind (n ∷ named) are = text_at before path behind named are.1
 
   -- so none of them is unread
-  pub no_unread : (paths : List (List ℕ)) (named : List (List ℕ × List ℕ)) → AreNamed files paths named → (fault : FileFault) → IsFirstUnread files paths fault →
+  pub no_unread : (paths : List (List ℕ)) (named : List (List ℕ × List ℕ)) → AreFileTexts files paths named → (fault : FileFault) → IsFirstUnread files paths fault →
       ((text : List ℕ) → FitsFile (file_at files (path_of_fault fault)) (found.Text text) → FitsFile (file_at files (path_of_fault fault)) (answer_of_fault fault) → ⊥) → ⊥
   no_unread paths named are fault first apart =
-      let there = text_at first.before (path_of_fault fault) first.behind named (subst (λ ps. AreNamed files ps named) first.parts are) in
+      let there = text_at first.before (path_of_fault fault) first.behind named (subst (λ ps. AreFileTexts files ps named) first.parts are) in
       apart there.0.1 there.1.text first.unread

@@ -1,14 +1,14 @@
 -- All that is claimed of a run follows from how it ends.
 use Rattle.std.proofs.Common.{ℕ, List, Option}
 use Rattle.lw_grammar.specs.declared.grammar.Grammar.{Grammar}
-use Rattle.lw_conversation.specs.Laws.{AreSettledByBodies}
+use Rattle.lw_conversation.specs.Laws.{AreSettledByFiles}
 use Rattle.lw_reading.specs.Laws.{IsReadOneWay}
 use Rattle.langbench.specs.Run.{Work, Ends, Runs}
 use Rattle.langbench.proofs.Done.{serves_all}
 use Rattle.langbench.proofs.Ends.{checks_all}
 use Rattle.langbench.proofs.Summed.{makes_all}
 
-pub runs : ((g : Grammar) → IsReadOneWay g → AreSettledByBodies g) → (words : List (List ℕ)) (w : Work) (notes : Option (List ℕ) × Option (List ℕ)) (failures : ℕ × ℕ) (code : ℕ) → Ends words w notes failures code →
+pub runs : ((g : Grammar) → IsReadOneWay g → AreSettledByFiles g) → (words : List (List ℕ)) (w : Work) (notes : Option (List ℕ) × Option (List ℕ)) (failures : ℕ × ℕ) (code : ℕ) → Ends words w notes failures code →
     Runs words w notes failures code
 runs settled words w notes failures code ends = record {
   ends = ends;

@@ -92,4 +92,4 @@ makes_all words w notes failures code ends path count k is =
     if_told w.files
     (λ files came g holds clear none.
     summary_done files path k count w.refused w.written.0 w.written.1 w.faults g holds clear none code ends.outcome ends.status came ends.comes_to.counts)
-    (ends.comes_to.make path count k is).1
+    (ends.comes_to.make path count k is).2

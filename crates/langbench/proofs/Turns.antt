@@ -1,6 +1,7 @@
 -- What each turn of a session makes of what was taken and written.
 use Rattle.std.proofs.Common.{◌≡◌, inl, inr, ℕ, suc, ◌+◌, ◌<◌, ◌≤◌, List, [], ◌∷◌, ◌++◌, length, take, Bool, true, false, Option, Some, None, Result, Ok, Err, slice_get, refl, sym, ap, subst, ◌∙◌, append-nil, arith, length-append, take_all}
 use Rattle.std.proofs.lemmas.List.{take-append-le}
+use Rattle.std.proofs.lemmas.List.Elements.{All-nil, All-push}
 use Rattle.std.specs.Io.KnownBytes.{Appends, Consumes, IsAtEnd, Keeps}
 use Rattle.std.proofs.KnownBytes.{Appends-nil, Appends-trans, Appends-kept, Consumes-nil, Consumes-trans, Consumes-kept}
 use Rattle.lw_grammar.specs.declared.grammar.Grammar.{Grammar}
@@ -9,19 +10,19 @@ use Rattle.lw_frame.specs.Frames.{bodies_of, fault_of, rest_of}
 use Rattle.lw_frame.specs.Stream.{Stream, start, with_piece, answer_next, next_body, next_answer, handed, after_next}
 use Rattle.lw_frame.specs.declared.fault.FrameFault.{FrameFault}
 use Rattle.lw_frame.specs.declared.limits.TheConstants.{LONGEST_SESSION}
-use Rattle.lw_io.specs.declared.store.Found.{Found}
+use Rattle.lw_conversation.specs.Reading.{AreAnswered, Asked}
 use Rattle.lw_conversation.specs.Standing.{Standing, beginning}
 use Rattle.lw_conversation.specs.Sessions as session
-use Rattle.lw_conversation.specs.Sessions.{Handles, Serves, framed}
+use Rattle.lw_conversation.specs.Sessions.{Serves, count_after, framed}
 use Rattle.lw_conversation.specs.declared.ended.Ended.{Ended}
 use Rattle.lw_conversation.specs.declared.ended.Ended.TheVariants.{No, Clean, Early}
 use Rattle.lw_frame.specs.Wanted.{EndsWithin}
 use Rattle.langbench.specs.declared.stop.Stop.{Stop}
 use Rattle.langbench.specs.declared.stop.Stop.TheVariants as stop
-use Rattle.langbench.specs.Serving.{WritesPart, Talked, TalkedSome, Exited, RanOut, WasCutOff, WentWrong, WasTooLong}
-use Rattle.langbench.specs.Talking as talking
-use Rattle.langbench.specs.Talking.{IsUnderway, TakesPiece, LosesPiece, Responds, RespondsPartly, AnswersNext}
-use Rattle.langbench.proofs.Talks.{framed-append, Serves-push}
+use Rattle.lw_load.specs.Loading.{Files}
+use Rattle.langbench.specs.Serving.{WritesPart, Talked, TalkedSome, TalkedUpTo, Exited, RanOut, WasCutOff, WentWrong, WasTooLong, count_through}
+use Rattle.langbench.specs.Talking.{IsUnderway, Responds, RespondsInPart, StopsResponding, AnswersNext}
+use Rattle.langbench.proofs.Talks.{framed-append, Serves-push, count_through-push}
 
 -- ---- a part of what is written
 
@@ -63,53 +64,74 @@ last_of (b ∷ bodies) body n is =
     let same : n ≡ suc (length bodies) = omega (arith, is) in
     ap (slice_get (b ∷ bodies ++ body ∷ [])) same ∙ last_of bodies body (length bodies) refl
 
-module _ (g : Grammar) (named : List (List ℕ × List ℕ)) (before now old mid : Option (List ℕ)) (s : Stream) (standing : Standing) (way : IsUnderway g named before now old mid s standing) where
-  talked : Talked g named before now old mid s.fed No
+-- ---- what a turn leaves, by what the next call answered
+
+module _ (g : Grammar) (told : Option Files) (named : List (List ℕ × List ℕ)) (before after old new : Option (List ℕ)) (count : ℕ × ℕ) where
+  abbrev pub AfterStop : Stop → Type 0
+  AfterStop stop.Write = TalkedUpTo g told named before after old new count
+  AfterStop stop.Memory = TalkedSome g told named before after old new
+  AfterStop (stop.Frames found) = WentWrong g told named before after old new count found
+  AfterStop _ = ⊥
+
+  abbrev pub AfterTurn : Stream → Standing → Result Ended Stop → Type 0
+  AfterTurn s t (Ok No) = IsUnderway g told named before after old new count s t
+  AfterTurn s t (Ok Clean) = Exited g told named before after old new count Clean
+  AfterTurn s t (Ok Early) = Exited g told named before after old new count Early
+  AfterTurn s t (Err found) = AfterStop found
+
+module _ (g : Grammar) (told : Option Files) (named : List (List ℕ × List ℕ)) (before now old mid : Option (List ℕ)) (began here : ℕ) (s : Stream) (standing : Standing)
+    (way : IsUnderway g told named before now old mid (began, here) s standing) where
+  talked : Talked g told named before now old mid (began, here) s.fed No
   talked = record {
     standing = standing;
-    found = way.found;
+    asked = way.asked;
     replies = way.replies;
     consumed = way.consumed;
     within = way.within;
     serves = way.serves;
     written = way.written;
+    answered = way.answered;
+    counted = way.counted;
   }
 
   -- a read failed
-  pub cut_off : (after : Option (List ℕ)) → Keeps now after → length s.fed < LONGEST_SESSION → WasCutOff g named before after old mid
+  pub cut_off : (after : Option (List ℕ)) → Keeps now after → length s.fed < LONGEST_SESSION → WasCutOff g told named before after old mid (began, here)
   cut_off after keeps short = (
     s.fed,
     record {
       standing = standing;
-      found = way.found;
+      asked = way.asked;
       replies = way.replies;
       consumed = Consumes-kept before now after s.fed way.consumed keeps;
       within = way.within;
       serves = way.serves;
       written = way.written;
+      answered = way.answered;
+      counted = way.counted;
     },
     short,
     way.sound,
   )
 
   -- too many bytes
-  pub too_long : length s.fed ≡ LONGEST_SESSION → WasTooLong g named before now old mid
+  pub too_long : length s.fed ≡ LONGEST_SESSION → WasTooLong g told named before now old mid (began, here)
   too_long is = (s.fed, talked, is, way.sound)
 
   -- memory was refused behind a read
-  pub lost_piece : (after : Option (List ℕ)) (bytes : List ℕ) → Consumes now after bytes → EndsWithin s.fed bytes → TalkedSome g named before after old mid
+  pub lost_piece : (after : Option (List ℕ)) (bytes : List ℕ) → Consumes now after bytes → EndsWithin s.fed bytes → TalkedSome g told named before after old mid
   lost_piece after bytes consumed within = record {
     taken = s.fed ++ bytes;
-    answered = bodies_of s.fed;
+    bodies = bodies_of s.fed;
     others = (behind within).0;
     standing = standing;
-    found = way.found;
+    asked = way.asked;
     replies = way.replies;
     ended = No;
     consumed = Consumes-trans before now after s.fed bytes way.consumed consumed;
     parts = (behind within).1;
     serves = way.serves;
     written = WritesPart-all old mid (framed way.replies) way.written;
+    answered = way.answered;
   }
     where
       behind : EndsWithin s.fed bytes → (others : List (List ℕ)) × (bodies_of (s.fed ++ bytes) ≡ bodies_of s.fed ++ others)
@@ -118,21 +140,23 @@ module _ (g : Grammar) (named : List (List ℕ × List ℕ)) (before now old mid
 
   -- the source is at its end
   module _ (after : Option (List ℕ)) (ended : IsAtEnd after) (keeps : Keeps now after) (short : length s.fed < LONGEST_SESSION) where
-    over : Talked g named before after old mid s.fed No
+    over : Talked g told named before after old mid (began, here) s.fed No
     over = record {
       standing = standing;
-      found = way.found;
+      asked = way.asked;
       replies = way.replies;
       consumed = Consumes-kept before now after s.fed way.consumed keeps;
       within = way.within;
       serves = way.serves;
       written = way.written;
+      answered = way.answered;
+      counted = way.counted;
     }
 
-    pub ran_out : fault_of s.fed true ≡ None → RanOut g named before after old mid
+    pub ran_out : fault_of s.fed true ≡ None → RanOut g told named before after old mid (began, here)
     ran_out none = (s.fed, over, ended, short, none)
 
-    pub broke_off : (found : FrameFault) → fault_of s.fed true ≡ Some found → WentWrong g named before after old mid found
+    pub broke_off : (found : FrameFault) → fault_of s.fed true ≡ Some found → WentWrong g told named before after old mid (began, here) found
     broke_off found is = (s.fed, over, inr (ended, short, is))
 
   -- ---- a piece was taken
@@ -146,13 +170,14 @@ module _ (g : Grammar) (named : List (List ℕ × List ℕ)) (before now old mid
       pub none_next : next_body (with_piece s bytes) ≡ None
       none_next = ap (λ bodies. slice_get bodies s.given) same ∙ none_behind (bodies_of s.fed) s.given way.all_given
 
-      serves_all : Serves g (beginning named) (bodies_of (s.fed ++ bytes)) way.found standing way.replies No
-      serves_all = subst (λ bodies. Serves g (beginning named) bodies way.found standing way.replies No) (sym same) way.serves
+      serves_all : Serves g (beginning named) (bodies_of (s.fed ++ bytes)) way.asked standing way.replies No
+      serves_all = subst (λ bodies. Serves g (beginning named) bodies way.asked standing way.replies No) (sym same) way.serves
 
       -- and no fault: the session goes on
-      goes_on : (new : Option (List ℕ)) → Keeps mid new → fault_of (s.fed ++ bytes) false ≡ None → IsUnderway g named before after old new (with_piece s bytes) standing
-      goes_on new keeps none = record {
-        found = way.found;
+      goes_on : (new : Option (List ℕ)) (there : ℕ) → Keeps mid new → there ≡ here → fault_of (s.fed ++ bytes) false ≡ None →
+          IsUnderway g told named before after old new (began, there) (with_piece s bytes) standing
+      goes_on new there keeps same_count none = record {
+        asked = way.asked;
         replies = way.replies;
         going_on = way.going_on;
         all_given = way.all_given ∙ ap length (sym same);
@@ -161,20 +186,25 @@ module _ (g : Grammar) (named : List (List ℕ × List ℕ)) (before now old mid
         consumed = consumed_all;
         serves = serves_all;
         written = Appends-kept old mid new (framed way.replies) way.written keeps;
+        answered = way.answered;
+        counted = same_count ∙ way.counted;
       }
 
       -- and a fault
-      went_wrong : (new : Option (List ℕ)) → Keeps mid new → (found : FrameFault) → fault_of (s.fed ++ bytes) false ≡ Some found → WentWrong g named before after old new found
-      went_wrong new keeps found is = (
+      went_wrong : (new : Option (List ℕ)) (there : ℕ) → Keeps mid new → there ≡ here → (found : FrameFault) → fault_of (s.fed ++ bytes) false ≡ Some found →
+          WentWrong g told named before after old new (began, there) found
+      went_wrong new there keeps same_count found is = (
         s.fed ++ bytes,
         record {
           standing = standing;
-          found = way.found;
+          asked = way.asked;
           replies = way.replies;
           consumed = consumed_all;
           within = fits;
           serves = serves_all;
           written = Appends-kept old mid new (framed way.replies) way.written keeps;
+          answered = way.answered;
+          counted = same_count ∙ way.counted;
         },
         inl is,
       )
@@ -184,29 +214,38 @@ module _ (g : Grammar) (named : List (List ℕ × List ℕ)) (before now old mid
       pub one_next : next_body (with_piece s bytes) ≡ Some body
       one_next = ap (λ bodies. slice_get bodies s.given) one ∙ last_of (bodies_of s.fed) body s.given way.all_given
 
-      module _ (new : Option (List ℕ)) (t : Standing) (ended : Ended) (responds : Responds g standing mid new body t ended) where
-        abbrev reads : List (List Found)
-        reads = way.found ++ responds.found ∷ []
+      module _ (new : Option (List ℕ)) (there : ℕ) (t : Standing) (ended : Ended) (responds : Responds g told standing mid new (here, there) body t ended) where
+        abbrev reads : List (List Asked)
+        reads = way.asked ++ responds.asked ∷ []
 
         served : Serves g (beginning named) (bodies_of (s.fed ++ bytes)) reads t (way.replies ++ responds.replies) ended
         served = subst (λ bodies. Serves g (beginning named) bodies reads t (way.replies ++ responds.replies) ended) (sym one)
-            (Serves-push g (beginning named) standing t (bodies_of s.fed) body way.found responds.found way.replies responds.replies No ended refl way.serves responds.handles)
+            (Serves-push g (beginning named) standing t (bodies_of s.fed) body way.asked responds.asked way.replies responds.replies No ended refl way.serves responds.handles)
 
         written_all : Appends old new (framed (way.replies ++ responds.replies))
         written_all = subst (Appends old new) (sym (framed-append way.replies responds.replies)) (Appends-trans old mid new _ _ way.written responds.written)
 
-        talked_all : Talked g named before after old new (s.fed ++ bytes) ended
+        answered_all : All (AreAnswered told) reads
+        answered_all = All-push (AreAnswered told) way.asked responds.asked way.answered responds.answered
+
+        counted_all : there ≡ count_through began reads
+        counted_all =
+            responds.counted ∙ ap (λ count. count_after count responds.asked) way.counted ∙ sym (count_through-push way.asked responds.asked began)
+
+        talked_all : Talked g told named before after old new (began, there) (s.fed ++ bytes) ended
         talked_all = record {
           standing = t;
-          found = reads;
+          asked = reads;
           replies = way.replies ++ responds.replies;
           consumed = consumed_all;
           within = fits;
           serves = served;
           written = written_all;
+          answered = answered_all;
+          counted = counted_all;
         }
 
-        pub exited : rest_of (s.fed ++ bytes) ≡ [] → Exited g named before after old new ended
+        pub exited : rest_of (s.fed ++ bytes) ≡ [] → Exited g told named before after old new (began, there) ended
         exited nothing = (
           s.fed ++ bytes,
           talked_all,
@@ -214,7 +253,7 @@ module _ (g : Grammar) (named : List (List ℕ × List ℕ)) (before now old mid
             earlier = bodies_of s.fed;
             last = body;
             standing = standing;
-            found = way.found;
+            asked = way.asked;
             replies = way.replies;
             parts = one;
             serves = way.serves;
@@ -222,9 +261,9 @@ module _ (g : Grammar) (named : List (List ℕ × List ℕ)) (before now old mid
           nothing,
         )
 
-        pub goes_on_behind : ended ≡ No → fault_of (s.fed ++ bytes) false ≡ None → IsUnderway g named before after old new (record (with_piece s bytes) { given = s.given + 1 }) t
+        pub goes_on_behind : ended ≡ No → fault_of (s.fed ++ bytes) false ≡ None → IsUnderway g told named before after old new (began, there) (record (with_piece s bytes) { given = s.given + 1 }) t
         goes_on_behind no_end none = record {
-          found = reads;
+          asked = reads;
           replies = way.replies ++ responds.replies;
           going_on = way.going_on;
           all_given = omega (arith, way.all_given, ap length one, length-append (bodies_of s.fed) (body ∷ []));
@@ -233,98 +272,107 @@ module _ (g : Grammar) (named : List (List ℕ × List ℕ)) (before now old mid
           consumed = consumed_all;
           serves = subst (λ e. Serves g (beginning named) (bodies_of (s.fed ++ bytes)) reads t (way.replies ++ responds.replies) e) no_end served;
           written = written_all;
+          answered = answered_all;
+          counted = counted_all;
         }
 
       -- a part of the replies was written
-      pub wrote_part : (new : Option (List ℕ)) → RespondsPartly g standing mid new body → TalkedSome g named before after old new
-      wrote_part new (talking.nothing keeps) = record {
-        taken = s.fed ++ bytes;
-        answered = bodies_of s.fed;
-        others = body ∷ [];
-        standing = standing;
-        found = way.found;
-        replies = way.replies;
-        ended = No;
-        consumed = consumed_all;
-        parts = one;
-        serves = way.serves;
-        written = WritesPart-all old new (framed way.replies) (Appends-kept old mid new (framed way.replies) way.written keeps);
-      }
-      wrote_part new (talking.part {found} {t} {replies} {ended} handles part) = record {
-        taken = s.fed ++ bytes;
-        answered = bodies_of s.fed ++ body ∷ [];
-        others = [];
-        standing = t;
-        found = way.found ++ found ∷ [];
-        replies = way.replies ++ replies;
-        ended = ended;
-        consumed = consumed_all;
-        parts = one ∙ sym (append-nil (bodies_of s.fed ++ body ∷ []));
-        serves = Serves-push g (beginning named) standing t (bodies_of s.fed) body way.found found way.replies replies No ended refl way.serves handles;
-        written = subst (WritesPart old new) (sym (framed-append way.replies replies)) (WritesPart-behind old mid new (framed way.replies) (framed replies) way.written part);
-      }
+      module _ (new : Option (List ℕ)) (there : ℕ) where
+        wrote_part : RespondsInPart g told standing mid new (here, there) body → TalkedUpTo g told named before after old new (began, there)
+        wrote_part part = (
+          record {
+            taken = s.fed ++ bytes;
+            bodies = bodies_of s.fed ++ body ∷ [];
+            others = [];
+            standing = part.standing;
+            asked = way.asked ++ part.asked ∷ [];
+            replies = way.replies ++ part.replies;
+            ended = part.ended;
+            consumed = consumed_all;
+            parts = one ∙ sym (append-nil (bodies_of s.fed ++ body ∷ []));
+            serves = Serves-push g (beginning named) standing part.standing (bodies_of s.fed) body way.asked part.asked way.replies part.replies No part.ended refl way.serves
+                part.handles;
+            written = subst (WritesPart old new) (sym (framed-append way.replies part.replies))
+                (WritesPart-behind old mid new (framed way.replies) (framed part.replies) way.written part.written);
+            answered = All-push (AreAnswered told) way.asked part.asked way.answered part.answered;
+          },
+          part.counted ∙ ap (λ count. count_after count part.asked) way.counted ∙ sym (count_through-push way.asked part.asked began),
+        )
+
+        -- or nothing was
+        wrote_nothing : Keeps mid new → TalkedSome g told named before after old new
+        wrote_nothing keeps = record {
+          taken = s.fed ++ bytes;
+          bodies = bodies_of s.fed;
+          others = body ∷ [];
+          standing = standing;
+          asked = way.asked;
+          replies = way.replies;
+          ended = No;
+          consumed = consumed_all;
+          parts = one;
+          serves = way.serves;
+          written = WritesPart-all old new (framed way.replies) (Appends-kept old mid new (framed way.replies) way.written keeps);
+          answered = way.answered;
+        }
+
+        pub stopped : (found : Stop) → StopsResponding g told standing mid new (here, there) body found → AfterStop g told named before after old new (began, there) found
+        stopped stop.Write part = wrote_part part
+        stopped stop.Memory (inl keeps) = wrote_nothing keeps
+        stopped stop.Memory (inr part) = (wrote_part part).0
+        stopped stop.Words none = absurd none
+        stopped (stop.Grammar found) none = absurd none
+        stopped (stop.File found) none = absurd none
+        stopped stop.Read none = absurd none
+        stopped (stop.Frames found) none = absurd none
+        stopped stop.Limit none = absurd none
 
 -- ---- the turns, by what the next call answered
 
-abbrev pub AfterTurn : Grammar → List (List ℕ × List ℕ) → Option (List ℕ) → Option (List ℕ) → Option (List ℕ) → Option (List ℕ) → Stream → Standing → Result Ended Stop → Type 0
-AfterTurn g named before after old new s t (Ok No) = IsUnderway g named before after old new s t
-AfterTurn g named before after old new s t (Ok Clean) = Exited g named before after old new Clean
-AfterTurn g named before after old new s t (Ok Early) = Exited g named before after old new Early
-AfterTurn g named before after old new s t (Err stop.Write) = TalkedSome g named before after old new
-AfterTurn g named before after old new s t (Err stop.Memory) = TalkedSome g named before after old new
-AfterTurn g named before after old new s t (Err (stop.Frames found)) = WentWrong g named before after old new found
-AfterTurn g named before after old new s t (Err _) = ⊥
-
-module _ (g : Grammar) (named : List (List ℕ × List ℕ)) (before now after old mid new : Option (List ℕ)) (s : Stream) (standing : Standing) (way : IsUnderway g named before now old mid s standing)
-    (bytes : List ℕ) (consumed : Consumes now after bytes) (fits : length (s.fed ++ bytes) ≤ LONGEST_SESSION) where
+module _ (g : Grammar) (told : Option Files) (named : List (List ℕ × List ℕ)) (before now after old mid new : Option (List ℕ)) (began here there : ℕ) (s : Stream) (standing : Standing)
+    (way : IsUnderway g told named before now old mid (began, here) s standing) (bytes : List ℕ) (consumed : Consumes now after bytes) (fits : length (s.fed ++ bytes) ≤ LONGEST_SESSION) where
   open_fault : (closed : Bool) → s.closed ≡ closed → closed ≡ false → fault_of (s.fed ++ bytes) s.closed ≡ fault_of (s.fed ++ bytes) false
   open_fault closed is false_ = ap (fault_of (s.fed ++ bytes)) (is ∙ false_)
 
   -- no body
   without : (t : Standing) → bodies_of (s.fed ++ bytes) ≡ bodies_of s.fed → (within : EndsWithin s.fed bytes) (fault : Option FrameFault) → fault_of (s.fed ++ bytes) false ≡ fault →
-      (outcome : Result Ended Stop) → AnswersNext g standing mid new (answer_next None fault) t outcome → AfterTurn g named before after old new (with_piece s bytes) t outcome
+      (outcome : Result Ended Stop) → AnswersNext g told standing mid new (here, there) (answer_next None fault) t outcome → AfterTurn g told named before after old new (began, there) (with_piece s bytes) t outcome
   without t same within None none outcome answers =
-      subst (AfterTurn g named before after old new (with_piece s bytes) t) (sym answers.0)
-      (subst (IsUnderway g named before after old new (with_piece s bytes)) (sym answers.1) (goes_on g named before now old mid s standing way after bytes consumed within fits same new answers.2 none))
+      subst (AfterTurn g told named before after old new (began, there) (with_piece s bytes) t) (sym answers.0)
+      (subst (IsUnderway g told named before after old new (began, there) (with_piece s bytes)) (sym answers.1) (goes_on g told named before now old mid began here s standing way after bytes consumed within fits same new there answers.2 answers.3 none))
   without t same within (Some found) is outcome answers =
-      subst (AfterTurn g named before after old new (with_piece s bytes) t) (sym answers.0) (went_wrong g named before now old mid s standing way after bytes consumed within fits same new answers.2 found is)
+      subst (AfterTurn g told named before after old new (began, there) (with_piece s bytes) t) (sym answers.0) (went_wrong g told named before now old mid began here s standing way after bytes consumed within fits same new there answers.2 answers.3 found is)
 
   -- one body
   with_one : (t : Standing) (within : EndsWithin s.fed bytes) (body : List ℕ) → bodies_of (s.fed ++ bytes) ≡ bodies_of s.fed ++ body ∷ [] → rest_of (s.fed ++ bytes) ≡ [] → fault_of (s.fed ++ bytes) false ≡ None →
-      (outcome : Result Ended Stop) → AnswersNext g standing mid new (Ok (Some body)) t outcome → AfterTurn g named before after old new (record (with_piece s bytes) { given = s.given + 1 }) t outcome
-  with_one t within body one nothing none (Ok No) responds = goes_on_behind g named before now old mid s standing way after bytes consumed within fits body one new t No responds refl none
-  with_one t within body one nothing none (Ok Clean) responds = exited g named before now old mid s standing way after bytes consumed within fits body one new t Clean responds nothing
-  with_one t within body one nothing none (Ok Early) responds = exited g named before now old mid s standing way after bytes consumed within fits body one new t Early responds nothing
-  with_one t within body one nothing none (Err stop.Write) part = wrote_part g named before now old mid s standing way after bytes consumed within fits body one new part
-  with_one t within body one nothing none (Err stop.Memory) part = wrote_part g named before now old mid s standing way after bytes consumed within fits body one new part
-  with_one t within body one nothing none (Err stop.Words) part = part
-  with_one t within body one nothing none (Err (stop.Grammar found)) part = part
-  with_one t within body one nothing none (Err (stop.File found)) part = part
-  with_one t within body one nothing none (Err stop.Read) part = part
-  with_one t within body one nothing none (Err (stop.Frames found)) part = absurd part
-  with_one t within body one nothing none (Err stop.Limit) part = part
+      (outcome : Result Ended Stop) → AnswersNext g told standing mid new (here, there) (Ok (Some body)) t outcome → AfterTurn g told named before after old new (began, there) (record (with_piece s bytes) { given = s.given + 1 }) t outcome
+  with_one t within body one nothing none (Ok No) responds = goes_on_behind g told named before now old mid began here s standing way after bytes consumed within fits body one new there t No responds refl none
+  with_one t within body one nothing none (Ok Clean) responds = exited g told named before now old mid began here s standing way after bytes consumed within fits body one new there t Clean responds nothing
+  with_one t within body one nothing none (Ok Early) responds = exited g told named before now old mid began here s standing way after bytes consumed within fits body one new there t Early responds nothing
+  with_one t within body one nothing none (Err found) part = stopped g told named before now old mid began here s standing way after bytes consumed within fits body one new there found part
 
   -- What a turn leaves: the reader hands out what the piece brought, and it is answered.
-  pub turn : (t : Standing) (within : EndsWithin s.fed bytes) (outcome : Result Ended Stop) → AnswersNext g standing mid new (next_answer (with_piece s bytes)) t outcome →
-      AfterTurn g named before after old new (after_next (with_piece s bytes)) t outcome
+  pub turn : (t : Standing) (within : EndsWithin s.fed bytes) (outcome : Result Ended Stop) → AnswersNext g told standing mid new (here, there) (next_answer (with_piece s bytes)) t outcome →
+      AfterTurn g told named before after old new (began, there) (after_next (with_piece s bytes)) t outcome
   turn t (inl same) outcome answers =
-      let none = none_next g named before now old mid s standing way after bytes consumed (inl same) fits same in
+      let none = none_next g told named before now old mid began here s standing way after bytes consumed (inl same) fits same in
       let fault = open_fault s.closed refl way.going_on in
-      let at : AnswersNext g standing mid new (answer_next None (fault_of (s.fed ++ bytes) false)) t outcome =
-      subst (λ f. AnswersNext g standing mid new (answer_next None f) t outcome) fault (subst (λ o. AnswersNext g standing mid new (answer_next o (fault_of (s.fed ++ bytes) s.closed)) t outcome) none answers) in
-      subst (λ o. AfterTurn g named before after old new (handed o (with_piece s bytes)) t outcome) (sym none) (without t same (inl same) (fault_of (s.fed ++ bytes) false) refl outcome at)
+      let at : AnswersNext g told standing mid new (here, there) (answer_next None (fault_of (s.fed ++ bytes) false)) t outcome =
+      subst (λ f. AnswersNext g told standing mid new (here, there) (answer_next None f) t outcome) fault (subst (λ o. AnswersNext g told standing mid new (here, there) (answer_next o (fault_of (s.fed ++ bytes) s.closed)) t outcome) none answers) in
+      subst (λ o. AfterTurn g told named before after old new (began, there) (handed o (with_piece s bytes)) t outcome) (sym none) (without t same (inl same) (fault_of (s.fed ++ bytes) false) refl outcome at)
   turn t (inr one) outcome answers =
-      let some = one_next g named before now old mid s standing way after bytes consumed (inr one) fits one.0 one.1 in
-      let at : AnswersNext g standing mid new (Ok (Some one.0)) t outcome =
-      subst (λ o. AnswersNext g standing mid new (answer_next o (fault_of (s.fed ++ bytes) s.closed)) t outcome) some answers in
-      subst (λ o. AfterTurn g named before after old new (handed o (with_piece s bytes)) t outcome) (sym some) (with_one t (inr one) one.0 one.1 one.2 (one.3 false) outcome at)
+      let some = one_next g told named before now old mid began here s standing way after bytes consumed (inr one) fits one.0 one.1 in
+      let at : AnswersNext g told standing mid new (here, there) (Ok (Some one.0)) t outcome =
+      subst (λ o. AnswersNext g told standing mid new (here, there) (answer_next o (fault_of (s.fed ++ bytes) s.closed)) t outcome) some answers in
+      subst (λ o. AfterTurn g told named before after old new (began, there) (handed o (with_piece s bytes)) t outcome) (sym some) (with_one t (inr one) one.0 one.1 one.2 (one.3 false) outcome at)
 
 -- nothing was taken yet
-pub underway_start : (g : Grammar) (named : List (List ℕ × List ℕ)) (left written : Option (List ℕ)) (s : Stream) (standing : Standing) → s ≡ start → standing ≡ beginning named → IsUnderway g named left left written written s standing
-underway_start g named left written s standing is begins =
-    subst (λ st. IsUnderway g named left left written written s st) (sym begins)
-    (subst (λ st. IsUnderway g named left left written written st (beginning named)) (sym is) (record {
-      found = [];
+pub underway_start : (g : Grammar) (told : Option Files) (named : List (List ℕ × List ℕ)) (left written : Option (List ℕ)) (count : ℕ) (s : Stream) (standing : Standing) → s ≡ start →
+    standing ≡ beginning named → IsUnderway g told named left left written written (count, count) s standing
+underway_start g told named left written count s standing is begins =
+    subst (λ st. IsUnderway g told named left left written written (count, count) s st) (sym begins)
+    (subst (λ st. IsUnderway g told named left left written written (count, count) st (beginning named)) (sym is) (record {
+      asked = [];
       replies = [];
       going_on = refl;
       all_given = refl;
@@ -333,4 +381,6 @@ underway_start g named left written s standing is begins =
       consumed = Consumes-nil left;
       serves = session.waits;
       written = Appends-nil written;
+      answered = All-nil (AreAnswered told);
+      counted = refl;
     }))

@@ -17,8 +17,8 @@ pub record IsFileText (files : Files) (path : List ℕ) (put : List ℕ × List 
   pub text : FitsFile (file_at files path) (found.Text put.1)
 
 -- the texts of the files at these paths, by their addresses
-abbrev pub AreNamed : Files → List (List ℕ) → List (List ℕ × List ℕ) → Type 0
-AreNamed files = AllZip (IsFileText files)
+abbrev pub AreFileTexts : Files → List (List ℕ) → List (List ℕ × List ℕ) → Type 0
+AreFileTexts files = AllZip (IsFileText files)
 
 -- the path of a file that is not read, and what the store answered for it
 abbrev pub path_of_fault : FileFault → List ℕ
@@ -39,5 +39,5 @@ pub record IsFirstUnread (files : Files) (paths : List (List ℕ)) (fault : File
   pub behind : List (List ℕ)
   pub parts : paths ≡ before ++ path_of_fault fault ∷ behind
   pub texts : List (List ℕ × List ℕ)
-  pub read : AreNamed files before texts
+  pub read : AreFileTexts files before texts
   pub unread : FitsFile (file_at files (path_of_fault fault)) (answer_of_fault fault)

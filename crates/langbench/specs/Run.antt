@@ -12,8 +12,8 @@ use Rattle.lw_load.specs.Loading.{Files}
 use Rattle.langbench.specs.Checking.{CheckComesTo, CheckDone, IsCaused}
 use Rattle.langbench.specs.Notes.{NotesOutcome, NotesOutcomePart}
 use Rattle.langbench.specs.Making.{MakeComesTo, MakeDone}
-use Rattle.langbench.specs.Named.{AreNamed}
-use Rattle.langbench.specs.Serving.{ServeComesTo, ServeDone, IsSession}
+use Rattle.langbench.specs.Named.{AreFileTexts}
+use Rattle.langbench.specs.Serving.{CountsSession, ServeComesTo, ServeDone, IsSession}
 use Rattle.langbench.specs.Stops.{Object, TheSource, TheSink, TheStore, ThePatterns, Counts, EndsWith}
 use Rattle.lw_words.specs.Words.{IsCheck, IsServe, IsMake, IsNoCommand, NamesFile}
 
@@ -39,6 +39,13 @@ pub record Work : Type 0 where
   pub refused : Option (List ℕ)
   pub faults : Faults
 
+-- the count of an object by the outcome: the store may have failed in a session, which goes on then
+abbrev pub CountsRun : Object → ℕ × ℕ → Result Verdict Stop → Type 0
+CountsRun TheStore count outcome = CountsSession count outcome
+CountsRun TheSource count outcome = Counts TheSource count.0 count.1 outcome
+CountsRun TheSink count outcome = Counts TheSink count.0 count.1 outcome
+CountsRun ThePatterns count outcome = Counts ThePatterns count.0 count.1 outcome
+
 -- none of the objects has failed
 abbrev pub NoneRose : Faults → Type 0
 NoneRose faults = (object : Object) → ¬ Rose (count_of faults object).0 (count_of faults object).1
@@ -46,17 +53,17 @@ NoneRose faults = (object : Object) → ¬ Rose (count_of faults object).0 (coun
 module _ (words : List (List ℕ)) (w : Work) where
   -- what the work came to: a row for each command, and one for words that are none
   pub record ComesTo (outcome : Result Verdict Stop) : Type 0 where
-    pub check : (path : List ℕ) (k : ℕ) → IsCheck words path k → IfSome w.files (λ files. IfSome w.left.0 (λ held.
+    pub check : (path : List ℕ) (k : ℕ) → IsCheck words path k → Counts TheStore w.faults.store.0 w.faults.store.1 outcome × IfSome w.files (λ files. IfSome w.left.0 (λ held.
         CheckComesTo files path k held w.refused w.left.1 w.written.0 w.written.1 outcome))
     pub serve : (path : List ℕ) (paths : List (List ℕ)) (k : ℕ) → IsServe words path paths k → IfSome w.files (λ files.
-        ServeComesTo files path paths k w.refused w.left.0 w.left.1 w.written.0 w.written.1 outcome)
-    pub make : (path : List ℕ) (count k : ℕ) → IsMake words path count k → Keeps w.left.0 w.left.1 × IfSome w.files (λ files.
-        MakeComesTo files path k count w.refused w.written.0 w.written.1 outcome)
+        ServeComesTo files path paths k w.refused w.left.0 w.left.1 w.written.0 w.written.1 w.faults.store outcome)
+    pub make : (path : List ℕ) (count k : ℕ) → IsMake words path count k → Keeps w.left.0 w.left.1 × Counts TheStore w.faults.store.0 w.faults.store.1 outcome ×
+        IfSome w.files (λ files. MakeComesTo files path k count w.refused w.written.0 w.written.1 outcome)
     pub none : IsNoCommand words → ((outcome ≡ Err Words) ⊎ (outcome ≡ Err Memory)) × Keeps w.left.0 w.left.1 × Keeps w.written.0 w.written.1
     -- a command does not stop for its words
     pub unnamed : outcome ≡ Err Words → IsNoCommand words
     pub cause : (path : List ℕ) (k : ℕ) → NamesFile words path k → IsCaused w.files path k w.refused outcome
-    pub counts : (object : Object) → Counts object (count_of w.faults object).0 (count_of w.faults object).1 outcome
+    pub counts : (object : Object) → CountsRun object (count_of w.faults object) outcome
 
   -- The notes before the run and behind it, and how often they had failed. The status is that of the outcome. The path is that of the grammar that the words name,
   -- unless memory was refused while they were read. Where the notes did not fail and there was memory,
@@ -79,7 +86,7 @@ module _ (words : List (List ℕ)) (w : Work) where
   -- whole, or memory was refused
   abbrev pub ServesAll : ℕ → Type 0
   ServesAll code = (path : List ℕ) (paths : List (List ℕ)) (k : ℕ) → IsServe words path paths k → IfSome w.files (λ files. IfSome w.left.0 (λ held. (g : plain.Grammar)
-      (named : List (List ℕ × List ℕ)) (replies : List Reply) → HoldsGrammar files path g → IsClear g k → AreNamed files paths named → IsSession g named held replies →
+      (named : List (List ℕ × List ℕ)) (replies : List Reply) → HoldsGrammar files path g → IsClear g k → AreFileTexts files paths named → IsSession g files named held replies →
       NoneRose w.faults → ServeDone replies w.written.0 w.written.1 code))
 
   -- and the summary is written, or memory was refused

@@ -1,5 +1,5 @@
 -- A session that is under way: what its parts leave.
-use Rattle.std.specs.Prelude.{ℕ, ◌≡◌, ◌<◌, ◌≤◌, List, length, true, false, Option, Some, None, Result, Ok, Err}
+use Rattle.std.specs.Prelude.{ℕ, ◌≡◌, ◌<◌, ◌≤◌, ◌⊎◌, All, List, length, true, false, Option, Some, None, Result, Ok, Err}
 use Rattle.std.specs.List.{flat_map}
 use Rattle.std.specs.Io.KnownBytes.{Appends, Consumes, IsAtEnd, Keeps}
 use Rattle.lw_grammar.specs.declared.grammar.Grammar as plain
@@ -8,9 +8,9 @@ use Rattle.lw_frame.specs.Stream.{Stream, with_piece}
 use Rattle.lw_frame.specs.Wanted.{EndsWithin}
 use Rattle.lw_frame.specs.declared.fault.FrameFault.{FrameFault}
 use Rattle.lw_frame.specs.declared.limits.TheConstants.{LONGEST_SESSION}
-use Rattle.lw_io.specs.declared.store.Found.{Found}
+use Rattle.lw_conversation.specs.Reading.{AreAnswered, Asked}
 use Rattle.lw_conversation.specs.Standing.{Standing, beginning}
-use Rattle.lw_conversation.specs.Sessions.{Handles, Serves, framed}
+use Rattle.lw_conversation.specs.Sessions.{Handles, Serves, count_after, framed}
 use Rattle.lw_conversation.specs.declared.ended.Ended.{Ended}
 use Rattle.lw_conversation.specs.declared.ended.Ended.TheVariants.{No}
 use Rattle.lw_rpc.specs.Messages.{message_of}
@@ -19,24 +19,28 @@ use Rattle.langbench.specs.declared.report.Verdict.{Verdict}
 use Rattle.langbench.specs.declared.report.Verdict.TheVariants.{Whole, Broken}
 use Rattle.langbench.specs.declared.stop.Stop.{Stop}
 use Rattle.langbench.specs.declared.stop.Stop.TheVariants as stop
-use Rattle.langbench.specs.Serving.{WritesPart}
+use Rattle.lw_load.specs.Loading.{Files}
+use Rattle.langbench.specs.Serving.{WritesPart, count_through}
 
 -- bodies, each in a frame
 abbrev pub in_frames : List (List ℕ) → List ℕ
 in_frames bodies = flat_map frame_of bodies
 
 -- All that was taken was answered, and that is no more than may be: the stream is open and without a fault, each of its bodies was handed out and answered, and all
--- replies were written.
-pub record IsUnderway (g : plain.Grammar) (named : List (List ℕ × List ℕ)) (before now old new : Option (List ℕ)) (stream : Stream) (standing : Standing) : Type 0 where
-  pub found : List (List Found)
+-- replies were written. The count of the store rose by what it answered alone.
+pub record IsUnderway (g : plain.Grammar) (told : Option Files) (named : List (List ℕ × List ℕ)) (before now old new : Option (List ℕ)) (count : ℕ × ℕ) (stream : Stream)
+    (standing : Standing) : Type 0 where
+  pub asked : List (List Asked)
   pub replies : List Reply
   pub going_on : stream.closed ≡ false
   pub all_given : stream.given ≡ length (bodies_of stream.fed)
   pub sound : fault_of stream.fed false ≡ None
   pub within : length stream.fed ≤ LONGEST_SESSION
   pub consumed : Consumes before now stream.fed
-  pub serves : Serves g (beginning named) (bodies_of stream.fed) found standing replies No
+  pub serves : Serves g (beginning named) (bodies_of stream.fed) asked standing replies No
   pub written : Appends old new (framed replies)
+  pub answered : All (AreAnswered told) asked
+  pub counted : count.1 ≡ count_through count.0 asked
 
 -- what was taken from the source and fed to the reader
 pub data TakesPiece (before now : Option (List ℕ)) (s : Stream) : Stream → ℕ → Type 0 where
@@ -48,27 +52,39 @@ pub data LosesPiece (before now : Option (List ℕ)) (s : Stream) : Stop → Typ
   unread : Keeps before now → LosesPiece before now s stop.Read
   lost : (bytes : List ℕ) → Consumes before now bytes → EndsWithin s.fed bytes → LosesPiece before now s stop.Memory
 
-module _ (g : plain.Grammar) (s : Standing) (old new : Option (List ℕ)) where
+module _ (g : plain.Grammar) (told : Option Files) (s : Standing) (old new : Option (List ℕ)) (count : ℕ × ℕ) where
   -- a body was answered, and all replies to it were written
   pub record Responds (body : List ℕ) (t : Standing) (ended : Ended) : Type 0 where
-    pub found : List Found
+    pub asked : List Asked
     pub replies : List Reply
-    pub handles : Handles g s (message_of body) found t replies ended
+    pub handles : Handles g s (message_of body) asked t replies ended
     pub written : Appends old new (framed replies)
+    pub answered : AreAnswered told asked
+    pub counted : count.1 ≡ count_after count.0 asked
 
-  -- a body was answered, and a part of the replies was written, or nothing was
-  pub data RespondsPartly (body : List ℕ) : Type 0 where
-    nothing : Keeps old new → RespondsPartly body
-    part : {found : List Found} {t : Standing} {replies : List Reply} {ended : Ended} → Handles g s (message_of body) found t replies ended → WritesPart old new (framed replies) → RespondsPartly body
+  -- a body was answered, and a part of the replies to it was written
+  pub record RespondsInPart (body : List ℕ) : Type 0 where
+    pub standing : Standing
+    pub asked : List Asked
+    pub replies : List Reply
+    pub ended : Ended
+    pub handles : Handles g s (message_of body) asked standing replies ended
+    pub written : WritesPart old new (framed replies)
+    pub answered : AreAnswered told asked
+    pub counted : count.1 ≡ count_after count.0 asked
+
+  -- a body was answered but for a part of what was to be written, or, where memory was refused, not at all
+  abbrev pub StopsResponding : List ℕ → Stop → Type 0
+  StopsResponding body stop.Write = RespondsInPart body
+  StopsResponding body stop.Memory = Keeps old new ⊎ RespondsInPart body
+  StopsResponding body _ = ⊥
 
   -- what is done with what the reader hands out
   abbrev pub AnswersNext : Result (Option (List ℕ)) FrameFault → Standing → Result Ended Stop → Type 0
   AnswersNext (Ok (Some body)) t (Ok ended) = Responds body t ended
-  AnswersNext (Ok (Some body)) t (Err stop.Write) = RespondsPartly body
-  AnswersNext (Ok (Some body)) t (Err stop.Memory) = RespondsPartly body
-  AnswersNext (Ok (Some body)) t (Err _) = ⊥
-  AnswersNext (Ok None) t outcome = (outcome ≡ Ok No) × (t ≡ s) × Keeps old new
-  AnswersNext (Err found) t outcome = (outcome ≡ Err (stop.Frames found)) × (t ≡ s) × Keeps old new
+  AnswersNext (Ok (Some body)) t (Err found) = StopsResponding body found
+  AnswersNext (Ok None) t outcome = (outcome ≡ Ok No) × (t ≡ s) × Keeps old new × (count.1 ≡ count.0)
+  AnswersNext (Err found) t outcome = (outcome ≡ Err (stop.Frames found)) × (t ≡ s) × Keeps old new × (count.1 ≡ count.0)
 
 -- how bytes that are over end: between two messages, or inside one
 abbrev pub RunsOut : List ℕ → Result Verdict Stop → Type 0

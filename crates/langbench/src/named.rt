@@ -1,13 +1,16 @@
 // The files that the words name behind a grammar: their texts are put before a session begins.
-ghost use Rattle.std.specs.Prelude.{◌≡◌, ◌++◌, ◌∷◌, ◌≤◌, [], IfErr, IfSome, OnOk, List, length, map, ℕ};
+ghost use Rattle.std.specs.Prelude.{◌≡◌, ◌++◌, ◌∷◌, ◌<◌, ◌≤◌, [], IfErr, IfSome, OnOk, List, length, map, ℕ};
+ghost use Rattle.lw_base.specs.declared.limits.TheConstants.{LONGEST_TEXT};
+ghost use Rattle.lw_conversation.specs.Opening.{most_documents};
 ghost use Rattle.lw_conversation.specs.Standing.{beginning};
-ghost use Rattle.langbench.specs.Named.{AreNamed, IsFileText};
+ghost use Rattle.langbench.specs.Named.{AreFileTexts, IsFileText};
 ghost use Rattle.langbench.specs.Reading.{IsUnreadBy, StopsAtFile};
 ghost use Rattle.langbench.specs.Stops.{Counts, TheStore};
 ghost use Rattle.lw_paths.specs.Paths.{address_of};
 
 use crate::stop::Stop;
 use lw_base::{Name, NoMemory};
+use lw_build::WorkFault;
 use lw_io::{Found, Store};
 use lw_paths::address_of;
 use lw_session::Session;
@@ -26,16 +29,18 @@ pub(crate) enum FileFault {
     Failed(Name),
 }
 
-/// Puts the texts of the files at these paths, in their order, into a session to which nothing has come.
+/// Puts the texts of the files at these paths, in their order, into a session to which nothing has come. They are no more than a session holds documents,
+/// so nothing but memory is refused behind the store.
 pub(crate) fn load_named<F: Store>(
     alloc: Global,
     session: &mut Session,
     paths: &[&Name],
     store: &mut F,
 ) -> Result<(), Stop>
-    requires { session.old.standing ≡ beginning [] }
+    requires begins { session.old.standing ≡ beginning [] }
+    requires few { length paths.now ≤ most_documents }
     ensures loaded { OnOk result ((named : List (List ℕ × List ℕ)) × (session.new.standing ≡ beginning named) × IfSome (F.files store.old) (λ files.
-        AreNamed files (map (λ path. path.now) paths.now) named)) }
+        AreFileTexts files (map (λ path. path.now) paths.now) named)) }
     ensures unread { IfErr result (StopsAtFile (F.files store.old) (map (λ path. path.now) paths.now)) }
     ensures grammar { session.new.grammar ≡ session.old.grammar }
     ensures files { F.files store.new ≡ F.files store.old }
@@ -54,7 +59,7 @@ fn load_file<F: Store>(
     path: &Name,
     store: &mut F,
 ) -> Result<(), Stop>
-    requires { (named : List (List ℕ × List ℕ)) × (session.old.standing ≡ beginning named) }
+    requires { (named : List (List ℕ × List ℕ)) × (session.old.standing ≡ beginning named) × (length named < most_documents) }
     ensures loaded { OnOk result ((named : List (List ℕ × List ℕ)) → session.old.standing ≡ beginning named → (put : List ℕ × List ℕ) ×
         (session.new.standing ≡ beginning (named ++ put ∷ [])) × IfSome (F.files store.old) (λ files. IsFileText files path.now put)) }
     ensures unread { IfErr result (IsUnreadBy (F.files store.old) path.now) }
@@ -72,10 +77,10 @@ fn load_file<F: Store>(
     }
 }
 
-// Puts a text at the address of the file at a path. Nothing is refused but memory: no text of a store is too long, and the words name no more files
-// than a session holds documents.
+// Puts a text at the address of the file at a path. Nothing is refused but memory: no text of a store is too long, and there is room for one more document.
 fn put(alloc: Global, session: &mut Session, path: &Name, text: Name) -> Result<(), Stop>
-    requires { (named : List (List ℕ × List ℕ)) × (session.old.standing ≡ beginning named) }
+    requires begins { (named : List (List ℕ × List ℕ)) × (session.old.standing ≡ beginning named) × (length named < most_documents) }
+    requires short { length text ≤ LONGEST_TEXT }
     ensures loaded { OnOk result ((named : List (List ℕ × List ℕ)) → session.old.standing ≡ beginning named →
         session.new.standing ≡ beginning (named ++ (address_of path.now, text) ∷ [])) }
     ensures fault { IfErr result (λ stop. stop ≡ Stop.Memory) }
@@ -84,6 +89,17 @@ fn put(alloc: Global, session: &mut Session, path: &Name, text: Name) -> Result<
     let address = address_of(alloc, path)?;
     match session.load_file(&address, text) {
         Ok(()) => Ok(()),
-        Err(_) => Err(Stop::Memory),
+        Err(fault) => Err(memory_stop(fault)),
+    }
+}
+
+// The one fault that can be met there.
+fn memory_stop(fault: WorkFault) -> Stop
+    requires { fault ≡ WorkFault.NoMemory }
+    ensures { result ≡ Stop.Memory }
+{
+    match fault {
+        WorkFault::NoMemory => Stop::Memory,
+        _ => unreachable!(),
     }
 }

@@ -4,11 +4,12 @@ ghost use Rattle.std.specs.Io.KnownBytes.{Appends};
 ghost use Rattle.lw_frame.specs.Frames.{bodies_of, fault_of, frame_of};
 ghost use Rattle.lw_frame.specs.Stream.{after_next, next_answer, next_body};
 ghost use Rattle.lw_frame.specs.Wanted.{StaysWithin};
+ghost use Rattle.lw_conversation.specs.Opening.{most_documents};
 ghost use Rattle.lw_conversation.specs.Standing.{beginning};
 ghost use Rattle.langbench.specs.Checking.{IsCaused};
-ghost use Rattle.langbench.specs.Serving.{Conversed, ServeComesTo, WritesPart};
-ghost use Rattle.langbench.specs.Stops.{Counts, TheSource, TheSink, TheStore, ThePatterns};
-ghost use Rattle.langbench.specs.Talking.{AnswersNext, LosesPiece, Responds, RespondsPartly, RunsOut, TakesPiece, in_frames};
+ghost use Rattle.langbench.specs.Serving.{Conversed, CountsSession, ServeComesTo, WritesPart};
+ghost use Rattle.langbench.specs.Stops.{Counts, TheSource, TheSink, ThePatterns};
+ghost use Rattle.langbench.specs.Talking.{AnswersNext, LosesPiece, Responds, RunsOut, StopsResponding, TakesPiece, in_frames};
 
 use crate::desk::Desk;
 use crate::named::load_named;
@@ -24,7 +25,8 @@ use lw_words::Root;
 use std::alloc::Global;
 use std::sync::ledger::Ledger;
 
-/// Reads the grammar and the files that are named, then answers the session of the source frame by frame, and leaves it on the desk.
+/// Reads the grammar and the files that are named, then answers the session of the source frame by frame, and leaves it on the desk. Where the store fails in
+/// the session, the session goes on.
 pub(crate) fn serve<S: Source, K: Sink, F: Store, P: Patterns, L: Ledger>(
     alloc: Global,
     root: Root<'_>,
@@ -36,13 +38,14 @@ pub(crate) fn serve<S: Source, K: Sink, F: Store, P: Patterns, L: Ledger>(
     desk: &mut Desk,
     steps: &mut Steps<L>,
 ) -> Result<Verdict, Stop>
+    requires few { length paths.now ≤ most_documents }
     ensures works { IfSome (F.files store.old) (λ files.
-        ServeComesTo files root.entry.path.now (map (λ path. path.now) paths.now) root.entry.k (P.last_refused patterns.new) (S.left source.old) (S.left source.new) (K.written out.old) (K.written out.new) result) }
+        ServeComesTo files root.entry.path.now (map (λ path. path.now) paths.now) root.entry.k (P.last_refused patterns.new) (S.left source.old) (S.left source.new) (K.written out.old) (K.written out.new) (F.count store.old, F.count store.new) result) }
     ensures cause { IsCaused (F.files store.old) root.entry.path.now root.entry.k (P.last_refused patterns.new) result }
     ensures not_words { ¬ (result ≡ Err Stop.Words) }
     ensures source { Counts TheSource (S.count source.old) (S.count source.new) result }
     ensures sink { Counts TheSink (K.count out.old) (K.count out.new) result }
-    ensures store { Counts TheStore (F.count store.old) (F.count store.new) result }
+    ensures store { CountsSession (F.count store.old, F.count store.new) result }
     ensures patterns { Counts ThePatterns (P.count patterns.old) (P.count patterns.new) result }
 {
     let language = compile(alloc, root.path, root.k, store, patterns)?;
@@ -65,10 +68,9 @@ fn converse<S: Source, K: Sink, F: Store, L: Ledger>(
     steps: &mut Steps<L>,
 ) -> Result<Verdict, Stop>
     requires { (named : List (List ℕ × List ℕ)) × (session.old.standing ≡ beginning named) }
-    ensures conversed { (named : List (List ℕ × List ℕ)) → session.old.standing ≡ beginning named → Conversed session.old.grammar named (S.left source.old) (S.left source.new) (K.written out.old) (K.written out.new) result }
+    ensures conversed { (named : List (List ℕ × List ℕ)) → session.old.standing ≡ beginning named → Conversed session.old.grammar (F.files store.old) named (S.left source.old) (S.left source.new) (K.written out.old) (K.written out.new) (F.count store.old, F.count store.new) result }
     ensures source { Counts TheSource (S.count source.old) (S.count source.new) result }
     ensures sink { Counts TheSink (K.count out.old) (K.count out.new) result }
-    ensures store { Counts TheStore (F.count store.old) (F.count store.new) result }
 {
     let mut reader = FrameReader::new(alloc);
     let mut taken = 0;
@@ -150,11 +152,11 @@ fn answer_next<K: Sink, F: Store, L: Ledger>(
     store: &mut F,
     steps: &mut Steps<L>,
 ) -> Result<Ended, Stop>
-    ensures answered { AnswersNext session.old.grammar session.old.standing (K.written out.old) (K.written out.new) (next_answer reader.old.stream) session.new.standing result }
+    ensures answered { AnswersNext session.old.grammar (F.files store.old) session.old.standing (K.written out.old) (K.written out.new) (F.count store.old, F.count store.new) (next_answer reader.old.stream) session.new.standing result }
     ensures stream { reader.new.stream ≡ after_next reader.old.stream }
     ensures grammar { session.new.grammar ≡ session.old.grammar }
     ensures sink { Counts TheSink (K.count out.old) (K.count out.new) result }
-    ensures store { Counts TheStore (F.count store.old) (F.count store.new) result }
+    ensures files { F.files store.new ≡ F.files store.old }
 {
     match reader.next() {
         Ok(Some(body)) => respond(alloc, session, body.bytes(), out, store, steps),
@@ -172,12 +174,11 @@ fn respond<K: Sink, F: Store, L: Ledger>(
     store: &mut F,
     steps: &mut Steps<L>,
 ) -> Result<Ended, Stop>
-    ensures answered { IfOk result (λ ended. Responds session.old.grammar session.old.standing (K.written out.old) (K.written out.new) body.now session.new.standing ended) }
-    ensures part { OnErr result (RespondsPartly session.old.grammar session.old.standing (K.written out.old) (K.written out.new) body.now) }
-    ensures fault { OnErr result ((result ≡ Err Stop.Write) ⊎ (result ≡ Err Stop.Memory)) }
+    ensures answered { IfOk result (Responds session.old.grammar (F.files store.old) session.old.standing (K.written out.old) (K.written out.new) (F.count store.old, F.count store.new) body.now session.new.standing) }
+    ensures stopped { IfErr result (StopsResponding session.old.grammar (F.files store.old) session.old.standing (K.written out.old) (K.written out.new) (F.count store.old, F.count store.new) body.now) }
     ensures grammar { session.new.grammar ≡ session.old.grammar }
     ensures sink { Counts TheSink (K.count out.old) (K.count out.new) result }
-    ensures store { Counts TheStore (F.count store.old) (F.count store.new) result }
+    ensures files { F.files store.new ≡ F.files store.old }
 {
     let handled = session.handle(body, store, steps)?;
     write_replies(alloc, out, handled.replies.as_slice())?;

@@ -14,6 +14,8 @@ const SHUTDOWN: &str = "{\"jsonrpc\":\"2.0\",\"id\":2,\"method\":\"shutdown\"}";
 
 const EXIT: &str = "{\"jsonrpc\":\"2.0\",\"method\":\"exit\"}";
 
+const NOTHING_DONE: &str = "{\"id\":2,\"jsonrpc\":\"2.0\",\"result\":null}";
+
 const HELLO: &str =
     "Content-Length: 261\r\n\r\n{\"id\":1,\"jsonrpc\":\"2.0\",\"result\":{\"capabilities\":{\"completionProvider\":{},\"definitionProvider\":true,\"positionEncoding\":\"utf-16\",\"referencesProvider\":true,\"renameProvider\":true,\"textDocumentSync\":{\"change\":2,\"openClose\":true}},\"serverInfo\":{\"name\":\"langbench\"}}}";
 
@@ -122,20 +124,53 @@ fn serving_file(held: &[u8], file: u64) -> Setting<'_> {
     }
 }
 
+// The list of that file, which has no version.
+fn published(alloc: Global, list: &str) -> Result<String, NoMemory> {
+    Ok(format!(in alloc;
+        "{{\"jsonrpc\":\"2.0\",\"method\":\"textDocument/publishDiagnostics\",\"params\":{{\"diagnostics\":[{list}],\"uri\":\"file:///a%20b.s\"}}}}"
+    )?)
+}
+
+const UNEXPECTED: &str =
+    "{\"code\":2,\"message\":\"Unexpected ID.\",\"range\":{\"end\":{\"character\":9,\"line\":0},\"start\":{\"character\":8,\"line\":0}},\"severity\":1}";
+
 #[test]
 fn named_files_are_built(rt: HostRuntime) -> Result<(), Fail> {
     let bytes = framed(rt.alloc(), &[INITIALIZE, SHUTDOWN, EXIT])?;
+    for (held, list) in [("model m", ""), ("model m x", UNEXPECTED)] {
+        let list = published(rt.alloc(), list)?;
+        let replies = framed(rt.alloc(), &[HELLO_BODY, list.as_str(), NOTHING_DONE])?;
+        let ran = run_over(rt.alloc(), &serving_file(held.as_bytes(), 0), &bytes)?;
+        assert_eq!(rt; ran.code, 0);
+        assert_eq!(rt; ran.out.as_slice(), replies.as_slice());
+    }
+    Ok(())
+}
+
+// The second read of the store fails, which is the first one of the session. It is told, and the next one reads the file.
+#[test]
+fn a_failed_read_ends_no_session(rt: HostRuntime) -> Result<(), Fail> {
+    let changed =
+        "{\"jsonrpc\":\"2.0\",\"method\":\"workspace/didChangeWatchedFiles\",\"params\":{\"changes\":[{\"uri\":\"file:///a%20b.s\",\"type\":2}]}}";
+    let bytes = framed(rt.alloc(), &[INITIALIZE, changed, changed, SHUTDOWN, EXIT])?;
+    let list = published(rt.alloc(), UNEXPECTED)?;
     let replies = framed(
         rt.alloc(),
         &[
             HELLO_BODY,
-            "{\"jsonrpc\":\"2.0\",\"method\":\"textDocument/publishDiagnostics\",\"params\":{\"diagnostics\":[{\"code\":2,\"message\":\"Unexpected ID.\",\"range\":{\"end\":{\"character\":9,\"line\":0},\"start\":{\"character\":8,\"line\":0}},\"severity\":1}],\"uri\":\"file:///a%20b.s\"}}",
-            "{\"id\":2,\"jsonrpc\":\"2.0\",\"result\":null}",
+            "{\"jsonrpc\":\"2.0\",\"method\":\"window/logMessage\",\"params\":{\"message\":\"store failed: file:///a%20b.s\",\"type\":1}}",
+            list.as_str(),
+            NOTHING_DONE,
         ],
     )?;
-    let ran = run_over(rt.alloc(), &serving_file(b"model m x", 0), &bytes)?;
+    let setting = Setting {
+        words: &["serve", "f.langium"],
+        ..serving_file(b"model m x", 2)
+    };
+    let ran = run_over(rt.alloc(), &setting, &bytes)?;
     assert_eq!(rt; ran.code, 0);
     assert_eq!(rt; ran.out.as_slice(), replies.as_slice());
+    assert!(rt; ran.notes.is_empty());
     Ok(())
 }
 

@@ -1,12 +1,9 @@
 // What no clause says: that there is an answer where there is memory, and what is offered at places of a few texts. Worked by hand.
-ghost use Rattle.std.specs.Prelude.{IfOk};
-ghost use Rattle.lw_reading.specs.Laws.{IsReadOneWay};
-
+use crate::tests::language;
 use lw_base::{DocId, Name, NoMemory};
 use lw_complete::{Item, complete};
 use lw_index::Index;
-use lw_io::{MemPatterns, MemStore};
-use lw_lang::{Language, Parsed, compile};
+use lw_lang::{Language, Parsed};
 use lw_link::entries;
 use std::alloc::Global;
 use std::process::Abort;
@@ -15,20 +12,6 @@ use std::test::Fail;
 /// States with titles, and comments. Behind a state that another leads to stands a keyword or the name of a further one.
 const STATES: &str =
     "grammar S entry Model: 'model' name=ID states+=State*; State: 'state' name=ID ('is' title=STRING)? ('to' next+=[State:ID]+)* 'end'; hidden terminal WS: /\\s+/; hidden terminal NOTE: /#[^\\n]*/; terminal ID: /[_a-zA-Z][\\w_]*/; terminal STRING: /\"[^\"]*\"/;";
-
-fn language(rt: &impl Abort, alloc: Global) -> Result<Language, NoMemory>
-    ensures { IfOk result (λ language. IsReadOneWay language.grammar) }
-{
-    let root = Name::from_text(alloc, "s.langium")?;
-    let mut files = Vec::new(alloc);
-    files.push((root.copy(alloc)?, STATES.as_bytes().to_vec(alloc)?))?;
-    let mut store = MemStore::new(files, Vec::new(alloc));
-    let mut patterns = MemPatterns::new(Vec::new(alloc));
-    match compile(alloc, &root, 2, &mut store, &mut patterns) {
-        Ok(language) => Ok(language),
-        Err(_) => panic!(rt; "the grammar is not compiled"),
-    }
-}
 
 /// What stands in another document.
 const OTHER: &str = "model n state z end";
@@ -132,7 +115,7 @@ fn are_offered(
 #[test]
 fn what_may_be_written_is_offered(rt: HostRuntime) -> Result<(), Fail> {
     let alloc = rt.alloc();
-    let language = language(&rt, alloc)?;
+    let language = language(&rt, alloc, STATES)?;
     are_offered(&rt, alloc, &language, &Index::new(alloc), &ALONE)?;
     let index = index(&rt, alloc, &language)?;
     are_offered(&rt, alloc, &language, &index, &BESIDE)?;

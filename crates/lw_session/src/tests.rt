@@ -29,7 +29,7 @@ const SHUTDOWN: &str = "{\"jsonrpc\":\"2.0\",\"id\":2,\"method\":\"shutdown\"}";
 
 const EXIT: &str = "{\"jsonrpc\":\"2.0\",\"method\":\"exit\"}";
 
-fn language(rt: &impl Abort, alloc: Global, grammar: &str) -> Result<Language, NoMemory>
+pub(crate) fn language(rt: &impl Abort, alloc: Global, grammar: &str) -> Result<Language, NoMemory>
     ensures { IfOk result (λ language. IsReadOneWay language.grammar) }
 {
     let root = Name::from_text(alloc, "f.langium")?;

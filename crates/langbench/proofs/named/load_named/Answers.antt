@@ -1,4 +1,4 @@
-use Rattle.std.proofs.Common.{◌++◌, ◌∷◌, [], ◌∙◌, IfSome, subst}
+use Rattle.std.proofs.Common.{◌++◌, ◌∷◌, [], ◌∙◌, IfSome, arith, length-append, subst}
 use Rattle.langbench.specs.Named.{IsFileText}
 use Rattle.langbench.specs.Reading.{IsUnreadBy}
 use Rattle.langbench.proofs.Loading.{first_unread, handed_on, one_named_more}
@@ -11,7 +11,12 @@ returns-in_err-load_file-clause-unread g c =
     let path = c.path-item.result in
     let unread : IsUnreadBy told path.now stop = subst (λ t. IsUnreadBy t path.now stop) c.paths.invariant.files c.in_err-load_file.ensures.unread in
     handed_on _ stop c.from_residual.result c.from_residual.ensures.1
-    (first_unread c.args.paths.now c.paths.path-index path c.paths-test.true c.path-item.is told c.paths.invariant.loaded.0 stop c.paths.invariant.loaded.2 unread)
+    (first_unread c.args.paths.now c.paths.path-index path c.paths-test.true c.path-item.is told c.paths.invariant.loaded.0 stop c.paths.invariant.loaded.3 unread)
+
+pub load_file-requires : goal.load_file-requires
+load_file-requires g c =
+    let before = c.paths.invariant.loaded in
+    (before.0, before.1, omega (arith, before.2, c.paths-test.true, c.requires.few))
 
 pub paths-preserved : goal.paths-preserved
 paths-preserved g c =
@@ -21,7 +26,12 @@ paths-preserved g c =
     let next = c.in_ok-load_file.ensures.loaded before.0 before.1 in
     let is = subst (λ t. IfSome t (λ files. IsFileText files path.now next.0)) c.paths.invariant.files next.2 in
     record {
-      loaded = (before.0 ++ next.0 ∷ [], next.1, one_named_more c.args.paths.now c.paths.path-index path c.paths-test.true c.path-item.is told before.0 next.0 before.2 is);
+      loaded = (
+        before.0 ++ next.0 ∷ [],
+        next.1,
+        omega (arith, length-append before.0 (next.0 ∷ []), before.2),
+        one_named_more c.args.paths.now c.paths.path-index path c.paths-test.true c.path-item.is told before.0 next.0 before.3 is,
+      );
       grammar = c.in_ok-load_file.ensures.grammar ∙ c.paths.invariant.grammar;
       files = c.in_ok-load_file.ensures.files ∙ c.paths.invariant.files;
       count = c.in_ok-load_file.ensures.store ∙ c.paths.invariant.count;

@@ -2,7 +2,7 @@ use Rattle.std.proofs.Common.{MatchOption, map, subst, sym}
 use Rattle.std.proofs.KnownBytes.{Keeps-refl}
 use Rattle.lw_words.specs.Words.{IsCheck, IsCommand, IsMake, IsNoCommand, IsServe}
 use Rattle.langbench.proofs.Commands.{checks, does_nothing, makes, serves}
-use Rattle.langbench.proofs.Ends.{count_all}
+use Rattle.langbench.proofs.Ends.{count_all, unasked}
 use Rattle.langbench.proofs.top.act.Goals as goal
 
 pub make-requires-clause-some : goal.make-requires-clause-some
@@ -25,7 +25,8 @@ returns-in-Check g c =
     λ words says.
     let is : IsCheck words root.path.now root.k = subst (IsCommand words) c.in-Check.is (subst (λ found. MatchOption found (IsNoCommand words) (IsCommand words)) c.in-Some.is says) in
     checks words _ root.path.now root.k c.check.result c.check.ensures.not_words c.check.ensures.cause
-    (count_all _ c.check.result c.check.ensures.source c.check.ensures.sink c.check.ensures.store c.check.ensures.patterns) is c.check.ensures.works
+    (count_all _ c.check.result c.check.ensures.source c.check.ensures.sink (unasked _ c.check.result c.check.ensures.store) c.check.ensures.patterns) is c.check.ensures.store
+    c.check.ensures.works
 
 pub returns-in-Serve : goal.returns-in-Serve
 returns-in-Serve g c =
@@ -44,8 +45,8 @@ returns-in-Make g c =
     let is : IsMake words root.path.now c.in-Make.count root.k =
     subst (IsCommand words) c.in-Make.is (subst (λ found. MatchOption found (IsNoCommand words) (IsCommand words)) c.in-Some.is says) in
     makes words _ root.path.now root.k c.make.result c.make.ensures.not_words c.make.ensures.cause
-    (count_all _ c.make.result (c.make.ensures.source _) c.make.ensures.sink c.make.ensures.store c.make.ensures.patterns) c.in-Make.count is
-    (Keeps-refl (g.S.Source.left c.args.source.now)) c.make.ensures.works
+    (count_all _ c.make.result (c.make.ensures.source _) c.make.ensures.sink (unasked _ c.make.result c.make.ensures.store) c.make.ensures.patterns) c.in-Make.count is
+    (Keeps-refl (g.S.Source.left c.args.source.now)) c.make.ensures.store c.make.ensures.works
 
 pub returns-in_default : goal.returns-in_default
 returns-in_default g c =

@@ -7,7 +7,7 @@ use Rattle.langbench.proofs.top.run.Goals as goal
 
 pub returns-in-Err : goal.returns-in-Err
 returns-in-Err g c =
-    runs c.one_outcome.ensures.bodies c.args.words.now _ _ _ _ (record {
+    runs c.one_outcome.ensures.files c.args.words.now _ _ _ _ (record {
       outcome = Err stop.Memory;
       comes_to = reads_no_words c.args.words.now _ _ _ _ _ _ _ _;
       status = c.finish.ensures.ends;
@@ -19,7 +19,7 @@ returns-in-Err g c =
 
 pub returns : goal.returns
 returns g c =
-    runs c.one_outcome.ensures.bodies c.args.words.now _ _ _ _ (record {
+    runs c.one_outcome.ensures.files c.args.words.now _ _ _ _ (record {
       outcome = c.act-outcome.result;
       comes_to = c.act-outcome.ensures c.args.words.now c.in-Ok.ensures;
       status = c.finish-2.ensures.ends;
