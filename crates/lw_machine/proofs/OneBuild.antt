@@ -66,7 +66,7 @@ module _ (g : Grammar) (one_way : IsReadOneWay g) where
     one_settled_at o p q settling.none settling.none = refl
     one_settled_at o p q (settling.held {d = d} {e = e} settles) (settling.held {e = f} also) = ap Some (one_settled d e f settles also)
 
-  all_settled : (before : Texts) (address : List ℕ) (m n o : Documents) → IsSettled g before address m n → IsSettled g before address m o → n ≡ o
+  pub all_settled : (before : Texts) (address : List ℕ) (m n o : Documents) → IsSettled g before address m n → IsSettled g before address m o → n ≡ o
   all_settled before address m n o settled also = same_documents n o (λ place. by place (one_or_two place address))
     where
       by : (place : List ℕ) → (place ≡ address) ⊎ (place ≢ address) → get n place ≡ get o place
