@@ -194,23 +194,21 @@ module _ (g : Grammar) (told : Option Files) (s t : Standing) (body : List ℕ) 
   }
 
   -- a reply was not written whole
-  pub stops_writing : {T U : Type 0} (e : Stop) (r : Result T Stop) (u : Result U Stop) → r ≡ Err e → OnErr r ((r ≡ Err stop.Write) ⊎ (r ≡ Err stop.Memory)) →
-      OnErr r (WritesPart old new (in_frames texts)) → IsErrAnd u (λ f. f ≡ e) → IfErr u (StopsResponding g told s old new (before, now) body)
-  stops_writing e r (Ok x) is fault part same = absurd same
-  stops_writing {T} e r (Err f) is fault part same = subst (StopsResponding g told s old new (before, now) body) (sym same) (by r is fault part)
-    where
-      of : (e : Stop) (f : Stop) → Err {T = T} e ≡ Err f → e ≡ f
-      of e f is = cc
+  of_cause : {T : Type 0} (e : Stop) → (Err {T = T} e ≡ Err stop.Write) ⊎ (Err {T = T} e ≡ Err stop.Memory) → WritesPart old new (in_frames texts) →
+      StopsResponding g told s old new (before, now) body e
+  of_cause e (inl write) part = let is : e ≡ stop.Write = cc in subst (StopsResponding g told s old new (before, now) body) (sym is) (in_part part)
+  of_cause e (inr memory) part = let is : e ≡ stop.Memory = cc in subst (StopsResponding g told s old new (before, now) body) (sym is) (inr (in_part part))
 
-      by_cause : (e : Stop) → (Err {T = T} e ≡ Err stop.Write) ⊎ (Err {T = T} e ≡ Err stop.Memory) → WritesPart old new (in_frames texts) →
-          StopsResponding g told s old new (before, now) body e
-      by_cause e (inl write) part = subst (StopsResponding g told s old new (before, now) body) (sym (of e stop.Write write)) (in_part part)
-      by_cause e (inr memory) part = subst (StopsResponding g told s old new (before, now) body) (sym (of e stop.Memory memory)) (inr (in_part part))
+  pub stops_writing : {T U : Type 0} (e : Stop) (r : Result U Stop) → (Err {T = T} e ≡ Err stop.Write) ⊎ (Err {T = T} e ≡ Err stop.Memory) →
+      WritesPart old new (in_frames texts) → IsErrAnd r (λ f. f ≡ e) → IfErr r (StopsResponding g told s old new (before, now) body)
+  stops_writing e (Ok x) fault part same = absurd same
+  stops_writing e (Err f) fault part same = subst (StopsResponding g told s old new (before, now) body) (sym same) (of_cause e fault part)
 
-      by : (r : Result T Stop) → r ≡ Err e → OnErr r ((r ≡ Err stop.Write) ⊎ (r ≡ Err stop.Memory)) → OnErr r (WritesPart old new (in_frames texts)) →
-          StopsResponding g told s old new (before, now) body e
-      by (Ok x) is fault part = absurd (let apart : ⊥ = cc in apart)
-      by (Err d) is fault part = subst (StopsResponding g told s old new (before, now) body) (of d e is) (by_cause d fault part)
+-- or no body was answered, for want of memory
+pub stops_unanswered : {U : Type 0} (g : Grammar) (told : Option Files) (s : Standing) (body : List ℕ) (count : ℕ × ℕ) (written : Option (List ℕ)) (r : Result U Stop) →
+    IsErrAnd r (λ f. f ≡ stop.Memory) → IfErr r (StopsResponding g told s written written count body)
+stops_unanswered g told s body count written (Ok x) same = absurd same
+stops_unanswered g told s body count written (Err f) same = subst (StopsResponding g told s written written count body) (sym same) (inl (Keeps-refl written))
 
 -- ---- a session by the grammar of a file, over the files that are named
 

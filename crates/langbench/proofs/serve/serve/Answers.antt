@@ -30,3 +30,11 @@ returns-clause-works g c =
     works_told _ c.args.root.path.now paths c.args.root.k _ _ _ _ _ _ of c.load_named.new.session.grammar c.in_ok-language.ensures.holds c.in_ok-language.ensures.clear
     (one_session of (c.one_outcome.ensures.reads of one_way_of) (c.one_outcome.ensures.files of one_way_of)) loaded.0 are c.converse-outcome.result
     (c.in_ok-load_named.ensures.grammar ∙ c.in_ok-session.ensures.grammar) (c.converse-outcome.ensures.conversed loaded.0 loaded.1)
+
+pub returns-in_err-load_named-clause-store : goal.returns-in_err-load_named-clause-store
+returns-in_err-load_named-clause-store g c = unasked _ c.from_residual-in_err-load_named.result (search rules)
+
+pub returns-clause-store : goal.returns-clause-store
+returns-clause-store g c =
+    let loaded = c.in_ok-load_named.ensures.loaded in
+    counts_of _ _ _ _ _ _ _ _ c.converse-outcome.result (c.converse-outcome.ensures.conversed loaded.0 loaded.1)

@@ -1,5 +1,7 @@
-use Rattle.std.proofs.Common.{MatchOption, map, subst, sym}
+use Rattle.std.proofs.Common.{◌≤◌, MatchOption, arith, length, map, subst, sym}
+use Rattle.std.proofs.lemmas.List.{length-map}
 use Rattle.std.proofs.KnownBytes.{Keeps-refl}
+use Rattle.lw_conversation.specs.Opening.{most_documents}
 use Rattle.lw_words.specs.Words.{IsCheck, IsCommand, IsMake, IsNoCommand, IsServe}
 use Rattle.langbench.proofs.Commands.{checks, does_nothing, makes, serves}
 use Rattle.langbench.proofs.Ends.{count_all, unasked}
@@ -47,6 +49,17 @@ returns-in-Make g c =
     makes words _ root.path.now root.k c.make.result c.make.ensures.not_words c.make.ensures.cause
     (count_all _ c.make.result (c.make.ensures.source _) c.make.ensures.sink (unasked _ c.make.result c.make.ensures.store) c.make.ensures.patterns) c.in-Make.count is
     (Keeps-refl (g.S.Source.left c.args.source.now)) c.make.ensures.store c.make.ensures.works
+
+-- the words name no more files than a session holds documents
+pub serve-requires : goal.serve-requires
+serve-requires g c =
+    let words = c.requires.0 in
+    let root = c.in-Serve.root in
+    let is : IsServe words root.path.now (map (λ file. file.now) c.in-Serve.files.items) root.k =
+    subst (IsCommand words) c.in-Serve.is (subst (λ found. MatchOption found (IsNoCommand words) (IsCommand words)) c.in-Some.is c.requires.1) in
+    let all = c.in-Serve.files.items in
+    let few : length all ≤ most_documents = omega (arith, length-map all (λ file. file.now), is.are_files.few) in
+    subst (λ items. length items ≤ most_documents) (sym c.deref.ensures.value) few
 
 pub returns-in_default : goal.returns-in_default
 returns-in_default g c =
