@@ -1,5 +1,5 @@
 -- What the parts of a session come to.
-use Rattle.std.proofs.Common.{◌≡◌, ◌≢◌, ◌⊎◌, inl, inr, ℕ, ◌+◌, ◌<◌, ◌≤◌, List, [], ◌∷◌, ◌++◌, length, take, drop, Option, Some, None, Result, Ok, Err, OnErr, IfSome, IsErrAnd, get_or, suc, refl, sym, ap, subst, ◌∙◌, append_assoc, append-nil, arith, length-append}
+use Rattle.std.proofs.Common.{◌≡◌, ◌≢◌, ◌⊎◌, inl, inr, ℕ, ◌+◌, ◌<◌, ◌≤◌, List, [], ◌∷◌, ◌++◌, length, take, drop, Option, Some, None, Result, Ok, Err, IfErr, OnErr, IfSome, IsErrAnd, get_or, suc, refl, sym, ap, subst, ◌∙◌, append_assoc, append-nil, arith, length-append}
 use Rattle.std.specs.Io.KnownBytes.{Appends, Consumes, IsAtEnd, Keeps}
 use Rattle.std.proofs.KnownBytes.{Appends-trans, Keeps-refl}
 use Rattle.std.proofs.lemmas.List.{take-append-drop}
@@ -164,7 +164,15 @@ module _ (old mid new : Option (List ℕ)) (reply header text : List ℕ) (is_he
   pub part_of_text : Appends old mid header → WritesFront mid new text → WritesPart old new (frame_of reply)
   part_of_text first front = subst (WritesPart old new) both_parts (WritesPart-behind old mid new header text first (WritesPart-some mid new text front))
 
+-- what holds anyway holds of an error
+pub on_err_of : {S E : Type 0} (r : Result S E) (P : Type 0) → P → OnErr r P
+on_err_of (Ok x) P p = tt
+on_err_of (Err e) P p = p
+
 -- ---- a body
+
+abbrev stopped_by : {T : Type 0} → Stop → Result T Stop
+stopped_by e = Err e
 
 module _ (g : Grammar) (told : Option Files) (s t : Standing) (body : List ℕ) (before now : ℕ) (texts : List (List ℕ)) (ended : Ended)
     (handles : HandlesBody g s body told before now t texts ended) (old new : Option (List ℕ)) where
@@ -194,12 +202,12 @@ module _ (g : Grammar) (told : Option Files) (s t : Standing) (body : List ℕ) 
   }
 
   -- a reply was not written whole
-  of_cause : {T : Type 0} (e : Stop) → (Err {T = T} e ≡ Err stop.Write) ⊎ (Err {T = T} e ≡ Err stop.Memory) → WritesPart old new (in_frames texts) →
+  of_cause : {T : Type 0} (e : Stop) → (stopped_by {T = T} e ≡ Err stop.Write) ⊎ (stopped_by {T = T} e ≡ Err stop.Memory) → WritesPart old new (in_frames texts) →
       StopsResponding g told s old new (before, now) body e
   of_cause e (inl write) part = let is : e ≡ stop.Write = cc in subst (StopsResponding g told s old new (before, now) body) (sym is) (in_part part)
   of_cause e (inr memory) part = let is : e ≡ stop.Memory = cc in subst (StopsResponding g told s old new (before, now) body) (sym is) (inr (in_part part))
 
-  pub stops_writing : {T U : Type 0} (e : Stop) (r : Result U Stop) → (Err {T = T} e ≡ Err stop.Write) ⊎ (Err {T = T} e ≡ Err stop.Memory) →
+  pub stops_writing : {T U : Type 0} (e : Stop) (r : Result U Stop) → (stopped_by {T = T} e ≡ Err stop.Write) ⊎ (stopped_by {T = T} e ≡ Err stop.Memory) →
       WritesPart old new (in_frames texts) → IsErrAnd r (λ f. f ≡ e) → IfErr r (StopsResponding g told s old new (before, now) body)
   stops_writing e (Ok x) fault part same = absurd same
   stops_writing e (Err f) fault part same = subst (StopsResponding g told s old new (before, now) body) (sym same) (of_cause e fault part)
@@ -263,6 +271,14 @@ works_unread (Some files) path paths k refused before old count g holds clear on
 works_unread (Some files) path paths k refused before old count g holds clear one e (Err s) stops is =
     subst (λ s. ServeComesTo files path paths k refused before before old old count (Err s)) (sym is)
     (unread_by files path paths k refused before before old old count g holds clear (one files) e stops (Keeps-refl before) (Keeps-refl old))
+
+-- what a session came to that was begun where the store tells the same files, and has the same count
+pub conversed_from : (g : Grammar) (told told_there : Option Files) (named : List (List ℕ × List ℕ)) (before after old new : Option (List ℕ)) (from here count : ℕ)
+    (r : Result Verdict Stop) → told_there ≡ told → here ≡ from → Conversed g told_there named before after old new (here, count) r →
+    Conversed g told named before after old new (from, count) r
+conversed_from g told told_there named before after old new from here count r tells same fact =
+    subst (λ n. Conversed g told named before after old new (n, count) r) same
+    (subst (λ t. Conversed g t named before after old new (here, count) r) tells fact)
 
 -- ---- the count of the store
 

@@ -23,6 +23,6 @@ AreSettledByAnswers g = (s t u : Standing) (bodies : List (List ℕ)) (asked : L
 -- by such a grammar a session has one outcome
 pub one_session : (g : Grammar) → AreSettledByAnswers g → AreSettledByFiles g → (files : Files) → HasOneOutcome files g
 one_session g by_answers by_files files = record {
-  by_answers = λ named. by_answers (beginning named);
+  by_answers = λ named bodies asked t u p q e f. by_answers (beginning named) t u bodies asked p q e f;
   by_files = λ named bodies asked others t u p q e f. by_files files (beginning named) t u bodies asked others p q e f;
 }

@@ -13,4 +13,4 @@ load_file-requires c = (c.requires.begins.0, c.requires.begins.1)
 pub memory_stop-requires : goal.memory_stop-requires
 memory_stop-requires c =
     let begins = c.requires.begins in
-    refused_memory c.args.session.now.standing begins.0 begins.1 begins.2 c.in_ok-address.address.now c.args.text c.in-Err.fault c.requires.short c.in-Err.ensures.fault
+    refused_memory c.args.session.now.standing begins.0 begins.1 begins.2 c.in_ok-address.address c.args.text c.in-Err.fault c.requires.short c.in-Err.ensures.fault

@@ -13,7 +13,7 @@ returns-clause-answered g c =
     responds _ _ _ _ _ _ _ _ _ c.in_ok-handled.ensures.handles old new (subst (λ texts. Appends old new (in_frames texts)) c.as_slice.ensures whole)
 
 pub returns-in_err-handled-clause-stopped : goal.returns-in_err-handled-clause-stopped
-returns-in_err-handled-clause-stopped g c = stops_unanswered _ _ _ _ _ (g.K.Sink.written c.args.out.now) c.from_residual-in_err-handled.result c.from_residual-in_err-handled.ensures.1
+returns-in_err-handled-clause-stopped g c = stops_unanswered _ _ _ _ _ (g.K.Sink.written c.args.out.now) c.from_residual.result c.from_residual.ensures.1
 
 pub returns-in_err-write_replies-clause-stopped : goal.returns-in_err-write_replies-clause-stopped
 returns-in_err-write_replies-clause-stopped g c =

@@ -1,8 +1,8 @@
-use Rattle.std.proofs.Common.{◌∙◌, IfSome, map, subst}
+use Rattle.std.proofs.Common.{◌∙◌, IfSome, map, rules, subst}
 use Rattle.lw_lang.proofs.OneWay.{one_way}
 use Rattle.langbench.specs.Named.{AreFileTexts}
 use Rattle.langbench.specs.Reading.{StopsAtFile}
-use Rattle.langbench.proofs.Conversing.{counts_of, works_told, works_unread}
+use Rattle.langbench.proofs.Conversing.{conversed_from, counts_of, works_told, works_unread}
 use Rattle.langbench.proofs.Ends.{unasked}
 use Rattle.langbench.proofs.Grammars.{one_session}
 use Rattle.langbench.proofs.serve.serve.Goals as goal
@@ -29,7 +29,9 @@ returns-clause-works g c =
     let are = subst (λ told. IfSome told (λ files. AreFileTexts files paths loaded.0)) c.in_ok-language.ensures.files loaded.2 in
     works_told _ c.args.root.path.now paths c.args.root.k _ _ _ _ _ _ of c.load_named.new.session.grammar c.in_ok-language.ensures.holds c.in_ok-language.ensures.clear
     (one_session of (c.one_outcome.ensures.reads of one_way_of) (c.one_outcome.ensures.files of one_way_of)) loaded.0 are c.converse-outcome.result
-    (c.in_ok-load_named.ensures.grammar ∙ c.in_ok-session.ensures.grammar) (c.converse-outcome.ensures.conversed loaded.0 loaded.1)
+    (c.in_ok-load_named.ensures.grammar ∙ c.in_ok-session.ensures.grammar)
+    (conversed_from _ _ _ _ _ _ _ _ _ _ _ c.converse-outcome.result (c.in_ok-load_named.ensures.files ∙ c.in_ok-language.ensures.files)
+    (c.in_ok-load_named.ensures.store ∙ c.in_ok-language.ensures.store) (c.converse-outcome.ensures.conversed loaded.0 loaded.1))
 
 pub returns-in_err-load_named-clause-store : goal.returns-in_err-load_named-clause-store
 returns-in_err-load_named-clause-store g c = unasked _ c.from_residual-in_err-load_named.result (search rules)
@@ -37,4 +39,6 @@ returns-in_err-load_named-clause-store g c = unasked _ c.from_residual-in_err-lo
 pub returns-clause-store : goal.returns-clause-store
 returns-clause-store g c =
     let loaded = c.in_ok-load_named.ensures.loaded in
-    counts_of _ _ _ _ _ _ _ _ c.converse-outcome.result (c.converse-outcome.ensures.conversed loaded.0 loaded.1)
+    counts_of _ (g.F.Store.files c.args.store.now) _ _ _ _ _ (g.F.Store.count c.args.store.now, g.F.Store.count c.converse-outcome.new.store) c.converse-outcome.result
+    (conversed_from _ _ _ _ _ _ _ _ _ _ _ c.converse-outcome.result (c.in_ok-load_named.ensures.files ∙ c.in_ok-language.ensures.files)
+    (c.in_ok-load_named.ensures.store ∙ c.in_ok-language.ensures.store) (c.converse-outcome.ensures.conversed loaded.0 loaded.1))
