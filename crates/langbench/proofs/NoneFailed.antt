@@ -70,11 +70,13 @@ none_of_one (a ∷ asked) n = by (stands_or_rose n a.answer) (none_of_one asked 
 -- and to all messages
 none_of_all : (asked : List (List Asked)) (n : ℕ) → ¬ (next_number n ≤ count_through n asked) → All (All IsNoFailure) asked
 none_of_all [] n stands = All-nil (All IsNoFailure)
-none_of_all (a ∷ asked) n stands = by (none_of_one a n)
+none_of_all (a ∷ asked) n stands = by (none_of_one a n) (λ rest. none_of_all asked n rest)
   where
-    by : (All IsNoFailure a × (count_after n a ≡ n)) ⊎ HasRisen n (count_after n a) → All (All IsNoFailure) (a ∷ asked)
-    by (inl first) = All-cons (All IsNoFailure) a asked first.0 (none_of_all asked n (subst (λ c. ¬ (next_number n ≤ count_through c asked)) first.1 stands))
-    by (inr rose) = absurd (stands (omega (arith, rose.0, grows_through asked (count_after n a) rose.1)))
+    by : (All IsNoFailure a × (count_after n a ≡ n)) ⊎ HasRisen n (count_after n a) →
+        (¬ (next_number n ≤ count_through n asked) → All (All IsNoFailure) asked) → All (All IsNoFailure) (a ∷ asked)
+    by (inl first) others =
+        All-cons (All IsNoFailure) a asked first.0 (others (subst (λ c. ¬ (next_number n ≤ count_through c asked)) first.1 stands))
+    by (inr rose) others = absurd (stands (omega (arith, rose.0, grows_through asked (count_after n a) rose.1)))
 
 -- each answer that fits the files and is no failure is the one that they give
 module _ (files : Files) where

@@ -59,7 +59,7 @@ serve-requires g c =
     subst (IsCommand words) c.in-Serve.is (subst (λ found. MatchOption found (IsNoCommand words) (IsCommand words)) c.in-Some.is c.requires.1) in
     let all = c.in-Serve.files.items in
     let few : length all ≤ most_documents = omega (arith, length-map all (λ file. file.now), is.are_files.few) in
-    subst (λ items. length items ≤ most_documents) (sym c.deref.ensures.value) few
+    record { few = subst (λ items. length items ≤ most_documents) (sym c.deref.ensures.value) few }
 
 pub returns-in_default : goal.returns-in_default
 returns-in_default g c =
