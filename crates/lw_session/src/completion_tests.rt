@@ -1,4 +1,6 @@
 // What no clause says: that there is an answer where there is memory, and what is offered at places of a few texts. Worked by hand.
+ghost use Rattle.lw_reading.specs.Laws.{IsReadOneWay};
+
 use crate::tests::language;
 use lw_base::{DocId, Name, NoMemory};
 use lw_complete::{Item, complete};
