@@ -77,7 +77,7 @@ const PAGES: [(&str, &str, &str, &str, &str, &[Shown]); 11] = [
             WALLS,
             3,
             "",
-            "examples/tutorial/step3-left.langium:7:12: fault 7: left recursion: Time\n",
+            "examples/tutorial/step3-left.langium:7:1: fault 7: left recursion: Time\n",
         )],
     ),
     (
