@@ -6,10 +6,12 @@ Content-Length: 107
 
 {"jsonrpc":"2.0","method":"textDocument/didOpen","params":{"textDocument":{"uri":"file:///hall.txt","languageId":"states","version":1,"text":"model hall\nstate below to above end\n"}}}Content-Length: 188
 
-{"jsonrpc":"2.0","method":"textDocument/didOpen","params":{"textDocument":{"uri":"file:///stairs.txt","languageId":"states","version":1,"text":"model stairs\nstate above to below end\n"}}}Content-Length: 229
+{"jsonrpc":"2.0","method":"textDocument/didOpen","params":{"textDocument":{"uri":"file:///stairs.txt","languageId":"states","version":1,"text":"model stairs\nstate above to below end\n"}}}Content-Length: 149
+
+{"jsonrpc":"2.0","id":2,"method":"textDocument/definition","params":{"textDocument":{"uri":"file:///hall.txt"},"position":{"line":1,"character":15}}}Content-Length: 229
 
 {"jsonrpc":"2.0","method":"textDocument/didChange","params":{"textDocument":{"uri":"file:///stairs.txt","version":2},"contentChanges":[{"range":{"start":{"line":1,"character":6},"end":{"line":1,"character":11}},"text":"below"}]}}Content-Length: 44
 
-{"jsonrpc":"2.0","id":2,"method":"shutdown"}Content-Length: 33
+{"jsonrpc":"2.0","id":3,"method":"shutdown"}Content-Length: 33
 
 {"jsonrpc":"2.0","method":"exit"}
