@@ -43,4 +43,6 @@ pub use session::{Handled, Mode, Session};
 #[cfg(test)]
 mod completion_tests;
 #[cfg(test)]
+mod file_tests;
+#[cfg(test)]
 mod tests;
