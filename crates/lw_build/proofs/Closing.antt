@@ -18,6 +18,7 @@ use Rattle.lw_build.specs.Linked.{AreLinked}
 use Rattle.lw_build.specs.Readings.{AreDocumentsRead}
 use Rattle.lw_build.specs.View.{documents_of}
 use Rattle.lw_build.specs.declared.readings.Readings.{Readings}
+use Rattle.lw_build.proofs.Carrying.{IsLike}
 use Rattle.lw_build.proofs.Documents.{document_of, get_document, held_here}
 use Rattle.lw_build.proofs.Linked.{linked_still}
 use Rattle.lw_build.proofs.Maps.{put_here, put_elsewhere}
@@ -115,3 +116,18 @@ module _ (g : Grammar) (kept after : ByAddress) (alike : LastAlike kept after) w
       number_lasting : (o : Option Numbered) → option_map (λ (h : Numbered). h.number.0) o ≡ option_map (λ (l : Lasting). l.number.0) (option_map lasting o)
       number_lasting None = refl
       number_lasting (Some held) = refl
+
+-- a document that is held is held still, with the same number, address, text and last list
+pub closed_like : (kept after : ByAddress) → LastAlike kept after → (held : Numbered) → get kept held.doc.uri ≡ Some held →
+    (now : Numbered) × (get after held.doc.uri ≡ Some now) × IsLike held now
+closed_like kept after alike held at =
+    let (now, there, like) = partner lasting (get kept held.doc.uri) (get after held.doc.uri) (sym (alike held.doc.uri)) held at in (
+      now,
+      there,
+      record {
+        number = ap (λ (l : Lasting). l.number) like;
+        uri = ap (λ (l : Lasting). l.uri) like;
+        text = ap (λ (l : Lasting). l.text) like;
+        published = ap (λ (l : Lasting). l.published) like;
+      },
+    )

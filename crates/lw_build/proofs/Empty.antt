@@ -14,7 +14,10 @@ use Rattle.lw_reading.specs.Laws.{IsReadOneWay}
 use Rattle.lw_build.specs.Built.{AreBuilt, IsWorkspaceKept}
 use Rattle.lw_build.specs.Linked.{OnlyReadLead}
 use Rattle.lw_build.specs.Readings.{AreDocumentsRead, reading_at}
+use Rattle.lw_build.specs.Standing.{IsNobodyUntouched}
 use Rattle.lw_build.specs.declared.readings.Readings.{Readings}
+use Rattle.lw_build.specs.declared.standing.Standing.{Standing}
+use Rattle.lw_build.proofs.Carrying.{nobody_stands}
 use Rattle.lw_build.proofs.Documents.{held_here}
 use Rattle.lw_build.proofs.Linked.{are_linked}
 
@@ -35,12 +38,14 @@ module _ (g : Grammar) (texts : List (List ℕ)) (kept : ByAddress) (empty : kep
       nothing_else = λ n is. ap (λ m. get m n) index ∙ get-empty nat_cmp n;
     }
 
-    pub none_kept : IsReadOneWay g → AreNumbered kept → (led : Led) → led ≡ all.empty → IsWorkspaceKept g texts kept readings led true
-    none_kept one_way are led unled = record {
+    pub none_kept : IsReadOneWay g → AreNumbered kept → (led : Led) → led ≡ all.empty → (standing : Standing) → IsNobodyUntouched standing →
+        IsWorkspaceKept g texts kept readings led standing true
+    none_kept one_way are led unled standing nobody = record {
       one_way = one_way;
       numbered = are;
       read = none_read;
       unread = unread;
+      stands = nobody_stands g kept readings led standing nobody;
       built = λ is. none_built;
       linked = λ is. are_linked g texts kept readings none_read are (λ address held at. absurd (nothing_held address held at)) led unread
           (λ address held at. absurd (nothing_held address held at));

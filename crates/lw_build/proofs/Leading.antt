@@ -1,5 +1,5 @@
 -- What is kept of references, where a document is linked, and where documents are read and go.
-use Rattle.std.proofs.Common.{◌≡◌, ◌≢◌, ℕ, List, [], Option, Some, None, refl, sym, ap, subst, ◌∙◌, inl, inr}
+use Rattle.std.proofs.Common.{◌⊎◌, ◌≡◌, ◌≢◌, ℕ, List, [], Option, Some, None, refl, sym, ap, subst, ◌∙◌, inl, inr}
 use Rattle.std.specs.Option.{option_map_or}
 use Rattle.std.specs.FinMap as all
 use Rattle.std.specs.FinMap.{get}
@@ -15,7 +15,9 @@ use Rattle.lw_scopes.specs.Links.{IsNumberBelow}
 use Rattle.lw_build.specs.Linked.{AreLinkAnswers, AreLinksKept, OnlyReadLead, StandsNumbered}
 use Rattle.lw_build.specs.Readings.{HasReading, reading_at, tree_numbered, trees_of}
 use Rattle.lw_build.specs.declared.readings.Reading.{Reading}
+use Rattle.lw_build.specs.Standing.{IsLinkedHere}
 use Rattle.lw_build.specs.declared.readings.Readings.{Readings}
+use Rattle.lw_build.proofs.Linked.{held_numbered}
 use Rattle.lw_build.proofs.Maps.{number_gone, number_left, number_put, number_stays}
 
 -- ---- answers by number
@@ -32,7 +34,7 @@ answers_stay led after d answers is n other = ap given (ap (λ (m : Led). get m 
 answers_gone : (led after : Led) (d : ℕ) → after ≡ all.remove led d → answers_in after d ≡ []
 answers_gone led after d is = ap given (ap (λ (m : Led). get m d) is ∙ number_gone led d)
 
-answers_left : (led after : Led) (d : ℕ) → after ≡ all.remove led d → (n : ℕ) → n ≢ d → answers_in after n ≡ answers_in led n
+pub answers_left : (led after : Led) (d : ℕ) → after ≡ all.remove led d → (n : ℕ) → n ≢ d → answers_in after n ≡ answers_in led n
 answers_left led after d is n other = ap given (ap (λ (m : Led). get m n) is ∙ number_left led d n other)
 
 -- ---- nothing is kept of what was not read
@@ -90,3 +92,19 @@ module _ (g : Grammar) (kept : ByAddress) (are : AreNumbered kept) (readings : R
 
   pub place_now : IsPlaceLinked g kept readings after (doc.uri, d)
   place_now = record { held = numbered d doc; at = at; number = refl; links = now }
+
+  -- each is as it was at the start, or linked
+  pub waits_still : (start : Led) → ((n : ℕ) → (answers_in led n ≡ answers_in start n) ⊎ IsLinkedHere g kept readings led n) →
+      (n : ℕ) → (answers_in after n ≡ answers_in start n) ⊎ IsLinkedHere g kept readings after n
+  waits_still start waits n = elim (cases_eq n d.0) [
+    | inl same ↦ inr (λ address stands.
+        let (held, there, number) = held_numbered kept n address stands in
+        let uri : doc.uri ≡ address = are.apart doc.uri address (numbered d doc) held at there (λ i. record { 0 = (sym same ∙ sym number) i }) in
+        subst (λ m. AreLinksKept g kept readings after address m) (sym same) (subst (λ a. AreLinksKept g kept readings after a d.0) uri now))
+    | inr other ↦ elim (waits n) [
+      | inl was ↦ inl (others n other ∙ was)
+      | inr linked ↦ inr (λ address stands.
+          subst (λ (answers : List Answer). AreLinkAnswers (IsNumberBelow g) (StandsNumbered kept) (trees_of kept readings) address (tree_numbered readings n) answers)
+          (sym (others n other)) (linked address stands))
+    ]
+  ]

@@ -16,3 +16,9 @@ pub mod Empty
 pub mod Leading
 pub mod Views
 pub mod Lending
+pub mod Sets
+pub mod Enlisting
+pub mod Unseen
+pub mod Sparing
+pub mod Carrying
+pub mod Settled

@@ -3,7 +3,7 @@ use Rattle.std.proofs.Common.{◌≡◌, ◌≢◌, ℕ, List, true, false, cond
 use Rattle.std.specs.Cmp.{IsTotalOrder, tied_itself, nat_cmp_total}
 use Rattle.std.specs.Cmp.Lexicographic.{slice_cmp, nat_list_cmp_total}
 use Rattle.std.specs.Ordering.{nat_cmp, eq_by_cmp}
-use Rattle.std.proofs.lemmas.Bool.{cases_eq}
+use Rattle.std.proofs.lemmas.Bool.{cases_eq, false≢true}
 use Rattle.lw_machine.proofs.Places.{one_or_two}
 use Rattle.std.specs.FinMap.{FinMap, IsAntisymmetric, get, insert, remove, get-insert, get-remove, same_map, slice_cmp-IsAntisymmetric, nat_cmp-IsAntisymmetric}
 
@@ -91,3 +91,12 @@ put_twice {X} m k x y = same_at_addresses (insert (insert m k x) k y) (insert m 
       | inl here ↦ ap (get (insert (insert m k x) k y)) here ∙ put_here (insert m k x) k y ∙ sym (ap (get (insert m k y)) here ∙ put_here m k y)
       | inr other ↦ put_elsewhere (insert m k x) k y q other ∙ put_elsewhere m k x q other ∙ sym (put_elsewhere m k y q other)
     ]
+
+-- what a comparison of numbers finds is the number
+pub number_tied : (q k : ℕ) → is_eq (nat_cmp q k) ≡ true → q ≡ k
+number_tied q k = by (nat_cmp q k) refl
+  where
+    by : (r : Ordering) → nat_cmp q k ≡ r → is_eq r ≡ true → q ≡ k
+    by Less was never = absurd (false≢true never)
+    by Equal was tied = nat_cmp-IsAntisymmetric q k was
+    by Greater was never = absurd (false≢true never)

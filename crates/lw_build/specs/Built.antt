@@ -10,8 +10,10 @@ use Rattle.lw_reading.specs.Laws.{IsReadOneWay}
 use Rattle.lw_refs.specs.Led.{Led}
 use Rattle.lw_build.specs.Linked.{AreLinked, OnlyReadLead}
 use Rattle.lw_build.specs.Readings.{AreDocumentsRead}
+use Rattle.lw_build.specs.Standing.{StandsBuilt}
 use Rattle.lw_build.specs.View.{WorkspaceView, documents_of}
 use Rattle.lw_build.specs.declared.readings.Readings.{Readings}
+use Rattle.lw_build.specs.declared.standing.Standing.{Standing}
 use Rattle.lw_build.specs.declared.workspace.Workspace.TheInside.{Inside}
 
 -- nothing is left to do for any document, and each text reads as something
@@ -19,11 +21,12 @@ pub record AreBuilt (g : Grammar) (kept : ByAddress) : Type 0 where
   pub current : AreCurrent g (documents_of true kept)
   pub readable : (address : List ℕ) (held : Numbered) → get kept address ≡ Some held → IsReadable g held.doc.text
 
-pub record IsWorkspaceKept (g : Grammar) (texts : List (List ℕ)) (kept : ByAddress) (readings : Readings) (led : Led) (is_built : Bool) : Type 0 where
+pub record IsWorkspaceKept (g : Grammar) (texts : List (List ℕ)) (kept : ByAddress) (readings : Readings) (led : Led) (standing : Standing) (is_built : Bool) : Type 0 where
   pub one_way : IsReadOneWay g
   pub numbered : AreNumbered kept
   pub read : AreDocumentsRead g texts kept readings
   pub unread : OnlyReadLead readings led
+  pub stands : StandsBuilt g kept readings led standing
   pub built : is_built ≡ true → AreBuilt g kept
   pub linked : is_built ≡ true → AreLinked g kept readings led
 
@@ -31,4 +34,4 @@ abbrev pub seen_workspace : Inside → WorkspaceView
 seen_workspace w = record { grammar = w.language.grammar; kept = w.docs; is_built = w.is_built }
 
 abbrev pub IsWorkspace : Inside → Type 0
-IsWorkspace w = IsWorkspaceKept w.language.grammar w.language.texts w.docs w.readings w.refs w.is_built
+IsWorkspace w = IsWorkspaceKept w.language.grammar w.language.texts w.docs w.readings w.refs w.standing w.is_built

@@ -4,5 +4,6 @@ pub mod Faults
 pub mod Readings
 pub mod Telling
 pub mod Linked
+pub mod Standing
 pub mod Seen
 pub mod Built

@@ -27,6 +27,7 @@
 mod fault;
 mod readings;
 mod seen;
+mod standing;
 mod telling;
 mod workspace;
 

@@ -8,6 +8,7 @@ ghost use Rattle.lw_link.specs.Indexed.{AreEntriesAt};
 ghost use Rattle.lw_reading.specs.Issues.{IfBroken, IfWhole, IsIssueWithin, IsNamed};
 ghost use Rattle.lw_reading.specs.Reading.{Reads};
 ghost use Rattle.lw_rooted.specs.Within.{StandsInText};
+ghost use Rattle.lw_build.specs.declared.readings.Reading.{Reading as OneReading};
 ghost use Rattle.lw_build.specs.Readings.{AreAllRead, AreDocumentsRead, HasReading, IsReadingOfText, reading_at, tree_numbered, tree_of};
 
 use lw_base::{DocId, Name, NoMemory};
@@ -166,7 +167,7 @@ impl Readings {
         requires kept { AreDocumentsRead language.now.grammar language.now.texts docs.now self.old }
         ensures kept { AreDocumentsRead language.now.grammar language.now.texts docs.now self.new }
         ensures here { OnOk result (HasReading self.new d.0) }
-        ensures more { (n : ℕ) → HasReading self.old n → HasReading self.new n }
+        ensures stays { (n : ℕ) (reading : OneReading) → reading_at self.old n ≡ Some reading → reading_at self.new n ≡ Some reading }
     {
         if self.has(d) {
             return Ok(());
@@ -190,7 +191,7 @@ impl Readings {
         requires kept { AreDocumentsRead language.now.grammar language.now.texts docs.now self.old }
         ensures kept { AreDocumentsRead language.now.grammar language.now.texts docs.now self.new }
         ensures all { OnOk result (AreAllRead docs.now self.new) }
-        ensures more { (n : ℕ) → HasReading self.old n → HasReading self.new n }
+        ensures stays { (n : ℕ) (reading : OneReading) → reading_at self.old n ≡ Some reading → reading_at self.new n ≡ Some reading }
     {
         docs.numbered();
         'reading: for (_uri, d) in docs.uris() {

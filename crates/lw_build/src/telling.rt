@@ -1,11 +1,11 @@
 // The lists of all documents, and which of them are news.
-ghost use Rattle.std.specs.Prelude.{◌≡◌, ◌≢◌, ◌<◌, ◌^◌, ◌↔◌, ℕ, List, Some, IfOk, OnOk, IsTrue, Contains, length};
+ghost use Rattle.std.specs.Prelude.{◌≡◌, ◌≢◌, ◌⊎◌, ◌<◌, ◌^◌, ◌↔◌, ℕ, List, Some, IfOk, OnOk, IsTrue, Contains, length};
 ghost use Rattle.lw_docs.specs.Documents.{AreNumbered, IsAt, IsHeld};
 ghost use Rattle.lw_docs.specs.declared.doc.Doc.{Doc as OneDoc};
 ghost use Rattle.lw_link.specs.Indexed.{IsDocumentOf, IsIndexOf};
 ghost use Rattle.lw_reading.specs.Reading.{Reads};
 ghost use Rattle.lw_reading.specs.declared.parsed.Parsed.TheVariants.{Whole};
-ghost use Rattle.lw_refs.specs.Led.{answers_in};
+ghost use Rattle.lw_refs.specs.Led.{Led, answers_in};
 ghost use Rattle.lw_rooted.specs.Within.{StandsInText};
 ghost use Rattle.lw_scoping.specs.Links.{Trees};
 ghost use Rattle.lw_scopes.specs.Diagnostics.{AreDiagnostics};
@@ -13,9 +13,11 @@ ghost use Rattle.lw_scopes.specs.Links.{AreTreesOfTexts, Texts};
 ghost use Rattle.lw_symbols.specs.Locals.{AreLocalsOf};
 ghost use Rattle.lw_build.specs.Linked.{AreLinked, AreLinksKept, OnlyReadLead};
 ghost use Rattle.lw_build.specs.Readings.{AreAllRead, AreDocumentsRead, IsReadingOfText, present_texts_of, tree_of};
+ghost use Rattle.lw_build.specs.Standing.{AreEntered, IsLinkedHere, StandsBuilt};
 ghost use Rattle.lw_build.specs.Telling.{AddsList, AreListsTold, AreListsTaken, IsCheckedAs, IsDocumentAs, numbered_places};
 
 use crate::readings::{Reading, Readings};
+use crate::standing::Standing;
 use lw_base::{DocId, Items, Name, NoMemory, Steps};
 use lw_check::{diagnostics, issue_diagnostic};
 use lw_docs::{Doc, Docs};
@@ -166,13 +168,14 @@ impl News {
         Ok(())
     }
 
-    /// Adds the list of the document of this number, and keeps where its references lead.
+    /// Adds the list of the document of this number, and keeps where its references lead. Where both stand as they were built, nothing is done.
     fn add_one<L: Ledger>(
         &mut self,
         alloc: Global,
         language: &Language,
         docs: &Docs,
         readings: &Readings,
+        standing: &Standing,
         refs: &mut RefIndex,
         d: DocId,
         steps: &mut Steps<L>,
@@ -181,6 +184,9 @@ impl News {
         requires read { AreDocumentsRead language.now.grammar language.now.texts docs.now readings.now }
         requires all { AreAllRead docs.now readings.now }
         requires unread { OnlyReadLead readings.now refs.old }
+        requires entered { AreEntered docs.now readings.now standing.now }
+        requires stands { (led : Led) × StandsBuilt language.now.grammar docs.now readings.now led standing.now ×
+            ((answers_in refs.old d.0 ≡ answers_in led d.0) ⊎ IsLinkedHere language.now.grammar docs.now readings.now refs.old d.0) }
         ensures unread { OnlyReadLead readings.now refs.new }
         ensures others { (n : ℕ) → n ≢ d.0 → answers_in refs.new n ≡ answers_in refs.old n }
         ensures linked { OnOk result ((doc : OneDoc) × IsAt docs.now d doc × AreLinksKept language.now.grammar docs.now readings.now refs.new doc.uri d.0) }
@@ -191,6 +197,9 @@ impl News {
         let doc = docs.doc(d);
         match readings.texts.get(&d.0) {
             Some(reading) => {
+                if standing.spares(d, reading, readings.index.of(d)) {
+                    return Ok(());
+                }
                 let found = check_reading(
                     alloc,
                     language,
@@ -210,18 +219,21 @@ impl News {
 }
 
 /// The lists of all documents that are news, in the order of addresses. Where the references of each lead is kept; where memory is
-/// refused, of some.
+/// refused, of some. What stands as it was built is not made again.
 pub(crate) fn news_of<L: Ledger>(
     alloc: Global,
     language: &Language,
     docs: &Docs,
     readings: &Readings,
+    standing: &Standing,
     refs: &mut RefIndex,
     steps: &mut Steps<L>,
 ) -> Result<News, NoMemory>
     requires read { AreDocumentsRead language.now.grammar language.now.texts docs.now readings.now }
     requires all { AreAllRead docs.now readings.now }
     requires unread { OnlyReadLead readings.now refs.old }
+    requires entered { AreEntered docs.now readings.now standing.now }
+    requires stands { StandsBuilt language.now.grammar docs.now readings.now refs.old standing.now }
     ensures unread { OnlyReadLead readings.now refs.new }
     ensures linked { OnOk result (AreLinked language.now.grammar docs.now readings.now refs.new) }
     ensures told { IfOk result (λ news. AreListsTold language.now.grammar docs.now (numbered_places docs.now) news.own.items news.lists) }
@@ -232,7 +244,7 @@ pub(crate) fn news_of<L: Ledger>(
         own: Vec::new(alloc),
     };
     'telling: for (_uri, d) in docs.uris() {
-        news.add_one(alloc, language, docs, readings, refs, *d, steps)?;
+        news.add_one(alloc, language, docs, readings, standing, refs, *d, steps)?;
     }
     Ok(news)
 }

@@ -27,6 +27,7 @@ ghost use Rattle.lw_build.specs.Faults.{edit_fault, HasNoRoom, IsAddRefusal, IsP
 use crate::WorkFault;
 use crate::readings::Readings;
 use crate::seen::{Seen, views_of};
+use crate::standing::Standing;
 use crate::telling::{News, news_of, take_all};
 use lw_base::{DocId, Items, Name, NoMemory, Steps};
 use lw_docs::{DocFault, Docs};
@@ -48,6 +49,8 @@ pub struct Workspace {
     readings: Readings,
     /// Where the references lead of what was read and linked, by the numbers of the documents.
     refs: RefIndex,
+    /// Which of them are as the last build left them.
+    standing: Standing,
     is_built: bool,
     alloc: Global,
 }
@@ -60,6 +63,7 @@ impl Drop for Workspace {
             docs: _,
             readings: _,
             refs: _,
+            standing: _,
             is_built: _,
             alloc: _,
         } = self;
@@ -154,6 +158,7 @@ impl Workspace {
             docs,
             readings: Readings::new(alloc),
             refs: RefIndex::new(alloc),
+            standing: Standing::new(alloc),
             is_built: true,
             alloc,
         }
@@ -175,6 +180,8 @@ impl Workspace {
         ensures begun { self.new.is_built ≡ false }
         ensures grammar { self.new.grammar ≡ self.old.grammar }
     {
+        self.standing
+            .touch(self.alloc, d, self.readings.index.of(d));
         renew(&mut self.docs, d, text, version, is_open);
         self.readings.forget(d);
         self.refs.remove(d);
@@ -300,6 +307,8 @@ impl Workspace {
             Err(_) => return Err(WorkFault::NoMemory),
         };
         let _ = self.language.types();
+        self.standing
+            .touch(self.alloc, gone, self.readings.index.of(gone));
         self.docs.take_out(gone);
         self.readings.forget(gone);
         self.refs.remove(gone);
@@ -310,8 +319,9 @@ impl Workspace {
 
     /// Builds all documents to the end, and answers what is to be published, in the order of addresses: each list that is not the one
     /// that was published last, under the version of its document. Want of memory is the only error; then nothing was published.
-    /// Where all documents are built it does nothing. Else each text that is new is read, and all are linked and checked; a step is
-    /// counted for each look-up in the index.
+    /// Where all documents are built it does nothing. Else each text that is new is read, and linked and checked; so is each other document
+    /// that looks for a name, or exports one, by which a document that has changed exports something now or did at the last build. A step is
+    /// counted for each look-up in the index. Of all others each reference and each export is looked at once, for its name.
     pub fn advance<L: Ledger>(&mut self, steps: &mut Steps<L>) -> Result<Items<Published>, NoMemory>
         ensures builds { IfOk result (λ lists. (m : Documents) → Agrees self.old m → BuildsToEnd self.old.grammar m (documents self.new) lists) }
         ensures built { OnOk result (self.new.is_built ≡ true) }
@@ -324,16 +334,24 @@ impl Workspace {
         }
         self.readings
             .read_all(self.alloc, &self.language, &self.docs)?;
-        let news = news_of(
+        self.standing
+            .enter(self.alloc, &self.docs, &self.readings.index)?;
+        let found = news_of(
             self.alloc,
             &self.language,
             &self.docs,
             &self.readings,
+            &self.standing,
             &mut self.refs,
             steps,
-        )?;
+        );
+        let Ok(news) = found else {
+            self.standing.clear();
+            return Err(NoMemory);
+        };
         let News { lists, own } = news;
         take_all(&mut self.docs, own);
+        self.standing.settle(&self.docs);
         self.docs.numbered();
         self.is_built = true;
         Ok(lists)

@@ -4,7 +4,7 @@ use Rattle.std.proofs.lemmas.Map.Iter.{iter_turn, iter_end}
 use Rattle.lw_build.specs.Telling as telling
 use Rattle.lw_build.specs.Telling.{AreListsTold, numbered_places}
 use Rattle.lw_machine.proofs.Places.{Among}
-use Rattle.lw_build.proofs.Leading.{IsPlaceLinked, place_now, place_still}
+use Rattle.lw_build.proofs.Leading.{IsPlaceLinked, place_now, place_still, waits_still}
 use Rattle.lw_build.proofs.Linked.{are_linked}
 use Rattle.lw_build.proofs.Places.{among_at, among_push, map_push}
 use Rattle.lw_build.proofs.News.{held_place, is_held, place_held, told_one}
@@ -16,6 +16,7 @@ telling-init g c = record {
   finite = tt;
   told = subst₂ (λ o l. AreListsTold c.args.language.now.grammar c.args.docs.now [] o l) (sym c.new-2.ensures.items) (sym c.new.ensures) telling.none;
   unread = c.requires.unread;
+  waits = λ n. inl refl;
   linked = λ p among. elim among [ ];
 }
 
@@ -24,6 +25,9 @@ add_one-requires-clause-held g c =
     let turn = iter_turn deref_pair (numbered_places c.args.docs.now) c.telling.yielded c.into_iter-uri-iterator.result c.telling._uri-iterator c.next.new.self c.next.result
     (c.into_iter-uri-iterator.ensures.into_iter_gives ∙ c.uris-uri-items.ensures.rest) c.telling.yielded_by (c.in-Some._uri, c.in-Some.d) c.in-Some.is c.next.ensures.steps in
     is_held c.args.docs.now c.numbered.ensures c.in-Some._uri.now c.in-Some.d.now (among_at (numbered_places c.args.docs.now) _ _ turn.1)
+
+pub add_one-requires-clause-stands : goal.add_one-requires-clause-stands
+add_one-requires-clause-stands g c = (c.args.refs.now, c.requires.stands, c.telling.invariant.waits c.in-Some.d.now.0)
 
 pub telling-preserved : goal.telling-preserved
 telling-preserved g c =
@@ -47,6 +51,8 @@ telling-preserved g c =
           (told_one c.args.language.now.grammar docs doc.uri c.in-Some.d.now doc list there refl are (map deref_pair c.telling.yielded) c.telling.news c.add_one.new.self
           c.telling.invariant.told adds);
       unread = c.in_ok-add_one.ensures.unread;
+      waits = waits_still c.args.language.now.grammar docs c.numbered.ensures c.args.readings.now c.telling.refs c.add_one.new.refs c.in-Some.d.now own here links
+          c.in_ok-add_one.ensures.others c.args.refs.now c.telling.invariant.waits;
       linked = λ p there.
           elim (among_push (map deref_pair c.telling.yielded) (c.in-Some._uri.now, c.in-Some.d.now) p
           (subst (Among p) (map_push deref_pair c.telling.yielded (c.in-Some._uri, c.in-Some.d)) there)) [

@@ -1,12 +1,8 @@
-use Rattle.std.proofs.Common.{◌≡◌, false, Result, Ok, Err, OnOk, is_err, sym, ap, ◌∙◌}
+use Rattle.std.proofs.Common.{sym, ap, ◌∙◌}
 use Rattle.std.specs.FinMap as all
-use Rattle.std.proofs.lemmas.Bool.{true≢false}
+use Rattle.lw_build.proofs.Enlisting.{not_err}
 use Rattle.lw_build.proofs.Maps.{number_apart, put_back}
 use Rattle.lw_build.proofs.readings.Readings.keep.Goals as goal
-
-not_err : {A E : Type 0} {P : Type 0} (r : Result A E) → OnOk r P → is_err r ≡ false → P
-not_err (Ok x) is right = is
-not_err (Err e) is right = absurd (true≢false right)
 
 pub returns-then-is_err-2-clause-stays : goal.returns-then-is_err-2-clause-stays
 returns-then-is_err-2-clause-stays c =

@@ -20,11 +20,11 @@ reading-preserved c = record {
   next = tt;
   finite = tt;
   kept = c.in_ok-read_one.ensures.kept;
-  more = λ n has. c.in_ok-read_one.ensures.more n (c.reading.invariant.more n has);
+  stays = λ n reading is. c.in_ok-read_one.ensures.stays n reading (c.reading.invariant.stays n reading is);
   all = λ p there.
       elim (among_push (map deref_pair c.reading.yielded) (c.in-Some._uri.now, c.in-Some.d.now) p
       (subst (Among p) (map_push deref_pair c.reading.yielded (c.in-Some._uri, c.in-Some.d)) there)) [
-        | inl old ↦ c.in_ok-read_one.ensures.more p.1.0 (c.reading.invariant.all p old)
+        | inl old ↦ (let has = c.reading.invariant.all p old in (has.0, c.in_ok-read_one.ensures.stays p.1.0 has.0 has.1))
         | inr new ↦ subst (λ (q : List ℕ × DocId). HasReading c.read_one.new.self q.1.0) new c.in_ok-read_one.ensures.here
       ];
 }

@@ -1,13 +1,16 @@
-use Rattle.std.proofs.Common.{List, Option, option_and_then, option_map, Result, Ok, Err, OnOk, sym, ap, subst₂}
+use Rattle.std.proofs.Common.{List, Option, option_and_then, option_map, Result, Ok, Err, OnOk, refl, sym, ap, subst, subst₂, inl, inr}
 use Rattle.std.proofs.lemmas.Result.{on_ok_weaker}
-use Rattle.lw_docs.specs.Documents.{Numbered}
+use Rattle.lw_docs.specs.Documents.{Numbered, numbered}
 use Rattle.lw_index.specs.declared.parts.Answer.{Answer}
 use Rattle.lw_scopes.specs.Links.{IsNumberBelow}
 use Rattle.lw_tree.specs.Parts.{Parts}
 use Rattle.lw_build.specs.Linked.{AreLinkAnswers, AreLinksKept, IsIndexedAt, StandsNumbered}
-use Rattle.lw_build.specs.Readings.{present_texts_of, tree_of, trees_of}
+use Rattle.lw_build.specs.Readings.{present_texts_of, tree_numbered, tree_of, trees_of}
+use Rattle.lw_build.specs.Standing.{NamesNoChange}
+use Rattle.lw_build.specs.Telling as telling
 use Rattle.lw_build.proofs.Leading.{answers_put, answers_stay, unread_linked}
-use Rattle.lw_build.proofs.Linked.{indexed_stands, stand_elsewhere}
+use Rattle.lw_build.proofs.Linked.{indexed_stands, stand_elsewhere, stands_numbered}
+use Rattle.lw_build.proofs.Sparing.{stands_still}
 use Rattle.lw_build.proofs.Trees.{are_trees, is_document, is_index}
 use Rattle.lw_build.proofs.telling.News.add_one.Goals as goal
 
@@ -64,3 +67,34 @@ returns-clause-told g c =
     (are_trees of texts docs c.numbered.ensures readings c.requires.read c.requires.all)
     (is_index of texts docs c.numbered.ensures readings c.requires.read c.requires.all) (ap (option_map (λ (h : Numbered). h.doc.text)) c.doc-doc.ensures) here.1 in
     on_ok_weaker c.add.result (λ adds. (c.in_ok-found-in-Some.found.list, doc, c.doc-doc.ensures, found.0, adds)) c.add.ensures
+
+-- what is spared stands as it was built
+pub returns-then-spares-clause-linked : goal.returns-then-spares-clause-linked
+returns-then-spares-clause-linked g c =
+    let of = c.args.language.now.grammar in
+    let docs = c.args.docs.now in
+    let readings = c.args.readings.now in
+    let doc = c.doc-doc.result.now in
+    let (start, since, waits) = c.requires.stands in
+    let still = stands_still of docs c.numbered.ensures readings start c.args.standing.now since c.args.language.now.texts c.requires.read c.requires.all c.requires.entered
+    (numbered c.args.d doc) c.doc-doc.ensures (c.spares.ensures.untouched c.if-spares.true) c.in-Some.reading.now (sym c.in-Some.ensures.value)
+    (subst (NamesNoChange c.args.standing.now c.in-Some.reading.now) c.of.ensures (c.spares.ensures.names c.if-spares.true)) in (
+      doc,
+      c.doc-doc.ensures,
+      elim waits [
+        | inl same ↦ subst (λ (answers : List Answer).
+            AreLinkAnswers (IsNumberBelow of) (StandsNumbered docs) (trees_of docs readings) doc.uri (tree_numbered readings c.args.d.0) answers) (sym same) still.links
+        | inr linked ↦ linked doc.uri (stands_numbered docs doc.uri (numbered c.args.d doc) c.doc-doc.ensures)
+      ],
+    )
+
+pub returns-then-spares-clause-told : goal.returns-then-spares-clause-told
+returns-then-spares-clause-told g c =
+    let of = c.args.language.now.grammar in
+    let docs = c.args.docs.now in
+    let doc = c.doc-doc.result.now in
+    let (start, since, waits) = c.requires.stands in
+    let still = stands_still of docs c.numbered.ensures c.args.readings.now start c.args.standing.now since c.args.language.now.texts c.requires.read c.requires.all c.requires.entered
+    (numbered c.args.d doc) c.doc-doc.ensures (c.spares.ensures.untouched c.if-spares.true) c.in-Some.reading.now (sym c.in-Some.ensures.value)
+    (subst (NamesNoChange c.args.standing.now c.in-Some.reading.now) c.of.ensures (c.spares.ensures.names c.if-spares.true)) in
+    (still.list, doc, c.doc-doc.ensures, still.listed, telling.same still.published refl refl)

@@ -1,9 +1,11 @@
-use Rattle.std.proofs.Common.{Err, subst, ap, ◌∙◌}
+use Rattle.std.proofs.Common.{Err, refl, subst, sym, ap, ◌∙◌}
 use Rattle.std.specs.FinMap.{get}
 use Rattle.std.proofs.lemmas.Bool.{false≢true}
+use Rattle.std.proofs.lemmas.Option.{none-some}
 use Rattle.lw_docs.specs.Documents.{ByAddress, changed, numbered}
 use Rattle.lw_build.specs.View.{WorkspaceView}
 use Rattle.lw_build.proofs.Maps.{put_elsewhere}
+use Rattle.lw_build.proofs.Carrying.{like_itself, others_stand}
 use Rattle.lw_build.proofs.Reading.{came}
 use Rattle.lw_build.specs.Faults as faults
 use Rattle.lw_build.specs.Faults.{IsAddRefusal}
@@ -33,6 +35,14 @@ invariant_of-self-2 c =
           (λ q other. ap (λ (m : ByAddress). get m q) c.in-Ok-add.ensures.added ∙ put_elsewhere docs own come q other)
           c.self.inside.readings c.self.invariant.read none;
       unread = c.self.invariant.unread;
+      stands = others_stand c.self.inside.language.grammar docs c.add.new.self c.self.invariant.numbered c.numbered.ensures c.self.inside.readings c.self.inside.readings c.self.inside.refs
+          c.self.inside.standing c.self.inside.standing c.self.invariant.stands refl (λ name has. has) (λ n reading is. is)
+          (λ held at. (
+            held,
+            ap (λ (m : ByAddress). get m held.doc.uri) c.in-Ok-add.ensures.added ∙ put_elsewhere docs own come held.doc.uri
+                (λ same. none-some held (sym (ap (get docs) same ∙ none) ∙ at)) ∙ at,
+            like_itself held,
+          ));
       built = λ is. absurd (false≢true is);
       linked = λ is. absurd (false≢true is);
     }

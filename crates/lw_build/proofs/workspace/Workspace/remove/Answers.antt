@@ -13,7 +13,9 @@ use Rattle.lw_build.specs.declared.fault.WorkFault.TheVariants.{NoDocument}
 use Rattle.lw_build.proofs.Agreeing.{removed, view}
 use Rattle.lw_build.proofs.Finding.{at_address, none_found, same_uri, seen}
 use Rattle.lw_build.proofs.Maps.{taken_elsewhere}
-use Rattle.lw_build.proofs.Leading.{unread_forgotten}
+use Rattle.lw_build.specs.Standing.{Touches}
+use Rattle.lw_build.proofs.Carrying.{touched_stands}
+use Rattle.lw_build.proofs.Leading.{answers_left, unread_forgotten}
 use Rattle.lw_build.proofs.Reading.{forgotten}
 use Rattle.lw_build.proofs.Settling.{others_settle}
 use Rattle.lw_build.proofs.workspace.Workspace.remove.Goals as goal
@@ -38,6 +40,11 @@ invariant_of-self c =
           c.self.inside.readings c.self.invariant.read c.in-Some.gone x c.take_out.ensures.doc c.forget.new.self c.forget.ensures.here c.forget.ensures.others
           c.forget.ensures.index;
       unread = unread_forgotten c.self.inside.readings c.forget.new.self c.self.inside.refs c.remove.new.self c.in-Some.gone.0 c.self.invariant.unread c.remove.ensures c.forget.ensures.others;
+      stands = touched_stands c.self.inside.language.grammar c.self.inside.language.texts docs c.take_out.new.self c.self.invariant.numbered c.numbered.ensures c.self.inside.readings
+          c.forget.new.self c.self.invariant.read c.self.inside.refs c.remove.new.self c.self.inside.standing c.touch.new.self c.self.invariant.stands c.in-Some.gone x c.take_out.ensures.doc
+          (λ q other. ap (λ (m : ByAddress). get m q) c.take_out.ensures.gone ∙ taken_elsewhere docs x.uri q other)
+          c.forget.ensures.others (answers_left c.self.inside.refs c.remove.new.self c.in-Some.gone.0 c.remove.ensures)
+          (subst (Touches c.self.inside.standing c.touch.new.self c.in-Some.gone.0) c.of.ensures c.touch.ensures);
       built = λ is. absurd (false≢true is);
       linked = λ is. absurd (false≢true is);
     }

@@ -8,7 +8,8 @@ use Rattle.lw_machine.specs.Events.{closed}
 use Rattle.lw_build.specs.Agreeing.{Agrees}
 use Rattle.lw_build.specs.View.{WorkspaceView}
 use Rattle.lw_build.proofs.Agreeing.{closed_so, held_of, view}
-use Rattle.lw_build.proofs.Closing.{shut_alike, shut_at, still_built, still_linked, still_read}
+use Rattle.lw_build.proofs.Carrying.{others_stand}
+use Rattle.lw_build.proofs.Closing.{closed_like, shut_alike, shut_at, still_built, still_linked, still_read}
 use Rattle.lw_build.proofs.Finding.{found, is_held, none_found, seen}
 use Rattle.lw_build.proofs.workspace.Workspace.set_closed.Goals as goal
 
@@ -34,6 +35,8 @@ invariant_of-self c =
       numbered = c.numbered.ensures;
       read = still_read of docs c.shut.new.docs alike c.self.inside.language.texts c.self.inside.readings c.self.invariant.read;
       unread = c.self.invariant.unread;
+      stands = others_stand of docs c.shut.new.docs c.self.invariant.numbered c.numbered.ensures c.self.inside.readings c.self.inside.readings c.self.inside.refs
+          c.self.inside.standing c.self.inside.standing c.self.invariant.stands refl (λ name has. has) (λ n reading there. there) (closed_like docs c.shut.new.docs alike);
       built = λ is. still_built of docs c.shut.new.docs alike (c.self.invariant.built is);
       linked = λ is. still_linked of docs c.shut.new.docs alike c.self.inside.readings c.self.inside.refs (c.self.invariant.linked is);
     }
