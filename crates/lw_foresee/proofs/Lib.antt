@@ -4,3 +4,4 @@ pub mod StepLemmas
 pub mod WalkLemmas
 pub mod SourceLemmas
 pub mod NfaLemmas
+pub mod FirstByteLemmas

@@ -1,3 +1,4 @@
 pub mod Nfas
 pub mod Steps
 pub mod Walk
+pub mod FirstBytes

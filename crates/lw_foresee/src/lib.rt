@@ -8,7 +8,8 @@
 //! pattern if the library `regex` would match by it (`specs/Nfas.antt`). A [`Walker`] is the number of steps that it may still take.
 //!
 //! It promises that [`nfa_of`] and [`nfas_of`] give the NFAs of the patterns, in order, and none only for a text that `regex` may refuse;
-//! and that what [`Walker::foreseen_length`] tells is so for the text with any bytes behind it (`IsForeseen`). It never has to tell
+//! that where a flag of [`first_bytes_of`] is off, the pattern matches at the start of no text that begins with its byte (`AreFirstBytes`);
+//! and that what [`Walker::foreseen_length`] tells is so for the text with any bytes behind it (`IsForeseen`). Neither ever has to tell
 //! anything: where it does not, whoever asks is slower, and never wrong. A walker never gains steps.
 //!
 //! How it is done. The states of the NFA are walked from the start of the text on, one byte after the other, and the ways that are still
@@ -20,10 +21,12 @@
 //! much may visit a state at one place many times, so the steps of a walker bound all its walks together.
 #![tactic(auto)]
 
+mod first_bytes;
 mod nfa;
 mod step;
 mod walk;
 
+pub use first_bytes::{FirstBytes, first_bytes_of};
 pub use nfa::{nfa_of, nfas_of};
 pub use walk::Walker;
 

@@ -1,5 +1,5 @@
 // What is foreseen of the patterns that grammars have, by hand.
-use crate::{Walker, nfa_of};
+use crate::{Walker, first_bytes_of, nfa_of};
 use lw_base::{Name, NoMemory};
 use std::alloc::Global;
 use std::test::Fail;
@@ -62,5 +62,41 @@ fn patterns_of_grammars_are_foreseen(rt: HostRuntime) -> Result<(), Fail> {
     }
     let without_steps = foreseen_text(alloc, LAST, "b", 0)?;
     assert_eq!(rt; without_steps.as_str(), "? ");
+    Ok(())
+}
+
+// Of each byte of the text whether a match may begin with it: `+` where it may, `-` where it is known that none does.
+fn first_bytes_text(alloc: Global, pattern: &str, text: &str) -> Result<String, NoMemory> {
+    let mut shown = String::new(alloc);
+    let flags = first_bytes_of(alloc, &Name::from_text(alloc, pattern)?)?;
+    for byte in text.as_bytes() {
+        shown.push_str(if flags[*byte as usize] { "+" } else { "-" })?;
+    }
+    Ok(shown)
+}
+
+// The last two characters are the bytes E1 9A 80 and C3 A9.
+const BYTES: &str = "aE_0 \n/\"'\u{1680}\u{e9}";
+
+#[test]
+fn bytes_with_which_no_match_begins_are_ruled_out(rt: HostRuntime) -> Result<(), Fail> {
+    let alloc = rt.alloc();
+    for (pattern, answer) in [
+        (NAME, "+++-----------"),
+        (r"\w+", "++++-----+--+-"),
+        (SPACES, "----++---+----"),
+        (NUMBER, "---+----------"),
+        (COMMENT, "------+-------"),
+        (LINE, "------+-------"),
+        (STRING, "-------++-----"),
+        (WORD, "--------------"),
+        (LAST, "+-------------"),
+        ("ab|E?0", "++-+----------"),
+        ("a*", "++++++++++++++"),
+        ("[", "++++++++++++++"),
+    ] {
+        let shown = first_bytes_text(alloc, pattern, BYTES)?;
+        assert_eq!(rt; shown.as_str(), answer);
+    }
     Ok(())
 }

@@ -149,7 +149,7 @@ impl Language {
 
     /// What the text reads as: its tree, or its one fault. The one error is want of memory.
     ///
-    /// At each token every pattern is tried once at its start: time is linear in the length of the text where a pattern looks no
+    /// At each token a pattern is tried once at most, at its start: time is linear in the length of the text where a pattern looks no
     /// further than it matches, and up to quadratic elsewhere. Parsing is linear in the tokens; where they are no sentence, they are
     /// gone through once more, with all readings that they leave open, for the first that cannot stand.
     pub fn read(&self, alloc: Global, text: &Name) -> Result<Parsed, NoMemory>

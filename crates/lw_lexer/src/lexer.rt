@@ -46,7 +46,8 @@ impl<'s> Lexer<'s> {
 
     /// The tokens of the text. Where the text has no token at some place, the first such place is refused.
     ///
-    /// At each token every pattern is tried once at its start, and of the keywords those that begin with its first byte.
+    /// At each token the patterns of which a match may begin with its first byte are tried once at its start, and of the keywords those
+    /// that begin with that byte.
     pub fn cut(&mut self, alloc: Global, text: &Name) -> Result<Vec<Token>, LexFault>
         requires { length text.now ≤ LONGEST_TEXT }
         ensures cut { IfOk result (λ tokens. IsCut self.old.lexicon text.now tokens.items) }

@@ -7,6 +7,9 @@
 //! It promises that a pattern matches exactly what the library `regex` defines for it at the start of
 //! a text, that no terminal of a made set matches the empty text, and that no keyword is empty or stands
 //! twice.
+//!
+//! What begins with a byte with which no match of a pattern begins is not tried: each terminal has a table of these bytes, and each
+//! keyword is found by its first byte.
 #![tactic(auto)]
 
 mod fault;

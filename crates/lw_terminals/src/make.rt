@@ -7,6 +7,7 @@ ghost use Rattle.lw_terminals.specs.Made.{form_of, IsUsable, AreUsable, AreUnlis
 
 use crate::{MakeTokensFault, Terminal, TerminalSource};
 use lw_base::{Name, NoMemory};
+use lw_foresee::first_bytes_of;
 use lw_io::{MakeFault, Patterns};
 use std::alloc::Global;
 
@@ -84,7 +85,8 @@ fn make_terminal<P: Patterns>(
         Err(MakeFault::Refused) => return Err(MakeTokensFault::Refused(place)),
         Err(MakeFault::NoMemory) => return Err(MakeTokensFault::NoMemory),
     };
-    let terminal = Terminal::new(pattern, regex, hidden);
+    let first_bytes = first_bytes_of(alloc, &pattern)?;
+    let terminal = Terminal::new(pattern, regex, first_bytes, hidden);
     if terminal.matches_empty(alloc)? {
         return Err(MakeTokensFault::EmptyMatch(place));
     }

@@ -1,5 +1,6 @@
 // What finds the matches of a terminal.
 use lw_base::{Name, NoMemory};
+use lw_foresee::FirstBytes;
 use regex::{Matcher, Regex};
 use std::alloc::Global;
 use std::marker::Model;
@@ -10,39 +11,46 @@ use std::marker::Model;
 pub struct TerminalMatcher<'t> {
     pattern: &'t Name,
     matcher: Matcher<'t>,
+    first_bytes: &'t FirstBytes,
     hidden: bool,
 }
 
 impl<'t> Model for TerminalMatcher<'t> {
     ghost use Rattle.lw_tokens.specs.Lexicon.{TerminalForm};
     ghost use Rattle.regex.specs.Strings.{matcher_pattern};
+    ghost use Rattle.lw_foresee.specs.FirstBytes.{AreFirstBytes};
     ghost use Rattle.lw_terminals.specs.Compiled.{MatchesAs};
 
     ghost Value = { TerminalForm };
 
     ghost view = { λ m. record { pattern = m.pattern.now; hidden = m.hidden } };
 
-    ghost invariant = { λ m. MatchesAs m.pattern.now (matcher_pattern m.matcher) };
+    ghost invariant = { λ m. MatchesAs m.pattern.now (matcher_pattern m.matcher)
+        × AreFirstBytes m.pattern.now m.first_bytes.now };
 }
 
 impl<'t> TerminalMatcher<'t> {
-    ghost use Rattle.std.specs.Prelude.{◌≡◌, IfOk, IfSome, IsCharBoundary};
+    ghost use Rattle.std.specs.Prelude.{◌≡◌, None, IfOk, IfSome, IsCharBoundary, IsTrue};
     ghost use Rattle.lw_tokens.specs.Matching.{match_length};
+    ghost use Rattle.lw_foresee.specs.FirstBytes.{AreFirstBytes};
     ghost use Rattle.lw_terminals.specs.Compiled.{IsCompiled};
 
     pub(crate) fn new(
         alloc: Global,
         pattern: &'t Name,
         regex: &'t Regex,
+        first_bytes: &'t FirstBytes,
         hidden: bool,
     ) -> Result<TerminalMatcher<'t>, NoMemory>
-        requires { IsCompiled pattern.now regex.now }
+        requires compiled { IsCompiled pattern.now regex.now }
+        requires first { AreFirstBytes pattern.now first_bytes.now }
         ensures { IfOk result (λ matcher. matcher ≡ record { pattern = pattern.now; hidden = hidden }) }
     {
         let matcher = regex.matcher(alloc)?;
         Ok(TerminalMatcher {
             pattern,
             matcher,
+            first_bytes,
             hidden,
         })
     }
@@ -60,9 +68,23 @@ impl<'t> TerminalMatcher<'t> {
         ensures boundary { IfSome result (IsCharBoundary text.now) }
         ensures same { self.new ≡ self.old }
     {
+        if self.is_ruled_out(text) {
+            return None;
+        }
         match self.matcher.find(text) {
             Some(found) if found.start() == 0 => Some(found.end()),
             _ => None,
+        }
+    }
+
+    // Whether the text's first byte tells that the terminal does not match.
+    #[tactic(auto, using(crate::proofs::FirstByteLemmas::ruled_out))]
+    fn is_ruled_out(&self, text: &str) -> bool
+        ensures { IsTrue result → match_length self.now.pattern text.now ≡ None }
+    {
+        match text.as_bytes() {
+            [first, ..] => !self.first_bytes[*first as usize],
+            [] => false,
         }
     }
 }

@@ -1,6 +1,7 @@
 // A terminal with its compiled pattern.
 use crate::TerminalMatcher;
 use lw_base::{Name, NoMemory};
+use lw_foresee::FirstBytes;
 use regex::Regex;
 use std::alloc::Global;
 use std::marker::Model;
@@ -11,35 +12,40 @@ use std::marker::Model;
 pub struct Terminal {
     pattern: Name,
     regex: Regex,
+    first_bytes: FirstBytes,
     hidden: bool,
 }
 
 impl Model for Terminal {
     ghost use Rattle.lw_tokens.specs.Lexicon.{TerminalForm};
+    ghost use Rattle.lw_foresee.specs.FirstBytes.{AreFirstBytes};
     ghost use Rattle.lw_terminals.specs.Compiled.{IsCompiled};
 
     ghost Value = { TerminalForm };
 
     ghost view = { λ t. record { pattern = t.pattern; hidden = t.hidden } };
 
-    ghost invariant = { λ t. IsCompiled t.pattern t.regex };
+    ghost invariant = { λ t. IsCompiled t.pattern t.regex × AreFirstBytes t.pattern t.first_bytes };
 }
 
 impl Terminal {
     ghost use Rattle.std.specs.Prelude.{◌≡◌, ◌↔◌, [], IfOk, IsTrue, IsSome, Some};
     ghost use Rattle.lw_io.specs.Patterns.{anchored};
     ghost use Rattle.lw_tokens.specs.Matching.{pattern_of, match_length};
+    ghost use Rattle.lw_foresee.specs.FirstBytes.{AreFirstBytes};
     ghost use Rattle.lw_terminals.specs.Compiled.{IsCompiled};
 
-    /// The terminal of a pattern that is compiled.
-    pub fn new(pattern: Name, regex: Regex, hidden: bool) -> Terminal
-        requires { IsCompiled pattern regex }
+    /// The terminal of a pattern that is compiled, and whose first bytes are known.
+    pub fn new(pattern: Name, regex: Regex, first_bytes: FirstBytes, hidden: bool) -> Terminal
+        requires compiled { IsCompiled pattern regex }
+        requires first { AreFirstBytes pattern first_bytes }
         ensures value { result ≡ record { pattern = pattern; hidden = hidden } }
         ensures readable { IsSome (pattern_of (anchored pattern)) }
     {
         Terminal {
             pattern,
             regex,
+            first_bytes,
             hidden,
         }
     }
@@ -55,7 +61,13 @@ impl Terminal {
     pub fn matcher(&self, alloc: Global) -> Result<TerminalMatcher<'_>, NoMemory>
         ensures { IfOk result (λ matcher. matcher ≡ self.now) }
     {
-        TerminalMatcher::new(alloc, &self.pattern, &self.regex, self.hidden)
+        TerminalMatcher::new(
+            alloc,
+            &self.pattern,
+            &self.regex,
+            &self.first_bytes,
+            self.hidden,
+        )
     }
 
     /// Whether the pattern matches the empty text.
