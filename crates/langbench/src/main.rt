@@ -108,7 +108,7 @@ fn main(rt: HostRuntime) -> ExitCode {
 }
 
 #[cfg(test)]
-mod example_tests;
+mod page_tests;
 #[cfg(test)]
 mod serve_tests;
 #[cfg(test)]
