@@ -1309,8 +1309,8 @@ const FAULTS: [Written; 131] = [
     ),
 ];
 
-/// `docs/profile.md`: its first grammar, and the lines of grammars that are refused; and the grammar of `README.md`.
-const PROFILE: [Written; 19] = [
+/// `docs/profile.md`: its first grammar, and grammars that are refused; and the grammar of `README.md`.
+const PROFILE: [Written; 21] = [
     (
         "grammar Hello\nentry Greeting: 'hello' name=ID '!';\nhidden terminal SPACE: /\\s+/;\nterminal ID: /[_a-zA-Z][\\w_]*/;\n",
         "hello world !",
@@ -1424,6 +1424,18 @@ const PROFILE: [Written; 19] = [
         "model m",
         0,
         "ok\n",
+    ),
+    (
+        "grammar G\nentry A: x=T;\nterminal T: /aaaaaaaaaaaaaaaaaaaaaaaaaaaaaaaaaaaaaaaaaaaaaaaaaaaaaaaaaaaaaaaaaaaaaaaaaaaaaaaaaaaaaaaaaaaaaaaaaaaaaaaaaaaaaaaaaaaaaaaaaaaaaaaaaaaaaaaaaaaaaaaaaaaaaaaaaaaaaaaaaaaaaaaaaaaaaaaaaaaaaaaaaaaaaaaaaaaaaaaaaaaaaaaaaaaaaaaaaaaaaaaaaaaaaaaaaaaaaaaaaaaaaaaaaaaaaaaaaaaaaaaaaaaaaaaaaaaaaaaaaaaaaaaaaaaaaaaaaaaaaaaaaaaaaaaaaaaaaaaaaaaaaaaaaaaaaaaaaaaaaaaaaaaaaaaaaaaaaaaaaaaaaaaaaaaaaaaaaaaaaaaaaaaaaaaaaaaaaaaaaaaaaaaaaaaaaaaaaaaaaaaaaaaaaaaaaaaaaaaaaaaaaaaaaaaaaaaaaaaaaaaaaaaaaaaaaaaaaaaaaaaaaaaaaaaaaaaaaaaaaaaaaaaaaaaaaaaaaaaaaaaaaaaaaaaaaaaaaaaaaaaaaaaaaaaaaaaaaaaaaaaaaaaaaaaaaaaaaaaaaaaaaaaaaaaaaaaaaaaaaaaaaaaaaaaaaaaaaaaaaaaaaaaaaaaaaaaaaaaaaaaaaaaaaaaaaaaaaaaaaaaaaaaaaaaaaaaaaaaaaaaaaaaaaaaaaaaaaaaaaaaaaaaaaaaaaaaaaaaaaaaaaaaaaaaaaaaaaaaaaaaaaaaaaaaaaaaaaaaaaaaaaaaaaaaaaaaaaaaaaaaaaaaaaaaaaaaaaaaaaaaaaaaaaaaaaaaaaaaaaaaaaaaaaaaaaaaaaaaaaaaaaaaaaaaaaaaaaaaaaaaaaaaaaaaaaaaaaaaaaaaaaaaaaaaaaaaaaaaaaaaaaaaaaaaaaaaaaaaaaaaaaaaaaaaaaaaaaaaaaaaaaaaaaaaaaaaaaaaaaaaaaaaaaaaaaaaaaaaaaaaaaaaaaaaaaaaaaaaaa/;\n",
+        "a",
+        3,
+        "g.langium:3:10: terminal T: pattern too long\n",
+    ),
+    (
+        "grammar G\nentry A: x=T0 | x=T1 | x=T2 | x=T3 | x=T4 | x=T5 | x=T6 | x=T7 | x=T8 | x=T9 | x=T10 | x=T11 | x=T12 | x=T13 | x=T14 | x=T15 | x=T16 | x=T17 | x=T18 | x=T19 | x=T20 | x=T21 | x=T22 | x=T23 | x=T24 | x=T25 | x=T26 | x=T27 | x=T28 | x=T29 | x=T30 | x=T31 | x=T32;\nterminal T0: 't0';\nterminal T1: 't1';\nterminal T2: 't2';\nterminal T3: 't3';\nterminal T4: 't4';\nterminal T5: 't5';\nterminal T6: 't6';\nterminal T7: 't7';\nterminal T8: 't8';\nterminal T9: 't9';\nterminal T10: 't10';\nterminal T11: 't11';\nterminal T12: 't12';\nterminal T13: 't13';\nterminal T14: 't14';\nterminal T15: 't15';\nterminal T16: 't16';\nterminal T17: 't17';\nterminal T18: 't18';\nterminal T19: 't19';\nterminal T20: 't20';\nterminal T21: 't21';\nterminal T22: 't22';\nterminal T23: 't23';\nterminal T24: 't24';\nterminal T25: 't25';\nterminal T26: 't26';\nterminal T27: 't27';\nterminal T28: 't28';\nterminal T29: 't29';\nterminal T30: 't30';\nterminal T31: 't31';\nterminal T32: 't32';\n",
+        "a",
+        3,
+        "g.langium:1:1: too many kinds: 33\n",
     ),
 ];
 

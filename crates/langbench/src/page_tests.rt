@@ -1,6 +1,6 @@
-// The commands that `docs/tutorial.md` and the pages of `examples/` show, over memory: how each ends, and what it writes. The texts
-// are those of the pages and of the files that they name. `cat` and `grep`, which show parts of these files, no test can run, nor what an
-// editor does: `python3 examples/try.py` compares the files and this table with the pages.
+// The commands that the pages show, over memory: how each ends, and what it writes. The texts are those of the pages and of the files that
+// they name; the last rows bring about messages that a page has in a table. `cat` and `grep`, which show parts of these files, no test can
+// run, nor what an editor does: `python3 examples/try.py` compares the files and this table with the pages.
 use crate::tests::{NOTHING, Setting, run_over};
 use lw_base::NoMemory;
 use std::alloc::Global;
@@ -17,7 +17,7 @@ type Shown = (
 );
 
 /// The page that shows commands, their grammar's path and what stands there, the same of a second file, and the commands.
-const PAGES: [(&str, &str, &str, &str, &str, &[Shown]); 11] = [
+const PAGES: [(&str, &str, &str, &str, &str, &[Shown]); 13] = [
     (
         "docs/tutorial.md",
         "examples/tutorial/step1.langium",
@@ -340,6 +340,43 @@ const PAGES: [(&str, &str, &str, &str, &str, &[Shown]); 11] = [
                 "Content-Length: 107\r\n\r\n{\"jsonrpc\":\"2.0\",\"id\":1,\"method\":\"initialize\",\"params\":{\"processId\":null,\"rootUri\":null,\"capabilities\":{}}}Content-Length: 221\r\n\r\n{\"jsonrpc\":\"2.0\",\"method\":\"textDocument/didOpen\",\"params\":{\"textDocument\":{\"uri\":\"file:///web.settings\",\"languageId\":\"settings\",\"version\":1,\"text\":\"[server]\\nport = 8080\\n\\n[server.test : server]\\n\\n[client]\\nuses = @\"}}}Content-Length: 152\r\n\r\n{\"jsonrpc\":\"2.0\",\"id\":2,\"method\":\"textDocument/completion\",\"params\":{\"textDocument\":{\"uri\":\"file:///web.settings\"},\"position\":{\"line\":6,\"character\":8}}}Content-Length: 44\r\n\r\n{\"jsonrpc\":\"2.0\",\"id\":3,\"method\":\"shutdown\"}Content-Length: 33\r\n\r\n{\"jsonrpc\":\"2.0\",\"method\":\"exit\"}",
                 0,
                 "Content-Length: 261\r\n\r\n{\"id\":1,\"jsonrpc\":\"2.0\",\"result\":{\"capabilities\":{\"completionProvider\":{},\"definitionProvider\":true,\"positionEncoding\":\"utf-16\",\"referencesProvider\":true,\"renameProvider\":true,\"textDocumentSync\":{\"change\":2,\"openClose\":true}},\"serverInfo\":{\"name\":\"langbench\"}}}Content-Length: 262\r\n\r\n{\"jsonrpc\":\"2.0\",\"method\":\"textDocument/publishDiagnostics\",\"params\":{\"diagnostics\":[{\"code\":2,\"message\":\"Unexpected end of text.\",\"range\":{\"end\":{\"character\":8,\"line\":6},\"start\":{\"character\":8,\"line\":6}},\"severity\":1}],\"uri\":\"file:///web.settings\",\"version\":1}}Content-Length: 450\r\n\r\n{\"id\":2,\"jsonrpc\":\"2.0\",\"result\":[{\"kind\":18,\"label\":\"client\",\"textEdit\":{\"newText\":\"client\",\"range\":{\"end\":{\"character\":8,\"line\":6},\"start\":{\"character\":8,\"line\":6}}}},{\"kind\":18,\"label\":\"server\",\"textEdit\":{\"newText\":\"server\",\"range\":{\"end\":{\"character\":8,\"line\":6},\"start\":{\"character\":8,\"line\":6}}}},{\"kind\":18,\"label\":\"server.test\",\"textEdit\":{\"newText\":\"server.test\",\"range\":{\"end\":{\"character\":8,\"line\":6},\"start\":{\"character\":8,\"line\":6}}}}]}Content-Length: 38\r\n\r\n{\"id\":3,\"jsonrpc\":\"2.0\",\"result\":null}",
+                "",
+            ),
+        ],
+    ),
+    (
+        "docs/protocol.md",
+        "g.langium",
+        "grammar G\nentry Items: items+=Item*;\nItem: 'item' name=ID (':' note=ID)? ';';\nhidden terminal WS: /\\s+/;\nterminal ID: /[a-z]+/;\n",
+        "",
+        "",
+        &[(
+            &["serve", "g.langium"],
+            "Content-Length: 107\r\n\r\n{\"jsonrpc\":\"2.0\",\"id\":1,\"method\":\"initialize\",\"params\":{\"processId\":null,\"rootUri\":null,\"capabilities\":{}}}Content-Length: 151\r\n\r\n{\"jsonrpc\":\"2.0\",\"method\":\"textDocument/didOpen\",\"params\":{\"textDocument\":{\"uri\":\"file:///a.items\",\"languageId\":\"items\",\"version\":1,\"text\":\"item a;\"}}}Content-Length: 161\r\n\r\n{\"jsonrpc\":\"2.0\",\"id\":2,\"method\":\"textDocument/rename\",\"params\":{\"textDocument\":{\"uri\":\"file:///a.items\"},\"position\":{\"line\":0,\"character\":5},\"newName\":\"b : c\"}}Content-Length: 157\r\n\r\n{\"jsonrpc\":\"2.0\",\"id\":3,\"method\":\"textDocument/rename\",\"params\":{\"textDocument\":{\"uri\":\"file:///a.items\"},\"position\":{\"line\":0,\"character\":0},\"newName\":\"b\"}}Content-Length: 44\r\n\r\n{\"jsonrpc\":\"2.0\",\"id\":4,\"method\":\"shutdown\"}Content-Length: 33\r\n\r\n{\"jsonrpc\":\"2.0\",\"method\":\"exit\"}",
+            0,
+            "Content-Length: 261\r\n\r\n{\"id\":1,\"jsonrpc\":\"2.0\",\"result\":{\"capabilities\":{\"completionProvider\":{},\"definitionProvider\":true,\"positionEncoding\":\"utf-16\",\"referencesProvider\":true,\"renameProvider\":true,\"textDocumentSync\":{\"change\":2,\"openClose\":true}},\"serverInfo\":{\"name\":\"langbench\"}}}Content-Length: 124\r\n\r\n{\"jsonrpc\":\"2.0\",\"method\":\"textDocument/publishDiagnostics\",\"params\":{\"diagnostics\":[],\"uri\":\"file:///a.items\",\"version\":1}}Content-Length: 115\r\n\r\n{\"error\":{\"code\":-32803,\"message\":\"The new name changes the structure of file:///a.items.\"},\"id\":2,\"jsonrpc\":\"2.0\"}Content-Length: 83\r\n\r\n{\"error\":{\"code\":-32803,\"message\":\"There is no name here.\"},\"id\":3,\"jsonrpc\":\"2.0\"}Content-Length: 38\r\n\r\n{\"id\":4,\"jsonrpc\":\"2.0\",\"result\":null}",
+            "",
+        )],
+    ),
+    (
+        "docs/profile.md",
+        "g.langium",
+        "grammar G\nentry A: words+=('00' | '01' | '02' | '03' | '04' | '05' | '06' | '07' | '08' | '09' | '10' | '11' | '12' | '13' | '14' | '15' | '16' | '17' | '18' | '19' | '20' | '21' | '22' | '23' | '24' | '25' | '26' | '27' | '28' | '29' | '30' | '31' | '32' | '33' | '34' | '35' | '36' | '37' | '38' | '39' | '40' | '41' | '42' | '43' | '44' | '45' | '46' | '47' | '48' | '49' | '50' | '51' | '52' | '53' | '54' | '55' | '56' | '57' | '58')*;\n",
+        "",
+        "",
+        &[
+            (
+                &["check", "g.langium", "--lookahead", "3"],
+                "00",
+                3,
+                "",
+                "g.langium:1:1: too many lookahead strings\n",
+            ),
+            (
+                &["check", "g.langium", "--lookahead", "2"],
+                "0058",
+                0,
+                "ok\n",
                 "",
             ),
         ],
