@@ -3,12 +3,15 @@
 
     python3 examples/try.py PROGRAM
 
-PROGRAM is the path of langbench. Of docs/tutorial.md and the README of each example every fenced block is read whose
-first line begins with `$ `. A line that begins so is a command, and the lines up to the next one are what it prints, on
-standard output and standard error. Commands are run in the order of the page by `sh`, at the top of the repository, with
-PROGRAM in place of `./langbench`. Each line of a command's output may end with `\\r\\n`, and the last one with nothing.
+PROGRAM is the path of langbench. Of README.md, docs/commands.md, docs/tutorial.md and the README of each example every
+fenced block is read whose first line begins with `$ `. A line that begins so is a command, and the lines up to the next
+one are what it prints, on standard output and standard error. Commands are run in the order of the page by `sh`, at the
+top of the repository, with PROGRAM in place of `./langbench`. Each line of a command's output may end with `\\r\\n`, and
+the last one with nothing. Where langbench prints something, the table that the gate tries,
+crates/langbench/src/page_tests.rt, has to hold what is read and what is printed.
 
-One line is printed for each command. The status is 1 where one of them differs, or where there is none.
+One line is printed for each command. The status is 1 where one of them differs or is not in the table, or where there is
+none.
 """
 
 import difflib
@@ -19,6 +22,8 @@ import subprocess
 import sys
 
 TOP = pathlib.Path(__file__).resolve().parent.parent
+PAGES = ["README.md", "docs/commands.md", "docs/tutorial.md"]
+TABLE = "crates/langbench/src/page_tests.rt"
 
 
 def commands(page):
@@ -43,7 +48,7 @@ def commands(page):
 
 
 def printed(command, program):
-    """The lines that a command prints."""
+    """What a command prints."""
     words = command.replace("./langbench", shlex.quote(program))
     ran = subprocess.run(
         ["sh", "-c", words],
@@ -54,25 +59,51 @@ def printed(command, program):
         timeout=600,
         check=False,
     )
-    text = ran.stdout.decode("utf-8", "backslashreplace").replace("\r\n", "\n")
+    return ran.stdout.decode("utf-8", "backslashreplace")
+
+
+def lines_of(text):
+    """The lines of what a command prints, as a page shows them."""
+    text = text.replace("\r\n", "\n")
     return text.removesuffix("\n").split("\n") if text else []
+
+
+def quoted(text):
+    """A text as the table writes it."""
+    for sign, written in (("\\", "\\\\"), ('"', '\\"'), ("\n", "\\n"), ("\r", "\\r")):
+        text = text.replace(sign, written)
+    return f'"{text}"'
+
+
+def in_table(command, text, table):
+    """Whether the table has the file that a command of langbench reads, and what it prints."""
+    if not command.startswith("./langbench ") or not text:
+        return True
+    given = re.search(r" < (\S+?);?(?: |$)", command)
+    read = (TOP / given[1]).read_bytes().decode("utf-8") if given else ""
+    wanted = re.sub(r"status \d+\n$", "", text)
+    return quoted(read) in table and quoted(wanted) in table
 
 
 def main():
     if len(sys.argv) != 2:
         sys.exit("usage: try.py PROGRAM")
     program = str(pathlib.Path(sys.argv[1]).resolve())
+    table = (TOP / TABLE).read_text(encoding="utf-8")
     count, differing = 0, 0
-    for page in [TOP / "docs/tutorial.md", *sorted(TOP.glob("examples/*/README.md"))]:
+    for page in [*(TOP / name for name in PAGES), *sorted(TOP.glob("examples/*/README.md"))]:
         for number, command, wanted in commands(page):
             count += 1
-            found = printed(command, program)
-            print("ok     " if found == wanted else "DIFFERS", f"{page.relative_to(TOP)}:{number}: {command}")
-            if found != wanted:
+            text = printed(command, program)
+            found = lines_of(text)
+            listed = in_table(command, text, table)
+            said = "DIFFERS" if found != wanted else "NO ROW " if not listed else "ok     "
+            print(said, f"{page.relative_to(TOP)}:{number}: {command}")
+            if found != wanted or not listed:
                 differing += 1
                 for line in difflib.unified_diff(wanted, found, "the page", "the program", lineterm="", n=0):
                     print("       ", line)
-    print(f"{count} commands, {differing} differ")
+    print(f"{count} commands, {differing} differ or have no row")
     sys.exit(1 if differing or not count else 0)
 
 

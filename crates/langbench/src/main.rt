@@ -108,7 +108,9 @@ fn main(rt: HostRuntime) -> ExitCode {
 }
 
 #[cfg(test)]
-mod example_tests;
+mod grammar_tests;
+#[cfg(test)]
+mod page_tests;
 #[cfg(test)]
 mod serve_tests;
 #[cfg(test)]
