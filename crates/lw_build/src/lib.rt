@@ -15,9 +15,13 @@
 //!
 //! What a text was read as is kept with its symbols, by the number of its document, until the text changes; so is what it exports, in an
 //! index (`specs/Readings.antt`), and where its references lead, found both ways (`specs/Linked.antt`). So a build reads the texts that
-//! are new and no other. It links and checks all documents: it takes one look-up in the index for each reference that leads out of its
-//! document, beside time linear in all trees, and n log n for the n references of a document. While it runs, it needs memory for the
-//! lists that are news, twice. What is kept of references takes an answer and a number for each (see `lw_refs`).
+//! are new and no other. It links and checks these, and with them each document that looks for a name, or exports one, by which a
+//! document that has another text, or is no more, exported something at the last build, or one with another text does now
+//! (`specs/Standing.antt`). What all others were told stands, and so do their links: each of their references and exports is looked at
+//! once, for its name, in the set of these names. A document that is linked takes one look-up in the index for each reference that leads
+//! out of it, beside time linear in its tree, and n log n for its n references. Where memory for the names is refused, all documents are
+//! linked and checked. While a build runs, it needs memory for the lists that are news, twice. What is kept of references takes an answer
+//! and a number for each (see `lw_refs`), and what stands a number for each document.
 //!
 //! Once all is built, a workspace lends what the questions of an editor need: [`Workspace::seen`] the tree of a document by its number, its
 //! text, and where its references lead, and [`Workspace::views`] the list of all documents. It promises that these are the trees of
