@@ -1,5 +1,5 @@
 -- What a set holds once something is put in or taken out, and what holds of all items of a list that were gone through.
-use Rattle.std.proofs.Common.{◌≡◌, ◌≢◌, ℕ, ◌+◌, ◌<◌, ◌≤◌, Bool, true, false, cond, List, [], Contains, IsTrue, Ordering, get_or, length, inl, inr, is_eq, refl, sym, ap, subst, ◌∙◌, arith}
+use Rattle.std.proofs.Common.{◌≡◌, ◌≢◌, ℕ, ◌+◌, ◌<◌, ◌≤◌, Bool, true, false, cond, List, Contains, IsTrue, Ordering, get_or, length, inl, inr, is_eq, refl, sym, ap, subst, ◌∙◌, arith}
 use Rattle.std.specs.BTreeSet.{BTreeSet, Updates, contains}
 use Rattle.std.specs.BTreeMap.{is_at}
 use Rattle.std.specs.Cmp.{nat_cmp_total, tied_itself}
@@ -26,9 +26,6 @@ module _ {K : Type 0} (cmp : K → K → Ordering) (before after : BTreeSet K) w
   -- what is there was there, or was put in
   pub was_there : (k q : K) → Updates cmp before after k true → is_at (cmp k) q ≡ false → IsTrue (contains cmp after q) → IsTrue (contains cmp before q)
   was_there k q updates other has = ap (λ b. cond b true (contains cmp before q)) (sym other) ∙ sym (updates.0 q) ∙ has
-
-pub nothing_in : {K : Type 0} (cmp : K → K → Ordering) (s : BTreeSet K) → s.keys ≡ [] → (q : K) → ¬ IsTrue (contains cmp s q)
-nothing_in cmp s none q has = false≢true (sym (ap (list_any (is_at (cmp q))) none) ∙ has)
 
 -- numbers
 module _ (before after : BTreeSet ℕ) (k : ℕ) (updates : Updates nat_cmp before after k false) where
