@@ -51,7 +51,7 @@ pub record CarriesOver (g : Grammar) (kept after : ByAddress) (readings now : Re
   pub docs : (held : Numbered) → IsUntouched then held.number.0 → get kept held.doc.uri ≡ Some held → (h : Numbered) × (get after held.doc.uri ≡ Some h) × IsLike held h
   pub reads : (n : ℕ) (reading : Reading) → IsUntouched then n → reading_at readings n ≡ Some reading → reading_at now n ≡ Some reading
   pub leads : (n : ℕ) → IsUntouched then n → answers_in left n ≡ answers_in led n
-  pub names : StayNames standing.changed then.changed
+  pub names : StayNames standing.changed.keys then.changed.keys
   pub gone : (address : List ℕ) (held : Numbered) → get kept address ≡ Some held → IsUntouched standing held.number.0 → ¬ IsUntouchedAt g after now left then address →
       (tree : Parts) → tree_numbered readings held.number.0 ≡ Some tree → (node type : ℕ) (name : List ℕ) → Contains (exports tree) node → IsNamedNode tree node name type →
       IsChangedName then name
@@ -115,7 +115,7 @@ module _ (g : Grammar) (texts : List (List ℕ)) (kept after : ByAddress) (are :
       other (ap (λ (h : Numbered). h.number.0) (same_Some held (numbered d x) (sym there ∙ ap (get kept) same ∙ at)))
 
   over : (before : (m : ℕ) → IsUntouched then m → IsUntouched standing m × (m ≢ d.0)) → ((m : ℕ) → m ≢ d.0 → IsUntouched standing m → IsUntouched then m) →
-      StayNames standing.changed then.changed →
+      StayNames standing.changed.keys then.changed.keys →
       ((node type : ℕ) (name : List ℕ) → Contains (exports_in readings.index d.0) (export_of name type node) → IsChangedName then name) →
       CarriesOver g kept after readings now led left standing then
   over before stays names put = record {
@@ -148,7 +148,7 @@ module _ (g : Grammar) (texts : List (List ℕ)) (kept after : ByAddress) (are :
 
 module _ (g : Grammar) (kept after : ByAddress) (are : AreNumbered kept) (were : AreNumbered after) (readings now : Readings) (led : Led)
     (standing then : Standing) (since : StandsBuilt g kept readings led standing) (untouched : then.untouched ≡ standing.untouched)
-    (names : StayNames standing.changed then.changed) (reads : (n : ℕ) (reading : Reading) → reading_at readings n ≡ Some reading → reading_at now n ≡ Some reading)
+    (names : StayNames standing.changed.keys then.changed.keys) (reads : (n : ℕ) (reading : Reading) → reading_at readings n ≡ Some reading → reading_at now n ≡ Some reading)
     (docs : (held : Numbered) → get kept held.doc.uri ≡ Some held → (h : Numbered) × (get after held.doc.uri ≡ Some h) × IsLike held h) where
   before : (n : ℕ) → IsUntouched then n → IsUntouched standing n
   before n = subst (λ s. IsTrue (contains nat_cmp s n)) untouched
@@ -181,12 +181,12 @@ module _ (g : Grammar) (kept : ByAddress) (are : AreNumbered kept) (readings now
   pub read_stands : StandsBuilt g kept now led standing
   read_stands = others_stand g kept kept are are readings now led standing standing since refl (λ name has. has) stays (λ held at. (held, at, like_itself held))
 
-  pub entered_stands : (then : Standing) → then.untouched ≡ standing.untouched → StayNames standing.changed then.changed → StandsBuilt g kept now led then
+  pub entered_stands : (then : Standing) → then.untouched ≡ standing.untouched → StayNames standing.changed.keys then.changed.keys → StandsBuilt g kept now led then
   entered_stands then untouched names =
       others_stand g kept kept are are readings now led standing then since untouched names stays (λ held at. (held, at, like_itself held))
 
 pub are_entered : (kept : ByAddress) (readings : Readings) (standing then : Standing) → then.untouched ≡ standing.untouched →
     ((address : List ℕ) (held : Numbered) → get kept address ≡ Some held → ¬ IsUntouched standing held.number.0 → (e : Export) →
-    Contains (exports_in readings.index held.number.0) e → IsName then.changed e.name) → AreEntered kept readings then
+    Contains (exports_in readings.index held.number.0) e → IsName then.changed.keys e.name) → AreEntered kept readings then
 are_entered kept readings standing then untouched entered address held at touched =
     entered address held at (λ was. touched (subst (λ s. IsTrue (contains nat_cmp s held.number.0)) (sym untouched) was))

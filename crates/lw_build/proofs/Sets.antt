@@ -5,6 +5,7 @@ use Rattle.std.specs.BTreeMap.{is_at}
 use Rattle.std.specs.Cmp.{nat_cmp_total, tied_itself}
 use Rattle.std.specs.List.{list_any}
 use Rattle.std.specs.Ordering.{nat_cmp}
+use Rattle.std.specs.Str.{bytes_eq}
 use Rattle.std.proofs.lemmas.Bool.{cases_lt, false≢true}
 use Rattle.std.proofs.lemmas.List.{get_or_default}
 use Rattle.lw_build.proofs.Maps.{number_apart}
@@ -20,12 +21,19 @@ module _ {K : Type 0} (cmp : K → K → Ordering) (before after : BTreeSet K) w
       by true x is = refl
       by false x is = is
 
-  pub none_put : after.keys ≡ before.keys → (q : K) → contains cmp after q ≡ contains cmp before q
-  none_put same q = ap (list_any (is_at (cmp q))) same
-
   -- what is there was there, or was put in
   pub was_there : (k q : K) → Updates cmp before after k true → is_at (cmp k) q ≡ false → IsTrue (contains cmp after q) → IsTrue (contains cmp before q)
   was_there k q updates other has = ap (λ b. cond b true (contains cmp before q)) (sym other) ∙ sym (updates.0 q) ∙ has
+
+-- a name that is there stays
+pub name_stays : (before after : List (List ℕ)) (k : List ℕ) →
+    ((q : List ℕ) → list_any (bytes_eq q) after ≡ cond (bytes_eq k q) true (list_any (bytes_eq q) before)) → (q : List ℕ) →
+    IsTrue (list_any (bytes_eq q) before) → IsTrue (list_any (bytes_eq q) after)
+name_stays before after k updates q has = updates q ∙ by (bytes_eq k q) (list_any (bytes_eq q) before) has
+  where
+    by : (b x : Bool) → x ≡ true → cond b true x ≡ true
+    by true x is = refl
+    by false x is = is
 
 -- numbers
 module _ (before after : BTreeSet ℕ) (k : ℕ) (updates : Updates nat_cmp before after k false) where

@@ -2,11 +2,11 @@
 -- then or do now. What a document was told, and where its references led, stands where it was not touched and names none of these.
 -- Held against Langium's document lifecycle: a document is linked anew where it is affected by those that changed.
 use Rattle.std.specs.Prelude.{ℕ, ◌≡◌, ◌≢◌, List, ◌∷◌, [], Contains, IsTrue, Some}
-use Rattle.std.specs.BTreeSet.{BTreeSet, contains}
-use Rattle.std.specs.Cmp.Lexicographic.{slice_cmp}
+use Rattle.std.specs.BTreeSet.{contains}
 use Rattle.std.specs.FinMap.{get}
-use Rattle.std.specs.List.{AllZip}
+use Rattle.std.specs.List.{AllZip, list_any}
 use Rattle.std.specs.Ordering.{nat_cmp}
+use Rattle.std.specs.Str.{bytes_eq}
 use Rattle.lw_docs.specs.Documents.{ByAddress, IsHeld, Numbered}
 use Rattle.lw_grammar.specs.declared.grammar.Grammar.{Grammar}
 use Rattle.lw_index.specs.Indexed.{exports_in}
@@ -28,10 +28,11 @@ use Rattle.lw_build.specs.declared.readings.Reading.TheVariants.{Whole, Broken}
 use Rattle.lw_build.specs.declared.readings.Readings.{Readings}
 use Rattle.lw_build.specs.declared.standing.Standing.{Standing}
 
-abbrev pub IsName : BTreeSet (List ℕ) → List ℕ → Type 0
-IsName names name = IsTrue (contains (slice_cmp nat_cmp) names name)
+-- the name is one of these
+abbrev pub IsName : List (List ℕ) → List ℕ → Type 0
+IsName names name = IsTrue (list_any (bytes_eq name) names)
 
-abbrev pub StayNames : BTreeSet (List ℕ) → BTreeSet (List ℕ) → Type 0
+abbrev pub StayNames : List (List ℕ) → List (List ℕ) → Type 0
 StayNames before after = (name : List ℕ) → IsName before name → IsName after name
 
 -- the document of a number is as it was built
@@ -40,7 +41,7 @@ IsUntouched standing n = IsTrue (contains nat_cmp standing.untouched n)
 
 -- by this name another document exported something, or does now
 abbrev pub IsChangedName : Standing → List ℕ → Type 0
-IsChangedName standing = IsName standing.changed
+IsChangedName standing = IsName standing.changed.keys
 
 abbrev pub IsNobodyUntouched : Standing → Type 0
 IsNobodyUntouched standing = (n : ℕ) → ¬ IsUntouched standing n
@@ -54,7 +55,7 @@ AreAllUntouched kept standing = (address : List ℕ) (held : Numbered) → get k
 -- the document of a number, which exported these, is touched; or nothing stands
 pub data Touches (before after : Standing) (n : ℕ) (gone : List Export) : Type 0 where
   touched : ((m : ℕ) → IsUntouched after m → IsUntouched before m × (m ≢ n)) → ((m : ℕ) → m ≢ n → IsUntouched before m → IsUntouched after m) →
-      StayNames before.changed after.changed → ((e : Export) → Contains gone e → IsChangedName after e.name) → Touches before after n gone
+      StayNames before.changed.keys after.changed.keys → ((e : Export) → Contains gone e → IsChangedName after e.name) → Touches before after n gone
   forgotten : IsNobodyUntouched after → Touches before after n gone
 
 -- a text that was read so looks for no changed name, and none of these exports has one

@@ -10,6 +10,7 @@ ghost use Rattle.lw_build.specs.Standing.{AreAllUntouched, AreHeld, IsChangedNam
 ghost use Rattle.lw_build.specs.Readings.{tree_of};
 
 use crate::readings::Reading;
+use indexmap::IndexSet;
 use lw_base::{DocId, Name, NoMemory};
 use lw_docs::Docs;
 use lw_index::{Export, Index};
@@ -23,13 +24,13 @@ pub(crate) struct Standing {
     /// The numbers of the documents whose texts are those that were built.
     pub(crate) untouched: BTreeSet<u32>,
     /// By which names other documents exported something then, or do now.
-    pub(crate) changed: BTreeSet<Name>,
+    pub(crate) changed: IndexSet<Name>,
 }
 
 /// Puts in the names of these exports. Where memory is refused, some may be put in.
-fn put_names(alloc: Global, exports: &[Export], names: &mut BTreeSet<Name>) -> Result<(), NoMemory>
-    ensures stay { StayNames names.old names.new }
-    ensures put { OnOk result ((e : OneExport) → Contains exports.now e → IsName names.new e.name) }
+fn put_names(alloc: Global, exports: &[Export], names: &mut IndexSet<Name>) -> Result<(), NoMemory>
+    ensures stay { StayNames names.old.keys names.new.keys }
+    ensures put { OnOk result ((e : OneExport) → Contains exports.now e → IsName names.new.keys e.name) }
 {
     for export in exports {
         names.insert(export.name.copy(alloc)?)?;
@@ -44,7 +45,7 @@ impl Standing {
     {
         Standing {
             untouched: BTreeSet::new(alloc),
-            changed: BTreeSet::new(alloc),
+            changed: IndexSet::new(alloc),
         }
     }
 
@@ -70,8 +71,8 @@ impl Standing {
     /// Puts in the names of what the document of this number exports, which are these, unless it is untouched.
     fn enter_one(&mut self, alloc: Global, d: DocId, exports: &[Export]) -> Result<(), NoMemory>
         ensures untouched { self.new.untouched ≡ self.old.untouched }
-        ensures stay { StayNames self.old.changed self.new.changed }
-        ensures entered { OnOk result (¬ IsUntouched self.old d.0 → (e : OneExport) → Contains exports.now e → IsName self.new.changed e.name) }
+        ensures stay { StayNames self.old.changed.keys self.new.changed.keys }
+        ensures entered { OnOk result (¬ IsUntouched self.old d.0 → (e : OneExport) → Contains exports.now e → IsName self.new.changed.keys e.name) }
     {
         if self.untouched.contains(&d.0) {
             return Ok(());
@@ -87,9 +88,9 @@ impl Standing {
         index: &Index,
     ) -> Result<(), NoMemory>
         ensures untouched { self.new.untouched ≡ self.old.untouched }
-        ensures stay { StayNames self.old.changed self.new.changed }
+        ensures stay { StayNames self.old.changed.keys self.new.changed.keys }
         ensures entered { OnOk result ((address : List ℕ) (held : Numbered) → get docs.now address ≡ Some held → ¬ IsUntouched self.old held.number.0 →
-            (e : OneExport) → Contains (exports_in index.now held.number.0) e → IsName self.new.changed e.name) }
+            (e : OneExport) → Contains (exports_in index.now held.number.0) e → IsName self.new.changed.keys e.name) }
     {
         docs.numbered();
         'entering: for (_uri, d) in docs.uris() {

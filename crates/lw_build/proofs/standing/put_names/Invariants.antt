@@ -5,4 +5,4 @@ use Rattle.lw_build.proofs.standing.put_names.Given as goal
 
 -- the names of the exports so far
 abbrev pub invariant-loop-export : goal.invariant-loop-export
-invariant-loop-export l = StayNames l.initial.names l.names × HoldUpTo (λ (e : Export). IsName l.names e.name) l.exports l.export-index
+invariant-loop-export l = StayNames l.initial.names.keys l.names.keys × HoldUpTo (λ (e : Export). IsName l.names.keys e.name) l.exports l.export-index

@@ -24,7 +24,7 @@ entering-preserved c = record {
       (subst (Among p) (map_push deref_pair c.entering.yielded (c.in-Some._uri, c.in-Some.d)) there)) [
         | inl old ↦ λ touched e has. c.in_ok-enter_one.ensures.stay e.name (c.entering.invariant.entered p old touched e has)
         | inr new ↦ subst (λ (q : List ℕ × DocId). ¬ IsUntouched c.args.self.now q.1.0 → (e : Export) → Contains (exports_in c.args.index.now q.1.0) e →
-            IsName c.enter_one.new.self.changed e.name) new
+            IsName c.enter_one.new.self.changed.keys e.name) new
             (λ touched e has.
             c.in_ok-enter_one.ensures.entered
             (λ untouched. touched (subst (λ s. IsTrue (contains nat_cmp s c.in-Some.d.now.0)) c.entering.invariant.untouched untouched)) e

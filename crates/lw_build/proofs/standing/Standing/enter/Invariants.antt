@@ -12,7 +12,7 @@ invariant-entering l = record {
   next : (goal.iterator-entering).can_next l._uri-iterator;
   finite : (goal.iterator-entering).is_finite l._uri-iterator;
   untouched : l.self.untouched ≡ l.fn.self.untouched;
-  stay : StayNames l.fn.self.changed l.self.changed;
+  stay : StayNames l.fn.self.changed.keys l.self.changed.keys;
   entered : (p : List ℕ × DocId) → Among p (map deref_pair l.yielded) → ¬ IsUntouched l.fn.self p.1.0 → (e : Export) →
-      Contains (exports_in l.index p.1.0) e → IsName l.self.changed e.name;
+      Contains (exports_in l.index p.1.0) e → IsName l.self.changed.keys e.name;
 }
