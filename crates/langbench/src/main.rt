@@ -108,8 +108,6 @@ fn main(rt: HostRuntime) -> ExitCode {
 }
 
 #[cfg(test)]
-mod grammar_tests;
-#[cfg(test)]
 mod page_tests;
 #[cfg(test)]
 mod serve_tests;
