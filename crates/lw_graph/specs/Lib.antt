@@ -1,4 +1,5 @@
 pub mod Ending
 pub mod Growth
+pub mod Order
 pub mod Walks
 pub mod Within

@@ -1,4 +1,5 @@
-// What no clause says: that the calls succeed where there is memory, and that every node is taken away that leads to no circle.
+// What no clause says: that the calls succeed where there is memory, that every node is taken away that leads to no circle,
+// and which node stands where in the order.
 use crate::{Graph, NodeSet};
 use std::process::Abort;
 use std::test::Fail;
@@ -10,6 +11,7 @@ struct Row {
     reached: &'static [usize],
     round: &'static [usize],
     ended: &'static [usize],
+    order: &'static [usize],
 }
 
 const ROWS: [Row; 6] = [
@@ -21,6 +23,7 @@ const ROWS: [Row; 6] = [
         reached: &[],
         round: &[],
         ended: &[],
+        order: &[],
     },
     // a chain
     Row {
@@ -30,6 +33,7 @@ const ROWS: [Row; 6] = [
         reached: &[1, 2, 3],
         round: &[],
         ended: &[0, 1, 2, 3],
+        order: &[3, 2, 1, 0],
     },
     // two ways to one node, and two edges that are the same
     Row {
@@ -39,6 +43,7 @@ const ROWS: [Row; 6] = [
         reached: &[0, 1, 4],
         round: &[],
         ended: &[0, 1, 2, 3, 4],
+        order: &[4, 0, 1, 2, 3],
     },
     // a circle of two
     Row {
@@ -48,6 +53,7 @@ const ROWS: [Row; 6] = [
         reached: &[0, 1],
         round: &[0, 1],
         ended: &[],
+        order: &[0, 1],
     },
     // an edge from a node to itself
     Row {
@@ -57,6 +63,7 @@ const ROWS: [Row; 6] = [
         reached: &[0, 1, 2],
         round: &[1],
         ended: &[0, 2],
+        order: &[2, 1, 0],
     },
     // one node before a circle, and one behind it
     Row {
@@ -66,6 +73,7 @@ const ROWS: [Row; 6] = [
         reached: &[1, 2, 3],
         round: &[1, 2],
         ended: &[3],
+        order: &[3, 1, 2, 0],
     },
 ];
 
@@ -98,6 +106,7 @@ fn graphs_are_walked(rt: HostRuntime) -> Result<(), Fail> {
         expect_nodes(&rt, &graph.reached(alloc, row.starts)?, row.reached, number);
         expect_nodes(&rt, &graph.circles(alloc)?, row.round, number);
         expect_nodes(&rt, &graph.ended(alloc)?, row.ended, number);
+        assert_eq!(rt; graph.successors_first(alloc)?.as_slice(), row.order);
     }
     Ok(())
 }
