@@ -1,9 +1,10 @@
 // The lifecycle of a session: which messages are answered, refused or dropped by its two facts alone.
 ghost use Rattle.std.specs.Prelude.{◌≡◌, [], ◌∷◌, ◌++◌, IfOk, Some, codes, not, ◌&&◌};
-ghost use Rattle.lw_conversation.specs.Gate.{gate, refuses, request as at_request};
+ghost use Rattle.lw_conversation.specs.Gate.{Passes, gate, notification, refuses, request as at_request};
+ghost use Rattle.lw_rpc.specs.declared.message.Message.{Message};
 ghost use Rattle.lw_rpc.specs.declared.message.Message.TheVariants as message_;
 ghost use Rattle.lw_rpc.specs.declared.reply.Reply.TheVariants as reply_;
-ghost use Rattle.lw_session.specs.Lifecycle.{IsStep, edited_message, opened_message, passage_of, question_message, telling};
+ghost use Rattle.lw_session.specs.Lifecycle.{IsLive, IsStep, passage_of, question_message, telling};
 
 use crate::said::{Asked, Edited, Identifier, Opened, Question};
 use lw_base::{Items, Name, NoMemory};
@@ -12,7 +13,7 @@ use lw_conversation::{
     SERVER_NOT_INITIALIZED,
 };
 use lw_rpc::{FileChange, Id, Message, Outcome, Reply};
-use lw_text::Pos;
+use lw_text::{Change, Pos};
 use std::alloc::Global;
 
 /// What is told at a message, and what it leaves.
@@ -45,40 +46,20 @@ pub(crate) fn decide(alloc: Global, phase: Phase, message: Message) -> Result<St
     ensures { IfOk result (IsStep phase message) }
 {
     match message {
-        Message::BadJson => {
-            let reply = error(alloc, None, PARSE_ERROR, "parse error")?;
-            Ok(Step::Stops(tells(alloc, phase, reply)?))
-        }
-        Message::BadRequest => {
-            let reply = error(alloc, None, INVALID_REQUEST, "invalid request")?;
-            Ok(Step::Stops(tells(alloc, phase, reply)?))
-        }
+        Message::BadJson => Ok(Step::Stops(bad_json(alloc, phase)?)),
+        Message::BadRequest => Ok(Step::Stops(bad_request(alloc, phase)?)),
         Message::Response => Ok(Step::Stops(keeps_silent(alloc, phase))),
         Message::Exit => Ok(Step::Stops(ends(alloc, phase))),
         Message::Initialize { id } => Ok(Step::Stops(initialize(alloc, phase, id)?)),
         Message::Shutdown { id } => Ok(Step::Stops(shutdown(alloc, phase, id)?)),
         Message::Unknown { id, method } => Ok(Step::Stops(unknown(alloc, phase, id, &method)?)),
-        Message::BadParams { id, method } => Ok(Step::Stops(bad_params(
-            alloc, phase, id, &method,
-        )?)),
-        Message::DidOpen { uri, version, text } => {
-            let id = Identifier {
-                address: uri,
-                version,
-            };
-            Ok(opens(alloc, phase, Opened { id, text }))
-        }
+        Message::BadParams { id, method } => Ok(Step::Stops(malformed(alloc, phase, id, &method)?)),
+        Message::DidOpen { uri, version, text } => Ok(opens(alloc, phase, uri, version, text)),
         Message::DidChange {
             uri,
             version,
             changes,
-        } => {
-            let id = Identifier {
-                address: uri,
-                version,
-            };
-            Ok(edits(alloc, phase, Edited { id, changes }))
-        }
+        } => Ok(edits(alloc, phase, uri, version, changes)),
         Message::DidClose { uri } => Ok(closes(alloc, phase, uri)),
         Message::DidChangeWatchedFiles { changes } => Ok(watches(alloc, phase, changes)),
         Message::Definition { id, uri, position } => {
@@ -89,14 +70,10 @@ pub(crate) fn decide(alloc: Global, phase: Phase, message: Message) -> Result<St
             uri,
             position,
             include_declaration,
-        } => asks(
-            alloc,
-            phase,
-            id,
-            uri,
-            position,
-            Question::References(include_declaration),
-        ),
+        } => {
+            let question = Question::References(include_declaration);
+            asks(alloc, phase, id, uri, position, question)
+        }
         Message::Rename {
             id,
             uri,
@@ -109,41 +86,38 @@ pub(crate) fn decide(alloc: Global, phase: Phase, message: Message) -> Result<St
     }
 }
 
-fn opens(alloc: Global, phase: Phase, opened: Opened) -> Step
-    ensures { IsStep phase (opened_message opened) result }
+fn opens(alloc: Global, phase: Phase, address: Name, version: i64, text: Name) -> Step
+    ensures { IsStep phase (message_.DidOpen address version text) result }
 {
-    if is_live(phase) {
-        Step::Opens(opened)
-    } else {
-        Step::Stops(keeps_silent(alloc, phase))
-    }
+    let id = Identifier { address, version };
+    when_live(alloc, phase, Step::Opens(Opened { id, text }))
 }
 
-fn edits(alloc: Global, phase: Phase, edited: Edited) -> Step
-    ensures { IsStep phase (edited_message edited) result }
+fn edits(alloc: Global, phase: Phase, address: Name, version: i64, changes: Items<Change>) -> Step
+    ensures { IsStep phase (message_.DidChange address version changes) result }
 {
-    if is_live(phase) {
-        Step::Edits(edited)
-    } else {
-        Step::Stops(keeps_silent(alloc, phase))
-    }
+    let id = Identifier { address, version };
+    when_live(alloc, phase, Step::Edits(Edited { id, changes }))
 }
 
 fn closes(alloc: Global, phase: Phase, address: Name) -> Step
     ensures { IsStep phase (message_.DidClose address) result }
 {
-    if is_live(phase) {
-        Step::Closes(address)
-    } else {
-        Step::Stops(keeps_silent(alloc, phase))
-    }
+    when_live(alloc, phase, Step::Closes(address))
 }
 
 fn watches(alloc: Global, phase: Phase, changes: Items<FileChange>) -> Step
     ensures { IsStep phase (message_.DidChangeWatchedFiles changes) result }
 {
+    when_live(alloc, phase, Step::Watches(changes))
+}
+
+// The step for a notification, where this is its step in a session that is live: in another it is dropped.
+fn when_live(alloc: Global, phase: Phase, step: Step) -> Step
+    ensures { (message : Message) → gate phase message ≡ notification phase Passes → (IsLive phase → IsStep phase message step) → IsStep phase message result }
+{
     if is_live(phase) {
-        Step::Watches(changes)
+        step
     } else {
         Step::Stops(keeps_silent(alloc, phase))
     }
@@ -200,6 +174,20 @@ pub(crate) fn tells(alloc: Global, phase: Phase, reply: Reply) -> Result<Told, N
         ended: Ended::No,
         phase,
     })
+}
+
+fn bad_json(alloc: Global, phase: Phase) -> Result<Told, NoMemory>
+    ensures { IfOk result (λ told. gate phase message_.BadJson ≡ passage_of told) }
+{
+    let reply = error(alloc, None, PARSE_ERROR, "parse error")?;
+    tells(alloc, phase, reply)
+}
+
+fn bad_request(alloc: Global, phase: Phase) -> Result<Told, NoMemory>
+    ensures { IfOk result (λ told. gate phase message_.BadRequest ≡ passage_of told) }
+{
+    let reply = error(alloc, None, INVALID_REQUEST, "invalid request")?;
+    tells(alloc, phase, reply)
 }
 
 // The session is over.
@@ -296,7 +284,7 @@ fn unknown(alloc: Global, phase: Phase, id: Option<Id>, method: &Name) -> Result
     }
 }
 
-fn bad_params(alloc: Global, phase: Phase, id: Option<Id>, method: &Name) -> Result<Told, NoMemory>
+fn malformed(alloc: Global, phase: Phase, id: Option<Id>, method: &Name) -> Result<Told, NoMemory>
     ensures { IfOk result (λ told. gate phase (message_.BadParams id method.now) ≡ passage_of told) }
 {
     match id {
