@@ -5,4 +5,3 @@ pub mod Rounds
 pub mod Edges
 pub mod Reading
 pub mod Telling
-pub mod Order

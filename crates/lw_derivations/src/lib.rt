@@ -27,7 +27,6 @@ mod finding;
 mod flags;
 mod leads;
 mod names;
-mod order;
 mod passing;
 mod reaching;
 mod reading;

@@ -11,7 +11,6 @@ ghost use Rattle.lw_derivations.specs.Reading.{IsReadingOf};
 
 use crate::flags::is_set;
 use crate::names::Names;
-use crate::order::callees_first;
 use crate::reaching::reached;
 use lw_base::NoMemory;
 use lw_grammar::Grammar;
@@ -55,7 +54,7 @@ impl Reading {
             name_rules,
         };
         let calls = names.calls(alloc)?;
-        let order = callees_first(alloc, &calls)?;
+        let order = calls.successors_first(alloc)?;
         Ok(Reading {
             reached: reached(alloc, g, &calls)?,
             nothing: names.passing(alloc, false, order.as_slice())?,
