@@ -1,5 +1,4 @@
 pub mod Drafts
-pub mod Order
 pub mod Readiness
 pub mod Rounds
 pub mod Writing
