@@ -6,7 +6,8 @@ use Rattle.serde_json.specs.Find.{get}
 use Rattle.lw_text.specs.declared.change.Change.{Change}
 use Rattle.lw_text.specs.declared.place.Pos.{Pos}
 use Rattle.lw_rpc.specs.Causes.{HasCount, IsPos, HasPos, IsRange, HasRange, IsChange, AreChanges, none, next}
-use Rattle.lw_rpc.specs.ChangeParams.{u32_of, at_place, position_of, ranged, range_of, optional_range, replacing, change_of, followed, changes_of}
+use Rattle.lw_rpc.specs.ChangeParams.{u32_of, at_place, position_of, ranged, range_of, optional_range, replacing, change_of, changes_of}
+use Rattle.lw_rpc.specs.Listed.{followed}
 use Rattle.lw_rpc.proofs.Found.{str_of}
 
 -- ---- from the rules to the shape

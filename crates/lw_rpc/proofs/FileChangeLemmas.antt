@@ -4,8 +4,8 @@ use Rattle.std.proofs.lemmas.Bool.{eqb-true}
 use Rattle.serde_json.specs.Data.{Data, unsigned, negative, float, null, boolean, number, string, array, object, Items, no_items, item}
 use Rattle.serde_json.specs.Find.{get}
 use Rattle.lw_rpc.specs.Causes.{number_of_kind, IsFileChange, AreFileChanges, no_files, next_file}
-use Rattle.lw_rpc.specs.ChangeParams.{followed}
 use Rattle.lw_rpc.specs.FileChangeParams.{kind_by, kind_of, done_to, file_change_of, file_changes_of}
+use Rattle.lw_rpc.specs.Listed.{followed}
 use Rattle.lw_rpc.specs.declared.file_change.FileChange.{FileChange}
 use Rattle.lw_rpc.specs.declared.file_change.FileChangeKind.{FileChangeKind}
 use Rattle.lw_rpc.specs.declared.file_change.FileChangeKind.TheVariants.{Created, Changed, Deleted}

@@ -1,10 +1,11 @@
 -- What the changes of a text must have, and what they say. Language Server Protocol 3.17, "TextDocumentContentChangeEvent", "Range" and
 -- "Position": a change without a member `range` is of the whole text, and one whose `range` is `null` is no change.
-use Rattle.std.specs.Prelude.{ℕ, ◌^◌, List, [], ◌∷◌, codes, nat_lt, if◌then◌else◌, Option, Some, None, option_map, option_and_then}
-use Rattle.serde_json.specs.Data.{Data, Items, no_items, item}
+use Rattle.std.specs.Prelude.{ℕ, ◌^◌, List, codes, nat_lt, if◌then◌else◌, Option, Some, None, option_map, option_and_then}
+use Rattle.serde_json.specs.Data.{Data, Items}
 use Rattle.serde_json.specs.Find.{get, as_str, as_number, as_u64}
 use Rattle.lw_text.specs.declared.change.Change.{Change}
 use Rattle.lw_text.specs.declared.place.Pos.{Pos}
+use Rattle.lw_rpc.specs.Listed.{all_of}
 
 -- what has 32 bits
 abbrev pub as_u32 : ℕ → Option ℕ
@@ -46,13 +47,6 @@ replacing None text = None
 abbrev pub change_of : Data → Option Change
 change_of value = replacing (optional_range (get (codes "range") value)) (option_and_then as_str (get (codes "text") value))
 
--- one thing and those that come behind it, if there are such
-abbrev pub followed : {A : Type 0} → Option A → Option (List A) → Option (List A)
-followed (Some one) (Some others) = Some (one ∷ others)
-followed (Some one) None = None
-followed None others = None
-
 -- the changes that these values are, where each of them is one
 abbrev pub changes_of : Items → Option (List Change)
-changes_of no_items = Some []
-changes_of (item value others) = followed (change_of value) (changes_of others)
+changes_of = all_of change_of

@@ -1,6 +1,7 @@
 pub mod Calls
 pub mod ChangeParams
 pub mod FileChangeParams
+pub mod Listed
 pub mod Params
 pub mod Messages
 pub mod Values

@@ -1,45 +1,22 @@
-// The changes of a text, out of the values that say them.
-ghost use Rattle.std.specs.Prelude.{◌≡◌, IfOk, option_map, option_and_then};
+// A change of a text, out of the value that says it.
+ghost use Rattle.std.specs.Prelude.{◌≡◌};
 ghost use Rattle.serde_json.specs.Data.{object};
-ghost use Rattle.serde_json.specs.Find.{as_array};
-ghost use Rattle.serde_json.specs.View.{view, items_view, members_view};
+ghost use Rattle.serde_json.specs.View.{view, members_view};
 ghost use Rattle.lw_rpc.specs.ChangeParams as shape;
 
+use crate::listed::Listed;
 use crate::members::{taken_text, taken_value};
-use lw_base::{Items, NoMemory};
 use lw_text::{Change, Pos};
 use serde_json::{Map, Value};
-use std::alloc::Global;
 
-/// The changes that a value lists, or None where it is no list or has an item that is no change.
-pub fn taken_changes(alloc: Global, value: Option<Value>) -> Result<Option<Items<Change>>, NoMemory>
-    ensures { IfOk result (λ changes. changes ≡ option_and_then shape.changes_of (option_and_then as_array (option_map view value))) }
-{
-    match value {
-        Some(Value::Array(values)) => changes(alloc, values),
-        _ => Ok(None),
-    }
-}
+impl Listed for Change {
+    ghost shape = { shape.change_of };
 
-fn changes(alloc: Global, values: Vec<Value>) -> Result<Option<Items<Change>>, NoMemory>
-    ensures { IfOk result (λ changes. changes ≡ shape.changes_of (items_view values.items)) }
-{
-    let mut changes = Items::new(alloc);
-    'values: for value in values {
-        let Some(change) = change(value) else {
-            return Ok(None);
-        };
-        changes.push(change)?;
-    }
-    Ok(Some(changes))
-}
-
-fn change(value: Value) -> Option<Change>
-    ensures { result ≡ shape.change_of (view value) }
-{
-    match value {
-        Value::Object(members) => change_of(members),
-        _ => None,
+    fn out_of(value: Value) -> Option<Change> {
+        match value {
+            Value::Object(members) => change_of(members),
+            _ => None,
+        }
     }
 }
 

@@ -29,6 +29,7 @@ mod changes;
 mod edits;
 mod file_change;
 mod hello;
+mod listed;
 mod lists;
 mod locations;
 mod members;

@@ -5,9 +5,8 @@ ghost use Rattle.serde_json.specs.View.{view, members_view};
 ghost use Rattle.lw_rpc.specs.Params as shape;
 
 use crate::Message;
-use crate::changes::taken_changes;
+use crate::listed::taken_list;
 use crate::members::{member_at, taken_text, taken_value};
-use crate::watched::taken_file_changes;
 use lw_base::{Items, NoMemory};
 use lw_text::Change;
 use serde_json::{Map, Value};
@@ -52,7 +51,7 @@ fn edited(alloc: Global, params: Value) -> Result<Option<Message>, NoMemory>
     };
     let document = taken_value(&mut members, "textDocument");
     let changes = taken_value(&mut members, "contentChanges");
-    match taken_changes(alloc, changes)? {
+    match taken_list(alloc, changes)? {
         Some(changes) => Ok(edited_document(document, changes)),
         None => Ok(None),
     }
@@ -97,7 +96,7 @@ pub fn did_change_watched_files(
 ) -> Result<Option<Message>, NoMemory>
     ensures { IfOk result (λ message. message ≡ shape.did_change_watched_files (option_map view params)) }
 {
-    match taken_file_changes(alloc, member_at(params, "changes"))? {
+    match taken_list(alloc, member_at(params, "changes"))? {
         Some(changes) => Ok(Some(Message::DidChangeWatchedFiles { changes })),
         None => Ok(None),
     }

@@ -1,0 +1,14 @@
+-- What the values of a list say, each of them read by one shape.
+use Rattle.std.specs.Prelude.{List, [], ◌∷◌, Option, Some, None}
+use Rattle.serde_json.specs.Data.{Data, Items, no_items, item}
+
+-- one thing and those that come behind it, if there are such
+abbrev pub followed : {A : Type 0} → Option A → Option (List A) → Option (List A)
+followed (Some one) (Some others) = Some (one ∷ others)
+followed (Some one) None = None
+followed None others = None
+
+-- what these values say, where each of them says something
+abbrev pub all_of : {A : Type 0} → (Data → Option A) → Items → Option (List A)
+all_of shape no_items = Some []
+all_of shape (item value others) = followed (shape value) (all_of shape others)
