@@ -12,10 +12,10 @@
 //! the list it promises that it has nodes of the graph only; which stands where is tested. Where memory
 //! is refused for an edge, the graph stays as it was.
 //!
-//! What is reached is found in time that is linear in nodes and edges, and so is the list. So are circles in a graph that has
-//! none: over and over, nodes are taken away whose successors were all taken away, and there that is each
-//! of them. A node that is left lies on a circle or leads to one, and costs a search of its own, so a
-//! graph in which many nodes lead to circles takes quadratic time. No call is deeper on the stack for a
+//! What is reached is found in time that is linear in nodes and edges, and so is the list. So are circles in
+//! a graph that has none: over and over, nodes are taken away whose successors were all taken away, and there
+//! that is each of them. A node that is left lies on a circle or leads to one, and costs a search of its own,
+//! so a graph in which many nodes lead to circles takes quadratic time. No call is deeper on the stack for a
 //! larger graph.
 #![tactic(auto)]
 
