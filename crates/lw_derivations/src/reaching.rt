@@ -12,7 +12,7 @@ use lw_graph::{Graph, NodeSet};
 use std::alloc::Global;
 
 /// The number of the entry rule, if there is one.
-pub(crate) fn entry(g: &Grammar) -> Option<usize>
+pub fn entry(g: &Grammar) -> Option<usize>
     ensures { MatchOption result ((r : ℕ) (rule : Rule) → ¬ IsEntry g.now r rule) (λ r. (rule : Rule) × IsEntry g.now r rule) }
 {
     for (number, rule) in g.rules.as_slice().iter().enumerate() {

@@ -1,9 +1,7 @@
 // What follows rules, by rounds.
-ghost use Rattle.std.specs.Prelude.{◌≡◌, ◌<◌, ◌↔◌, ℕ, true, IfOk, OnOk, IsTrue, MatchOption, length};
+ghost use Rattle.std.specs.Prelude.{◌≡◌, ◌<◌, IfOk, OnOk, length};
 ghost use Rattle.lw_grammar.specs.declared.grammar.Grammar.{Grammar};
-ghost use Rattle.lw_grammar.specs.declared.rule.Rule.{Rule};
 ghost use Rattle.lw_grammar.specs.Kinds.{Kinds, AreKinds};
-ghost use Rattle.lw_grammar.specs.Named.{IsEntry};
 ghost use Rattle.lw_look.specs.Heads.{AreClosedAfters, AreTrueAfters};
 ghost use Rattle.lw_heads.specs.Sets.{IsInSet};
 ghost use Rattle.lw_follow.specs.Followed.{HasRuleHeads};
@@ -11,8 +9,9 @@ ghost use Rattle.lw_follow.specs.Rounds.{AreFirstAfters, AreWalked, IsUnderWay, 
 
 use crate::following::follow_element;
 use lw_base::NoMemory;
+use lw_derivations::entry;
 use lw_first::First;
-use lw_grammar::{Grammar, Rule};
+use lw_grammar::Grammar;
 use lw_heads::{Head, HeadSet};
 use std::alloc::Global;
 
@@ -43,24 +42,6 @@ fn first_sets(alloc: Global, g: &Grammar) -> Result<Vec<HeadSet>, NoMemory>
     };
     sets[rule].insert(Head::Nothing)?;
     Ok(sets)
-}
-
-/// The number of the entry rule, if there is one.
-fn entry(g: &Grammar) -> Option<usize>
-    ensures { MatchOption result ((r : ℕ) (rule : Rule) → ¬ IsEntry g.now r rule) (λ r. (rule : Rule) × IsEntry g.now r rule) }
-{
-    for (number, rule) in g.rules.as_slice().iter().enumerate() {
-        if is_root_entry(rule) {
-            return Some(number);
-        }
-    }
-    None
-}
-
-fn is_root_entry(rule: &Rule) -> bool
-    ensures { IsTrue result ↔ ((rule.now.is_entry ≡ true) × (rule.now.file ≡ 0)) }
-{
-    rule.is_entry && rule.file == 0
 }
 
 /// Goes through rules round by round until a round finds none with new heads.
