@@ -12,6 +12,7 @@ ghost use Rattle.lw_lang.specs.declared.fault.CompileFault.TheVariants.{NoMemory
 ghost use Rattle.lw_look.specs.Supplied.{IsSupplied};
 ghost use Rattle.lw_lookahead.specs.Tables.{AreTables};
 ghost use Rattle.lw_parse.specs.Parsers.{ParsesFaultless};
+ghost use Rattle.lw_lang.specs.Prepared.{IsPrepared};
 ghost use Rattle.lw_grammar.specs.Kinds.{Kinds, AreKinds};
 ghost use Rattle.lw_lexicon.specs.Known.{IsKnownLexicon};
 ghost use Rattle.lw_lang.specs.ToldTerms.{CanBeTold, IsToldOr};
@@ -29,6 +30,7 @@ use crate::told_term::told_term;
 use lw_base::{Name, NoMemory};
 use lw_grammar::Grammar;
 use lw_io::{Patterns, Store};
+use lw_lexer::with_fronts;
 use lw_lexicon::Lexicon;
 use lw_load::load;
 use lw_lookahead::{LookFault, Tables, tables};
@@ -236,7 +238,26 @@ fn language_of(
     ensures fault { IfErr result (λ fault. fault ≡ no_memory) }
 {
     match parser_of(alloc, &grammar, k, numbered, tables) {
-        Ok(parser) => Ok(Language::new(grammar, types, tokens, parser)),
+        Ok(parser) => ready(alloc, grammar, types, tokens, parser),
+        Err(NoMemory) => Err(CompileFault::NoMemory),
+    }
+}
+
+// The language of these parts, whose tokens know their fronts.
+fn ready(
+    alloc: Global,
+    grammar: Grammar,
+    types: Types,
+    tokens: TokenSet,
+    parser: Parser,
+) -> Result<Language, CompileFault>
+    requires prepared { IsPrepared grammar types tokens parser }
+    ensures language { IfOk result (λ language. language ≡ record { grammar = grammar; texts = tokens.texts }) }
+    ensures texts { IfOk result (λ language. AreKindTexts language.grammar language.texts) }
+    ensures fault { IfErr result (λ fault. fault ≡ no_memory) }
+{
+    match with_fronts(alloc, tokens) {
+        Ok(tokens) => Ok(Language::new(grammar, types, tokens, parser)),
         Err(NoMemory) => Err(CompileFault::NoMemory),
     }
 }

@@ -1,2 +1,3 @@
 pub mod KeywordLemmas
 pub mod TerminalLemmas
+pub mod EndLemmas

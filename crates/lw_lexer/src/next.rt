@@ -3,14 +3,15 @@ ghost use Rattle.std.specs.Prelude.{◌≡◌, ◌<◌, IfSome, IsCharBoundary, 
 ghost use Rattle.lw_tokens.specs.NextToken.{IsNextToken};
 ghost use Rattle.lw_lexer.specs.Longer.{length_or_zero, keyword_next};
 ghost use Rattle.lw_lexer.specs.Place.{next_of};
+ghost use Rattle.lw_terminals.specs.Fronts.{token_of};
 
 use crate::keyword::longest_keyword;
 use crate::terminal::first_terminal;
 use lw_base::KindId;
-use lw_terminals::{TerminalMatcher, TokenSet};
+use lw_terminals::{Front, TerminalMatcher, TokenSet};
 
 /// A token at the start of a text: its kind, how many bytes it takes, and whether the parser skips it.
-#[derive(Clone, Copy)]
+#[derive(Clone, Copy, PartialEq, Eq)]
 pub struct Next {
     pub kind: KindId,
     pub bytes: usize,
@@ -19,6 +20,35 @@ pub struct Next {
 
 /// The token at the start of the text.
 pub(crate) fn next_token(
+    set: &TokenSet,
+    matchers: &mut Vec<TerminalMatcher<'_>>,
+    text: &str,
+) -> Option<Next>
+    requires { matchers.old.items ≡ set.now.lexicon.terminals }
+    ensures next { IsNextToken set.now.lexicon text.now (option_map next_of result) }
+    ensures boundary { IfSome result (λ next. IsCharBoundary text.now next.bytes) }
+    ensures some { IfSome result (λ next. 0 < next.bytes) }
+    ensures same { matchers.new.items ≡ matchers.old.items }
+{
+    match set.front_of(text) {
+        Some(front) => Some(front_next(front)),
+        None => searched_token(set, matchers, text),
+    }
+}
+
+// A front as a token.
+fn front_next(front: &Front) -> Next
+    ensures { next_of result ≡ token_of front.now }
+{
+    Next {
+        kind: front.kind,
+        bytes: front.text.bytes().len(),
+        hidden: front.hidden,
+    }
+}
+
+// The token at the start of the text, by its keywords and patterns.
+fn searched_token(
     set: &TokenSet,
     matchers: &mut Vec<TerminalMatcher<'_>>,
     text: &str,

@@ -3,7 +3,7 @@
 ghost use Rattle.std.specs.Prelude.{IfOk};
 ghost use Rattle.lw_tokens.specs.Keywords.{AreKeywords};
 
-use crate::{LexFault, Lexer};
+use crate::{LexFault, Lexer, with_fronts};
 use lw_base::{Name, NoMemory, Token};
 use lw_io::MemPatterns;
 use lw_terminals::{TerminalSource, TokenSet};
@@ -79,13 +79,37 @@ fn shown(rt: &impl Abort, alloc: Global, set: &TokenSet, text: &str) -> Result<S
     }
 }
 
-// Makes a set of these words and terminals, and cuts texts by it.
+// Cuts texts by a set.
+fn check_texts(
+    rt: &impl Abort,
+    alloc: Global,
+    set: &TokenSet,
+    cuts: &[(&str, &str)],
+) -> Result<(), NoMemory> {
+    for (text, tokens) in cuts {
+        assert_eq!(rt; shown(rt, alloc, set, text)?.as_str(), *tokens, "at {text}");
+    }
+    Ok(())
+}
+
+// How many bytes the front takes that is known at the start of each text, or none.
+fn check_fronts(rt: &impl Abort, set: &TokenSet, fronts: &[(&str, usize)]) {
+    for (text, bytes) in fronts {
+        let known = set
+            .front_of(text)
+            .map_or(0, |front| front.text.bytes().len());
+        assert_eq!(rt; known, *bytes, "at {text}");
+    }
+}
+
+// Makes a set of these words and terminals, and cuts texts by it, before and after it knows its fronts.
 fn check_cuts(
     rt: &impl Abort,
     alloc: Global,
     words: &[&str],
     sources: &[(&str, &str, bool)],
     cuts: &[(&str, &str)],
+    fronts: &[(&str, usize)],
 ) -> Result<(), NoMemory> {
     let keywords = keywords_of(alloc, words)?;
     let terminals = sources_of(alloc, sources)?;
@@ -93,14 +117,10 @@ fn check_cuts(
     let mut patterns = MemPatterns::new(Vec::new(alloc));
     let made = TokenSet::make(alloc, keywords, terminals, &mut patterns);
     let set = made.expect(rt, "the patterns are made");
-    for (text, tokens) in cuts {
-        assert_eq!(rt;
-            shown(rt, alloc, &set, text)?.as_str(),
-            *tokens,
-            "at {text}"
-        );
-    }
-    Ok(())
+    check_texts(rt, alloc, &set, cuts)?;
+    let set = with_fronts(alloc, set)?;
+    check_fronts(rt, &set, fronts);
+    check_texts(rt, alloc, &set, cuts)
 }
 
 #[test]
@@ -131,6 +151,19 @@ fn texts_are_cut_by_the_five_rules(rt: HostRuntime) -> Result<(), Fail> {
         ("ï", "none at 0..2"),
         ("m 😀 m", "none at 2..6"),
     ];
+    let fronts = [
+        ("model m", 5),
+        ("model", 0),
+        ("model1 ", 0),
+        ("ent;", 3),
+        ("entity ", 6),
+        ("/ ", 1),
+        ("//", 0),
+        (" m", 1),
+        ("  m", 0),
+        ("\n/", 1),
+        ("q ", 0),
+    ];
     let alloc = rt.alloc();
     check_cuts(
         &rt,
@@ -138,6 +171,7 @@ fn texts_are_cut_by_the_five_rules(rt: HostRuntime) -> Result<(), Fail> {
         words.as_slice(),
         sources.as_slice(),
         cuts.as_slice(),
+        fronts.as_slice(),
     )?;
     // A match at a later place is none.
     let odd = [("ODD", "x)|(y", false)];
@@ -146,6 +180,6 @@ fn texts_are_cut_by_the_five_rules(rt: HostRuntime) -> Result<(), Fail> {
         ("zy", "none at 0..1"),
         ("yzx", "none at 1..2"),
     ];
-    check_cuts(&rt, alloc, &[], odd.as_slice(), cuts.as_slice())?;
+    check_cuts(&rt, alloc, &[], odd.as_slice(), cuts.as_slice(), &[])?;
     Ok(())
 }

@@ -1,5 +1,5 @@
 // The end of a text, from which it is cut again.
-ghost use Rattle.std.specs.Prelude.{ℕ, ◌≡◌, ◌≤◌, ◌<◌, ◌++◌, List, All, IfOk, IfSome, IsCharBoundary, IsTrue, MatchOption, Ok, length, map, option_map, take};
+ghost use Rattle.std.specs.Prelude.{ℕ, ◌≡◌, ◌≤◌, ◌<◌, ◌++◌, List, All, IfOk, IfSome, IsCharBoundary, IsTrue, MatchOption, Ok, length, option_map, take};
 ghost use Rattle.lw_base.specs.declared.limits.TheConstants.{LONGEST_TEXT};
 ghost use Rattle.lw_base.specs.declared.token.Token.{Token as AToken};
 ghost use Rattle.lw_foresee.specs.Nfas.{AreNfas};
@@ -14,7 +14,7 @@ ghost use Rattle.lw_recut.specs.declared.seam.Seam.TheVariants.{Meets, Crossed};
 use crate::recut::Recut;
 use crate::seam::{Meeting, Seam, compare};
 use lw_base::{LONGEST_TEXT, Name, NoMemory, Token};
-use lw_foresee::{Walker, nfas_of};
+use lw_foresee::Walker;
 use lw_lexer::{LexFault, Lexer, Next};
 use lw_sure::{next_stays, sure_tokens};
 use lw_terminals::TokenSet;
@@ -68,7 +68,7 @@ impl<'a> Recutter<'a> {
         ensures own { IfOk result (λ made. IsCut made.lexicon made.text made.tokens) }
     {
         let keywords = set.keywords();
-        let nfas = nfas_in(alloc, set)?;
+        let nfas = set.nfas(alloc)?;
         let from = sure_place(alloc, keywords, &nfas, front, tokens);
         let text = Name::from_text(alloc, &front.text()[from..])?;
         let mut lexer = Lexer::new(alloc, set)?;
@@ -175,25 +175,6 @@ fn seam_of(
         }
     }
     Seam::Meets
-}
-
-/// The automata of the terminals' patterns, where each has one.
-fn nfas_in(alloc: Global, set: &TokenSet) -> Result<Option<Vec<Nfa>>, NoMemory>
-    ensures { IfOk result (λ found. IfSome found (λ nfas. AreNfas set.now.lexicon.terminals nfas.items)) }
-{
-    let patterns = patterns_in(alloc, set)?;
-    nfas_of(alloc, patterns.as_slice())
-}
-
-/// The patterns of the terminals.
-fn patterns_in(alloc: Global, set: &TokenSet) -> Result<Vec<Name>, NoMemory>
-    ensures { IfOk result (λ patterns. patterns.items ≡ map (λ form. form.pattern) set.now.lexicon.terminals) }
-{
-    let mut patterns = Vec::new(alloc);
-    for terminal in set.terminals() {
-        patterns.push(terminal.pattern().copy(alloc)?)?;
-    }
-    Ok(patterns)
 }
 
 /// Where the tokens end that stand whatever follows the text. Where nothing is known of the patterns, or there is no memory, at its start.

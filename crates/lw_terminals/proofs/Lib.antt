@@ -2,3 +2,4 @@ pub mod CompiledLemmas
 pub mod MadeLemmas
 pub mod StartingLemmas
 pub mod FirstByteLemmas
+pub mod FrontLemmas
