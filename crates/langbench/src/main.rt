@@ -108,6 +108,8 @@ fn main(rt: HostRuntime) -> ExitCode {
 }
 
 #[cfg(test)]
+mod grammar_tests;
+#[cfg(test)]
 mod page_tests;
 #[cfg(test)]
 mod serve_tests;
