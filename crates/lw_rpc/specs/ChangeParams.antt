@@ -5,7 +5,7 @@ use Rattle.serde_json.specs.Data.{Data, Items}
 use Rattle.serde_json.specs.Find.{get, as_str, as_number, as_u64}
 use Rattle.lw_text.specs.declared.change.Change.{Change}
 use Rattle.lw_text.specs.declared.place.Pos.{Pos}
-use Rattle.lw_rpc.specs.Listed.{all_of}
+use Rattle.lw_rpc.specs.Listed.{items_by}
 
 -- what has 32 bits
 abbrev pub as_u32 : ℕ → Option ℕ
@@ -49,4 +49,4 @@ change_of value = replacing (optional_range (get (codes "range") value)) (option
 
 -- the changes that these values are, where each of them is one
 abbrev pub changes_of : Items → Option (List Change)
-changes_of = all_of change_of
+changes_of = items_by change_of

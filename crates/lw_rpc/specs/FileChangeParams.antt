@@ -2,7 +2,7 @@
 use Rattle.std.specs.Prelude.{ℕ, List, ◌==◌, codes, if◌then◌else◌, Option, Some, None, option_and_then}
 use Rattle.serde_json.specs.Data.{Data, Items}
 use Rattle.serde_json.specs.Find.{get, as_str, as_number, as_u64}
-use Rattle.lw_rpc.specs.Listed.{all_of}
+use Rattle.lw_rpc.specs.Listed.{items_by}
 use Rattle.lw_rpc.specs.declared.file_change.FileChange.{FileChange}
 use Rattle.lw_rpc.specs.declared.file_change.FileChangeKind.{FileChangeKind}
 use Rattle.lw_rpc.specs.declared.file_change.FileChangeKind.TheVariants.{Created, Changed, Deleted}
@@ -26,4 +26,4 @@ file_change_of value = done_to (option_and_then as_str (get (codes "uri") value)
 
 -- the changes of files that these values are, where each of them is one
 abbrev pub file_changes_of : Items → Option (List FileChange)
-file_changes_of = all_of file_change_of
+file_changes_of = items_by file_change_of

@@ -9,6 +9,6 @@ followed (Some one) None = None
 followed None others = None
 
 -- what these values say, where each of them says something
-abbrev pub all_of : {A : Type 0} → (Data → Option A) → Items → Option (List A)
-all_of shape no_items = Some []
-all_of shape (item value others) = followed (shape value) (all_of shape others)
+abbrev pub items_by : {A : Type 0} → (Data → Option A) → Items → Option (List A)
+items_by shape no_items = Some []
+items_by shape (item value others) = followed (shape value) (items_by shape others)

@@ -3,7 +3,7 @@ ghost use Rattle.std.specs.Prelude.{◌≡◌, IfOk, Option, option_map, option_
 ghost use Rattle.serde_json.specs.Data.{Data};
 ghost use Rattle.serde_json.specs.Find.{as_array};
 ghost use Rattle.serde_json.specs.View.{view, items_view};
-ghost use Rattle.lw_rpc.specs.Listed.{all_of};
+ghost use Rattle.lw_rpc.specs.Listed.{items_by};
 
 use lw_base::{Items, NoMemory};
 use serde_json::Value;
@@ -24,7 +24,7 @@ pub fn taken_list<T: Listed>(
     alloc: Global,
     value: Option<Value>,
 ) -> Result<Option<Items<T>>, NoMemory>
-    ensures { IfOk result (λ list. list ≡ option_and_then (all_of T.shape) (option_and_then as_array (option_map view value))) }
+    ensures { IfOk result (λ list. list ≡ option_and_then (items_by T.shape) (option_and_then as_array (option_map view value))) }
 {
     match value {
         Some(Value::Array(values)) => items(alloc, values),
@@ -33,7 +33,7 @@ pub fn taken_list<T: Listed>(
 }
 
 fn items<T: Listed>(alloc: Global, values: Vec<Value>) -> Result<Option<Items<T>>, NoMemory>
-    ensures { IfOk result (λ list. list ≡ all_of T.shape (items_view values.items)) }
+    ensures { IfOk result (λ list. list ≡ items_by T.shape (items_view values.items)) }
 {
     let mut items = Items::new(alloc);
     'values: for value in values {

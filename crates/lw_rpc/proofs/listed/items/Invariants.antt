@@ -1,7 +1,7 @@
 use Rattle.std.proofs.Common.{◌≡◌}
 use Rattle.std.specs.Vec.Iter.{into_iter_items}
 use Rattle.serde_json.specs.View.{items_view}
-use Rattle.lw_rpc.specs.Listed.{all_of}
+use Rattle.lw_rpc.specs.Listed.{items_by}
 use Rattle.lw_rpc.proofs.ChangeLemmas.{behind}
 use Rattle.lw_rpc.proofs.listed.items.Given as goal
 
@@ -9,4 +9,4 @@ use Rattle.lw_rpc.proofs.listed.items.Given as goal
 abbrev pub invariant-values : goal.invariant-values
 invariant-values g l =
     let shape = g.T.Listed.shape in
-    behind l.items (all_of shape (items_view (into_iter_items l.value-iterator))) ≡ all_of shape (items_view (into_iter_items l.initial.value-iterator))
+    behind l.items (items_by shape (items_view (into_iter_items l.value-iterator))) ≡ items_by shape (items_view (into_iter_items l.initial.value-iterator))
