@@ -14,8 +14,8 @@ use lw_terminals::{Front, TerminalMatcher, TokenSet};
 #[derive(Clone, Copy, PartialEq, Eq)]
 pub struct Next {
     pub kind: KindId,
-    pub bytes: usize,
     pub hidden: bool,
+    pub bytes: usize,
 }
 
 /// The token at the start of the text.
