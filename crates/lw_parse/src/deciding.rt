@@ -118,6 +118,7 @@ impl Run<'_> {
     }
 
     /// The next three kinds, as a parser sees them that looks at three.
+    #[tactic(auto, using(crate::proofs::Windows::three_places))]
     fn next_three(&self) -> [Option<KindId>; 3]
         ensures { seen_in result ≡ window 3 (state_of self.now).unread }
     {
@@ -125,6 +126,7 @@ impl Run<'_> {
     }
 
     /// The way that the next kinds come next at.
+    #[tactic(auto, using(crate::proofs::Windows::seen_front))]
     fn way(&self, point: PointId) -> Option<u16>
         ensures { IsWayBy (state_of self.now).parser (state_of self.now).unread point result }
     {
