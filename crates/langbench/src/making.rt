@@ -5,7 +5,7 @@ ghost use Rattle.lw_io.specs.Whole.{WritesFront};
 ghost use Rattle.langbench.specs.Checking.{IsCaused};
 ghost use Rattle.langbench.specs.Making.{MakeComesTo};
 ghost use Rattle.langbench.specs.Stops.{Counts, TheSource, TheSink, TheStore, ThePatterns};
-ghost use Rattle.lw_make.specs.declared.documents.TheConstants.{GREATEST_WORKSPACE};
+ghost use Rattle.lw_base.specs.declared.limits.TheConstants.{GREATEST_WORKSPACE};
 
 use crate::desk::Desk;
 use crate::report::Verdict;

@@ -17,7 +17,7 @@ mod steps;
 mod token;
 mod type_set;
 
-pub use limits::{LONGEST_DOCUMENT, LONGEST_TEXT};
+pub use limits::{GREATEST_WORKSPACE, LONGEST_DOCUMENT, LONGEST_TEXT, MOST_DOCUMENTS};
 pub use memory::NoMemory;
 pub use name::Name;
 pub use numbers::{DocId, KindId, NodeId, PointId, PropId, RefId, RuleId, TypeId};

@@ -9,10 +9,10 @@ pub struct Span {
     pub end: u32,
 }
 
-/// A token of a document: its kind, where it stands, and whether the parser skips it.
+/// A token of a document: its kind, whether the parser skips it, and where it stands. In this order it takes twelve bytes.
 #[derive(Clone, Copy, Debug, PartialEq, Eq)]
 pub struct Token {
     pub kind: KindId,
-    pub span: Span,
     pub hidden: bool,
+    pub span: Span,
 }

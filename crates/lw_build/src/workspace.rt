@@ -5,7 +5,7 @@ ghost use Rattle.std.specs.FinMap.{get};
 ghost use Rattle.std.specs.Map.Iter.{ShowsInOrder, deref_pair};
 ghost use Rattle.std.specs.Option.{option_map, option_to_list};
 ghost use Rattle.lw_base.specs.declared.limits.TheConstants.{LONGEST_TEXT};
-ghost use Rattle.lw_docs.specs.declared.docs.TheConstants.{MOST_DOCUMENTS};
+ghost use Rattle.lw_base.specs.declared.limits.TheConstants.{MOST_DOCUMENTS};
 ghost use Rattle.lw_docs.specs.Documents.{IsHeld, Numbered, Turns, changed, numbered};
 ghost use Rattle.lw_machine.specs.Building.{BuildsToEnd};
 ghost use Rattle.lw_link.specs.Indexed.{IsIndexOf};

@@ -19,8 +19,8 @@ pub(crate) fn tell_numbers(
 ) -> Result<(), NoMemory>
     ensures { OnOk result (Finds (OfSome TellsValue (values_of tree.now.values)) (diagnostics_of diagnostics.old.items) (diagnostics_of diagnostics.new.items)) }
 {
-    for value in tree.all_values() {
-        tell_value(alloc, value, diagnostics)?;
+    for entry in tree.all_values() {
+        tell_value(alloc, &entry.2, diagnostics)?;
     }
     Ok(())
 }

@@ -3,7 +3,7 @@
 use Rattle.std.specs.Prelude.{ℕ, ℤ, ◌≡◌, ◌<◌, ◌≤◌, ◌⊎◌, List, [], ◌∷◌, ◌++◌, length, true, false, Some, codes}
 use Rattle.std.specs.FinMap.{contains_key, len}
 use Rattle.lw_base.specs.declared.limits.TheConstants.{LONGEST_TEXT}
-use Rattle.lw_docs.specs.declared.docs.TheConstants.{MOST_DOCUMENTS}
+use Rattle.lw_base.specs.declared.limits.TheConstants.{MOST_DOCUMENTS}
 use Rattle.lw_rpc.specs.declared.reply.Reply.{Reply}
 use Rattle.lw_rpc.specs.declared.reply.Reply.TheVariants.{Log}
 use Rattle.lw_machine.specs.Documents.{Documents}

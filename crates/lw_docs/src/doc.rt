@@ -22,7 +22,7 @@ pub struct Doc {
 /// Why a document was not added.
 #[derive(Clone, Copy, Debug, PartialEq, Eq)]
 pub enum DocFault {
-    /// As many documents are held as there may be: [`MOST_DOCUMENTS`](crate::MOST_DOCUMENTS).
+    /// As many documents are held as there may be: [`MOST_DOCUMENTS`](lw_base::MOST_DOCUMENTS).
     TooMany,
     /// Memory was refused.
     NoMemory,

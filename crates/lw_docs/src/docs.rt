@@ -12,16 +12,13 @@ ghost use Rattle.lw_docs.specs.Knockout.{IsKnockout};
 
 use crate::knockout::{Entrant, cell, settle, turn_to};
 use crate::{Doc, DocFault};
-use lw_base::{DocId, Items, Name, NoMemory};
+use lw_base::{DocId, Items, MOST_DOCUMENTS, Name, NoMemory};
 use lw_machine::State;
 use lw_text::{Change, EditFault, Encoding, Shown, TextDoc};
 use std::alloc::Global;
 use std::collections::BTreeMap;
 use std::collections::btree_map::Iter;
 use std::marker::Model;
-
-/// How many documents may be held.
-pub const MOST_DOCUMENTS: usize = 65_536;
 
 /// The documents of a workspace, seen as a map from addresses to documents, each with its number.
 #[derive(Drop)]

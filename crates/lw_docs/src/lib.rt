@@ -8,7 +8,7 @@
 //! document stands at its own address, and no two have one number: [`Docs::numbered`] says so.
 //!
 //! It promises that each call changes the one document that it names, in the one field that it names, and never an address or a number;
-//! that [`Docs::add`] gives a number that no document has, and refuses one document more than [`MOST_DOCUMENTS`]; that nothing changes
+//! that [`Docs::add`] gives a number that no document has, and refuses one document more than [`MOST_DOCUMENTS`](lw_base::MOST_DOCUMENTS); that nothing changes
 //! where memory is refused, and only [`Docs::add`] and [`Docs::apply`] ask for any; and that [`Docs::least`] answers the document that the
 //! next step of a build takes up: of those that are not validated the one of the least state, and of these the one of the least address
 //! by its bytes (`specs/Least.antt`). [`the_least_is_next`] ties that to the machine of `lw_machine`.
@@ -26,7 +26,7 @@ mod knockout;
 mod laws;
 
 pub use doc::{Doc, DocFault};
-pub use docs::{Docs, MOST_DOCUMENTS};
+pub use docs::Docs;
 pub use laws::the_least_is_next;
 
 #[cfg(test)]

@@ -36,7 +36,7 @@ module _ (g : Grammar) (row : KindRow) (are : AreKindRowOf g row) where
     same_kinds : are.kinds ≡ kinds
     same_kinds = one_kinds g are.kinds kinds are.are were
 
-    pub texts_are : texts_of row.keywords ≡ kinds.keywords
+    texts_are : texts_of row.keywords ≡ kinds.keywords
     texts_are = are.texts ∙ ap (λ (of : Kinds). of.keywords) same_kinds
 
     pub keyword_found : (text : List ℕ) (k : ℕ) → position (bytes_eq text) (texts_of row.keywords) ≡ Some k → IsKeywordKind kinds text k

@@ -1,5 +1,5 @@
 // The kinds of a grammar.
-ghost use Rattle.std.specs.Prelude.{ℕ, ◌≡◌, ◌+◌, ◌≤◌, ◌<◌, IfOk, IfSome, MatchOption, Contains, Some, length, map, slice_get};
+ghost use Rattle.std.specs.Prelude.{ℕ, ◌≡◌, ◌+◌, ◌≤◌, ◌<◌, IfOk, IfSome, MatchOption, Contains, Some, length, slice_get};
 ghost use Rattle.lw_grammar.specs.declared.grammar.Grammar.{Grammar};
 ghost use Rattle.lw_grammar.specs.Kinds.{Kinds, AreKinds, IsKeywordKind, IsTerminalKind};
 ghost use Rattle.lw_grammar.specs.Size.{size};
@@ -161,13 +161,5 @@ impl KindTable {
         ensures terminal { (g : Grammar) (kinds : Kinds) → AreKindRowOf g self.now → AreKinds g kinds → slice_get g.terminals result ≡ slice_get kinds.terminals i }
     {
         self.terminals[i] as usize
-    }
-
-    /// The keywords alone, in the order of their kinds.
-    pub fn into_keywords(self, alloc: Global) -> Result<Vec<Name>, NoMemory>
-        ensures texts { IfOk result (λ texts. texts.items ≡ map (λ word. word.0) self.keywords) }
-        ensures kinds { (g : Grammar) (kinds : Kinds) → AreKindRowOf g self → AreKinds g kinds → IfOk result (λ texts. texts.items ≡ kinds.keywords) }
-    {
-        Ok(self.keywords.into_keys().collect(alloc)?)
     }
 }

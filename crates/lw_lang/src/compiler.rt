@@ -30,7 +30,7 @@ use crate::told_term::told_term;
 use lw_base::{Name, NoMemory};
 use lw_grammar::Grammar;
 use lw_io::{Patterns, Store};
-use lw_lexer::with_fronts;
+use lw_lexer::LexerTables;
 use lw_lexicon::Lexicon;
 use lw_load::load;
 use lw_lookahead::{LookFault, Tables, tables};
@@ -243,7 +243,7 @@ fn language_of(
     }
 }
 
-// The language of these parts, whose tokens know their fronts.
+// The language of these parts, once the tables by which its texts are cut are made.
 fn ready(
     alloc: Global,
     grammar: Grammar,
@@ -256,7 +256,7 @@ fn ready(
     ensures texts { IfOk result (λ language. AreKindTexts language.grammar language.texts) }
     ensures fault { IfErr result (λ fault. fault ≡ no_memory) }
 {
-    match with_fronts(alloc, tokens) {
+    match LexerTables::of(alloc, tokens) {
         Ok(tokens) => Ok(Language::new(grammar, types, tokens, parser)),
         Err(NoMemory) => Err(CompileFault::NoMemory),
     }

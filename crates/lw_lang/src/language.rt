@@ -20,7 +20,7 @@ ghost use Rattle.lw_lang.specs.Prepared.{IsPrepared};
 
 use lw_base::{KindId, LONGEST_DOCUMENT, Name, NoMemory, Token};
 use lw_grammar::Grammar;
-use lw_lexer::{LexFault, Lexer};
+use lw_lexer::{LexFault, Lexer, LexerTables};
 use lw_lookahead::Tables;
 use lw_parse::{ParseFault, Parser};
 use lw_reading::{Issue, Parsed};
@@ -34,7 +34,7 @@ use std::marker::Model;
 pub struct Language {
     grammar: Grammar,
     types: Types,
-    tokens: TokenSet,
+    tokens: LexerTables,
     parser: Parser,
 }
 
@@ -71,7 +71,12 @@ impl Model for Language {
 
 impl Language {
     // The language of a grammar, by its kinds and what its texts are parsed by.
-    pub(crate) fn new(grammar: Grammar, types: Types, tokens: TokenSet, parser: Parser) -> Language
+    pub(crate) fn new(
+        grammar: Grammar,
+        types: Types,
+        tokens: LexerTables,
+        parser: Parser,
+    ) -> Language
         requires { IsPrepared grammar types tokens parser }
         ensures { result ≡ record { grammar = grammar; texts = tokens.texts } }
     {
@@ -99,6 +104,15 @@ impl Language {
 
     /// By what its texts are cut into tokens.
     pub fn tokens(&self) -> &TokenSet
+        ensures texts { result.now.texts ≡ self.now.texts }
+        ensures named { AreKindTexts self.now.grammar result.now.texts }
+        ensures lexicon { (kinds : Kinds) × AreKinds self.now.grammar kinds × IsLexicon self.now.grammar kinds result.now.lexicon }
+    {
+        self.tokens.set()
+    }
+
+    /// By what a lexer cuts its texts.
+    pub fn lexer_tables(&self) -> &LexerTables
         ensures texts { result.now.texts ≡ self.now.texts }
         ensures named { AreKindTexts self.now.grammar result.now.texts }
         ensures lexicon { (kinds : Kinds) × AreKinds self.now.grammar kinds × IsLexicon self.now.grammar kinds result.now.lexicon }
@@ -144,7 +158,7 @@ impl Language {
         ensures text { slice_get self.now.texts kind.0 ≡ Some result.now }
         ensures all { AreKindTexts self.now.grammar self.now.texts }
     {
-        self.tokens.kind_text(kind)
+        self.tokens.set().kind_text(kind)
     }
 
     /// What the text reads as: its tree, or its one fault. The one error is want of memory.

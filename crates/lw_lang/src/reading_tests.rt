@@ -85,8 +85,8 @@ fn shown_tree(alloc: Global, tree: &Tree) -> Result<String, NoMemory> {
     for number in 0..tree.len() {
         shown.push_str(shown_node(alloc, tree, number)?.as_str())?;
     }
-    for value in tree.all_values() {
-        shown.push_str(shown_value(alloc, value)?.as_str())?;
+    for entry in tree.all_values() {
+        shown.push_str(shown_value(alloc, &entry.2)?.as_str())?;
     }
     for reference in tree.refs() {
         let owner = reference.owner.0;

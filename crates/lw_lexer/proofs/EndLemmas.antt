@@ -1,6 +1,6 @@
 -- Bytes before which a text is the next token, whatever follows them.
-use Rattle.std.proofs.Common.{ℕ, ◌≡◌, ◌≢◌, ◌<◌, Bool, true, false, List, replicate, slice_index_or, slice_set, inl, inr, arith, get_or-set_other, [], ◌∷◌, ◌++◌, All, Option, Some, option_map, append_assoc, refl, sym, ap, subst, ◌∙◌}
-use Rattle.std.proofs.lemmas.Bool.{cases_eq, cases_lt}
+use Rattle.std.proofs.Common.{ℕ, ◌≡◌, ◌<◌, false, List, replicate, slice_index_or, inl, inr, arith, [], ◌∷◌, ◌++◌, All, Option, Some, option_map, append_assoc, refl, sym, ap, subst, ◌∙◌}
+use Rattle.std.proofs.lemmas.Bool.{cases_lt}
 use Rattle.std.proofs.Math.ListN.{get_or-eq_default}
 use Rattle.std.proofs.lemmas.List.{get_or-replicate, length-replicate}
 use Rattle.regex_nfa.specs.declared.nfa.Nfa.{Nfa}
@@ -8,7 +8,7 @@ use Rattle.lw_foresee.specs.Nfas.{AreNfas}
 use Rattle.lw_sure.specs.Next.{NextStays}
 use Rattle.lw_tokens.specs.Lexicon.{Lexicon}
 use Rattle.lw_tokens.specs.NextToken.{IsNextToken}
-use Rattle.lw_lexer.specs.Ends.{AreEnds, IsEnd}
+use Rattle.lw_lexer.specs.Fronts.{IsEnd}
 use Rattle.lw_lexer.specs.Place.{next_of}
 use Rattle.lw_lexer.specs.declared.next.Next.{Next}
 

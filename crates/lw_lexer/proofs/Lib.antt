@@ -1,3 +1,4 @@
 pub mod KeywordLemmas
 pub mod TerminalLemmas
 pub mod EndLemmas
+pub mod FrontLemmas

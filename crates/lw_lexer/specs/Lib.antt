@@ -1,4 +1,4 @@
 pub mod Longer
 pub mod Place
 pub mod TokenPlaces
-pub mod Ends
+pub mod Fronts

@@ -1,14 +1,14 @@
 // The fronts that a set of tokens knows.
 ghost use Rattle.std.specs.Prelude.{◌≡◌, ◌↔◌, ◌<◌, ◌∷◌, ◌++◌, [], ℕ, IfOk, IfSome, IsTrue, All, false, slice_index_or, Some};
-ghost use Rattle.lw_lexer.specs.Ends.{AreEnds, IsEnd};
-ghost use Rattle.lw_terminals.specs.Fronts.{AreFronts, IsFront};
+ghost use Rattle.lw_lexer.specs.Fronts.{AreEnds, AreFronts, IsEnd, IsFront};
 
 use crate::Lexer;
+use crate::front::Front;
 use crate::next::Next;
 use lw_base::{Items, Name, NoMemory};
 use lw_foresee::Walker;
 use lw_sure::next_stays;
-use lw_terminals::{Front, TokenSet};
+use lw_terminals::TokenSet;
 use regex_nfa::Nfa;
 use std::alloc::Global;
 use std::marker::Model;
@@ -16,27 +16,17 @@ use std::marker::Model;
 /// How many steps are taken at most to find out about all fronts of a set.
 const STEPS: u32 = 1 << 20;
 
-/// Has the set know its fronts: the keywords and the single bytes that the parser skips, behind which it is known of some bytes
-/// that the token ends there. What is cut by the set is the same, and takes less time. It takes a walk over each front for each
-/// of these bytes and each terminal, and a bounded number of steps in all.
-pub fn with_fronts(alloc: Global, mut set: TokenSet) -> Result<TokenSet, NoMemory>
-    ensures { IfOk result (λ known. known ≡ set) }
-{
-    let fronts = fronts_of(alloc, &set)?;
-    set.know(fronts);
-    Ok(set)
-}
-
 /// The fronts of a set by their first byte, where each of its patterns has an automaton.
-fn fronts_of(alloc: Global, set: &TokenSet) -> Result<Vec<Items<Front>>, NoMemory>
+pub(crate) fn fronts_of(alloc: Global, set: &TokenSet) -> Result<Vec<Items<Front>>, NoMemory>
     ensures { IfOk result (λ table. AreFronts set.now.lexicon table.items) }
 {
     let Some(nfas) = set.nfas(alloc)? else {
         return Ok(Vec::new(alloc));
     };
+    let none = Vec::new(alloc);
     let mut finder = Finder {
         set,
-        lexer: Lexer::new(alloc, set)?,
+        lexer: Lexer::over(alloc, set, none.as_slice())?,
         nfas,
         walker: Walker::new(alloc, STEPS),
     };
@@ -114,8 +104,7 @@ impl Finder<'_> {
                 let ends = self.ends(alloc, &text, own)?;
                 Ok(Some(Front {
                     text,
-                    kind: own.kind,
-                    hidden: own.hidden,
+                    next: own,
                     ends,
                 }))
             }

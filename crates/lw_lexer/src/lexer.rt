@@ -8,10 +8,12 @@ ghost use Rattle.lw_tokens.specs.Cut.{IsCut, HasNoTokenAt, IsCharacterAt};
 ghost use Rattle.lw_tokens.specs.NextToken.{IsNextToken};
 ghost use Rattle.lw_lexer.specs.Place.{next_of};
 ghost use Rattle.lw_lexer.specs.TokenPlaces.{IsTokenPlace};
+ghost use Rattle.lw_lexer.specs.Fronts.{AreFronts};
 
-use crate::LexFault;
+use crate::front::Front;
 use crate::next::{Next, next_token};
-use lw_base::{Name, NoMemory, Span, Token};
+use crate::{LexFault, LexerTables};
+use lw_base::{Items, Name, NoMemory, Span, Token};
 use lw_terminals::{TerminalMatcher, TokenSet};
 use std::alloc::Global;
 use std::marker::Model;
@@ -21,27 +23,45 @@ use std::marker::Model;
 #[derive(Drop)]
 pub struct Lexer<'s> {
     set: &'s TokenSet,
+    fronts: &'s [Items<Front>],
     matchers: Vec<TerminalMatcher<'s>>,
 }
 
 impl<'s> Model for Lexer<'s> {
     ghost use Rattle.std.specs.Prelude.{◌≡◌};
     ghost use Rattle.lw_terminals.specs.TokenKinds.{TokenKinds, AreTokenKinds};
+    ghost use Rattle.lw_lexer.specs.Fronts.{AreFronts};
 
     ghost Value = { TokenKinds };
 
     ghost view = { λ l. l.set.now };
 
-    ghost invariant = { λ l. (l.matchers.items ≡ l.set.now.lexicon.terminals) × AreTokenKinds l.set.now };
+    ghost invariant = { λ l. (l.matchers.items ≡ l.set.now.lexicon.terminals) × AreTokenKinds l.set.now × AreFronts l.set.now.lexicon l.fronts.now };
 }
 
 impl<'s> Lexer<'s> {
-    /// What cuts texts by this set.
-    pub fn new(alloc: Global, set: &'s TokenSet) -> Result<Lexer<'s>, NoMemory>
+    /// What cuts texts by the set of these tables.
+    pub fn new(alloc: Global, tables: &'s LexerTables) -> Result<Lexer<'s>, NoMemory>
+        ensures { IfOk result (λ lexer. lexer ≡ tables.now) }
+    {
+        Lexer::over(alloc, tables.set(), tables.fronts())
+    }
+
+    /// What cuts texts by this set, of which these fronts are known.
+    pub(crate) fn over(
+        alloc: Global,
+        set: &'s TokenSet,
+        fronts: &'s [Items<Front>],
+    ) -> Result<Lexer<'s>, NoMemory>
+        requires { AreFronts set.now.lexicon fronts.now }
         ensures { IfOk result (λ lexer. lexer ≡ set.now) }
     {
         let matchers = set.matchers(alloc)?;
-        Ok(Lexer { set, matchers })
+        Ok(Lexer {
+            set,
+            fronts,
+            matchers,
+        })
     }
 
     /// The tokens of the text. Where the text has no token at some place, the first such place is refused.
@@ -68,13 +88,13 @@ impl<'s> Lexer<'s> {
         let mut at = 0;
         'cutting: while at < text.len() {
             let rest = &text[at..];
-            let Some(next) = next_token(self.set, &mut self.matchers, rest) else {
+            let Some(next) = next_token(self.set, self.fronts, &mut self.matchers, rest) else {
                 return Err(LexFault::NoToken(span_of(at, first_character(rest))));
             };
             let token = Token {
                 kind: next.kind,
-                span: span_of(at, next.bytes),
                 hidden: next.hidden,
+                span: span_of(at, next.bytes),
             };
             tokens.push(token)?;
             at += next.bytes;
@@ -89,7 +109,7 @@ impl<'s> Lexer<'s> {
         ensures some { IfSome result (λ next. 0 < next.bytes) }
         ensures same { self.new ≡ self.old }
     {
-        next_token(self.set, &mut self.matchers, text)
+        next_token(self.set, self.fronts, &mut self.matchers, text)
     }
 }
 

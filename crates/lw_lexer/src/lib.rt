@@ -7,22 +7,24 @@
 //! It promises that the tokens are the one cut of the text, and that a text without one is refused at
 //! the one place where no token stands.
 //!
-//! [`with_fronts`] finds out once for a set which of its keywords and blanks end before which bytes, whatever comes behind
-//! (`specs/Ends.antt`), so that they are known by their first bytes and no pattern is tried. It promises that the set is the same, and
-//! that each front that it puts in is the next token where it is found; not that it finds any.
+//! [`LexerTables`] are a set of tokens with what is found out about it once: which of its keywords and blanks end before which bytes,
+//! whatever comes behind (`specs/Fronts.antt`), so that they are known by their first bytes and no pattern is tried. They are seen as the
+//! set; that any of this is known, is promised nowhere.
 #![tactic(auto)]
 
 mod fault;
+mod front;
 mod fronts;
 mod keyword;
 mod lexer;
 mod next;
+mod tables;
 mod terminal;
 
 pub use fault::LexFault;
-pub use fronts::with_fronts;
 pub use lexer::Lexer;
 pub use next::Next;
+pub use tables::LexerTables;
 
 #[cfg(test)]
 mod tests;

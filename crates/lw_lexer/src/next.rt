@@ -3,68 +3,47 @@ ghost use Rattle.std.specs.Prelude.{◌≡◌, ◌<◌, IfSome, IsCharBoundary, 
 ghost use Rattle.lw_tokens.specs.NextToken.{IsNextToken};
 ghost use Rattle.lw_lexer.specs.Longer.{length_or_zero, keyword_next};
 ghost use Rattle.lw_lexer.specs.Place.{next_of};
-ghost use Rattle.lw_terminals.specs.Fronts.{token_of};
+ghost use Rattle.lw_lexer.specs.Fronts.{AreFronts};
+ghost use Rattle.lw_terminals.specs.TokenKinds.{AreTokenKinds};
 
+use crate::front::{Front, known_next};
 use crate::keyword::longest_keyword;
 use crate::terminal::first_terminal;
-use lw_base::KindId;
-use lw_terminals::{Front, TerminalMatcher, TokenSet};
+use lw_base::{Items, KindId};
+use lw_terminals::{TerminalMatcher, TokenSet};
 
 /// A token at the start of a text: its kind, how many bytes it takes, and whether the parser skips it.
 #[derive(Clone, Copy, PartialEq, Eq)]
 pub struct Next {
     pub kind: KindId,
-    pub bytes: usize,
     pub hidden: bool,
+    pub bytes: usize,
 }
 
-/// The token at the start of the text.
+/// The token at the start of the text: that of a front with which it begins, or else by its keywords and patterns.
 pub(crate) fn next_token(
     set: &TokenSet,
+    fronts: &[Items<Front>],
     matchers: &mut Vec<TerminalMatcher<'_>>,
     text: &str,
 ) -> Option<Next>
-    requires { matchers.old.items ≡ set.now.lexicon.terminals }
+    requires kinds { AreTokenKinds set.now }
+    requires fronts { AreFronts set.now.lexicon fronts.now }
+    requires matchers { matchers.old.items ≡ set.now.lexicon.terminals }
     ensures next { IsNextToken set.now.lexicon text.now (option_map next_of result) }
     ensures boundary { IfSome result (λ next. IsCharBoundary text.now next.bytes) }
     ensures some { IfSome result (λ next. 0 < next.bytes) }
     ensures same { matchers.new.items ≡ matchers.old.items }
 {
-    match set.front_of(text) {
-        Some(front) => Some(front_next(front)),
-        None => searched_token(set, matchers, text),
+    if let Some(next) = known_next(fronts, text) {
+        return Some(next);
     }
-}
-
-// A front as a token.
-fn front_next(front: &Front) -> Next
-    ensures { next_of result ≡ token_of front.now }
-{
-    Next {
-        kind: front.kind,
-        bytes: front.text.bytes().len(),
-        hidden: front.hidden,
-    }
-}
-
-// The token at the start of the text, by its keywords and patterns.
-fn searched_token(
-    set: &TokenSet,
-    matchers: &mut Vec<TerminalMatcher<'_>>,
-    text: &str,
-) -> Option<Next>
-    requires { matchers.old.items ≡ set.now.lexicon.terminals }
-    ensures next { IsNextToken set.now.lexicon text.now (option_map next_of result) }
-    ensures boundary { IfSome result (λ next. IsCharBoundary text.now next.bytes) }
-    ensures some { IfSome result (λ next. 0 < next.bytes) }
-    ensures same { matchers.new.items ≡ matchers.old.items }
-{
     let keyword = longest_keyword(set, text);
     match first_terminal(matchers, text, length_or_zero(&keyword)) {
         Some((i, bytes)) => Some(Next {
             kind: KindId((set.keywords().len() + i) as u16),
-            bytes,
             hidden: matchers[i].is_hidden(),
+            bytes,
         }),
         None => keyword_next(&keyword),
     }
@@ -78,8 +57,8 @@ fn keyword_next(keyword: &Option<(usize, usize)>) -> Option<Next>
     match keyword {
         Some((k, bytes)) => Some(Next {
             kind: KindId(*k as u16),
-            bytes: *bytes,
             hidden: false,
+            bytes: *bytes,
         }),
         None => None,
     }

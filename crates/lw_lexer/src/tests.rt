@@ -3,7 +3,8 @@
 ghost use Rattle.std.specs.Prelude.{IfOk};
 ghost use Rattle.lw_tokens.specs.Keywords.{AreKeywords};
 
-use crate::{LexFault, Lexer, with_fronts};
+use crate::front::known_next;
+use crate::{LexFault, Lexer, LexerTables};
 use lw_base::{Name, NoMemory, Token};
 use lw_io::MemPatterns;
 use lw_terminals::{TerminalSource, TokenSet};
@@ -69,40 +70,47 @@ fn token_text(alloc: Global, token: &Token) -> Result<String, NoMemory> {
 }
 
 // The tokens of the text, or the fault.
-fn shown(rt: &impl Abort, alloc: Global, set: &TokenSet, text: &str) -> Result<String, NoMemory> {
+fn shown(
+    rt: &impl Abort,
+    alloc: Global,
+    lexer: &mut Lexer<'_>,
+    text: &str,
+) -> Result<String, NoMemory> {
     let text = Name::from_text(alloc, text)?;
     assert!(rt; text.text().len() <= 1000);
-    match Lexer::new(alloc, set)?.cut(alloc, &text) {
+    match lexer.cut(alloc, &text) {
         Ok(tokens) => tokens_text(alloc, tokens.as_slice()),
         Err(LexFault::NoToken(s)) => Ok(format!(in alloc; "none at {}..{}", s.start, s.end)?),
         Err(LexFault::NoMemory) => Err(NoMemory),
     }
 }
 
-// Cuts texts by a set.
+// Cuts texts.
 fn check_texts(
     rt: &impl Abort,
     alloc: Global,
-    set: &TokenSet,
+    mut lexer: Lexer<'_>,
     cuts: &[(&str, &str)],
 ) -> Result<(), NoMemory> {
     for (text, tokens) in cuts {
-        assert_eq!(rt; shown(rt, alloc, set, text)?.as_str(), *tokens, "at {text}");
+        assert_eq!(rt;
+            shown(rt, alloc, &mut lexer, text)?.as_str(),
+            *tokens,
+            "at {text}"
+        );
     }
     Ok(())
 }
 
 // How many bytes the front takes that is known at the start of each text, or none.
-fn check_fronts(rt: &impl Abort, set: &TokenSet, fronts: &[(&str, usize)]) {
+fn check_fronts(rt: &impl Abort, tables: &LexerTables, fronts: &[(&str, usize)]) {
     for (text, bytes) in fronts {
-        let known = set
-            .front_of(text)
-            .map_or(0, |front| front.text.bytes().len());
+        let known = known_next(tables.fronts(), text).map_or(0, |next| next.bytes);
         assert_eq!(rt; known, *bytes, "at {text}");
     }
 }
 
-// Makes a set of these words and terminals, and cuts texts by it, before and after it knows its fronts.
+// Makes a set of these words and terminals, and cuts texts by it, without and with its fronts.
 fn check_cuts(
     rt: &impl Abort,
     alloc: Global,
@@ -117,10 +125,16 @@ fn check_cuts(
     let mut patterns = MemPatterns::new(Vec::new(alloc));
     let made = TokenSet::make(alloc, keywords, terminals, &mut patterns);
     let set = made.expect(rt, "the patterns are made");
-    check_texts(rt, alloc, &set, cuts)?;
-    let set = with_fronts(alloc, set)?;
-    check_fronts(rt, &set, fronts);
-    check_texts(rt, alloc, &set, cuts)
+    let unknown = Vec::new(alloc);
+    check_texts(
+        rt,
+        alloc,
+        Lexer::over(alloc, &set, unknown.as_slice())?,
+        cuts,
+    )?;
+    let tables = LexerTables::of(alloc, set)?;
+    check_fronts(rt, &tables, fronts);
+    check_texts(rt, alloc, Lexer::new(alloc, &tables)?, cuts)
 }
 
 #[test]

@@ -14,7 +14,7 @@ use Rattle.lw_text.specs.Lines.{AreLines, last, next, IsNoBreak, Line, line_feed
 use Rattle.lw_text.specs.Offset.{IsOffset, in_line}
 use Rattle.lw_text.specs.declared.place.Pos.{Pos}
 use Rattle.lw_text.specs.declared.units.Encoding.TheVariants.{Utf16}
-use Rattle.lw_make.specs.declared.documents.TheConstants.{GREATEST_WORKSPACE}
+use Rattle.lw_base.specs.declared.limits.TheConstants.{GREATEST_WORKSPACE}
 use Rattle.lw_make.specs.Made.{behind_model, edit_line, made_change, made_text, model_line, state_line, state_lines}
 use Rattle.lw_make.proofs.Lengths.{text_fits}
 

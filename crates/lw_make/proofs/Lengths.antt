@@ -5,7 +5,8 @@ use Rattle.std.proofs.lemmas.List.Concat.{length-flat_map}
 use Rattle.std.specs.Fmt.{digits}
 use Rattle.std.specs.List.{range_with_len}
 use Rattle.lw_make.specs.Made.{made_text, model_line, state_line, state_lines}
-use Rattle.lw_make.specs.declared.documents.TheConstants.{GREATEST_WORKSPACE, LONGEST_MADE_TEXT}
+use Rattle.lw_make.specs.declared.documents.TheConstants.{LONGEST_MADE_TEXT}
+use Rattle.lw_base.specs.declared.limits.TheConstants.{GREATEST_WORKSPACE}
 
 length-state_line : (document next state : ℕ) → length (state_line document next state) ≡
     25 + 2 * length (decimal document) + length (decimal next) + 2 * length (decimal state) + length (decimal ((state + 1) % 20))

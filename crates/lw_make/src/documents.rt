@@ -2,12 +2,9 @@
 ghost use Rattle.std.specs.Prelude.{◌≡◌, ◌<◌, ◌≤◌, ◌++◌, length, string_bytes, IfOk};
 ghost use Rattle.lw_make.specs.Made as spec;
 
-use lw_base::{Name, NoMemory};
+use lw_base::{GREATEST_WORKSPACE, Name, NoMemory};
 use std::alloc::Global;
 use std::fmt::Write;
-
-/// The greatest number of documents of a workspace.
-pub const GREATEST_WORKSPACE: u32 = 9_999;
 
 /// How many states each document has.
 pub const STATES: u32 = 20;

@@ -2,8 +2,7 @@
 ghost use Rattle.std.specs.Prelude.{◌≡◌, ◌<◌, IfOk};
 ghost use Rattle.lw_make.specs.Made as spec;
 
-use crate::documents::GREATEST_WORKSPACE;
-use lw_base::{Name, NoMemory};
+use lw_base::{GREATEST_WORKSPACE, Name, NoMemory};
 use lw_text::{Change, Pos};
 use std::alloc::Global;
 

@@ -4,7 +4,8 @@ ghost use Rattle.lw_text.specs.Changes.{Changes};
 ghost use Rattle.lw_text.specs.declared.units.Encoding.TheVariants.{Utf16};
 ghost use Rattle.lw_make.specs.Made as spec;
 
-use crate::documents::{GREATEST_WORKSPACE, LONGEST_MADE_TEXT};
+use crate::documents::LONGEST_MADE_TEXT;
+use lw_base::GREATEST_WORKSPACE;
 
 /// The eighth address, the two texts of a workspace of two, and the third edit: in each text the last state leads round to
 /// the first, and the last document to the first.

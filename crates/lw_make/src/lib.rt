@@ -13,7 +13,7 @@ mod documents;
 mod edits;
 mod laws;
 
-pub use documents::{GREATEST_WORKSPACE, LONGEST_MADE_TEXT, STATES, made_address, made_text};
+pub use documents::{LONGEST_MADE_TEXT, STATES, made_address, made_text};
 pub use edits::{DOCUMENTS_PER_EDIT, MadeEdit, edit_count, made_edit};
 pub use laws::{
     addresses_are_distinct, documents_written_out, edits_go_behind_the_model,

@@ -12,7 +12,7 @@ use Rattle.lw_machine.proofs.Contents.{to_end_same}
 use Rattle.lw_machine.proofs.Places.{put_elsewhere}
 use Rattle.lw_make.specs.Made.{edit_count, made_address, made_edit}
 use Rattle.lw_make.specs.declared.edits.MadeEdit.{MadeEdit}
-use Rattle.lw_make.specs.declared.documents.TheConstants.{GREATEST_WORKSPACE}
+use Rattle.lw_base.specs.declared.limits.TheConstants.{GREATEST_WORKSPACE}
 use Rattle.lw_text.specs.Changes.{AreMade, Changes, made as is_made}
 use Rattle.lw_text.specs.declared.change.Change.{Change}
 use Rattle.lw_text.specs.declared.units.Encoding.TheVariants.{Utf16}

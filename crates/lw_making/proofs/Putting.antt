@@ -10,7 +10,7 @@ use Rattle.lw_machine.specs.Documents.{Document, Documents, present_texts}
 use Rattle.lw_machine.specs.Events.{put, with_text}
 use Rattle.lw_machine.proofs.Places.{order, put_here, put_elsewhere}
 use Rattle.lw_make.specs.Made.{made_address, made_text}
-use Rattle.lw_make.specs.declared.documents.TheConstants.{GREATEST_WORKSPACE}
+use Rattle.lw_base.specs.declared.limits.TheConstants.{GREATEST_WORKSPACE}
 use Rattle.lw_making.specs.Making.{with_made}
 
 -- ---- one number more

@@ -5,7 +5,7 @@ use Rattle.std.proofs.lemmas.List.{length-map}
 use Rattle.std.proofs.lemmas.Option.{none-some, same_Some}
 use Rattle.lw_base.specs.declared.limits.TheConstants.{LONGEST_TEXT}
 use Rattle.lw_docs.specs.Documents.{ByAddress, Numbered}
-use Rattle.lw_docs.specs.declared.docs.TheConstants.{MOST_DOCUMENTS}
+use Rattle.lw_base.specs.declared.limits.TheConstants.{MOST_DOCUMENTS}
 use Rattle.lw_machine.specs.Documents.{Documents, present_texts}
 use Rattle.lw_machine.specs.Events.{put}
 use Rattle.lw_machine.proofs.Places.{order, same_documents}

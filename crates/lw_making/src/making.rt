@@ -12,11 +12,11 @@ ghost use Rattle.lw_making.specs.Unedited.{AreUnedited};
 ghost use Rattle.lw_reading.specs.Laws.{IsReadOneWay};
 
 use crate::summary::{Summary, added, summary_of};
-use lw_base::{NoMemory, Steps};
+use lw_base::{GREATEST_WORKSPACE, NoMemory, Steps};
 use lw_build::{WorkFault, Workspace};
 use lw_lang::Language;
 use lw_make::{
-    GREATEST_WORKSPACE, addresses_are_distinct, edit_count, edits_go_behind_the_model,
+    addresses_are_distinct, edit_count, edits_go_behind_the_model,
     made_address, made_edit, made_text,
 };
 use std::alloc::Global;

@@ -3,10 +3,9 @@ ghost use Rattle.std.specs.Prelude.{◌≡◌, ◌<◌, ◌≤◌, IfOk};
 ghost use Rattle.lw_reading.specs.Laws.{IsReadOneWay};
 
 use crate::{make, summary_text};
-use lw_base::{Name, NoMemory, Steps};
+use lw_base::{GREATEST_WORKSPACE, Name, NoMemory, Steps};
 use lw_io::{MemPatterns, MemStore};
 use lw_lang::{Language, compile};
-use lw_make::GREATEST_WORKSPACE;
 use std::alloc::Global;
 use std::marker::Brand;
 use std::process::Abort;

@@ -7,3 +7,4 @@ pub mod Searching
 pub mod Parsed
 pub mod Tabled
 pub mod Reading
+pub mod Windows

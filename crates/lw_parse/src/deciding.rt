@@ -10,7 +10,6 @@ ghost use Rattle.lw_parse.specs.Deciding.{IsDecided, IsStepBy};
 use crate::run::Run;
 use crate::turn::{Places, Step, Turn};
 use lw_base::{KindId, NoMemory, PointId, RuleId};
-use lw_heads::Window;
 use lw_program::Instr;
 use lw_recipes::TreeMark;
 
@@ -111,22 +110,27 @@ impl Run<'_> {
         Ok(in_value(number, end, step))
     }
 
-    /// The next kinds as the tables see them.
-    fn window(&self) -> Window
-        ensures { seen_in result.items ≡ window (state_of self.now).parser.k (state_of self.now).unread }
+    /// The kind that stands so many places behind the next, or the end.
+    fn kind_at(&self, place: usize) -> Option<KindId>
+        ensures { option_map (λ kind. kind.0) result ≡ slice_get (state_of self.now).unread place }
     {
-        let mut seen = Window::new();
-        for place in 0..self.parser.depth() {
-            seen.push(self.unread.get(place).copied());
-        }
-        seen
+        self.unread.get(place).copied()
+    }
+
+    /// The next three kinds, as a parser sees them that looks at three.
+    #[tactic(auto, using(crate::proofs::Windows::three_places))]
+    fn next_three(&self) -> [Option<KindId>; 3]
+        ensures { seen_in result ≡ window 3 (state_of self.now).unread }
+    {
+        [self.kind_at(0), self.kind_at(1), self.kind_at(2)]
     }
 
     /// The way that the next kinds come next at.
     fn way(&self, point: PointId) -> Option<u16>
         ensures { IsWayBy (state_of self.now).parser (state_of self.now).unread point result }
     {
-        self.parser.way(point, self.window().as_slice())
+        let seen = self.next_three();
+        self.parser.way(point, &seen[..self.parser.depth()])
     }
 
     /// One of the ways from the first place up to the end.

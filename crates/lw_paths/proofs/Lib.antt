@@ -1,4 +1,3 @@
-mod Bytes
 mod Escaped
 mod RoundTrip
 mod WrittenPaths

@@ -8,7 +8,7 @@ use Rattle.percent_encoding.specs.Percent.{percent_decode, percent_encode}
 use Rattle.percent_encoding.proofs.PercentLemmas.{All-percent_encode, IsEscapeByte, percent_encode_kept, round_trip}
 use Rattle.lw_paths.specs.Paths.{address_of, before_query, ends_path, IsPathOf}
 use Rattle.lw_paths.specs.declared.paths.TheConstants.{ESCAPED}
-use Rattle.lw_paths.proofs.Bytes.{bytes_from_utf8}
+use Rattle.lw_base.proofs.Bytes.{utf8_small}
 
 -- the byte begins neither a query nor a fragment
 abbrev StaysInPath : ℕ → Type 0
@@ -39,7 +39,7 @@ slash_kept rest = percent_encode_kept ESCAPED 47 rest refl
 pub has_its_path : (path rest : List ℕ) → path ≡ codes "/" ++ rest → IsUtf8 path → ¬ Contains path 0 → IsPathOf (address_of path) path
 has_its_path path rest absolute utf8 nonzero =
     let escaped : percent_encode ESCAPED path ≡ codes "/" ++ percent_encode ESCAPED rest = ap (percent_encode ESCAPED) absolute ∙ slash_kept rest in
-    let read = round_trip ESCAPED path refl (bytes_from_utf8 path utf8) in
+    let read = round_trip ESCAPED path refl (utf8_small path utf8) in
     record {
       behind = percent_encode ESCAPED rest;
       begins = ap (λ bytes. codes "file://" ++ bytes) escaped;

@@ -111,10 +111,14 @@ fn value_text(alloc: Global, value: &Value) -> Result<String, NoMemory> {
     })
 }
 
-fn put_values(alloc: Global, shown: &mut String, values: &[Value]) -> Result<(), NoMemory> {
-    for value in values {
+fn put_values(
+    alloc: Global,
+    shown: &mut String,
+    entries: &[(NodeId, PropId, Value)],
+) -> Result<(), NoMemory> {
+    for entry in entries {
         shown.push_str(" ")?;
-        shown.push_str(value_text(alloc, value)?.as_str())?;
+        shown.push_str(value_text(alloc, &entry.2)?.as_str())?;
     }
     shown.push_str(";")?;
     Ok(())

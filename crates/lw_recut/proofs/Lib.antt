@@ -1,5 +1,5 @@
 mod Automata
 pub mod Behind
+mod FrontEnds
 mod SameTokens
 mod Seaming
-pub mod Small

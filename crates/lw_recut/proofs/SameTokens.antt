@@ -9,7 +9,7 @@ use Rattle.std.specs.List.{starts_with}
 use Rattle.lw_base.specs.declared.token.Token.{Token}
 
 abbrev token_eq : Token → Token → Bool
-token_eq a b = a.kind.0 == b.kind.0 && ((a.span.start == b.span.start && a.span.end == b.span.end) && beq a.hidden b.hidden)
+token_eq a b = a.kind.0 == b.kind.0 && (beq a.hidden b.hidden && (a.span.start == b.span.start && a.span.end == b.span.end))
 
 same_token : (a b : Token) → a.kind.0 ≡ b.kind.0 → a.span.start ≡ b.span.start → a.span.end ≡ b.span.end → a.hidden ≡ b.hidden → a ≡ b
 same_token a b kind start end hidden =
@@ -20,13 +20,13 @@ same_token a b kind start end hidden =
 
 token_eq-decides : (a b : Token) → Decides (token_eq a b) (a ≡ b)
 token_eq-decides a b =
-    let parts = Decides-and (a.kind.0 == b.kind.0) ((a.span.start == b.span.start && a.span.end == b.span.end) && beq a.hidden b.hidden)
+    let parts = Decides-and (a.kind.0 == b.kind.0) (beq a.hidden b.hidden && (a.span.start == b.span.start && a.span.end == b.span.end))
     (Decides-eqb a.kind.0 b.kind.0)
-    (Decides-and (a.span.start == b.span.start && a.span.end == b.span.end) (beq a.hidden b.hidden)
-    (Decides-and (a.span.start == b.span.start) (a.span.end == b.span.end) (Decides-eqb a.span.start b.span.start) (Decides-eqb a.span.end b.span.end))
-    (booleans_Decides a.hidden b.hidden)) in (
-      λ is. (let all = parts.0 is in same_token a b all.0 all.1.0.0 all.1.0.1 all.1.1),
-      λ same. parts.1 (ap (λ t. t.kind.0) same, ((ap (λ t. t.span.start) same, ap (λ t. t.span.end) same), ap (λ t. t.hidden) same)),
+    (Decides-and (beq a.hidden b.hidden) (a.span.start == b.span.start && a.span.end == b.span.end)
+    (booleans_Decides a.hidden b.hidden)
+    (Decides-and (a.span.start == b.span.start) (a.span.end == b.span.end) (Decides-eqb a.span.start b.span.start) (Decides-eqb a.span.end b.span.end))) in (
+      λ is. (let all = parts.0 is in same_token a b all.0 all.1.1.0 all.1.1.1 all.1.0),
+      λ same. parts.1 (ap (λ t. t.kind.0) same, (ap (λ t. t.hidden) same, (ap (λ t. t.span.start) same, ap (λ t. t.span.end) same))),
     )
 
 -- tokens begin with these, or they do not

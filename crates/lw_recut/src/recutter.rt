@@ -15,9 +15,8 @@ use crate::recut::Recut;
 use crate::seam::{Meeting, Seam, compare};
 use lw_base::{LONGEST_TEXT, Name, NoMemory, Token};
 use lw_foresee::Walker;
-use lw_lexer::{LexFault, Lexer, Next};
+use lw_lexer::{LexFault, Lexer, LexerTables, Next};
 use lw_sure::{next_stays, sure_tokens};
-use lw_terminals::TokenSet;
 use regex_nfa::Nfa;
 use std::alloc::Global;
 use std::marker::Model;
@@ -53,25 +52,26 @@ impl<'a> Model for Recutter<'a> {
 }
 
 impl<'a> Recutter<'a> {
-    /// For texts that begin with this one, of which these are the tokens by the set.
+    /// For texts that begin with this one, of which these are the tokens by the set of these tables.
     pub fn of(
         alloc: Global,
-        set: &'a TokenSet,
+        tables: &'a LexerTables,
         front: &Name,
         tokens: &[Token],
     ) -> Result<Recutter<'a>, NoMemory>
         requires short { length front.now ≤ LONGEST_TEXT }
-        requires cut { IsCut set.now.lexicon front.now tokens.now }
+        requires cut { IsCut tables.now.lexicon front.now tokens.now }
         requires places { All (IsTokenPlace front.now) tokens.now }
-        ensures lexicon { IfOk result (λ made. made.lexicon ≡ set.now.lexicon) }
+        ensures lexicon { IfOk result (λ made. made.lexicon ≡ tables.now.lexicon) }
         ensures end { IfOk result (λ made. IsEndOf made front.now tokens.now) }
         ensures own { IfOk result (λ made. IsCut made.lexicon made.text made.tokens) }
     {
+        let set = tables.set();
         let keywords = set.keywords();
         let nfas = set.nfas(alloc)?;
         let from = sure_place(alloc, keywords, &nfas, front, tokens);
         let text = Name::from_text(alloc, &front.text()[from..])?;
-        let mut lexer = Lexer::new(alloc, set)?;
+        let mut lexer = Lexer::new(alloc, tables)?;
         let tokens = own_tokens(alloc, &mut lexer, &text)?;
         Ok(Recutter {
             lexer,

@@ -6,7 +6,7 @@ ghost use Rattle.lw_base.specs.declared.limits.TheConstants.{LONGEST_TEXT};
 use crate::Recutter;
 use lw_base::{Name, NoMemory};
 use lw_io::MemPatterns;
-use lw_lexer::{LexFault, Lexer};
+use lw_lexer::{LexFault, Lexer, LexerTables};
 use lw_terminals::{TerminalSource, TokenSet};
 use std::alloc::Global;
 use std::process::Abort;
@@ -32,25 +32,25 @@ fn terminals(alloc: Global) -> Result<Vec<TerminalSource>, NoMemory> {
     Ok(sources)
 }
 
-fn token_set(rt: &impl Abort, alloc: Global) -> Result<TokenSet, NoMemory> {
+fn tables(rt: &impl Abort, alloc: Global) -> Result<LexerTables, NoMemory> {
     let terminals = terminals(alloc)?;
     assert!(rt; terminals.len() <= 100);
     let mut patterns = MemPatterns::new(Vec::new(alloc));
     let made = TokenSet::make(alloc, Vec::new(alloc), terminals, &mut patterns);
-    Ok(made.expect(rt, "the patterns are made"))
+    LexerTables::of(alloc, made.expect(rt, "the patterns are made"))
 }
 
 // What cuts texts that begin with this one.
 fn recutter<'a>(
     rt: &impl Abort,
     alloc: Global,
-    set: &'a TokenSet,
+    tables: &'a LexerTables,
     front: &str,
 ) -> Result<Recutter<'a>, NoMemory> {
     let front = Name::from_text(alloc, front)?;
     assert!(rt; front.text().len() <= 1000);
-    match Lexer::new(alloc, set)?.cut(alloc, &front) {
-        Ok(tokens) => Recutter::of(alloc, set, &front, tokens.as_slice()),
+    match Lexer::new(alloc, tables)?.cut(alloc, &front) {
+        Ok(tokens) => Recutter::of(alloc, tables, &front, tokens.as_slice()),
         Err(LexFault::NoToken(_)) => panic!(rt; "the text is cut"),
         Err(LexFault::NoMemory) => Err(NoMemory),
     }
@@ -60,12 +60,12 @@ fn recutter<'a>(
 fn shown(
     rt: &impl Abort,
     alloc: Global,
-    set: &TokenSet,
+    tables: &LexerTables,
     front: &str,
     more: &str,
     rest: &str,
 ) -> Result<String, NoMemory> {
-    let mut recutter = recutter(rt, alloc, set, front)?;
+    let mut recutter = recutter(rt, alloc, tables, front)?;
     match recutter.cut(alloc, more)? {
         Some(it) => {
             let seam = recutter.seam(alloc, &it, rest)?;
@@ -78,7 +78,7 @@ fn shown(
 #[test]
 fn little_is_cut_again_and_the_seam_is_known(rt: HostRuntime) -> Result<(), Fail> {
     let alloc = rt.alloc();
-    let set = token_set(&rt, alloc)?;
+    let tables = tables(&rt, alloc)?;
     for (front, more, rest, answer) in [
         ("", "a", " ", "0 Meets"),
         // Another blank may follow the last token of the text, and nothing changes the others.
@@ -94,7 +94,7 @@ fn little_is_cut_again_and_the_seam_is_known(rt: HostRuntime) -> Result<(), Fail
         ("a = b", "c", ";", "none"),
         ("a = ", "?", "", "none"),
     ] {
-        let shown = shown(&rt, alloc, &set, front, more, rest)?;
+        let shown = shown(&rt, alloc, &tables, front, more, rest)?;
         assert_eq!(rt; shown.as_str(), answer, "at {front}|{more}|{rest}");
     }
     Ok(())

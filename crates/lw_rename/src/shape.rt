@@ -1,9 +1,10 @@
 // The shapes of values.
 ghost use Rattle.std.specs.Prelude.{◌≡◌, ◌↔◌, IsTrue, map};
 ghost use Rattle.lw_renaming.specs.Shapes.{shape_of_value};
+ghost use Rattle.lw_tree.specs.Keyed.{values_of};
 ghost use Rattle.lw_rename.specs.Told.{told_shape};
 
-use lw_base::{NodeId, RefId};
+use lw_base::{NodeId, PropId, RefId};
 use lw_tree::Value;
 
 /// A value without its text, its number and its place.
@@ -40,14 +41,17 @@ fn has_shape_of(one: &Value, other: &Value) -> bool
 }
 
 /// The values of a property have the shapes of others, in their order.
-pub(crate) fn have_shapes_of(values: &[Value], others: &[Value]) -> bool
-    ensures { IsTrue result ↔ (map shape_of_value values.now ≡ map shape_of_value others.now) }
+pub(crate) fn have_shapes_of(
+    entries: &[(NodeId, PropId, Value)],
+    others: &[(NodeId, PropId, Value)],
+) -> bool
+    ensures { IsTrue result ↔ (map shape_of_value (values_of entries.now) ≡ map shape_of_value (values_of others.now)) }
 {
-    if values.len() != others.len() {
+    if entries.len() != others.len() {
         return false;
     }
-    'comparing: for i in 0..values.len() {
-        if !has_shape_of(&values[i], &others[i]) {
+    'comparing: for i in 0..entries.len() {
+        if !has_shape_of(&entries[i].2, &others[i].2) {
             return false;
         }
     }

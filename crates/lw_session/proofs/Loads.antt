@@ -4,7 +4,7 @@ use Rattle.std.proofs.lemmas.Option.{same_Some}
 use Rattle.std.specs.FinMap.{get, get-empty, empty, len}
 use Rattle.lw_base.specs.declared.limits.TheConstants.{LONGEST_TEXT}
 use Rattle.lw_docs.specs.Documents.{Numbered}
-use Rattle.lw_docs.specs.declared.docs.TheConstants.{MOST_DOCUMENTS}
+use Rattle.lw_base.specs.declared.limits.TheConstants.{MOST_DOCUMENTS}
 use Rattle.lw_build.specs.Agreeing.{Agrees, Known, known, known_here}
 use Rattle.lw_build.specs.Faults as faults
 use Rattle.lw_build.specs.Faults.{HasNoRoom, IsPutFault}

@@ -6,7 +6,7 @@ use Rattle.std.proofs.lemmas.Option.{none-some}
 use Rattle.std.proofs.lemmas.Result.{IfOk-weaker}
 use Rattle.std.specs.FinMap.{get, insert, len, remove}
 use Rattle.lw_docs.specs.Documents.{Numbered}
-use Rattle.lw_docs.specs.declared.docs.TheConstants.{MOST_DOCUMENTS}
+use Rattle.lw_base.specs.declared.limits.TheConstants.{MOST_DOCUMENTS}
 use Rattle.lw_grammar.specs.declared.grammar.Grammar.{Grammar}
 use Rattle.lw_io.specs.Store.{AnswersFile, CountsFind}
 use Rattle.lw_io.specs.declared.store.Found.{Found}

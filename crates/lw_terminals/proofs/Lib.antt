@@ -2,4 +2,3 @@ pub mod CompiledLemmas
 pub mod MadeLemmas
 pub mod StartingLemmas
 pub mod FirstByteLemmas
-pub mod FrontLemmas

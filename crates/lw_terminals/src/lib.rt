@@ -9,13 +9,10 @@
 //! twice.
 //!
 //! What begins with a byte with which no match of a pattern begins is not tried: each terminal has a table of these bytes, and each
-//! keyword is found by its first byte. A set may know fronts ([`Front`]): texts that are the next token wherever they begin a text and
-//! one of some bytes follows, as a blank is before a letter, and `state` before a blank. No search is needed there. What the set is
-//! seen as does not hang on the fronts that it knows; `lw_lexer` finds them.
+//! keyword is found by its first byte.
 #![tactic(auto)]
 
 mod fault;
-mod front;
 mod make;
 mod matcher;
 mod source;
@@ -24,7 +21,6 @@ mod terminal;
 mod token_set;
 
 pub use fault::MakeTokensFault;
-pub use front::Front;
 pub use matcher::TerminalMatcher;
 pub use source::TerminalSource;
 pub use terminal::Terminal;

@@ -3,7 +3,7 @@ ghost use Rattle.std.specs.Prelude.{◌≡◌, IfOk, map};
 
 use crate::make::{keyword_texts, make_terminals};
 use crate::starting::by_first_byte;
-use crate::{Front, MakeTokensFault, Terminal, TerminalMatcher, TerminalSource};
+use crate::{MakeTokensFault, Terminal, TerminalMatcher, TerminalSource};
 use lw_base::{Items, KindId, Name, NoMemory};
 use lw_foresee::nfas_of;
 use lw_io::Patterns;
@@ -19,8 +19,6 @@ pub struct TokenSet {
     texts: Vec<Name>,
     // for each byte the places of the keywords that begin with it
     starting: Vec<Items<usize>>,
-    // for each byte the fronts that are known and begin with it
-    fronts: Vec<Items<Front>>,
 }
 
 impl Drop for TokenSet {
@@ -31,7 +29,6 @@ impl Drop for TokenSet {
             terminals: _,
             texts: _,
             starting: _,
-            fronts: _,
         } = self;
     }
 }
@@ -39,7 +36,6 @@ impl Drop for TokenSet {
 impl Model for TokenSet {
     ghost use Rattle.lw_terminals.specs.TokenKinds.{TokenKinds, AreTokenKinds};
     ghost use Rattle.lw_terminals.specs.Starting.{IsByFirstByte};
-    ghost use Rattle.lw_terminals.specs.Fronts.{AreFronts};
 
     ghost Value = { TokenKinds };
 
@@ -51,15 +47,13 @@ impl Model for TokenSet {
     ghost invariant = { λ s. AreTokenKinds (record {
       lexicon = record { keywords = s.keywords.items; terminals = s.terminals.items };
       texts = s.texts.items;
-    }) × IsByFirstByte s.keywords.items s.starting.items
-        × AreFronts (record { keywords = s.keywords.items; terminals = s.terminals.items }) s.fronts.items };
+    }) × IsByFirstByte s.keywords.items s.starting.items };
 }
 
 impl TokenSet {
-    ghost use Rattle.std.specs.Prelude.{◌≡◌, ◌↔◌, ℕ, ◌+◌, ◌<◌, ◌≤◌, All, IsTrue, IfOk, IfSome, OnOk, Err, length, slice_get, Some, IsCharBoundary};
+    ghost use Rattle.std.specs.Prelude.{◌≡◌, ◌↔◌, ℕ, ◌+◌, ◌<◌, ◌≤◌, All, Any, IsTrue, IfOk, IfSome, OnOk, Ok, Err, length, map, slice_get, Some, None};
     ghost use Rattle.lw_foresee.specs.Nfas.{AreNfas};
-    ghost use Rattle.lw_tokens.specs.NextToken.{IsNextToken};
-    ghost use Rattle.lw_terminals.specs.Fronts.{AreFronts, token_of};
+    ghost use Rattle.lw_io.specs.Patterns.{anchored, RegexRefuses};
     ghost use Rattle.lw_tokens.specs.Keywords.{AreKeywords};
     ghost use Rattle.lw_terminals.specs.TokenKinds.{AreTokenKinds};
     ghost use Rattle.lw_terminals.specs.Starting.{AreStarting};
@@ -94,38 +88,13 @@ impl TokenSet {
             terminals,
             texts,
             starting,
-            fronts: Vec::new(alloc),
         })
     }
 
-    /// Has the set know these fronts, which stand in lists by their first byte, and no others. By them texts are cut with fewer
-    /// searches; the tokens are the same.
-    pub fn know(&mut self, fronts: Vec<Items<Front>>)
-        requires fronts { AreFronts self.old.lexicon fronts.items }
-        ensures same { self.new ≡ self.old }
-    {
-        self.fronts = fronts;
-    }
-
-    /// A front that is known with which the text begins, and goes on as it is to: the front is the next token.
-    pub fn front_of(&self, text: &str) -> Option<&Front>
-        ensures next { IfSome result (λ front. IsNextToken self.now.lexicon text.now (Some (token_of front.now))) }
-        ensures boundary { IfSome result (λ front. IsCharBoundary text.now (length front.now.text)) }
-        ensures kinds { IfSome result (λ _. AreTokenKinds self.now) }
-    {
-        let first = text.as_bytes().first()?;
-        let fronts = self.fronts.get(*first as usize)?;
-        for front in fronts.as_slice() {
-            if front.begins(text) {
-                return Some(front);
-            }
-        }
-        None
-    }
-
-    /// The automata of the terminals' patterns, in order, where each pattern has one.
+    /// The automata of the terminals' patterns, in order, or None where a pattern has none.
     pub fn nfas(&self, alloc: Global) -> Result<Option<Vec<Nfa>>, NoMemory>
-        ensures { IfOk result (λ found. IfSome found (λ nfas. AreNfas self.now.lexicon.terminals nfas.items)) }
+        ensures made { IfOk result (λ found. IfSome found (λ nfas. AreNfas self.now.lexicon.terminals nfas.items)) }
+        ensures none { result ≡ Ok None → Any (λ pattern. RegexRefuses (anchored pattern)) (map (λ form. form.pattern) self.now.lexicon.terminals) }
     {
         let patterns = patterns_of(alloc, self.terminals())?;
         nfas_of(alloc, patterns.as_slice())

@@ -7,9 +7,10 @@ use Rattle.std.proofs.lemmas.List.FromFn.{fill_by_all, get_or-map-range_with_len
 use Rattle.std.specs.List.{range_with_len}
 use Rattle.std.specs.Option.{option_and_then, option_map, option_or}
 use Rattle.std.specs.Prelude.{if◌then◌else◌}
+use Rattle.lw_base.specs.declared.numbers.NodeId.{NodeId}
 use Rattle.lw_base.specs.declared.numbers.PropId.{PropId}
 use Rattle.lw_tree.specs.declared.node.Value.{Value}
-use Rattle.lw_tree.specs.Keyed.{Entries, keys_of, values_of}
+use Rattle.lw_tree.specs.Keyed.{Entries, key_of, keys_of, values_of}
 use Rattle.lw_tree.specs.LastPlaces.{Places, is_same_key, last_place, name_places, place_before}
 use Rattle.lw_tree.specs.Parts.{last_text, name_by, text_in, values_at}
 
@@ -63,25 +64,26 @@ pushed : (here : Bool) (place : Option ℕ) (size : ℕ) (first : Option ℕ) �
 pushed true place size first = refl
 pushed false place size first = refl
 
-last_push : (wanted key : ℕ × ℕ) (keys : List (ℕ × ℕ)) →
-    last_place wanted (keys ++ key ∷ []) ≡ (if is_same_key wanted key then Some (length keys) else last_place wanted keys)
-last_push wanted key [] = refl
-last_push wanted key (k ∷ ks) =
-    ap (λ place. option_or (option_map suc place) (if is_same_key wanted k then Some 0 else None)) (last_push wanted key ks)
-    ∙ pushed (is_same_key wanted key) (last_place wanted ks) (length ks) (if is_same_key wanted k then Some 0 else None)
+last_push : (wanted : ℕ × ℕ) (e : NodeId × PropId × Value) (es : Entries) →
+    last_place wanted (keys_of (es ++ e ∷ [])) ≡ (if is_same_key wanted (key_of e) then Some (length es) else last_place wanted (keys_of es))
+last_push wanted e [] = refl
+last_push wanted e (x ∷ es) =
+    ap (λ place. option_or (option_map suc place) (if is_same_key wanted (key_of x) then Some 0 else None)) (last_push wanted e es)
+    ∙ pushed (is_same_key wanted (key_of e)) (last_place wanted (keys_of es)) (length es) (if is_same_key wanted (key_of x) then Some 0 else None)
 
--- with one more key
-pub last_more : (wanted : ℕ × ℕ) (keys : List (ℕ × ℕ)) (i : ℕ) (d : ℕ × ℕ) → i < length keys →
-    last_place wanted (take (i + 1) keys) ≡ (if is_same_key wanted (get_or keys i d) then Some i else last_place wanted (take i keys))
-last_more wanted keys i d lt =
-    let front : length (take i keys) ≡ i = omega (arith, length-take i keys, lt) in
-    ap (last_place wanted) (take_more keys i d lt) ∙ last_push wanted (get_or keys i d) (take i keys)
-    ∙ ap (λ size. if is_same_key wanted (get_or keys i d) then Some size else last_place wanted (take i keys)) front
+-- with one more value
+last_more : (wanted : ℕ × ℕ) (es : Entries) (i : ℕ) (d e : NodeId × PropId × Value) → i < length es → e ≡ get_or es i d →
+    last_place wanted (keys_of (take (i + 1) es)) ≡ (if is_same_key wanted (key_of e) then Some i else last_place wanted (keys_of (take i es)))
+last_more wanted es i d e lt is =
+    let front : length (take i es) ≡ i = omega (arith, length-take i es, lt) in
+    ap (λ l. last_place wanted (keys_of l)) (take_more es i d lt) ∙ last_push wanted (get_or es i d) (take i es)
+    ∙ ap (λ size. if is_same_key wanted (key_of (get_or es i d)) then Some size else last_place wanted (keys_of (take i es))) front
+    ∙ ap (λ x. if is_same_key wanted (key_of x) then Some i else last_place wanted (keys_of (take i es))) (sym is)
 
--- behind the last place of each node's values among the first i keys
-pub record AreLasts (p count : ℕ) (keys : List (ℕ × ℕ)) (i : ℕ) (behind : List ℕ) : Type 0 where
+-- behind the last place of each node's values among the first i
+pub record AreLasts (p count : ℕ) (es : Entries) (i : ℕ) (behind : List ℕ) : Type 0 where
   pub long : length behind ≡ count
-  pub places : (n : ℕ) → n < count → place_before (get_or behind n 0) ≡ last_place (n, p) (take i keys)
+  pub places : (n : ℕ) → n < count → place_before (get_or behind n 0) ≡ last_place (n, p) (keys_of (take i es))
 
 own_key : (n p : ℕ) (key : ℕ × ℕ) → n ≡ key.0 → key.1 ≡ p → is_same_key (n, p) key ≡ true
 own_key n p key node prop = grind (arith, nat_tests)
@@ -95,39 +97,40 @@ other_prop n p key prop = grind (arith, nat_tests)
 pub no_node : (n p count : ℕ) (key : ℕ × ℕ) → count ≤ key.0 → n < count → is_same_key (n, p) key ≡ false
 no_node n p count key out lt = other_node n p key (λ e. omega (arith, e, out, lt))
 
--- one more key, of a value of this property
-pub one_last : (p count : ℕ) (keys : List (ℕ × ℕ)) (i : ℕ) (d : ℕ × ℕ) (behind behind' : List ℕ) → i < length keys →
-    (get_or keys i d).1 ≡ p → (get_or keys i d).0 < count → behind' ≡ set behind (get_or keys i d).0 (i + 1) → AreLasts p count keys i behind →
-    AreLasts p count keys (i + 1) behind'
-one_last p count keys i d behind behind' lt prop within written before =
-    let key : ℕ × ℕ = get_or keys i d in
-    let more : (n : ℕ) → last_place (n, p) (take (i + 1) keys) ≡ (if is_same_key (n, p) key then Some i else last_place (n, p) (take i keys)) =
-    λ n. last_more (n, p) keys i d lt in
-    let choice : ℕ → Bool → Option ℕ = λ n here. if here then Some i else last_place (n, p) (take i keys) in
+-- one more value, of this property
+pub one_last : (p count : ℕ) (es : Entries) (i : ℕ) (d e : NodeId × PropId × Value) (behind behind' : List ℕ) → i < length es →
+    e ≡ get_or es i d → e.1.0 ≡ p → e.0.0 < count → behind' ≡ set behind e.0.0 (i + 1) → AreLasts p count es i behind →
+    AreLasts p count es (i + 1) behind'
+one_last p count es i d e behind behind' lt is prop within written before =
+    let key : ℕ × ℕ = key_of e in
+    let more : (n : ℕ) → last_place (n, p) (keys_of (take (i + 1) es))
+    ≡ (if is_same_key (n, p) key then Some i else last_place (n, p) (keys_of (take i es))) = λ n. last_more (n, p) es i d e lt is in
+    let choice : ℕ → Bool → Option ℕ = λ n here. if here then Some i else last_place (n, p) (keys_of (take i es)) in
     let next : i + 1 ≡ suc i = omega arith in
-    subst (λ l. AreLasts p count keys (i + 1) l) (sym written)
+    subst (λ l. AreLasts p count es (i + 1) l) (sym written)
     (record {
       long = length-set behind key.0 (i + 1) ∙ before.long;
       places = λ n n_in. ⊎_elim
-          (λ e.
-          ap (λ m. place_before (get_or (set behind key.0 (i + 1)) m 0)) e
+          (λ here.
+          ap (λ m. place_before (get_or (set behind key.0 (i + 1)) m 0)) here
           ∙ ap place_before (get_or-set_same behind key.0 (i + 1) 0 (omega (arith, within, before.long)) ∙ next)
-          ∙ sym (more n ∙ ap (choice n) (own_key n p key e prop)))
+          ∙ sym (more n ∙ ap (choice n) (own_key n p key here prop)))
           (λ ne.
           ap place_before (get_or-set_other behind key.0 n (i + 1) 0 ne) ∙ before.places n n_in
           ∙ sym (more n ∙ ap (choice n) (other_node n p key ne)))
           (cases_eq n key.0);
     })
 
--- one more key, of no such value
-pub no_last : (p count : ℕ) (keys : List (ℕ × ℕ)) (i : ℕ) (d : ℕ × ℕ) (behind behind' : List ℕ) → i < length keys →
-    ((n : ℕ) → n < count → is_same_key (n, p) (get_or keys i d) ≡ false) → behind' ≡ behind → AreLasts p count keys i behind →
-    AreLasts p count keys (i + 1) behind'
-no_last p count keys i d behind behind' lt elsewhere same before =
-    subst (λ l. AreLasts p count keys (i + 1) l) (sym same)
+-- one more value, which is no such
+pub no_last : (p count : ℕ) (es : Entries) (i : ℕ) (d e : NodeId × PropId × Value) (behind behind' : List ℕ) → i < length es →
+    e ≡ get_or es i d → ((n : ℕ) → n < count → is_same_key (n, p) (key_of e) ≡ false) → behind' ≡ behind → AreLasts p count es i behind →
+    AreLasts p count es (i + 1) behind'
+no_last p count es i d e behind behind' lt is elsewhere same before =
+    subst (λ l. AreLasts p count es (i + 1) l) (sym same)
     (record {
       long = before.long;
       places = λ n n_in.
           before.places n n_in
-          ∙ sym (last_more (n, p) keys i d lt ∙ ap (λ here. if here then Some i else last_place (n, p) (take i keys)) (elsewhere n n_in));
+          ∙ sym (last_more (n, p) es i d e lt is
+          ∙ ap (λ here. if here then Some i else last_place (n, p) (keys_of (take i es))) (elsewhere n n_in));
     })

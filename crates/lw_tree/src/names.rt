@@ -1,7 +1,9 @@
 // Where the names of all nodes stand, by node.
 ghost use Rattle.std.specs.Prelude.{◌≡◌, ◌<◌, ◌^◌, ℕ, IfOk, None, length, slice_index, slice_index_or};
+ghost use Rattle.lw_tree.specs.Keyed.{keys_of};
 ghost use Rattle.lw_tree.specs.LastPlaces.{last_place, name_places, place_before};
 
+use crate::Value;
 use lw_base::{NoMemory, NodeId, PropId};
 use std::alloc::Global;
 use std::marker::Model;
@@ -26,19 +28,19 @@ impl Model for NameTable {
 /// The place behind the last value of this property of each of so many nodes, which is zero where it has none.
 fn behind_last(
     alloc: Global,
-    keys: &[(u32, u16)],
+    entries: &[(NodeId, PropId, Value)],
     prop: PropId,
     count: usize,
 ) -> Result<Vec<u32>, NoMemory>
-    requires { length keys.now < 2 ^ 32 }
+    requires { length entries.now < 2 ^ 32 }
     ensures count { IfOk result (λ behind. length behind.items ≡ count) }
     ensures places { IfOk result (λ behind. (n : ℕ) → n < count →
-        place_before (slice_index behind.items n) ≡ last_place (n, prop.0) keys.now) }
+        place_before (slice_index behind.items n) ≡ last_place (n, prop.0) (keys_of entries.now)) }
 {
     let mut behind = vec![in alloc; 0u32; count]?;
-    for (place, key) in keys.iter().enumerate() {
-        let node = key.0 as usize;
-        if key.1 == prop.0 && node < count {
+    for (place, entry) in entries.iter().enumerate() {
+        let node = entry.0.0 as usize;
+        if entry.1.0 == prop.0 && node < count {
             behind[node] = place as u32 + 1;
         }
     }
@@ -46,20 +48,20 @@ fn behind_last(
 }
 
 impl NameTable {
-    /// The places of the names of so many nodes, by the keys of all values, in one piece of memory. Linear in both. Where a place has
+    /// The places of the names of so many nodes, by all values in their order, in one piece of memory. Linear in both. Where a place has
     /// no number, memory is wanting.
     pub(crate) fn new(
         alloc: Global,
-        keys: &[(u32, u16)],
+        entries: &[(NodeId, PropId, Value)],
         name: Option<PropId>,
         count: usize,
     ) -> Result<NameTable, NoMemory>
-        ensures { IfOk result (λ table. table ≡ name_places name count keys.now) }
+        ensures { IfOk result (λ table. table ≡ name_places name count (keys_of entries.now)) }
     {
         let behind = match name {
             None => Vec::new(alloc),
-            Some(_) if keys.len() > u32::MAX as usize => return Err(NoMemory),
-            Some(prop) => behind_last(alloc, keys, prop, count)?,
+            Some(_) if entries.len() > u32::MAX as usize => return Err(NoMemory),
+            Some(prop) => behind_last(alloc, entries, prop, count)?,
         };
         Ok(NameTable { behind })
     }

@@ -123,13 +123,13 @@ const NODE_ROWS: [NodeRow; 2] = [
         number: 0,
         node: ROOT,
         children: &[NodeId(1)],
-        values: "Some((Name { text: \"m\" }, Span { start: 6, end: 7 })) [Child(NodeId(1))] []",
+        values: "Some((Name { text: \"m\" }, Span { start: 6, end: 7 })) [(NodeId(0), PropId(1), Child(NodeId(1)))] []",
     },
     NodeRow {
         number: 1,
         node: CHILD,
         children: &[],
-        values: "Some((Name { text: \"x\" }, Span { start: 14, end: 15 })) [] [Refers(RefId(0))]",
+        values: "Some((Name { text: \"x\" }, Span { start: 14, end: 15 })) [] [(NodeId(1), PropId(2), Refers(RefId(0)))]",
     },
 ];
 
@@ -249,15 +249,15 @@ fn scattered(alloc: Global) -> Result<Tree, NoMemory>
     Tree::new(alloc, nodes, given(alloc)?, refs, tokens, Some(PropId(1)))
 }
 
-fn start(value: &Value) -> u32 {
-    match value {
+fn start(entry: &Entry) -> u32 {
+    match &entry.2 {
         Value::Text(_, span) | Value::Number(_, span) => span.start,
         _ => u32::MAX,
     }
 }
 
-fn begin_at(values: &[Value], starts: &[u32]) -> bool {
-    values.iter().map(start).eq(starts.iter().copied())
+fn begin_at(entries: &[Entry], starts: &[u32]) -> bool {
+    entries.iter().map(start).eq(starts.iter().copied())
 }
 
 struct ScatteredRow {

@@ -3,6 +3,7 @@ use Rattle.std.proofs.Common.{◌≡◌, ℕ, ◌<◌, ◌≤◌, ◌^◌, List,
 use Rattle.std.proofs.lemmas.List.{length-map}
 use Rattle.std.proofs.lemmas.Str.Parse.{digits_value_short, numerals_by_value, tells_digits}
 use Rattle.std.specs.Str.Parse.{AllDigits, IsNumeral, digits_value}
+use Rattle.lw_base.specs.declared.limits.TheConstants.{MOST_DOCUMENTS}
 use Rattle.lw_words.specs.Said.{IsDepth, SaysDepth, SaysOperands}
 use Rattle.lw_words.specs.Said as said
 use Rattle.lw_words.specs.Words.{SaysBehind, AreFiles, IsFile, IsCount, IsNoCommand, NamesFile}
@@ -72,7 +73,7 @@ of_files [] each k d h = absurd (omega (arith, h))
 of_files (word ∷ words) each zero d h = each zero word.now (omega arith)
 of_files (word ∷ words) each (suc k) d h = of_files words (λ j e l. each (suc j) e (omega (arith, l))) k d (omega (arith, h))
 
-pub are_files : (words : List (Bor (List ℕ))) → length words ≤ 65536 → All (λ word. IsFile word.now) words → AreFiles (map (λ word. word.now) words)
+pub are_files : (words : List (Bor (List ℕ))) → length words ≤ MOST_DOCUMENTS → All (λ word. IsFile word.now) words → AreFiles (map (λ word. word.now) words)
 are_files words few each = record { few = omega (arith, length-map words (λ (word : Bor (List ℕ)). word.now), few); each = files_of words each }
 
 pub each_file : (words : List (Bor (List ℕ))) → AreFiles (map (λ word. word.now) words) → All (λ word. IsFile word.now) words

@@ -1,6 +1,7 @@
 -- The words of the command line, behind the program's name.
 use Rattle.std.specs.Prelude.{ℕ, ◌≡◌, ◌≤◌, List, [], ◌∷◌, All, Option, codes, length, map, unwrap_or}
 use Rattle.std.specs.Str.Parse.{IsNumeral, digits_value}
+use Rattle.lw_base.specs.declared.limits.TheConstants.{GREATEST_WORKSPACE, MOST_DOCUMENTS}
 use Rattle.lw_words.specs.Said.{SaysOperands}
 use Rattle.lw_words.specs.declared.root.Root.{Root}
 use Rattle.lw_words.specs.declared.words.Command.{Command}
@@ -21,7 +22,7 @@ pub record IsFile (word : List ℕ) : Type 0 where
 
 -- the files of a session, of which there are at most as many as it may hold documents
 pub record AreFiles (files : List (List ℕ)) : Type 0 where
-  pub few : length files ≤ 65536
+  pub few : length files ≤ MOST_DOCUMENTS
   pub each : All IsFile files
 
 -- how many documents: 1 to 4 digits, of a number from 1 to 9,999
@@ -30,7 +31,7 @@ pub record IsCount (word : List ℕ) (count : ℕ) : Type 0 where
   pub few : length word ≤ 4
   pub value : count ≡ digits_value 10 word
   pub least : 1 ≤ count
-  pub most : count ≤ 9999
+  pub most : count ≤ GREATEST_WORKSPACE
 
 -- `check GRAMMAR`
 abbrev pub IsCheck : List (List ℕ) → List ℕ → ℕ → Type 0

@@ -4,7 +4,7 @@ ghost use Rattle.lw_words.specs.Words.{AreFiles, IsCommand, IsCount, IsFile, IsN
 
 use crate::root::Root;
 use crate::said::{Said, said_by};
-use lw_base::{Name, NoMemory};
+use lw_base::{MOST_DOCUMENTS, Name, NoMemory};
 use std::alloc::Global;
 
 /// What the words ask for.
@@ -83,7 +83,7 @@ fn command_over<'a>(name: &str, root: Root<'a>, others: Vec<&'a Name>) -> Option
 fn are_files(words: &[&Name]) -> bool
     ensures { IsTrue result ↔ AreFiles (map (λ word. word.now) words.now) }
 {
-    words.len() <= 65_536 && are_absolute(words)
+    words.len() <= MOST_DOCUMENTS && are_absolute(words)
 }
 
 fn are_absolute(words: &[&Name]) -> bool

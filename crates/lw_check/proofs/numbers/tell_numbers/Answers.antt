@@ -1,21 +1,29 @@
-use Rattle.std.proofs.Common.{List, subst}
+use Rattle.std.proofs.Common.{◌≡◌, List, ap}
 use Rattle.lw_findings.specs.Finding.{Finds, OfSome}
-use Rattle.lw_findings.proofs.Joining.{Finds-begin, Finds-more, Finds-all}
+use Rattle.lw_findings.proofs.Joining.{Finds-begin, Finds-more, Finds-all, Finds-read}
+use Rattle.lw_base.specs.declared.numbers.NodeId.{NodeId}
+use Rattle.lw_base.specs.declared.numbers.PropId.{PropId}
+use Rattle.lw_scopes.specs.TreeDiagnostics.{Diagnostic}
 use Rattle.lw_tree.specs.declared.node.Value.{Value}
+use Rattle.lw_tree.specs.Keyed.{values_of}
 use Rattle.lw_check.specs.Sorting.{diagnostics_of}
 use Rattle.lw_check.specs.Telling.{TellsValue}
 use Rattle.lw_check.proofs.numbers.tell_numbers.Goals as goal
 
-pub loop-value-init : goal.loop-value-init
-loop-value-init c = Finds-begin TellsValue (diagnostics_of c.args.diagnostics.now.items) c.all_values-value-items.result.now
+-- the value with this key tells it
+abbrev Tells : NodeId × PropId × Value → Diagnostic → Type 0
+Tells e = TellsValue e.2
 
-pub loop-value-preserved : goal.loop-value-preserved
-loop-value-preserved c =
-    Finds-more TellsValue c.all_values-value-items.result.now c.loop-value.value-index c.value-item.result c.loop-value-test.true c.value-item.is c.loop-value.invariant
+pub loop-entry-init : goal.loop-entry-init
+loop-entry-init c = Finds-begin Tells (diagnostics_of c.args.diagnostics.now.items) c.all_values-entry-items.result.now
+
+pub loop-entry-preserved : goal.loop-entry-preserved
+loop-entry-preserved c =
+    Finds-more Tells c.all_values-entry-items.result.now c.loop-entry.entry-index c.entry-item.result c.loop-entry-test.true c.entry-item.is c.loop-entry.invariant
     c.in_ok-tell_value.ensures
 
 pub returns : goal.returns
 returns c =
-    let P : List Value → Type 0 = λ values. Finds (OfSome TellsValue values) (diagnostics_of c.args.diagnostics.now.items) (diagnostics_of c.loop-value.diagnostics.items) in
-    subst P c.all_values-value-items.ensures
-    (Finds-all TellsValue c.all_values-value-items.result.now c.loop-value.value-index c.loop-value-test.false c.loop-value.invariant)
+    Finds-read (λ (e : NodeId × PropId × Value). e.2) TellsValue c.all_values-entry-items.result.now (values_of c.args.tree.now.values)
+    (ap values_of c.all_values-entry-items.ensures)
+    (Finds-all Tells c.all_values-entry-items.result.now c.loop-entry.entry-index c.loop-entry-test.false c.loop-entry.invariant)

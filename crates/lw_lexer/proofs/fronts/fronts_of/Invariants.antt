@@ -1,5 +1,5 @@
 use Rattle.std.proofs.Common.{◌≡◌}
-use Rattle.lw_terminals.specs.Fronts.{AreFronts}
+use Rattle.lw_lexer.specs.Fronts.{AreFronts}
 use Rattle.lw_lexer.proofs.fronts.fronts_of.Given as goal
 
 abbrev pub invariant-loop-byte : goal.invariant-loop-byte

@@ -1,6 +1,6 @@
 use Rattle.std.proofs.Common.{◌++◌, List, ℕ, drop, sym, ap, ◌∙◌}
 use Rattle.std.proofs.lemmas.List.{take-append-drop}
-use Rattle.lw_recut.proofs.Small.{first_bytes}
+use Rattle.lw_recut.proofs.FrontEnds.{first_bytes}
 use Rattle.lw_recut.proofs.recutter.beginning.Goals as goal
 
 pub returns : goal.returns

@@ -1,6 +1,6 @@
 use Rattle.std.proofs.Common.{◌≡◌, ◌+◌, ◌-◌, ◌<◌, ◌≤◌, ℕ, length, take, ap, ◌∙◌, arith}
 use Rattle.lw_sure.specs.Front.{end_from}
-use Rattle.lw_recut.proofs.Small.{end_of_more}
+use Rattle.lw_recut.proofs.FrontEnds.{end_of_more}
 use Rattle.lw_recut.proofs.recutter.end_of.Goals as goal
 
 pub returns-in-Some : goal.returns-in-Some

@@ -9,7 +9,7 @@ use Rattle.lw_sure.specs.Front.{FrontStays}
 use Rattle.lw_tokens.specs.Cut as cut
 use Rattle.lw_tokens.specs.Cut.{IsCutTo}
 use Rattle.lw_recut.proofs.Automata.{lent_automata}
-use Rattle.lw_recut.proofs.Small.{boundary_from}
+use Rattle.lw_recut.proofs.FrontEnds.{boundary_from}
 use Rattle.lw_recut.proofs.recutter.sure_place.Goals as goal
 
 pub sure_tokens-count-requires : goal.sure_tokens-count-requires

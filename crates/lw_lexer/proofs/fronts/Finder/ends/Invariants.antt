@@ -1,5 +1,5 @@
 use Rattle.std.proofs.Common.{◌≡◌}
-use Rattle.lw_lexer.specs.Ends.{AreEnds}
+use Rattle.lw_lexer.specs.Fronts.{AreEnds}
 use Rattle.lw_lexer.proofs.fronts.Finder.ends.Given as goal
 
 abbrev pub invariant-loop-byte : goal.invariant-loop-byte

@@ -2,7 +2,7 @@ use Rattle.std.proofs.Common.{Some, option_map, subst, ap, ◌∙◌, sym}
 use Rattle.lw_foresee.specs.Nfas.{AreNfas}
 use Rattle.lw_terminals.specs.TokenKinds.{TokenKinds}
 use Rattle.lw_tokens.specs.NextToken.{IsNextToken}
-use Rattle.lw_lexer.specs.Ends.{IsEnd}
+use Rattle.lw_lexer.specs.Fronts.{IsEnd}
 use Rattle.lw_lexer.specs.Place.{next_of}
 use Rattle.lw_lexer.proofs.EndLemmas.{stays_before}
 use Rattle.lw_lexer.proofs.fronts.Finder.ends_before.Goals as goal

@@ -1,5 +1,5 @@
 use Rattle.std.proofs.Common.{◌≡◌, All}
-use Rattle.lw_terminals.specs.Fronts.{IsFront}
+use Rattle.lw_lexer.specs.Fronts.{IsFront}
 use Rattle.lw_lexer.proofs.fronts.Finder.starting_with.Given as goal
 
 abbrev pub invariant-loop-place : goal.invariant-loop-place

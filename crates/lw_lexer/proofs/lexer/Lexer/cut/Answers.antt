@@ -18,6 +18,8 @@ pub cutting-init : goal.cutting-init
 cutting-init c = record {
   set = c.self.view_is;
   keywords = subst (λ (set : TokenKinds). AreKeywords set.lexicon.keywords) c.self.view_is c.self.invariant.1.keywords;
+  kinds = c.self.invariant.1;
+  fronts = c.self.invariant.2;
   matchers = c.self.invariant.0;
   boundary = IsCharBoundary-start c.text-text.result.now c.text-text.utf8;
   cut = rw c.new-tokens.ensures.items cut.start;
@@ -45,6 +47,8 @@ cutting-preserved c =
     record {
       set = inv.set;
       keywords = inv.keywords;
+      kinds = inv.kinds;
+      fronts = inv.fronts;
       matchers = c.next_token.ensures.same ∙ inv.matchers;
       boundary = end;
       cut = rw (c.in_ok-push.ensures.items, c.span_of-in-cutting.ensures) (cut.then inv.cut below is_next);

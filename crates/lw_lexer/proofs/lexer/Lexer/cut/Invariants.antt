@@ -1,6 +1,8 @@
 use Rattle.std.proofs.Common.{◌≡◌, ◌-◌, length, All, IsCharBoundary}
 use Rattle.lw_tokens.specs.Cut.{IsCutTo}
 use Rattle.lw_tokens.specs.Keywords.{AreKeywords}
+use Rattle.lw_terminals.specs.TokenKinds.{AreTokenKinds}
+use Rattle.lw_lexer.specs.Fronts.{AreFronts}
 use Rattle.lw_lexer.specs.TokenPlaces.{IsTokenPlace}
 use Rattle.lw_lexer.proofs.lexer.Lexer.cut.Given as goal
 
@@ -8,6 +10,8 @@ abbrev pub invariant-cutting : goal.invariant-cutting
 invariant-cutting l = record {
   set : l.self-inside.set.now ≡ l.fn.self;
   keywords : AreKeywords l.fn.self.lexicon.keywords;
+  kinds : AreTokenKinds l.self-inside.set.now;
+  fronts : AreFronts l.self-inside.set.now.lexicon l.self-inside.fronts.now;
   matchers : l.self-inside.matchers.items ≡ l.self-inside.set.now.lexicon.terminals;
   boundary : IsCharBoundary l.text l.at;
   cut : IsCutTo l.fn.self.lexicon l.text l.at l.tokens.items;

@@ -7,7 +7,7 @@ use Rattle.lw_recut.specs.Recut.{IsEndOf, IsRecut, RecutterParts}
 use Rattle.lw_recut.specs.declared.recut.Recut.{Recut}
 use Rattle.lw_recut.proofs.Behind.{added_alone, none_other, none_uncut}
 use Rattle.lw_recut.proofs.SameTokens.{begins, told_begins}
-use Rattle.lw_recut.proofs.Small.{utf8_small}
+use Rattle.lw_base.proofs.Bytes.{utf8_small}
 use Rattle.lw_recut.proofs.recutter.Recutter.cut.Goals as goal
 
 pub returns-in-Err-NoToken-clause-added : goal.returns-in-Err-NoToken-clause-added

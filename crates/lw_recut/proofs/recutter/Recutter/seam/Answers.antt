@@ -7,7 +7,8 @@ use Rattle.lw_recut.specs.Recut.{IsCrossed, IsEndOf, IsRecut, RecutterParts}
 use Rattle.lw_recut.specs.declared.seam.Seam.TheVariants.{Crossed, Meets}
 use Rattle.lw_recut.proofs.Automata.{lent_automata}
 use Rattle.lw_recut.proofs.Behind.{is_crossed, looked_at, meets}
-use Rattle.lw_recut.proofs.Small.{emptied, utf8_small}
+use Rattle.lw_base.proofs.Bytes.{utf8_small}
+use Rattle.lw_recut.proofs.FrontEnds.{emptied}
 use Rattle.lw_recut.proofs.recutter.Recutter.seam.Goals as goal
 use Rattle.lw_recut.proofs.recutter.Recutter.seam.Goals.{After-seam_of}
 

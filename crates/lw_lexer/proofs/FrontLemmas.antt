@@ -3,8 +3,8 @@ use Rattle.std.proofs.Common.{◌≡◌, ℕ, suc, zero, [], ◌<◌, List, ◌�
 use Rattle.std.specs.List.{starts_with}
 use Rattle.std.proofs.lemmas.List.{take-append-drop}
 use Rattle.std.proofs.lemmas.Slice.Eq.{bytes_eq-Decides}
-use Rattle.lw_terminals.specs.Fronts.{BeginsWithFront}
-use Rattle.lw_terminals.specs.declared.front.Front.{Front}
+use Rattle.lw_lexer.specs.Fronts.{BeginsWithFront}
+use Rattle.lw_lexer.specs.declared.front.Front.{Front}
 
 -- what is left of a list from a place on begins with what stands there
 left_at : (xs : List ℕ) (n : ℕ) → n < length xs → (more : List ℕ) × (drop n xs ≡ get_or xs n 0 ∷ more)

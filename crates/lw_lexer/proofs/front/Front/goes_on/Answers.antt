@@ -1,6 +1,6 @@
 use Rattle.std.proofs.Common.{sym, ◌∙◌}
-use Rattle.lw_terminals.proofs.FrontLemmas.{goes_on}
-use Rattle.lw_terminals.proofs.front.Front.goes_on.Goals as goal
+use Rattle.lw_lexer.proofs.FrontLemmas.{goes_on}
+use Rattle.lw_lexer.proofs.front.Front.goes_on.Goals as goal
 
 pub returns-in-Some : goal.returns-in-Some
 returns-in-Some c = λ begins.

@@ -1,0 +1,62 @@
+// A set of tokens, with what is known of it before any text is cut.
+ghost use Rattle.std.specs.Prelude.{◌≡◌, IfOk};
+
+use crate::front::Front;
+use crate::fronts::fronts_of;
+use lw_base::{Items, NoMemory};
+use lw_terminals::TokenSet;
+use std::alloc::Global;
+use std::marker::Model;
+
+/// A set of tokens by which texts are cut, with what is found out about it once, so that texts are cut with fewer searches. Seen as
+/// that set.
+pub struct LexerTables {
+    set: TokenSet,
+    // for each byte the fronts that begin with it
+    fronts: Vec<Items<Front>>,
+}
+
+impl Drop for LexerTables {
+    // In one place, so that whoever drops such a value sees one call and not the drops of all its parts.
+    fn drop(self) {
+        let LexerTables { set: _, fronts: _ } = self;
+    }
+}
+
+impl Model for LexerTables {
+    ghost use Rattle.lw_terminals.specs.TokenKinds.{TokenKinds};
+    ghost use Rattle.lw_lexer.specs.Fronts.{AreFronts};
+
+    ghost Value = { TokenKinds };
+
+    ghost view = { λ t. t.set };
+
+    ghost invariant = { λ t. AreFronts t.set.lexicon t.fronts.items };
+}
+
+impl LexerTables {
+    ghost use Rattle.lw_lexer.specs.Fronts.{AreFronts};
+
+    /// The tables of a set. It takes a walk over each keyword and each blank for each byte that may come behind it and each terminal,
+    /// and a bounded number of steps in all.
+    pub fn of(alloc: Global, set: TokenSet) -> Result<LexerTables, NoMemory>
+        ensures { IfOk result (λ tables. tables ≡ set) }
+    {
+        let fronts = fronts_of(alloc, &set)?;
+        Ok(LexerTables { set, fronts })
+    }
+
+    /// The set.
+    pub fn set(&self) -> &TokenSet
+        ensures { result.now ≡ self.now }
+    {
+        &self.set
+    }
+
+    /// The fronts that are known, in lists by their first byte.
+    pub(crate) fn fronts(&self) -> &[Items<Front>]
+        ensures { AreFronts self.now.lexicon result.now }
+    {
+        self.fronts.as_slice()
+    }
+}

@@ -1,7 +1,0 @@
-use Rattle.std.proofs.Common.{◌∙◌, ap, sym}
-use Rattle.lw_tree.specs.Keyed.{values_of}
-use Rattle.lw_tree.proofs.Ordering.{values_of_keyed}
-use Rattle.lw_tree.proofs.values.ValueTable.all.Goals as goal
-
-pub returns : goal.returns
-returns c = c.as_slice.ensures.value ∙ sym (values_of_keyed c.self.inside.keys.items c.self.inside.values.items c.self.invariant.1) ∙ ap values_of c.self.view_is
