@@ -29,6 +29,7 @@ use desk::Desk;
 use lw_base::{Name, NoMemory, Steps};
 use lw_io::{FileStore, RealPatterns, StdSink, StdSource};
 use std::marker::Brand;
+use std::mem::forget;
 use std::process::ExitCode;
 use std::sync::ledger::{Blank, Ledger};
 use std::{env, io};
@@ -89,7 +90,7 @@ fn start<L: Ledger>(rt: &HostRuntime, blank: Blank) -> u8
     let mut store = FileStore::new(rt);
     let mut patterns = RealPatterns::new();
     let mut desk = Desk::Empty;
-    run(
+    let status = run(
         rt.alloc(),
         &words,
         &mut source,
@@ -99,8 +100,10 @@ fn start<L: Ledger>(rt: &HostRuntime, blank: Blank) -> u8
         &mut patterns,
         &mut desk,
         &mut steps,
-    )
-    .code
+    );
+    // The process ends here, and its memory with it: nothing is given back piece by piece.
+    forget(desk);
+    status.code
 }
 
 fn main(rt: HostRuntime) -> ExitCode {

@@ -5,8 +5,9 @@ ghost use Rattle.std.specs.Str.{IsUtf8};
 ghost use Rattle.langbench.specs.Checked.{diagnostic_line};
 ghost use Rattle.langbench.specs.Reports.{IsReport};
 
+use crate::desk::Desk;
 use crate::place::printed;
-use lw_alone::diagnostics;
+use lw_alone::{Told, tell};
 use lw_base::{LONGEST_DOCUMENT, Name, NoMemory};
 use lw_check::too_large;
 use lw_lang::Language;
@@ -39,11 +40,12 @@ impl Report {
     }
 }
 
-/// The report on the first bytes of a document: all of them, or one more than may be read.
+/// The report on the first bytes of a document: all of them, or one more than may be read. What they read as is left on the desk.
 pub(crate) fn report_on(
     alloc: Global,
     language: &Language,
     bytes: Vec<u8>,
+    desk: &mut Desk,
 ) -> Result<Report, NoMemory>
     requires { length bytes.items ≤ LONGEST_DOCUMENT + 1 }
     ensures { IfOk result (IsReport language.now.grammar bytes.items) }
@@ -53,12 +55,17 @@ pub(crate) fn report_on(
         return Ok(Report::broken(diagnostic_line(alloc, &shown)?));
     }
     match Name::from_vec(bytes) {
-        Some(text) => report_text(alloc, language, text),
+        Some(text) => report_text(alloc, language, text, desk),
         None => Ok(Report::broken(String::from_str(alloc, "text is not UTF-8\n")?)),
     }
 }
 
-fn report_text(alloc: Global, language: &Language, text: Name) -> Result<Report, NoMemory>
+fn report_text(
+    alloc: Global,
+    language: &Language,
+    text: Name,
+    desk: &mut Desk,
+) -> Result<Report, NoMemory>
     requires short { length text ≤ LONGEST_DOCUMENT }
     requires utf8 { IsUtf8 text }
     ensures { IfOk result (IsReport language.now.grammar text) }
@@ -66,7 +73,8 @@ fn report_text(alloc: Global, language: &Language, text: Name) -> Result<Report,
     let Ok(document) = TextDoc::new(alloc, text) else {
         return Err(NoMemory);
     };
-    let list = diagnostics(alloc, language, &document)?;
+    let Told { parsed, list } = tell(alloc, language, &document)?;
+    desk.leave_checked(parsed);
     if list.is_empty() {
         return Ok(Report {
             text: String::from_str(alloc, "ok\n")?,

@@ -40,7 +40,7 @@ pub struct Status {
 /// Behind `GRAMMAR` the words `--lookahead` and `1`, `2` or `3` may stand: how many kinds of tokens tell the ways of a choice apart, which
 /// are two where nothing is said. `check GRAMMAR` reads the grammar from the store and a document from the source, and writes `ok` or
 /// what is wrong with it. `serve GRAMMAR FILE ..` puts the files that are named, answers the session of the source frame by frame,
-/// each reply before the next read, and leaves the session on the desk. `make GRAMMAR N` generates and builds N documents, writes what
+/// each reply before the next read, and leaves the session on the desk, as `check` does what its document reads as. `make GRAMMAR N` generates and builds N documents, writes what
 /// they hold, and leaves their workspace there; it reads nothing of the source. The first that is met in this order
 /// ends the run: the words, the grammar, the files that are named, then the source in its order, each reply in its place. From status 2
 /// on one line of why goes to `notes`; that a note fails changes nothing.
@@ -145,7 +145,7 @@ fn act<S: Source, K: Sink, F: Store, P: Patterns, L: Ledger>(
         return Err(Stop::Words);
     };
     match command {
-        Command::Check(root) => check(alloc, *root, source, out, store, patterns),
+        Command::Check(root) => check(alloc, *root, source, out, store, patterns, desk),
         Command::Serve(root, files) => {
             serve(
                 alloc, *root, files, source, out, store, patterns, desk, steps,
@@ -157,7 +157,7 @@ fn act<S: Source, K: Sink, F: Store, P: Patterns, L: Ledger>(
     }
 }
 
-// Reads the grammar, then the document to its end, and prints the document's line.
+// Reads the grammar, then the document to its end, and prints what is told of it. What it reads as is left on the desk.
 fn check<S: Source, K: Sink, F: Store, P: Patterns>(
     alloc: Global,
     root: Root<'_>,
@@ -165,6 +165,7 @@ fn check<S: Source, K: Sink, F: Store, P: Patterns>(
     out: &mut K,
     store: &mut F,
     patterns: &mut P,
+    desk: &mut Desk,
 ) -> Result<Verdict, Stop>
     ensures works { IfSome (F.files store.old) (λ files. IfSome (S.left source.old) (λ held.
         CheckComesTo files root.entry.path.now root.entry.k held (P.last_refused patterns.new) (S.left source.new) (K.written out.old) (K.written out.new) result)) }
@@ -176,19 +177,24 @@ fn check<S: Source, K: Sink, F: Store, P: Patterns>(
     ensures patterns { Counts ThePatterns (P.count patterns.old) (P.count patterns.new) result }
 {
     let language = compile(alloc, root.path, root.k, store, patterns)?;
-    let report = reported(alloc, &language, source)?;
+    let report = reported(alloc, &language, source, desk)?;
     print(out, &report)
 }
 
 // The report on what the source holds.
-fn reported<S: Source>(alloc: Global, language: &Language, source: &mut S) -> Result<Report, Stop>
+fn reported<S: Source>(
+    alloc: Global,
+    language: &Language,
+    source: &mut S,
+    desk: &mut Desk,
+) -> Result<Report, Stop>
     ensures report { IfOk result (λ report. IfSome (S.left source.old) (λ held. IsReport language.now.grammar (take most_read held) report)) }
     ensures read { OnOk result (IfSome (S.left source.old) (λ held. ReadsDocument held (S.left source.new))) }
     ensures stopped { IfErr result (StopsReading (S.left source.old) (S.left source.new)) }
     ensures source { Counts TheSource (S.count source.old) (S.count source.new) result }
 {
     let bytes = read_all(alloc, source, LONGEST_DOCUMENT + 1)?;
-    Ok(report_on(alloc, language, bytes)?)
+    Ok(report_on(alloc, language, bytes, desk)?)
 }
 
 // Prints a report.

@@ -1,5 +1,6 @@
-// The list of a document that is alone.
+// What is told of a document that is alone.
 ghost use Rattle.std.specs.Prelude.{ℕ, List, IfOk};
+ghost use Rattle.lw_reading.specs.Issues.{IfBroken, IfWhole, IsIssueWithin, IsNamed};
 ghost use Rattle.lw_reading.specs.Reading.{Reads};
 ghost use Rattle.lw_reading.specs.declared.parsed.Parsed.TheVariants.{Whole};
 ghost use Rattle.lw_rooted.specs.Within.{StandsInText};
@@ -14,22 +15,45 @@ use lw_text::{Shown, TextDoc};
 use lw_tree::Tree;
 use std::alloc::Global;
 
-/// The list of a document that has this text, whatever its address, where there is no other. Want of memory is the only error.
+/// What a document that is alone reads as, and its list.
+#[derive(Drop)]
+pub struct Told {
+    pub parsed: Parsed,
+    pub list: Items<Shown>,
+}
+
+/// What a document that has this text reads as, and its list, whatever its address, where there is no other. Want of memory is the only
+/// error.
 ///
 /// It takes time linear in the length of the text beside the look-ups of its references and named nodes, and memory for its tokens, its
 /// tree and its symbols.
-pub fn diagnostics(
+pub fn tell(alloc: Global, language: &Language, document: &TextDoc) -> Result<Told, NoMemory>
+    ensures reads { IfOk result (λ told. Reads language.now.grammar document.now told.parsed) }
+    ensures list { (address : List ℕ) → IfOk result (λ told. IsListAlone language.now.grammar address document.now told.list) }
+{
+    let parsed = language.read(alloc, document.as_name())?;
+    let list = diagnostics(alloc, language, document, &parsed)?;
+    Ok(Told { parsed, list })
+}
+
+/// The list of a document that reads as this.
+fn diagnostics(
     alloc: Global,
     language: &Language,
     document: &TextDoc,
+    parsed: &Parsed,
 ) -> Result<Items<Shown>, NoMemory>
+    requires reads { Reads language.now.grammar document.now parsed.now }
+    requires named { IfBroken parsed.now (IsNamed language.now.texts) }
+    requires within { IfBroken parsed.now (IsIssueWithin document.now) }
+    requires stands { IfWhole parsed.now (StandsInText document.now) }
     ensures { (address : List ℕ) → IfOk result (IsListAlone language.now.grammar address document.now) }
 {
-    match language.read(alloc, document.as_name())? {
-        Parsed::Whole(tree) => tree_diagnostics(alloc, language, document, &tree),
+    match parsed {
+        Parsed::Whole(tree) => tree_diagnostics(alloc, language, document, tree),
         Parsed::Broken(issue) => {
             let mut list = Items::new(alloc);
-            list.push(issue_diagnostic(alloc, document, issue, language.tokens())?)?;
+            list.push(issue_diagnostic(alloc, document, *issue, language.tokens())?)?;
             Ok(list)
         }
     }

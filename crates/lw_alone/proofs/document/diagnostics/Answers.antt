@@ -1,4 +1,4 @@
-use Rattle.std.proofs.Common.{[], ◌∷◌, ◌++◌, List, ℕ, sym, ap, subst, ◌∙◌}
+use Rattle.std.proofs.Common.{[], ◌∷◌, ◌++◌, List, sym, ap, subst, ◌∙◌}
 use Rattle.lw_reading.specs.Reading.{Reads}
 use Rattle.lw_reading.specs.declared.parsed.Parsed.TheVariants.{Broken}
 use Rattle.lw_scopes.specs.Diagnostics.{IsListAlone}
@@ -11,8 +11,7 @@ returns-in_ok-push-in-Broken c address =
     let g = c.args.language.now.grammar in
     let issue = c.in-Broken.issue in
     let shown : Shown = c.in_ok-issue_diagnostic-in-Broken.field-0 in
-    let reads : Reads g c.args.document.now (Broken issue) =
-    subst (λ (t : List ℕ). Reads g t (Broken issue)) c.as_name.ensures.text (subst (Reads g c.as_name.result.now) c.in-Broken.is c.in_ok-tree.ensures.reads) in
+    let reads : Reads g c.args.document.now (Broken issue) = subst (Reads g c.args.document.now) c.in-Broken.is c.requires.reads in
     let one = c.in_ok-push-in-Broken.ensures.ok ∙ ap (λ (list : List Shown). list ++ shown ∷ []) c.new-list.ensures in
     subst (IsListAlone g address c.args.document.now) (sym one)
     (broken_alone g address c.args.document.now issue shown reads (c.in_ok-issue_diagnostic-in-Broken.ensures g c.tokens.ensures.named))
