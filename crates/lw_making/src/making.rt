@@ -16,8 +16,8 @@ use lw_base::{GREATEST_WORKSPACE, NoMemory, Steps};
 use lw_build::{WorkFault, Workspace};
 use lw_lang::Language;
 use lw_make::{
-    addresses_are_distinct, edit_count, edits_go_behind_the_model,
-    made_address, made_edit, made_text,
+    addresses_are_distinct, edit_count, edits_go_behind_the_model, made_address, made_edit,
+    made_text,
 };
 use std::alloc::Global;
 use std::sync::ledger::Ledger;
