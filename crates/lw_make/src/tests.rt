@@ -1,7 +1,6 @@
 // What no clause says: that the calls succeed where there is memory.
-use crate::{
-    GREATEST_WORKSPACE, LONGEST_MADE_TEXT, edit_count, made_address, made_edit, made_text,
-};
+use crate::{LONGEST_MADE_TEXT, edit_count, made_address, made_edit, made_text};
+use lw_base::GREATEST_WORKSPACE;
 use std::test::Fail;
 
 #[test]
