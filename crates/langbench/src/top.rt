@@ -39,11 +39,11 @@ pub struct Status {
 ///
 /// Behind `GRAMMAR` the words `--lookahead` and `1`, `2` or `3` may stand: how many kinds of tokens tell the ways of a choice apart, which
 /// are two where nothing is said. `check GRAMMAR` reads the grammar from the store and a document from the source, and writes `ok` or
-/// what is wrong with it. `serve GRAMMAR FILE ..` puts the files that are named, answers the session of the source frame by frame,
-/// each reply before the next read, and leaves the session on the desk, as `check` does what its document reads as. `make GRAMMAR N` generates and builds N documents, writes what
-/// they hold, and leaves their workspace there; it reads nothing of the source. The first that is met in this order
-/// ends the run: the words, the grammar, the files that are named, then the source in its order, each reply in its place. From status 2
-/// on one line of why goes to `notes`; that a note fails changes nothing.
+/// what is wrong with it. `serve GRAMMAR FILE ..` puts the files that are named, and answers the session of the source frame by frame,
+/// each reply before the next read. `make GRAMMAR N` generates and builds N documents and writes what they hold; it reads nothing of the
+/// source. What a command worked on stays on the desk: what a document reads as, a session, or a workspace. The first that is met in
+/// this order ends the run: the words, the grammar, the files that are named, then the source in its order, each reply in its place.
+/// From status 2 on one line of why goes to `notes`; that a note fails changes nothing.
 pub fn run<S: Source, K: Sink, N: Sink, F: Store, P: Patterns, L: Ledger>(
     alloc: Global,
     words: &[Name],

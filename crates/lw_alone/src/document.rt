@@ -53,7 +53,7 @@ fn diagnostics(
         Parsed::Whole(tree) => tree_diagnostics(alloc, language, document, tree),
         Parsed::Broken(issue) => {
             let mut list = Items::new(alloc);
-            list.push(issue_diagnostic(alloc, document, *issue, language.tokens())?)?;
+            list.push(issue_diagnostic(alloc, document, *issue, language.tokens().set())?)?;
             Ok(list)
         }
     }

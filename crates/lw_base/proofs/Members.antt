@@ -1,10 +1,10 @@
 -- The finite set that the keys of a tree make, and its members.
-use Rattle.std.proofs.Common.{◌≡◌, ℕ, List, Bool, true, false, ◌||◌, cond, sym, ap, ◌∙◌, rules, nat_eq}
+use Rattle.std.proofs.Common.{◌≡◌, ℕ, Bool, true, ◌||◌, cond, sym, ap, ◌∙◌, rules}
 use Rattle.std.proofs.lemmas.Cmp.{nat_cmp_total, eq_by_cmp_equiv}
 use Rattle.std.specs.BTreeSet.{BTreeSet, Updates, contains}
 use Rattle.std.specs.Ordering.{nat_cmp, eq_by_cmp}
 use Rattle.std.specs.FinSet as set
-use Rattle.std.specs.FinSet.{same_set, members, nat_cmp-IsAntisymmetric, contains-from_list, contains-insert}
+use Rattle.std.specs.FinSet.{same_set, nat_cmp-IsAntisymmetric, contains-from_list, contains-insert}
 
 either_way : (a b : Bool) → cond a true b ≡ (a || b)
 either_way a b = grind (rules)

@@ -135,7 +135,7 @@ fn check_reading<L: Ledger>(
         }
         Reading::Broken(issue) => {
             let mut list = Items::new(alloc);
-            list.push(issue_diagnostic(alloc, text, *issue, language.tokens())?)?;
+            list.push(issue_diagnostic(alloc, text, *issue, language.tokens().set())?)?;
             Ok(Checked {
                 list,
                 answers: Vec::new(alloc),

@@ -89,7 +89,7 @@ fn offers(alloc: Global, typing: &Typing<'_>, from: u32, to: u32) -> Result<Vec<
 {
     let parser = typing.language.parser();
     let mut fronts = read_front(alloc, parser, typing.tokens)?;
-    let tables = typing.language.lexer_tables();
+    let tables = typing.language.tokens();
     let mut recutter = Recutter::of(alloc, tables, typing.front, typing.tokens)?;
     let keywords = keywords(alloc, typing, &mut recutter, &mut fronts)?;
     let names = names(alloc, typing, parser, &mut recutter, &mut fronts)?;

@@ -34,7 +34,7 @@ pub(crate) fn keywords(
     ensures same { fronts.new ≡ fronts.old }
     ensures kept { recutter.new ≡ recutter.old }
 {
-    let set = typing.language.tokens();
+    let set = typing.language.tokens().set();
     let expected = fronts.expected(alloc, kind_count(set))?;
     let mut found = Vec::new(alloc);
     'kinds: for kind in &expected {

@@ -24,7 +24,6 @@ use lw_lexer::{LexFault, Lexer, LexerTables};
 use lw_lookahead::Tables;
 use lw_parse::{ParseFault, Parser};
 use lw_reading::{Issue, Parsed};
-use lw_terminals::TokenSet;
 use lw_types::Types;
 use std::alloc::Global;
 use std::marker::Model;
@@ -103,16 +102,7 @@ impl Language {
     }
 
     /// By what its texts are cut into tokens.
-    pub fn tokens(&self) -> &TokenSet
-        ensures texts { result.now.texts ≡ self.now.texts }
-        ensures named { AreKindTexts self.now.grammar result.now.texts }
-        ensures lexicon { (kinds : Kinds) × AreKinds self.now.grammar kinds × IsLexicon self.now.grammar kinds result.now.lexicon }
-    {
-        self.tokens.set()
-    }
-
-    /// By what a lexer cuts its texts.
-    pub fn lexer_tables(&self) -> &LexerTables
+    pub fn tokens(&self) -> &LexerTables
         ensures texts { result.now.texts ≡ self.now.texts }
         ensures named { AreKindTexts self.now.grammar result.now.texts }
         ensures lexicon { (kinds : Kinds) × AreKinds self.now.grammar kinds × IsLexicon self.now.grammar kinds result.now.lexicon }

@@ -1,4 +1,5 @@
 pub mod KeywordLemmas
+pub mod NextLemmas
 pub mod TerminalLemmas
 pub mod EndLemmas
 pub mod FrontLemmas

@@ -1,11 +1,12 @@
 // Texts cut into tokens.
-ghost use Rattle.std.specs.Prelude.{◌≡◌, ◌+◌, ◌<◌, ◌≤◌, List, IfOk, IfSome, Err, ℕ, All, ◌++◌, IsCharBoundary, length, encode_utf8, drop, option_map};
+ghost use Rattle.std.specs.Prelude.{◌≡◌, ◌+◌, ◌<◌, ◌≤◌, List, Option, IfOk, IfSome, Err, ℕ, All, ◌++◌, IsCharBoundary, length, encode_utf8, drop, option_map};
 ghost use Rattle.lw_base.specs.declared.limits.TheConstants.{LONGEST_TEXT};
 ghost use Rattle.std.specs.Char.{IsScalar};
 ghost use Rattle.lw_base.specs.declared.token.Span.{Span};
 ghost use Rattle.lw_base.specs.declared.token.Token.{Token};
 ghost use Rattle.lw_tokens.specs.Cut.{IsCut, HasNoTokenAt, IsCharacterAt};
 ghost use Rattle.lw_tokens.specs.NextToken.{IsNextToken};
+ghost use Rattle.lw_lexer.specs.declared.next.Next.{Next};
 ghost use Rattle.lw_lexer.specs.Place.{next_of};
 ghost use Rattle.lw_lexer.specs.TokenPlaces.{IsTokenPlace};
 ghost use Rattle.lw_lexer.specs.Fronts.{AreFronts};
@@ -67,7 +68,8 @@ impl<'s> Lexer<'s> {
     /// The tokens of the text. Where the text has no token at some place, the first such place is refused.
     ///
     /// At each token the patterns of which a match may begin with its first byte are tried once at its start, and of the keywords those
-    /// that begin with that byte.
+    /// that begin with that byte. That is linear in the length of the text where no pattern looks much further than it matches. One that
+    /// does, as `a*b` over a row of `a`, goes to the end of the row at each place where it is tried: quadratic, for as long as the row is.
     pub fn cut(&mut self, alloc: Global, text: &Name) -> Result<Vec<Token>, LexFault>
         requires { length text.now ≤ LONGEST_TEXT }
         ensures cut { IfOk result (λ tokens. IsCut self.old.lexicon text.now tokens.items) }
@@ -105,6 +107,7 @@ impl<'s> Lexer<'s> {
     /// The token at the start of the text, where one stands there.
     pub fn next(&mut self, text: &str) -> Option<Next>
         ensures next { IsNextToken self.old.lexicon text.now (option_map next_of result) }
+        ensures one { (other : Option Next) → IsNextToken self.old.lexicon text.now (option_map next_of other) → other ≡ result }
         ensures boundary { IfSome result (λ next. IsCharBoundary text.now next.bytes) }
         ensures some { IfSome result (λ next. 0 < next.bytes) }
         ensures same { self.new ≡ self.old }

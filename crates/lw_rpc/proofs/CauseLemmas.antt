@@ -10,14 +10,15 @@ use Rattle.serde_json.specs.Find.{get, as_str, as_i64}
 use Rattle.serde_json.specs.Read.{read}
 use Rattle.lw_rpc.specs.Calls.{Call, request, notification, neither, is_version, id_of, id_from, request_with, named, with_method, without_method, call_from, call_of}
 use Rattle.lw_rpc.specs.Calls as call
-use Rattle.lw_rpc.specs.Causes.{HasValue, IsId, text_id, whole_id, HasId, IsCall, IsResponse, IsKnown, Opens, Edits, IsMessage, bad_json, bad_request, response, unknown, initialize, shutdown, asks_definition, not_definition, asks_references, not_references, asks_rename, not_rename, asks_completion, not_completion, exit, opened, not_opened, edited, not_edited, document_closed, not_document_closed, files_changed, not_files_changed}
+use Rattle.lw_rpc.specs.Causes.{HasValue, IsId, text_id, whole_id, HasId, IsCall, IsResponse, IsKnown, Opens, IsChange, Edits, IsMessage, bad_json, bad_request, response, unknown, initialize, shutdown, asks_definition, not_definition, asks_references, not_references, asks_rename, not_rename, asks_completion, not_completion, exit, opened, not_opened, edited, not_edited, document_closed, not_document_closed, files_changed, not_files_changed}
 use Rattle.lw_rpc.specs.Messages.{call_message, value_message, read_value_message, value_of_body, message_of}
 use Rattle.lw_rpc.specs.Params as params
-use Rattle.lw_rpc.specs.ChangeParams.{changes_of}
+use Rattle.lw_rpc.specs.ChangeParams.{change_of, changes_of}
 use Rattle.lw_rpc.specs.Params.{did_open, did_change, did_close, did_change_watched_files, definition_asked, references_asked, rename_asked, completion_asked, member_at, text_at, whole_at, changes_at}
 use Rattle.lw_text.specs.declared.change.Change.{Change}
 use Rattle.lw_rpc.proofs.AskedLemmas.{asked_at_place-AsksAtPlace, references_asked-AsksReferences, rename_asked-AsksRename, definition-met, references-met, rename-met, completion-met, no_place, no_references, no_rename}
-use Rattle.lw_rpc.proofs.ChangeLemmas.{changes_of-AreChanges, AreChanges-changes_of}
+use Rattle.lw_rpc.proofs.ChangeLemmas.{change_of-IsChange, IsChange-change_of}
+use Rattle.lw_rpc.proofs.ListedLemmas.{items_by-AreEach, AreEach-items_by}
 use Rattle.lw_rpc.proofs.Found.{str_of, whole_of, list_of, inside, found_in, none-and-some}
 use Rattle.lw_rpc.proofs.NotificationLemmas.{did_close-ClosesDocument, did_change_watched_files-TellsOfFiles, did_close-met, did_change_watched_files-met, no_close, no_file_changes}
 use Rattle.lw_rpc.specs.declared.message.Id.{Id}
@@ -78,7 +79,7 @@ did_open-Opens d uri version text is = rw (is.has_params, is.has_document, is.ha
 
 did_change-Edits : (d : Data) (uri : List ℕ) (version : ℤ) (changes : List Change) → Edits d uri version changes → did_change (get (codes "params") d) ≡ Some (DidChange uri version changes)
 did_change-Edits d uri version changes is =
-    rw (is.has_params, is.has_document, is.has_uri, is.has_version, is.is_whole, is.has_changes, changes_of-AreChanges is.values changes is.are_changes) refl
+    rw (is.has_params, is.has_document, is.has_uri, is.has_version, is.is_whole, is.has_changes, items_by-AreEach change_of IsChange change_of-IsChange is.values changes is.are_changes) refl
 
 value_message-call : (d : Data) (id : Option Id) (method : List ℕ) → IsCall d id method → value_message d ≡ call_message (the_call id method) (get (codes "params") d)
 value_message-call d id method is = ap (λ c. call_message c (get (codes "params") d)) (call_of-IsCall d id method is)
@@ -277,7 +278,7 @@ Edits-did_change d m same =
         has_version = found_in document uri.0 (number version.0) (codes "version") uri.1 version.1;
         is_whole = version.2;
         has_changes = found_in given holder.0 (array list.0) (codes "contentChanges") holder.1 list.1;
-        are_changes = AreChanges-changes_of list.0 parts.2 list.2;
+        are_changes = AreEach-items_by change_of IsChange IsChange-change_of list.0 parts.2 list.2;
       },
     )
 

@@ -1,13 +1,12 @@
--- The changes that values are, are the ones that their shape gives.
-use Rattle.std.proofs.Common.{◌≡◌, ℕ, ◌<◌, ◌^◌, List, [], ◌∷◌, ◌++◌, Bool, true, false, codes, nat_lt, if◌then◌else◌, Option, Some, None, option_map, option_and_then, refl, ap, sym, subst, ◌∙◌}
+-- The change that a value is, is the one that its shape gives.
+use Rattle.std.proofs.Common.{◌≡◌, ℕ, ◌<◌, ◌^◌, List, Bool, true, false, codes, nat_lt, if◌then◌else◌, Option, Some, None, option_map, option_and_then, refl, ap, sym, subst, ◌∙◌}
 use Rattle.std.proofs.lemmas.Bool.{ltb-true, lt-ltb}
-use Rattle.serde_json.specs.Data.{Data, unsigned, negative, float, null, boolean, number, string, array, object, Items, no_items, item}
+use Rattle.serde_json.specs.Data.{Data, unsigned, negative, float, null, boolean, number, string, array, object}
 use Rattle.serde_json.specs.Find.{get}
 use Rattle.lw_text.specs.declared.change.Change.{Change}
 use Rattle.lw_text.specs.declared.place.Pos.{Pos}
-use Rattle.lw_rpc.specs.Causes.{HasCount, IsPos, HasPos, IsRange, HasRange, IsChange, AreChanges, none, next}
-use Rattle.lw_rpc.specs.ChangeParams.{u32_of, at_place, position_of, ranged, range_of, optional_range, replacing, change_of, changes_of}
-use Rattle.lw_rpc.specs.Listed.{followed}
+use Rattle.lw_rpc.specs.Causes.{HasCount, IsPos, HasPos, IsRange, HasRange, IsChange}
+use Rattle.lw_rpc.specs.ChangeParams.{u32_of, at_place, position_of, ranged, range_of, optional_range, replacing, change_of}
 use Rattle.lw_rpc.proofs.Found.{str_of}
 
 -- ---- from the rules to the shape
@@ -28,14 +27,8 @@ optional_range-HasRange : (d : Data) (range : Option (Pos × Pos)) → HasRange 
 optional_range-HasRange d (Some range) has = ap optional_range has.1 ∙ ap (option_map Some) (range_of-IsRange has.0 range has.2)
 optional_range-HasRange d None absent = ap optional_range absent
 
-change_of-IsChange : (d : Data) (change : Change) → IsChange d change → change_of d ≡ Some change
+pub change_of-IsChange : (d : Data) (change : Change) → IsChange d change → change_of d ≡ Some change
 change_of-IsChange d change is = rw (optional_range-HasRange d change.range is.has_range, is.has_text) refl
-
-pub changes_of-AreChanges : (values : Items) (changes : List Change) → AreChanges values changes → changes_of values ≡ Some changes
-changes_of-AreChanges no_items [] none = refl
-changes_of-AreChanges no_items (change ∷ changes) are = elim are [ ]
-changes_of-AreChanges (item d others) [] are = elim are [ ]
-changes_of-AreChanges (item d others) (change ∷ changes) (next is are) = rw (change_of-IsChange d change is, changes_of-AreChanges others changes are) refl
 
 -- ---- from the shape to the rules
 
@@ -97,25 +90,7 @@ replacing-parts (Some range) (Some text) change same = let e : record { range = 
 replacing-parts (Some range) None change same = absurd (cc)
 replacing-parts None text change same = absurd (cc)
 
-IsChange-change_of : (d : Data) (change : Change) → change_of d ≡ Some change → IsChange d change
+pub IsChange-change_of : (d : Data) (change : Change) → change_of d ≡ Some change → IsChange d change
 IsChange-change_of d change same =
     let parts = replacing-parts _ _ change same in
     record { has_range = HasRange-found d _ change.range refl parts.0; has_text = str_of _ _ parts.1 }
-
-AreChanges-followed : (d : Data) (others : Items) (one : Option Change) (rest : Option (List Change)) (changes : List Change) → change_of d ≡ one → changes_of others ≡ rest
-    → ((more : List Change) → changes_of others ≡ Some more → AreChanges others more) → followed one rest ≡ Some changes → AreChanges (item d others) changes
-AreChanges-followed d others (Some change) (Some more) changes is are rest same =
-    let e : (change ∷ more) ≡ changes = cc in subst (AreChanges (item d others)) e (next (IsChange-change_of d change is) (rest more are))
-AreChanges-followed d others (Some change) None changes is are rest same = absurd (cc)
-AreChanges-followed d others None more changes is are rest same = absurd (cc)
-
-pub AreChanges-changes_of : (values : Items) (changes : List Change) → changes_of values ≡ Some changes → AreChanges values changes
-AreChanges-changes_of no_items changes same = let e : [] ≡ changes = cc in subst (AreChanges no_items) e none
-AreChanges-changes_of (item d others) changes same = AreChanges-followed d others _ _ changes refl refl (AreChanges-changes_of others) same
-
--- ---- one after the other
-
--- some things, and those that come behind them, if there are such
-abbrev pub behind : {A : Type 0} → List A → Option (List A) → Option (List A)
-behind first (Some others) = Some (first ++ others)
-behind first None = None

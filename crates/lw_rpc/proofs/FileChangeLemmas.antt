@@ -1,11 +1,10 @@
--- The changes of files that values are, are the ones that their shape gives.
-use Rattle.std.proofs.Common.{◌≡◌, ◌==◌, ℕ, List, [], ◌∷◌, Bool, true, false, codes, if◌then◌else◌, Option, Some, None, option_and_then, refl, ap, subst}
+-- The change of a file that a value is, is the one that its shape gives.
+use Rattle.std.proofs.Common.{◌≡◌, ◌==◌, ℕ, List, Bool, true, false, codes, if◌then◌else◌, Option, Some, None, option_and_then, refl, ap, subst}
 use Rattle.std.proofs.lemmas.Bool.{eqb-true}
-use Rattle.serde_json.specs.Data.{Data, unsigned, negative, float, null, boolean, number, string, array, object, Items, no_items, item}
+use Rattle.serde_json.specs.Data.{Data, unsigned, negative, float, null, boolean, number, string, array, object}
 use Rattle.serde_json.specs.Find.{get}
-use Rattle.lw_rpc.specs.Causes.{number_of_kind, IsFileChange, AreFileChanges, no_files, next_file}
-use Rattle.lw_rpc.specs.FileChangeParams.{kind_by, kind_of, done_to, file_change_of, file_changes_of}
-use Rattle.lw_rpc.specs.Listed.{followed}
+use Rattle.lw_rpc.specs.Causes.{number_of_kind, IsFileChange}
+use Rattle.lw_rpc.specs.FileChangeParams.{kind_by, kind_of, done_to, file_change_of}
 use Rattle.lw_rpc.specs.declared.file_change.FileChange.{FileChange}
 use Rattle.lw_rpc.specs.declared.file_change.FileChangeKind.{FileChangeKind}
 use Rattle.lw_rpc.specs.declared.file_change.FileChangeKind.TheVariants.{Created, Changed, Deleted}
@@ -18,14 +17,8 @@ kind_by-number_of_kind Created = refl
 kind_by-number_of_kind Changed = refl
 kind_by-number_of_kind Deleted = refl
 
-file_change_of-IsFileChange : (d : Data) (change : FileChange) → IsFileChange d change → file_change_of d ≡ Some change
+pub file_change_of-IsFileChange : (d : Data) (change : FileChange) → IsFileChange d change → file_change_of d ≡ Some change
 file_change_of-IsFileChange d change is = rw (is.has_uri, is.has_type, kind_by-number_of_kind change.kind) refl
-
-pub file_changes_of-AreFileChanges : (values : Items) (changes : List FileChange) → AreFileChanges values changes → file_changes_of values ≡ Some changes
-file_changes_of-AreFileChanges no_items [] no_files = refl
-file_changes_of-AreFileChanges no_items (change ∷ changes) are = elim are [ ]
-file_changes_of-AreFileChanges (item d others) [] are = elim are [ ]
-file_changes_of-AreFileChanges (item d others) (change ∷ changes) (next_file is are) = rw (file_change_of-IsFileChange d change is, file_changes_of-AreFileChanges others changes are) refl
 
 -- ---- from the shape to the rules
 
@@ -55,18 +48,7 @@ done_to-parts (Some uri) (Some kind) change same = let e : record { uri = uri; k
 done_to-parts (Some uri) None change same = absurd (cc)
 done_to-parts None kind change same = absurd (cc)
 
-IsFileChange-file_change_of : (d : Data) (change : FileChange) → file_change_of d ≡ Some change → IsFileChange d change
+pub IsFileChange-file_change_of : (d : Data) (change : FileChange) → file_change_of d ≡ Some change → IsFileChange d change
 IsFileChange-file_change_of d change same =
     let parts = done_to-parts _ _ change same in
     record { has_uri = str_of _ _ parts.0; has_type = has_kind (get (codes "type") d) change.kind parts.1 }
-
-AreFileChanges-followed : (d : Data) (others : Items) (one : Option FileChange) (rest : Option (List FileChange)) (changes : List FileChange) → file_change_of d ≡ one → file_changes_of others ≡ rest
-    → ((more : List FileChange) → file_changes_of others ≡ Some more → AreFileChanges others more) → followed one rest ≡ Some changes → AreFileChanges (item d others) changes
-AreFileChanges-followed d others (Some change) (Some more) changes is are rest same =
-    let e : (change ∷ more) ≡ changes = cc in subst (AreFileChanges (item d others)) e (next_file (IsFileChange-file_change_of d change is) (rest more are))
-AreFileChanges-followed d others (Some change) None changes is are rest same = absurd (cc)
-AreFileChanges-followed d others None more changes is are rest same = absurd (cc)
-
-pub AreFileChanges-file_changes_of : (values : Items) (changes : List FileChange) → file_changes_of values ≡ Some changes → AreFileChanges values changes
-AreFileChanges-file_changes_of no_items changes same = let e : [] ≡ changes = cc in subst (AreFileChanges no_items) e no_files
-AreFileChanges-file_changes_of (item d others) changes same = AreFileChanges-followed d others _ _ changes refl refl (AreFileChanges-file_changes_of others) same

@@ -6,6 +6,7 @@ pub mod TextLemmas
 pub mod ReadLemmas
 pub mod PartLemmas
 pub mod Found
+pub mod ListedLemmas
 pub mod ChangeLemmas
 pub mod FileChangeLemmas
 pub mod AskedLemmas

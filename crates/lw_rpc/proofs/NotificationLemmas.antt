@@ -2,10 +2,11 @@
 use Rattle.std.proofs.Common.{◌≡◌, ℕ, List, codes, Option, Some, None, refl, sym, subst, unwrap_or}
 use Rattle.serde_json.specs.Data.{Data, string, array, Items}
 use Rattle.serde_json.specs.Find.{get}
-use Rattle.lw_rpc.specs.Causes.{HasValue, IsCall, ClosesDocument, TellsOfFiles, IsMessage, document_closed, not_document_closed, files_changed, not_files_changed}
-use Rattle.lw_rpc.specs.FileChangeParams.{file_changes_of}
+use Rattle.lw_rpc.specs.Causes.{HasValue, IsCall, ClosesDocument, IsFileChange, TellsOfFiles, IsMessage, document_closed, not_document_closed, files_changed, not_files_changed}
+use Rattle.lw_rpc.specs.FileChangeParams.{file_change_of, file_changes_of}
 use Rattle.lw_rpc.specs.Params.{member_at, text_at, file_changes_at, did_close, did_change_watched_files}
-use Rattle.lw_rpc.proofs.FileChangeLemmas.{file_changes_of-AreFileChanges, AreFileChanges-file_changes_of}
+use Rattle.lw_rpc.proofs.FileChangeLemmas.{file_change_of-IsFileChange, IsFileChange-file_change_of}
+use Rattle.lw_rpc.proofs.ListedLemmas.{items_by-AreEach, AreEach-items_by}
 use Rattle.lw_rpc.proofs.Found.{str_of, list_of, inside, mapped, none-and-some}
 use Rattle.lw_rpc.specs.declared.file_change.FileChange.{FileChange}
 use Rattle.lw_rpc.specs.declared.message.Message.{Message}
@@ -17,7 +18,7 @@ pub did_close-ClosesDocument : (d : Data) (uri : List ℕ) → ClosesDocument d 
 did_close-ClosesDocument d uri is = rw (is.has_params, is.has_document, is.has_uri) refl
 
 pub did_change_watched_files-TellsOfFiles : (d : Data) (changes : List FileChange) → TellsOfFiles d changes → did_change_watched_files (get (codes "params") d) ≡ Some (DidChangeWatchedFiles changes)
-did_change_watched_files-TellsOfFiles d changes is = rw (is.has_params, is.has_changes, file_changes_of-AreFileChanges is.values changes is.are_changes) refl
+did_change_watched_files-TellsOfFiles d changes is = rw (is.has_params, is.has_changes, items_by-AreEach file_change_of IsFileChange file_change_of-IsFileChange is.values changes is.are_changes) refl
 
 -- ---- from the shape to the rules
 
@@ -40,7 +41,7 @@ TellsOfFiles-did_change_watched_files d m same =
     list_of file_changes_of (member_at (codes "changes") given) said.0 said.1 in
     let holder : (w : Data) × (given ≡ Some w) × (get (codes "changes") w ≡ Some (array list.0)) =
     inside (get (codes "changes")) given (array list.0) list.1 in
-    (said.0, said.2, record { params = holder.0; values = list.0; has_params = holder.1; has_changes = holder.2; are_changes = AreFileChanges-file_changes_of list.0 said.0 list.2 })
+    (said.0, said.2, record { params = holder.0; values = list.0; has_params = holder.1; has_changes = holder.2; are_changes = AreEach-items_by file_change_of IsFileChange IsFileChange-file_change_of list.0 said.0 list.2 })
 
 -- ---- the rule that the parameters meet
 

@@ -2,12 +2,13 @@
 -- Protocol 3.17, "Base types", "Request Message", "DidOpenTextDocumentParams", "TextDocumentItem", "DidChangeTextDocumentParams",
 -- "TextDocumentContentChangeEvent", "TextDocumentPositionParams", "ReferenceParams", "RenameParams", "CompletionParams",
 -- "DidCloseTextDocumentParams", "DidChangeWatchedFilesParams", "FileEvent" and "FileChangeType".
-use Rattle.std.specs.Prelude.{◌≡◌, ◌⊎◌, ◌<◌, ◌^◌, ℕ, ℤ, List, [], ◌∷◌, Bool, codes, Option, Some, None, IsSome, IsUtf8}
-use Rattle.serde_json.specs.Data.{Data, Num, Items, no_items, item, unsigned, boolean, string, number, array}
+use Rattle.std.specs.Prelude.{◌≡◌, ◌⊎◌, ◌<◌, ◌^◌, ℕ, ℤ, List, Bool, codes, Option, Some, None, IsSome, IsUtf8}
+use Rattle.serde_json.specs.Data.{Data, Num, Items, unsigned, boolean, string, number, array}
 use Rattle.serde_json.specs.Find.{get, as_i64}
 use Rattle.serde_json.specs.Read.{read}
 use Rattle.lw_text.specs.declared.change.Change.{Change}
 use Rattle.lw_text.specs.declared.place.Pos.{Pos}
+use Rattle.lw_rpc.specs.Listed.{AreEach}
 use Rattle.lw_rpc.specs.declared.file_change.FileChange.{FileChange}
 use Rattle.lw_rpc.specs.declared.file_change.FileChangeKind.{FileChangeKind}
 use Rattle.lw_rpc.specs.declared.file_change.FileChangeKind.TheVariants.{Created, Changed, Deleted}
@@ -93,11 +94,6 @@ pub record IsChange (d : Data) (change : Change) : Type 0 where
   pub has_range : HasRange d change.range
   pub has_text : get (codes "text") d ≡ Some (string change.text)
 
--- the values are the changes, one each
-pub data AreChanges : Items → List Change → Type 0 where
-  none : AreChanges no_items []
-  next : {d : Data} {others : Items} {change : Change} {changes : List Change} → IsChange d change → AreChanges others changes → AreChanges (item d others) (change ∷ changes)
-
 -- the parameters of `textDocument/didChange`
 pub record Edits (d : Data) (uri : List ℕ) (version : ℤ) (changes : List Change) : Type 0 where
   pub params : Data
@@ -110,7 +106,7 @@ pub record Edits (d : Data) (uri : List ℕ) (version : ℤ) (changes : List Cha
   pub has_version : get (codes "version") document ≡ Some (number number_of)
   pub is_whole : as_i64 number_of ≡ Some version
   pub has_changes : get (codes "contentChanges") params ≡ Some (array values)
-  pub are_changes : AreChanges values changes
+  pub are_changes : AreEach IsChange values changes
 
 -- the parameters of `textDocument/didClose`
 pub record ClosesDocument (d : Data) (uri : List ℕ) : Type 0 where
@@ -131,18 +127,13 @@ pub record IsFileChange (d : Data) (change : FileChange) : Type 0 where
   pub has_uri : get (codes "uri") d ≡ Some (string change.uri)
   pub has_type : get (codes "type") d ≡ Some (number (unsigned (number_of_kind change.kind)))
 
--- the values are the changes of files, one each
-pub data AreFileChanges : Items → List FileChange → Type 0 where
-  no_files : AreFileChanges no_items []
-  next_file : {d : Data} {others : Items} {change : FileChange} {changes : List FileChange} → IsFileChange d change → AreFileChanges others changes → AreFileChanges (item d others) (change ∷ changes)
-
 -- the parameters of `workspace/didChangeWatchedFiles`
 pub record TellsOfFiles (d : Data) (changes : List FileChange) : Type 0 where
   pub params : Data
   pub values : Items
   pub has_params : get (codes "params") d ≡ Some params
   pub has_changes : get (codes "changes") params ≡ Some (array values)
-  pub are_changes : AreFileChanges values changes
+  pub are_changes : AreEach IsFileChange values changes
 
 -- the parameters name a place in a document
 pub record NamesPoint (params : Data) (uri : List ℕ) (at : Pos) : Type 0 where

@@ -1,4 +1,4 @@
--- What the values of a list say, each of them read by one shape.
+-- What the values of a list say, each of them by one shape, or by one rule.
 use Rattle.std.specs.Prelude.{List, [], ◌∷◌, Option, Some, None}
 use Rattle.serde_json.specs.Data.{Data, Items, no_items, item}
 
@@ -12,3 +12,8 @@ followed None others = None
 abbrev pub items_by : {A : Type 0} → (Data → Option A) → Items → Option (List A)
 items_by shape no_items = Some []
 items_by shape (item value others) = followed (shape value) (items_by shape others)
+
+-- the values are these things, one each, as it is told of one value and one thing
+pub data AreEach {A : Type 0} (Is : Data → A → Type 0) : Items → List A → Type 0 where
+  none : AreEach Is no_items []
+  next : {d : Data} {others : Items} {one : A} {more : List A} → Is d one → AreEach Is others more → AreEach Is (item d others) (one ∷ more)

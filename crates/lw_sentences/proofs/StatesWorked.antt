@@ -10,7 +10,6 @@ use Rattle.lw_grammar.specs.declared.terminal.Terminal.{Terminal}
 use Rattle.lw_grammar.specs.Named.{IsRule, IsTerminal, IsEntry, declared_rule, declared_terminal}
 use Rattle.lw_grammar.specs.Leaves.{Leaf, leaves, keywords_in, HasLeaves, value_leaves, Cross}
 use Rattle.lw_grammar.specs.Leaves as leaf
-use Rattle.lw_grammar.specs.Nodes.{MakesNodes, assigns}
 use Rattle.lw_grammar.specs.Subtypes.{IsDeclared, by_interface, by_union, IsDirectlyBelow, IsSubtype, extends, is_member, acts, calls, same}
 use Rattle.lw_grammar.specs.NameRules.{IsNameRule, NamesNodesOf, FirstNames, IsCallOf, here, later}
 use Rattle.lw_grammar.specs.Reached.{ValueCalls, RuleCalls, IsReached}

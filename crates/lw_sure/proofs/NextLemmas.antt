@@ -1,5 +1,5 @@
 -- What stands next stays so, where no keyword goes on behind the text and the terminals that are asked stay.
-use Rattle.std.proofs.Common.{◌≡◌, ℕ, ◌<◌, ◌++◌, List, All, length, Option, Some, None, slice_get, sym, subst}
+use Rattle.std.proofs.Common.{◌≡◌, ℕ, ◌<◌, ◌++◌, List, All, length, Option, Some, None, sym, subst}
 use Rattle.std.specs.Option.{option_map}
 use Rattle.std.proofs.lemmas.Option.{same_Some, slice_get_within}
 use Rattle.regex_nfa.specs.declared.nfa.Nfa.{Nfa}

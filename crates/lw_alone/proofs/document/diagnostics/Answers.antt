@@ -14,4 +14,4 @@ returns-in_ok-push-in-Broken c address =
     let reads : Reads g c.args.document.now (Broken issue) = subst (Reads g c.args.document.now) c.in-Broken.is c.requires.reads in
     let one = c.in_ok-push-in-Broken.ensures.ok ∙ ap (λ (list : List Shown). list ++ shown ∷ []) c.new-list.ensures in
     subst (IsListAlone g address c.args.document.now) (sym one)
-    (broken_alone g address c.args.document.now issue shown reads (c.in_ok-issue_diagnostic-in-Broken.ensures g c.tokens.ensures.named))
+    (broken_alone g address c.args.document.now issue shown reads (c.in_ok-issue_diagnostic-in-Broken.ensures g (rw c.set.ensures c.tokens.ensures.named)))

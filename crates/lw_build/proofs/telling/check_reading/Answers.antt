@@ -27,7 +27,7 @@ returns-in_ok-push-in-Broken-clause-checked g c texts trees address are index th
     let reads = subst (IsReadingOfText of c.args.language.now.texts text) c.in-Broken.is c.requires in
     let one = c.in_ok-push-in-Broken.ensures.ok ∙ ap (λ (list : List Shown). list ++ shown ∷ []) c.new-list.ensures in (
       subst (AreDiagnostics of texts address) (sym one)
-          (broken of texts address text c.in-Broken.issue shown there reads.0 (c.in_ok-issue_diagnostic-in-Broken.ensures of c.tokens.ensures.named)),
+          (broken of texts address text c.in-Broken.issue shown there reads.0 (c.in_ok-issue_diagnostic-in-Broken.ensures of (rw c.set.ensures c.tokens.ensures.named))),
       subst₂ (λ (o : Option Parts) (found : List Answer). AreLinkAnswers (IsNumberBelow of) (IsIndexedAt c.args.index.now) trees address o found)
           (sym (ap tree_of c.in-Broken.is)) (sym c.new.ensures.items) linked.treeless,
     )

@@ -16,7 +16,7 @@ read_front-requires c =
 pub of-requires-clause-cut : goal.of-requires-clause-cut
 of-requires-clause-cut c =
     let (of, lexicon, typed) = c.requires.known in
-    cut_there c.args.typing.now typed c.lexer_tables-tables.result.now.lexicon c.lexer_tables-tables.ensures.lexicon
+    cut_there c.args.typing.now typed c.tokens-tables.result.now.lexicon c.tokens-tables.ensures.lexicon
 
 pub of-requires-clause-places : goal.of-requires-clause-places
 of-requires-clause-places c = let (of, lexicon, typed) = c.requires.known in places_there c.args.typing.now typed
@@ -28,7 +28,7 @@ keywords-requires c =
     let readings = c.in_ok-fronts.ensures (grammar_of c.args.typing.now) of tasks rule parsed.program entry typed.of_kinds in
     let made = c.in_ok-recutter.ensures in
     let cuts : CutsBehind lexicon c.args.typing.now c.in_ok-recutter.recutter =
-    cuts_made c.args.typing.now typed c.lexer_tables-tables.result.now.lexicon c.lexer_tables-tables.ensures.lexicon c.in_ok-recutter.recutter made.lexicon made.end made.own in
+    cuts_made c.args.typing.now typed c.tokens-tables.result.now.lexicon c.tokens-tables.ensures.lexicon c.in_ok-recutter.recutter made.lexicon made.end made.own in
     record { known = (of, lexicon, tasks, typed, readings, parsed.faultless.supplied, cuts) }
 
 pub names-requires-clause-known : goal.names-requires-clause-known
@@ -39,7 +39,7 @@ names-requires-clause-known c =
     let readings = c.in_ok-fronts.ensures (grammar_of typing) of tasks rule parsed.program entry typed.of_kinds in
     let made = c.in_ok-recutter.ensures in
     let cuts : CutsBehind lexicon typing c.in_ok-recutter.recutter =
-    cuts_made typing typed c.lexer_tables-tables.result.now.lexicon c.lexer_tables-tables.ensures.lexicon c.in_ok-recutter.recutter made.lexicon made.end made.own in (
+    cuts_made typing typed c.tokens-tables.result.now.lexicon c.tokens-tables.ensures.lexicon c.in_ok-recutter.recutter made.lexicon made.end made.own in (
       of,
       lexicon,
       tasks,
@@ -55,7 +55,7 @@ returns-clause-exact c of lexicon trees address typed here =
     let readings = c.in_ok-fronts.ensures g of tasks rule parsed.program entry typed.of_kinds in
     let made = c.in_ok-recutter.ensures in
     let cuts : CutsBehind lexicon typing c.in_ok-recutter.recutter =
-    cuts_made typing typed c.lexer_tables-tables.result.now.lexicon c.lexer_tables-tables.ensures.lexicon c.in_ok-recutter.recutter made.lexicon made.end made.own in
+    cuts_made typing typed c.tokens-tables.result.now.lexicon c.tokens-tables.ensures.lexicon c.in_ok-recutter.recutter made.lexicon made.end made.own in
     let keywords = c.in_ok-keywords.keywords.items in
     let names = c.in_ok-names.names.items in
     let keywords_are = c.in_ok-keywords.ensures.keywords of lexicon tasks typed readings parsed.faultless.supplied in

@@ -25,7 +25,7 @@ expected-requires-clause-known c =
       Sentence,
       kinds_before c.args.typing.now,
       readings,
-      c.kind_count.ensures.count ∙ counted (grammar_of c.args.typing.now) of c.tokens-set.result.now.texts typed.are_kinds c.tokens-set.ensures.named,
+      c.kind_count.ensures.count ∙ counted (grammar_of c.args.typing.now) of c.set-set.result.now.texts typed.are_kinds (rw c.set-set.ensures c.tokens.ensures.named),
     )
 
 pub is_next-requires : goal.is_next-requires
@@ -35,14 +35,14 @@ is_next-requires c =
 
 pub kinds-init : goal.kinds-init
 kinds-init c = record {
-  so_far = so_far_start c.args.typing.now c.tokens-set.result.now.lexicon.keywords c.deref-kind-items.result.now c.new-found.result.items c.new-found.ensures.items;
+  so_far = so_far_start c.args.typing.now c.set-set.result.now.lexicon.keywords c.deref-kind-items.result.now c.new-found.result.items c.new-found.ensures.items;
   kept = refl;
 }
 
 pub kinds-preserved : goal.kinds-preserved
 kinds-preserved c =
     let typing = c.args.typing.now in
-    let keywords = c.tokens-set.result.now.lexicon.keywords in
+    let keywords = c.set-set.result.now.lexicon.keywords in
     let expected = c.deref-kind-items.result.now in
     let i = c.kinds.kind-index in
     let found = c.kinds.found.items in
@@ -89,13 +89,13 @@ pub returns-clause-keywords : goal.returns-clause-keywords
 returns-clause-keywords c of lexicon tasks typed readings supplied =
     let typing = c.args.typing.now in
     let g = grammar_of typing in
-    let (others, were, is) = c.tokens-set.ensures.lexicon in
-    let count = c.kind_count.ensures.count ∙ counted g of c.tokens-set.result.now.texts typed.are_kinds c.tokens-set.ensures.named in
+    let (others, were, is) = c.tokens.ensures.lexicon in
+    let count = c.kind_count.ensures.count ∙ counted g of c.set-set.result.now.texts typed.are_kinds (rw c.set-set.ensures c.tokens.ensures.named) in
     let told =
     subst (λ (items : List KindId). (kind : KindId) → Contains items kind ↔ Starts g of (kinds_before typing ++ kind.0 ∷ [])) (sym c.deref-kind-items.ensures.value)
     (c.in_ok-expected.ensures.expected g of tasks Sentence (kinds_before typing) readings count supplied) in
-    all_next g of typing c.tokens-set.result.now.lexicon.keywords c.deref-kind-items.result.now c.kinds.found.items c.kinds.kind-index c.kinds.invariant.so_far
-    (omega (arith, c.kinds-test.false)) (keywords_are g of others c.tokens-set.result.now.lexicon typed.are_kinds were is) told lexicon typed
+    all_next g of typing c.set-set.result.now.lexicon.keywords c.deref-kind-items.result.now c.kinds.found.items c.kinds.kind-index c.kinds.invariant.so_far
+    (omega (arith, c.kinds-test.false)) (keywords_are g of others c.set-set.result.now.lexicon typed.are_kinds were (rw c.set-set.ensures is)) told lexicon typed
 
 pub returns-clause-apart : goal.returns-clause-apart
 returns-clause-apart c = c.kinds.invariant.so_far.apart

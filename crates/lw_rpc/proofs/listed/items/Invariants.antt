@@ -2,7 +2,7 @@ use Rattle.std.proofs.Common.{◌≡◌}
 use Rattle.std.specs.Vec.Iter.{into_iter_items}
 use Rattle.serde_json.specs.View.{items_view}
 use Rattle.lw_rpc.specs.Listed.{items_by}
-use Rattle.lw_rpc.proofs.ChangeLemmas.{behind}
+use Rattle.lw_rpc.proofs.ListedLemmas.{behind}
 use Rattle.lw_rpc.proofs.listed.items.Given as goal
 
 -- what the values so far say, and what those that are left say, is what all of them say

@@ -1,4 +1,4 @@
-use Rattle.std.proofs.Common.{Some, sym, subst}
+use Rattle.std.proofs.Common.{sym, subst}
 use Rattle.lw_sure.specs.Next.{NextStays}
 use Rattle.lw_sure.proofs.NextLemmas.{some_stays}
 use Rattle.lw_sure.proofs.next.next_stays.Goals as goal

@@ -1,5 +1,3 @@
-use Rattle.std.proofs.Common.{IsTrue, sym, subst}
-use Rattle.lw_sure.specs.Front.{TerminalsStay}
 use Rattle.lw_sure.proofs.NextLemmas.{all_stay}
 use Rattle.lw_sure.proofs.next.none_stays.Goals as goal
 

@@ -1,4 +1,4 @@
-use Rattle.std.proofs.Common.{◌≡◌, nat_eq, Bool, ◌&&◌, rules, ap, ◌∙◌, Decides}
+use Rattle.std.proofs.Common.{◌≡◌, nat_eq, Bool, ◌&&◌, rules, ap, Decides}
 use Rattle.std.proofs.lemmas.Bool.Decides.{Decides-and, Decides-like}
 use Rattle.std.proofs.lemmas.Slice.Eq.{slice_eq-Decides}
 use Rattle.lw_base.specs.declared.numbers.NodeId.{NodeId}
