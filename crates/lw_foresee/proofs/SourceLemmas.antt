@@ -25,7 +25,7 @@ length_of_spans (Some m) (Some n) e =
     ap (λ s. if s.0 == 0 then Some s.1 else None) same
 
 module _ (pattern : List ℕ) (nfa : Nfa) (is : IsNfaOf pattern nfa) where
-  matched_as : (text : List ℕ) → All (λ b. b < 256) text → match_length pattern text ≡ match_at_start (meaning is.tree) text
+  pub matched_as : (text : List ℕ) → All (λ b. b < 256) text → match_length pattern text ≡ match_at_start (meaning is.tree) text
   unfolding Reads match_length
   matched_as text bytes = by_cases (read default_config (chars (anchored pattern))) refl
     where

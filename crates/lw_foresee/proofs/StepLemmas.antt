@@ -19,11 +19,11 @@ use Rattle.lw_foresee.specs.Steps.{gives_over, match_end, ReadsByte, IsPair}
 use Rattle.lw_foresee.specs.Walk.{left_over}
 use Rattle.lw_foresee.specs.declared.walk.Way.{Way}
 
-match_end-option_or : (o p : Option Trace) → match_end (option_or o p) ≡ option_or (match_end o) (match_end p)
+pub match_end-option_or : (o p : Option Trace) → match_end (option_or o p) ≡ option_or (match_end o) (match_end p)
 match_end-option_or None p = refl
 match_end-option_or (Some t) p = refl
 
-match_end-write : (slot i : ℕ) (o : Option Trace) → match_end (write slot i o) ≡ match_end o
+pub match_end-write : (slot i : ℕ) (o : Option Trace) → match_end (write slot i o) ≡ match_end o
 match_end-write slot i None = refl
 match_end-write slot i (Some t) = refl
 

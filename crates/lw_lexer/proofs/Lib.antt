@@ -1,4 +1,5 @@
 pub mod KeywordLemmas
+pub mod KnownLemmas
 pub mod NextLemmas
 pub mod TerminalLemmas
 pub mod EndLemmas

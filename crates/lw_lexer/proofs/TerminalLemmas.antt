@@ -19,6 +19,29 @@ le_of_over n (Some k) m e f = by_cases (nat_lt n k) refl
     by_cases true g = absurd (let x : Some k ≡ None = sym (ap (λ b. if b then Some k else None) g) ∙ e in cc)
     by_cases false g = let same : k ≡ m = cc in grind (arith, nat_tests)
 
+over_some : (n : ℕ) (o : Option ℕ) (m : ℕ) → over n o ≡ Some m → (o ≡ Some m) × (n < m)
+over_some n None m e = absurd cc
+over_some n (Some k) m e = by_cases (nat_lt n k) refl
+  where
+    by_cases : (b : Bool) → nat_lt n k ≡ b → (Some k ≡ Some m) × (n < m)
+    by_cases true g =
+        let same : Some k ≡ Some m = sym (ap (λ b. if b then Some k else None) g) ∙ e in
+        let bytes : k ≡ m = same_Some k m same in
+        (same, grind (arith, nat_tests, g, bytes))
+    by_cases false g = absurd (let x : None ≡ Some m = sym (ap (λ b. if b then Some k else None) g) ∙ e in cc)
+
+-- the first terminal that matches more than n bytes
+pub first_over : (terminals : List TerminalForm) (text : List ℕ) (n i : ℕ) (form : TerminalForm) (m : ℕ) → slice_get terminals i ≡ Some form →
+    over n (match_length form.pattern text) ≡ Some m →
+    ((j o : ℕ) → j < i → slice_get (lengths terminals text) j ≡ Some (Some o) → o ≤ n) → IsFirstOver n (lengths terminals text) i m
+first_over terminals text n i form m there over_n before =
+    let found = over_some n (match_length form.pattern text) m over_n in
+    record {
+      there = slice_get-map (λ t. match_length t.pattern text) terminals i ∙ ap (option_map (λ t. match_length t.pattern text)) there ∙ ap Some found.0;
+      longer = found.1;
+      none_before = before;
+    }
+
 -- where the first i terminals match no more than n bytes, and the next does not either, so do the first i + 1
 pub none_over_next : (terminals : List TerminalForm) (text : List ℕ) (n i : ℕ) (form : TerminalForm) → slice_get terminals i ≡ Some form →
     over n (match_length form.pattern text) ≡ None →

@@ -2,3 +2,4 @@ pub mod Longer
 pub mod Place
 pub mod TokenPlaces
 pub mod Fronts
+pub mod Known

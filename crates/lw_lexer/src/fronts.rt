@@ -1,5 +1,6 @@
 // The fronts that a set of tokens knows.
 ghost use Rattle.std.specs.Prelude.{◌≡◌, ◌↔◌, ◌<◌, ◌∷◌, ◌++◌, [], ℕ, IfOk, IfSome, IsTrue, All, false, slice_index_or, Some};
+ghost use Rattle.lw_foresee.specs.Nfas.{AreNfas};
 ghost use Rattle.lw_lexer.specs.Fronts.{AreEnds, AreFronts, IsEnd, IsFront};
 
 use crate::Lexer;
@@ -16,17 +17,19 @@ use std::marker::Model;
 /// How many steps are taken at most to find out about all fronts of a set.
 const STEPS: u32 = 1 << 20;
 
-/// The fronts of a set by their first byte, where each of its patterns has an automaton.
-pub(crate) fn fronts_of(alloc: Global, set: &TokenSet) -> Result<Vec<Items<Front>>, NoMemory>
+/// The fronts of a set by their first byte. These are the automata of its patterns.
+pub(crate) fn fronts_of<'s>(
+    alloc: Global,
+    set: &'s TokenSet,
+    nfas: &'s [Nfa],
+) -> Result<Vec<Items<Front>>, NoMemory>
+    requires { AreNfas set.now.lexicon.terminals nfas.now }
     ensures { IfOk result (λ table. AreFronts set.now.lexicon table.items) }
 {
-    let Some(nfas) = set.nfas(alloc)? else {
-        return Ok(Vec::new(alloc));
-    };
     let none = Vec::new(alloc);
     let mut finder = Finder {
         set,
-        lexer: Lexer::over(alloc, set, none.as_slice())?,
+        lexer: Lexer::over(alloc, set, none.as_slice(), nfas)?,
         nfas,
         walker: Walker::new(alloc, STEPS),
     };
@@ -43,7 +46,7 @@ pub(crate) fn fronts_of(alloc: Global, set: &TokenSet) -> Result<Vec<Items<Front
 struct Finder<'s> {
     set: &'s TokenSet,
     lexer: Lexer<'s>,
-    nfas: Vec<Nfa>,
+    nfas: &'s [Nfa],
     walker: Walker,
 }
 
@@ -56,7 +59,7 @@ impl<'s> Model for Finder<'s> {
 
     ghost view = { λ f. f.set.now };
 
-    ghost invariant = { λ f. (f.lexer ≡ f.set.now) × AreNfas f.set.now.lexicon.terminals f.nfas.items };
+    ghost invariant = { λ f. (f.lexer ≡ f.set.now) × AreNfas f.set.now.lexicon.terminals f.nfas.now };
 }
 
 impl Finder<'_> {
@@ -145,7 +148,7 @@ impl Finder<'_> {
         }
         Ok(next_stays(
             self.set.keywords(),
-            self.nfas.as_slice(),
+            self.nfas,
             longer.text(),
             Some(own.kind),
             &mut self.walker,

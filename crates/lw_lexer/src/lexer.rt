@@ -10,12 +10,15 @@ ghost use Rattle.lw_lexer.specs.declared.next.Next.{Next};
 ghost use Rattle.lw_lexer.specs.Place.{next_of};
 ghost use Rattle.lw_lexer.specs.TokenPlaces.{IsTokenPlace};
 ghost use Rattle.lw_lexer.specs.Fronts.{AreFronts};
+ghost use Rattle.lw_lexer.specs.Known.{AreInTurn};
 
 use crate::front::Front;
+use crate::known::known_lengths;
 use crate::next::{Next, next_token};
 use crate::{LexFault, LexerTables};
 use lw_base::{Items, Name, NoMemory, Span, Token};
 use lw_terminals::{TerminalMatcher, TokenSet};
+use regex_nfa::Nfa;
 use std::alloc::Global;
 use std::marker::Model;
 
@@ -23,8 +26,10 @@ use std::marker::Model;
 /// that many short texts are best cut by one.
 #[derive(Drop)]
 pub struct Lexer<'s> {
+    alloc: Global,
     set: &'s TokenSet,
     fronts: &'s [Items<Front>],
+    nfas: &'s [Nfa],
     matchers: Vec<TerminalMatcher<'s>>,
 }
 
@@ -32,12 +37,15 @@ impl<'s> Model for Lexer<'s> {
     ghost use Rattle.std.specs.Prelude.{◌≡◌};
     ghost use Rattle.lw_terminals.specs.TokenKinds.{TokenKinds, AreTokenKinds};
     ghost use Rattle.lw_lexer.specs.Fronts.{AreFronts};
+    ghost use Rattle.lw_lexer.specs.Known.{AreInTurn};
 
     ghost Value = { TokenKinds };
 
     ghost view = { λ l. l.set.now };
 
-    ghost invariant = { λ l. (l.matchers.items ≡ l.set.now.lexicon.terminals) × AreTokenKinds l.set.now × AreFronts l.set.now.lexicon l.fronts.now };
+    ghost invariant = { λ l. (l.matchers.items ≡ l.set.now.lexicon.terminals) × AreTokenKinds l.set.now
+        × AreFronts l.set.now.lexicon l.fronts.now
+        × AreInTurn l.set.now.lexicon.terminals l.nfas.now };
 }
 
 impl<'s> Lexer<'s> {
@@ -45,22 +53,26 @@ impl<'s> Lexer<'s> {
     pub fn new(alloc: Global, tables: &'s LexerTables) -> Result<Lexer<'s>, NoMemory>
         ensures { IfOk result (λ lexer. lexer ≡ tables.now) }
     {
-        Lexer::over(alloc, tables.set(), tables.fronts())
+        Lexer::over(alloc, tables.set(), tables.fronts(), tables.nfas())
     }
 
-    /// What cuts texts by this set, of which these fronts are known.
+    /// What cuts texts by this set, of which these fronts are known, and these automata of the terminals, or none.
     pub(crate) fn over(
         alloc: Global,
         set: &'s TokenSet,
         fronts: &'s [Items<Front>],
+        nfas: &'s [Nfa],
     ) -> Result<Lexer<'s>, NoMemory>
-        requires { AreFronts set.now.lexicon fronts.now }
+        requires fronts { AreFronts set.now.lexicon fronts.now }
+        requires nfas { AreInTurn set.now.lexicon.terminals nfas.now }
         ensures { IfOk result (λ lexer. lexer ≡ set.now) }
     {
         let matchers = set.matchers(alloc)?;
         Ok(Lexer {
+            alloc,
             set,
             fronts,
+            nfas,
             matchers,
         })
     }
@@ -68,8 +80,11 @@ impl<'s> Lexer<'s> {
     /// The tokens of the text. Where the text has no token at some place, the first such place is refused.
     ///
     /// At each token the patterns of which a match may begin with its first byte are tried once at its start, and of the keywords those
-    /// that begin with that byte. That is linear in the length of the text where no pattern looks much further than it matches. One that
-    /// does, as `a*b` over a row of `a`, goes to the end of the row at each place where it is tried: quadratic, for as long as the row is.
+    /// that begin with that byte. That is linear in the length of the text where no pattern looks much further than it matches. Where one
+    /// does, as `a*b` over a row of `a`, which it reads to its end at each letter, its matches at all places of the text are found at once
+    /// when that has been seen some times, see [`KnownLengths`](lw_lengths::KnownLengths): linear as well, and eight bytes of memory for
+    /// each byte of the text. A pattern with another assertion than that of the start, as `\b` or `$`, has no such table, nor has one that
+    /// there is no memory for: there it is quadratic, for as long as the row is.
     pub fn cut(&mut self, alloc: Global, text: &Name) -> Result<Vec<Token>, LexFault>
         requires { length text.now ≤ LONGEST_TEXT }
         ensures cut { IfOk result (λ tokens. IsCut self.old.lexicon text.now tokens.items) }
@@ -86,11 +101,19 @@ impl<'s> Lexer<'s> {
         ensures same { self.new ≡ self.old }
     {
         let text = text.text();
+        let mut known = known_lengths(alloc, self.set, self.nfas, text)?;
         let mut tokens = Vec::new(alloc);
         let mut at = 0;
         'cutting: while at < text.len() {
             let rest = &text[at..];
-            let Some(next) = next_token(self.set, self.fronts, &mut self.matchers, rest) else {
+            let Some(next) = next_token(
+                self.set,
+                self.fronts,
+                &mut self.matchers,
+                &mut known,
+                rest,
+                at,
+            ) else {
                 return Err(LexFault::NoToken(span_of(at, first_character(rest))));
             };
             let token = Token {
@@ -112,7 +135,15 @@ impl<'s> Lexer<'s> {
         ensures some { IfSome result (λ next. 0 < next.bytes) }
         ensures same { self.new ≡ self.old }
     {
-        next_token(self.set, self.fronts, &mut self.matchers, text)
+        let mut known = Vec::new(self.alloc);
+        next_token(
+            self.set,
+            self.fronts,
+            &mut self.matchers,
+            &mut known,
+            text,
+            0,
+        )
     }
 }
 

@@ -9,13 +9,15 @@
 //!
 //! [`LexerTables`] are a set of tokens with what is found out about it once: which of its keywords and blanks end before which bytes,
 //! whatever comes behind (`specs/Fronts.antt`), so that they are known by their first bytes and no pattern is tried. They are seen as the
-//! set; that any of this is known, is promised nowhere.
+//! set; that any of this is known, is promised nowhere. They hold the automata of the terminals too, by which a text that some pattern reads
+//! far in at many places is gone through once (`lw_lengths`).
 #![tactic(auto)]
 
 mod fault;
 mod front;
 mod fronts;
 mod keyword;
+mod known;
 mod lexer;
 mod next;
 mod tables;

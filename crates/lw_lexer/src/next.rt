@@ -4,12 +4,14 @@ ghost use Rattle.lw_tokens.specs.NextToken.{IsNextToken};
 ghost use Rattle.lw_lexer.specs.Longer.{length_or_zero, keyword_next};
 ghost use Rattle.lw_lexer.specs.Place.{next_of};
 ghost use Rattle.lw_lexer.specs.Fronts.{AreFronts};
+ghost use Rattle.lw_lexer.specs.Known.{AreKnownAt};
 ghost use Rattle.lw_terminals.specs.TokenKinds.{AreTokenKinds};
 
 use crate::front::{Front, known_next};
 use crate::keyword::longest_keyword;
 use crate::terminal::first_terminal;
 use lw_base::{Items, KindId};
+use lw_lengths::KnownLengths;
 use lw_terminals::{TerminalMatcher, TokenSet};
 
 /// A token at the start of a text: its kind, how many bytes it takes, and whether the parser skips it.
@@ -20,26 +22,31 @@ pub struct Next {
     pub bytes: usize,
 }
 
-/// The token at the start of the text: that of a front with which it begins, or else by its keywords and patterns.
+/// The token at the start of the text: that of a front with which it begins, or else by its keywords and patterns. What is known of the
+/// terminals' matches is of a whole text, whose rest from the place `at` on this is.
 pub(crate) fn next_token(
     set: &TokenSet,
     fronts: &[Items<Front>],
     matchers: &mut Vec<TerminalMatcher<'_>>,
+    known: &mut Vec<KnownLengths<'_>>,
     text: &str,
+    at: usize,
 ) -> Option<Next>
     requires kinds { AreTokenKinds set.now }
     requires fronts { AreFronts set.now.lexicon fronts.now }
     requires matchers { matchers.old.items ≡ set.now.lexicon.terminals }
+    requires known { AreKnownAt set.now.lexicon.terminals text.now at known.old.items }
     ensures next { IsNextToken set.now.lexicon text.now (option_map next_of result) }
     ensures boundary { IfSome result (λ next. IsCharBoundary text.now next.bytes) }
     ensures some { IfSome result (λ next. 0 < next.bytes) }
     ensures same { matchers.new.items ≡ matchers.old.items }
+    ensures known { known.new.items ≡ known.old.items }
 {
     if let Some(next) = known_next(fronts, text) {
         return Some(next);
     }
     let keyword = longest_keyword(set, text);
-    match first_terminal(matchers, text, length_or_zero(&keyword)) {
+    match first_terminal(matchers, known, text, at, length_or_zero(&keyword)) {
         Some((i, bytes)) => Some(Next {
             kind: KindId((set.keywords().len() + i) as u16),
             hidden: matchers[i].is_hidden(),

@@ -5,6 +5,7 @@ use crate::front::Front;
 use crate::fronts::fronts_of;
 use lw_base::{Items, NoMemory};
 use lw_terminals::TokenSet;
+use regex_nfa::Nfa;
 use std::alloc::Global;
 use std::marker::Model;
 
@@ -14,36 +15,52 @@ pub struct LexerTables {
     set: TokenSet,
     // for each byte the fronts that begin with it
     fronts: Vec<Items<Front>>,
+    // the automata of the terminals, or none
+    nfas: Vec<Nfa>,
 }
 
 impl Drop for LexerTables {
     // In one place, so that whoever drops such a value sees one call and not the drops of all its parts.
     fn drop(self) {
-        let LexerTables { set: _, fronts: _ } = self;
+        let LexerTables {
+            set: _,
+            fronts: _,
+            nfas: _,
+        } = self;
     }
 }
 
 impl Model for LexerTables {
     ghost use Rattle.lw_terminals.specs.TokenKinds.{TokenKinds};
     ghost use Rattle.lw_lexer.specs.Fronts.{AreFronts};
+    ghost use Rattle.lw_lexer.specs.Known.{AreInTurn};
 
     ghost Value = { TokenKinds };
 
     ghost view = { λ t. t.set };
 
-    ghost invariant = { λ t. AreFronts t.set.lexicon t.fronts.items };
+    ghost invariant = { λ t. AreFronts t.set.lexicon t.fronts.items
+        × AreInTurn t.set.lexicon.terminals t.nfas.items };
 }
 
 impl LexerTables {
     ghost use Rattle.lw_lexer.specs.Fronts.{AreFronts};
+    ghost use Rattle.lw_lexer.specs.Known.{AreInTurn};
 
     /// The tables of a set. It takes a walk over each keyword and each blank for each byte that may come behind it and each terminal,
     /// and a bounded number of steps in all.
     pub fn of(alloc: Global, set: TokenSet) -> Result<LexerTables, NoMemory>
         ensures { IfOk result (λ tables. tables ≡ set) }
     {
-        let fronts = fronts_of(alloc, &set)?;
-        Ok(LexerTables { set, fronts })
+        let Some(nfas) = set.nfas(alloc)? else {
+            return Ok(LexerTables {
+                set,
+                fronts: Vec::new(alloc),
+                nfas: Vec::new(alloc),
+            });
+        };
+        let fronts = fronts_of(alloc, &set, nfas.as_slice())?;
+        Ok(LexerTables { set, fronts, nfas })
     }
 
     /// The set.
@@ -58,5 +75,11 @@ impl LexerTables {
         ensures { AreFronts self.now.lexicon result.now }
     {
         self.fronts.as_slice()
+    }
+    /// The automata of the terminals, in order, or none.
+    pub(crate) fn nfas(&self) -> &[Nfa]
+        ensures { AreInTurn self.now.lexicon.terminals result.now }
+    {
+        self.nfas.as_slice()
     }
 }

@@ -126,10 +126,11 @@ fn check_cuts(
     let made = TokenSet::make(alloc, keywords, terminals, &mut patterns);
     let set = made.expect(rt, "the patterns are made");
     let unknown = Vec::new(alloc);
+    let none = Vec::new(alloc);
     check_texts(
         rt,
         alloc,
-        Lexer::over(alloc, &set, unknown.as_slice())?,
+        Lexer::over(alloc, &set, unknown.as_slice(), none.as_slice())?,
         cuts,
     )?;
     let tables = LexerTables::of(alloc, set)?;
@@ -195,5 +196,24 @@ fn texts_are_cut_by_the_five_rules(rt: HostRuntime) -> Result<(), Fail> {
         ("yzx", "none at 1..2"),
     ];
     check_cuts(&rt, alloc, &[], odd.as_slice(), cuts.as_slice(), &[])?;
+    Ok(())
+}
+
+#[test]
+fn patterns_that_read_far_match_where_they_do(rt: HostRuntime) -> Result<(), Fail> {
+    // The last of these rows is a token of its own, though of the first no letter is.
+    let sources = [("ROW", "a*b", false), ("LETTER", "[a;]", false)];
+    let cuts = [(
+        "aaaaaaaaaaaaaaaaaaaaaaaaaaaaaaaaaaaaaaaaaaaaaaaaaaaaaaaaaaaaaaaaaaaaaaaaaaaaaaaaaaaaaaaaaaaaaaaaaaaa;aab!",
+        "none at 104..105",
+    )];
+    check_cuts(
+        &rt,
+        rt.alloc(),
+        &[],
+        sources.as_slice(),
+        cuts.as_slice(),
+        &[],
+    )?;
     Ok(())
 }

@@ -77,9 +77,9 @@ impl<'t> TerminalMatcher<'t> {
         }
     }
 
-    // Whether the text's first byte tells that the terminal does not match.
+    /// Whether the text's first byte tells that the terminal does not match: one look into a table.
     #[tactic(auto, using(crate::proofs::FirstByteLemmas::ruled_out))]
-    fn is_ruled_out(&self, text: &str) -> bool
+    pub fn is_ruled_out(&self, text: &str) -> bool
         ensures { IsTrue result → match_length self.now.pattern text.now ≡ None }
     {
         match text.as_bytes() {

@@ -1,10 +1,16 @@
-use Rattle.std.proofs.Common.{◌≡◌, ◌<◌, List, length, slice_get, Some, refl, subst, ap, ◌∙◌, arith}
+use Rattle.std.proofs.Common.{◌≡◌, ◌<◌, List, length, slice_get, Some, refl, sym, subst, ap, ◌∙◌, arith}
 use Rattle.std.proofs.lemmas.Option.{slice_get_read}
 use Rattle.lw_tokens.specs.Lexicon.{TerminalForm}
 use Rattle.lw_tokens.proofs.OneCut.{next_has_bytes}
+use Rattle.lw_lexer.specs.Known.{AreKnownAt}
 use Rattle.lw_lexer.specs.Place.{next_of}
 use Rattle.lw_lexer.proofs.TerminalLemmas.{terminal_is_next, keyword_is_next, has_bytes}
 use Rattle.lw_lexer.proofs.next.next_token.Goals as goal
+
+pub first_terminal-requires : goal.first_terminal-requires
+first_terminal-requires c = record {
+  known = subst (λ (forms : List TerminalForm). AreKnownAt forms c.args.text.now c.args.at c.args.known.now.items) (sym c.requires.matchers) c.requires.known;
+}
 
 pub returns-in-Some-clause-some : goal.returns-in-Some-clause-some
 returns-in-Some-clause-some c =

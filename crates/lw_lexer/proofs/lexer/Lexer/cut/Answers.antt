@@ -9,8 +9,10 @@ use Rattle.lw_tokens.specs.Cut.{IsCut, IsCutTo, HasNoTokenAt}
 use Rattle.lw_tokens.specs.Keywords.{AreKeywords}
 use Rattle.lw_tokens.specs.NextToken.{IsNextToken}
 use Rattle.lw_lexer.specs.Place.{next_of}
+use Rattle.lw_lexer.specs.Known.{AreKnown, AreKnownAt}
 use Rattle.lw_lexer.specs.TokenPlaces.{IsTokenPlace}
 use Rattle.lw_tokens.proofs.OneCut.{one_cut, no_cut, one_place}
+use Rattle.lw_lexer.proofs.KnownLemmas.{known_at}
 use Rattle.lw_lexer.proofs.lexer.Lexer.cut.Goals as goal
 use Rattle.lw_lexer.proofs.lexer.Lexer.cut.Goals.{After-cutting, In_default}
 
@@ -20,11 +22,21 @@ cutting-init c = record {
   keywords = subst (λ (set : TokenKinds). AreKeywords set.lexicon.keywords) c.self.view_is c.self.invariant.1.keywords;
   kinds = c.self.invariant.1;
   fronts = c.self.invariant.2;
+  nfas = c.self.invariant.3;
   matchers = c.self.invariant.0;
+  known = subst (λ (set : TokenKinds). AreKnown set.lexicon.terminals c.text-text.result.now c.in_ok-known.known.items) c.self.view_is c.in_ok-known.ensures;
   boundary = IsCharBoundary-start c.text-text.result.now c.text-text.utf8;
   cut = rw c.new-tokens.ensures.items cut.start;
   places = rw c.new-tokens.ensures.items (All-nil (IsTokenPlace c.text-text.result.now));
 }
+
+pub next_token-requires-clause-known : goal.next_token-requires-clause-known
+next_token-requires-clause-known c =
+    let inv = c.cutting.invariant in
+    let text = c.text-text.result.now in
+    let known = known_at c.args.self.now.lexicon.terminals text c.cutting.known.items c.cutting.at inv.boundary inv.known in
+    rw c.range_from-rest.ensures.value
+    (subst (λ (set : TokenKinds). AreKnownAt set.lexicon.terminals (drop c.cutting.at text) c.cutting.at c.cutting.known.items) (sym inv.set) known)
 
 pub cutting-preserved : goal.cutting-preserved
 cutting-preserved c =
@@ -49,7 +61,9 @@ cutting-preserved c =
       keywords = inv.keywords;
       kinds = inv.kinds;
       fronts = inv.fronts;
+      nfas = inv.nfas;
       matchers = c.next_token.ensures.same ∙ inv.matchers;
+      known = subst (AreKnown c.args.self.now.lexicon.terminals text) (sym c.next_token.ensures.known) inv.known;
       boundary = end;
       cut = rw (c.in_ok-push.ensures.items, c.span_of-in-cutting.ensures) (cut.then inv.cut below is_next);
       places = rw (c.in_ok-push.ensures.items, c.span_of-in-cutting.ensures) (All-push (IsTokenPlace text) c.cutting.tokens.items token inv.places place);
@@ -93,8 +107,10 @@ whole c =
 
 pub returns-clause-one_cut : goal.returns-clause-one_cut
 returns-clause-one_cut c = λ others other.
-    one_cut c.args.self.now.lexicon c.cutting.invariant.keywords c.args.text.now c.cutting.tokens.items others (whole c) other
+    one_cut c.args.self.now.lexicon c.cutting.invariant.keywords c.args.text.now c.cutting.tokens.items others
+    (whole (goal.at.returns-clause-one_cut c).After-cutting) other
 
 pub returns-clause-no_fault : goal.returns-clause-no_fault
 returns-clause-no_fault c = λ at fault.
-    no_cut c.args.self.now.lexicon c.cutting.invariant.keywords c.args.text.now at c.cutting.tokens.items fault (whole c)
+    no_cut c.args.self.now.lexicon c.cutting.invariant.keywords c.args.text.now at c.cutting.tokens.items fault
+    (whole (goal.at.returns-clause-no_fault c).After-cutting)

@@ -1,0 +1,5 @@
+pub mod Lengths
+pub mod Order
+pub mod Rows
+pub mod Starts
+pub mod Known
