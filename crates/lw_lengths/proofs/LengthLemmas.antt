@@ -1,5 +1,5 @@
 -- What the automaton of a pattern matches at a place is what the pattern matches there.
-use Rattle.std.proofs.Common.{◌≡◌, ℕ, ◌+◌, ◌<◌, true, List, length, drop, get_or, set, slice_get, get_or-set_same, get_or-set_other, IsUtf8, IsCharBoundary, Option, Some, None, cond, option_map, refl, sym, ap, ◌∙◌, arith}
+use Rattle.std.proofs.Common.{◌≡◌, ℕ, ◌+◌, ◌<◌, Bool, IsTrue, List, length, drop, get_or, set, slice_get, get_or-set_same, get_or-set_other, IsUtf8, IsCharBoundary, Option, Some, None, cond, option_map, refl, sym, ap, ◌∙◌, arith}
 use Rattle.std.proofs.lemmas.List.{length-set}
 use Rattle.std.proofs.lemmas.Option.{slice_get-get_or}
 use Rattle.std.proofs.lemmas.Str.{IsUtf8-drop, IsCharBoundary-start}
@@ -44,9 +44,9 @@ none_at : (p : ℕ) (a : Option ℕ) → option_map (λ x. x + p) a ≡ None →
 none_at p None is = refl
 none_at p (Some n) is = absurd cc
 
-module _ (nfa : Nfa) (text : List ℕ) (p : ℕ) (row : List (Option ℕ)) (is : IsRow nfa text p true row) where
+module _ (nfa : Nfa) (text : List ℕ) (p : ℕ) (starts : Bool) (begins : IsTrue starts) (row : List (Option ℕ)) (is : IsRow nfa text p starts row) where
   start_row : option_map (λ x. x + p) (end_from nfa (drop p text) nfa.start 0) ≡ option_map (λ x. x + 0) (get_or row nfa.start None)
-  start_row = is nfa.start nfa.start_in (drop p text) 0 refl (omega arith) refl
+  start_row = is nfa.start nfa.start_in (drop p text) 0 (sym begins) (omega arith) refl
 
   -- a search that begins at the place ends so many bytes behind it
   pub start_some : (e : ℕ) → get_or row nfa.start None ≡ Some e → (n : ℕ) × (end_from nfa (drop p text) nfa.start 0 ≡ Some n) × (n + p ≡ e)

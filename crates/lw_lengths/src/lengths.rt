@@ -1,5 +1,5 @@
 // How many bytes a pattern matches at each place of a text.
-ghost use Rattle.std.specs.Prelude.{◌≡◌, ◌≤◌, ℕ, List, IfOk, IfSome, IsTrue, length, vec_len, drop};
+ghost use Rattle.std.specs.Prelude.{◌≡◌, ◌≤◌, ◌↔◌, ℕ, List, Ok, None, IfOk, IfSome, IsTrue, length, vec_len, drop};
 ghost use Rattle.lw_base.specs.declared.limits.TheConstants.{LONGEST_TEXT};
 ghost use Rattle.lw_foresee.specs.Nfas.{IsNfaOf};
 ghost use Rattle.lw_lengths.specs.Lengths.{AreMatchLengths};
@@ -25,8 +25,9 @@ pub fn match_lengths(
     text: &str,
 ) -> Result<Option<Vec<Option<u32>>>, NoMemory>
     requires { length text.now ≤ LONGEST_TEXT }
-    ensures { IfOk result (λ found. IfSome found (λ lengths. (pattern : List ℕ) → IsNfaOf pattern nfa.now
+    ensures lengths { IfOk result (λ found. IfSome found (λ lengths. (pattern : List ℕ) → IsNfaOf pattern nfa.now
         → AreMatchLengths pattern text.now lengths.items)) }
+    ensures none { result ≡ Ok None → ¬ AsksForStart nfa.now }
 {
     if !asks_for_start(nfa) {
         return Ok(None);
@@ -37,7 +38,7 @@ pub fn match_lengths(
 
 // Whether the only assertion of the automaton is that of the start.
 fn asks_for_start(nfa: &Nfa) -> bool
-    ensures { IsTrue result → AsksForStart nfa.now }
+    ensures { IsTrue result ↔ AsksForStart nfa.now }
 {
     for state in &nfa.states {
         match state {

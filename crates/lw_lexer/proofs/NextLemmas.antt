@@ -4,13 +4,13 @@ use Rattle.lw_tokens.specs.NextToken as token
 use Rattle.lw_lexer.specs.declared.next.Next.{Next}
 use Rattle.lw_lexer.specs.Place.{next_of}
 
--- the token that it stands for
-abbrev place_of : token.Next → Next
-place_of next = record { kind = record { 0 = next.kind }; hidden = next.hidden; bytes = next.bytes }
+-- as the code has it
+abbrev next_from : token.Next → Next
+next_from next = record { kind = record { 0 = next.kind }; hidden = next.hidden; bytes = next.bytes }
 
-back_again : (a : Option Next) → option_map place_of (option_map next_of a) ≡ a
+back_again : (a : Option Next) → option_map next_from (option_map next_of a) ≡ a
 back_again None = refl
 back_again (Some next) = refl
 
 pub same_place : (a b : Option Next) → option_map next_of a ≡ option_map next_of b → a ≡ b
-same_place a b is = sym (back_again a) ∙ ap (option_map place_of) is ∙ back_again b
+same_place a b is = sym (back_again a) ∙ ap (option_map next_from) is ∙ back_again b

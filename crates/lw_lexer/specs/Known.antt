@@ -11,14 +11,14 @@ AreInTurn terminals nfas =
     (j : ℕ) (form : TerminalForm) (nfa : Nfa) → slice_get terminals j ≡ Some form → slice_get nfas j ≡ Some nfa → IsNfaOf form.pattern nfa
 
 -- it is known of this terminal in this text
-pub record IsKnown (text : List ℕ) (form : TerminalForm) (known : Tried) : Type 0 where
+pub record IsKnownIn (text : List ℕ) (form : TerminalForm) (known : Tried) : Type 0 where
   pub pattern : known.pattern ≡ form.pattern
   pub of_text : known.text ≡ text
 
 -- as far as something is known it is of the terminal in its turn
-abbrev pub AreKnown : List TerminalForm → List ℕ → List Tried → Type 0
-AreKnown terminals text known =
-    (j : ℕ) (form : TerminalForm) (one : Tried) → slice_get terminals j ≡ Some form → slice_get known j ≡ Some one → IsKnown text form one
+abbrev pub AreKnownIn : List TerminalForm → List ℕ → List Tried → Type 0
+AreKnownIn terminals text known =
+    (j : ℕ) (form : TerminalForm) (one : Tried) → slice_get terminals j ≡ Some form → slice_get known j ≡ Some one → IsKnownIn text form one
 
 -- it is known of this terminal in a text of which this is the rest from a place on
 pub record IsKnownAt (left : List ℕ) (at : ℕ) (form : TerminalForm) (known : Tried) : Type 0 where

@@ -1,7 +1,7 @@
 // What is known of the terminals' matches in one text.
 ghost use Rattle.std.specs.Prelude.{◌≤◌, IfOk, length};
 ghost use Rattle.lw_base.specs.declared.limits.TheConstants.{LONGEST_TEXT};
-ghost use Rattle.lw_lexer.specs.Known.{AreInTurn, AreKnown};
+ghost use Rattle.lw_lexer.specs.Known.{AreInTurn, AreKnownIn};
 
 use lw_base::NoMemory;
 use lw_lengths::KnownLengths;
@@ -18,7 +18,7 @@ pub(crate) fn known_lengths<'t>(
 ) -> Result<Vec<KnownLengths<'t>>, NoMemory>
     requires nfas { AreInTurn set.now.lexicon.terminals nfas.now }
     requires fits { length text.now ≤ LONGEST_TEXT }
-    ensures { IfOk result (λ known. AreKnown set.now.lexicon.terminals text.now known.items) }
+    ensures { IfOk result (λ known. AreKnownIn set.now.lexicon.terminals text.now known.items) }
 {
     let terminals = set.terminals();
     let count = terminals.len().min(nfas.len());

@@ -201,7 +201,7 @@ fn texts_are_cut_by_the_five_rules(rt: HostRuntime) -> Result<(), Fail> {
 
 #[test]
 fn patterns_that_read_far_match_where_they_do(rt: HostRuntime) -> Result<(), Fail> {
-    // The last of these rows is a token of its own, though of the first no letter is.
+    // No letter of the long row begins a ROW, which is known of them all by then; behind the row `aab` is one still, and only `!` is no token.
     let sources = [("ROW", "a*b", false), ("LETTER", "[a;]", false)];
     let cuts = [(
         "aaaaaaaaaaaaaaaaaaaaaaaaaaaaaaaaaaaaaaaaaaaaaaaaaaaaaaaaaaaaaaaaaaaaaaaaaaaaaaaaaaaaaaaaaaaaaaaaaaaa;aab!",

@@ -2,3 +2,4 @@ pub mod Compiled
 pub mod TokenKinds
 pub mod Made
 pub mod Starting
+pub mod Told

@@ -4,5 +4,5 @@ pub invariant_of-self : goal.invariant_of-self
 invariant_of-self c = (
   c.self.invariant.0,
   c.self.invariant.1,
-  (rw c.in-Ok-Some.field-0-is at c.in-Ok-Some.ensures) c.self.inside.pattern.now c.self.invariant.0,
+  (rw c.in-Ok-Some.field-0-is at c.in-Ok-Some.ensures.lengths) c.self.inside.pattern.now c.self.invariant.0,
 )

@@ -9,7 +9,7 @@ use Rattle.lw_tokens.specs.Cut.{IsCut, IsCutTo, HasNoTokenAt}
 use Rattle.lw_tokens.specs.Keywords.{AreKeywords}
 use Rattle.lw_tokens.specs.NextToken.{IsNextToken}
 use Rattle.lw_lexer.specs.Place.{next_of}
-use Rattle.lw_lexer.specs.Known.{AreKnown, AreKnownAt}
+use Rattle.lw_lexer.specs.Known.{AreKnownIn, AreKnownAt}
 use Rattle.lw_lexer.specs.TokenPlaces.{IsTokenPlace}
 use Rattle.lw_tokens.proofs.OneCut.{one_cut, no_cut, one_place}
 use Rattle.lw_lexer.proofs.KnownLemmas.{known_at}
@@ -24,7 +24,7 @@ cutting-init c = record {
   fronts = c.self.invariant.2;
   nfas = c.self.invariant.3;
   matchers = c.self.invariant.0;
-  known = subst (λ (set : TokenKinds). AreKnown set.lexicon.terminals c.text-text.result.now c.in_ok-known.known.items) c.self.view_is c.in_ok-known.ensures;
+  known = subst (λ (set : TokenKinds). AreKnownIn set.lexicon.terminals c.text-text.result.now c.in_ok-known.known.items) c.self.view_is c.in_ok-known.ensures;
   boundary = IsCharBoundary-start c.text-text.result.now c.text-text.utf8;
   cut = rw c.new-tokens.ensures.items cut.start;
   places = rw c.new-tokens.ensures.items (All-nil (IsTokenPlace c.text-text.result.now));
@@ -63,7 +63,7 @@ cutting-preserved c =
       fronts = inv.fronts;
       nfas = inv.nfas;
       matchers = c.next_token.ensures.same ∙ inv.matchers;
-      known = subst (AreKnown c.args.self.now.lexicon.terminals text) (sym c.next_token.ensures.known) inv.known;
+      known = subst (AreKnownIn c.args.self.now.lexicon.terminals text) (sym c.next_token.ensures.known) inv.known;
       boundary = end;
       cut = rw (c.in_ok-push.ensures.items, c.span_of-in-cutting.ensures) (cut.then inv.cut below is_next);
       places = rw (c.in_ok-push.ensures.items, c.span_of-in-cutting.ensures) (All-push (IsTokenPlace text) c.cutting.tokens.items token inv.places place);

@@ -3,7 +3,7 @@ use Rattle.lw_tokens.specs.Cut.{IsCutTo}
 use Rattle.lw_tokens.specs.Keywords.{AreKeywords}
 use Rattle.lw_terminals.specs.TokenKinds.{AreTokenKinds}
 use Rattle.lw_lexer.specs.Fronts.{AreFronts}
-use Rattle.lw_lexer.specs.Known.{AreInTurn, AreKnown}
+use Rattle.lw_lexer.specs.Known.{AreInTurn, AreKnownIn}
 use Rattle.lw_lexer.specs.TokenPlaces.{IsTokenPlace}
 use Rattle.lw_lexer.proofs.lexer.Lexer.cut.Given as goal
 
@@ -15,7 +15,7 @@ invariant-cutting l = record {
   fronts : AreFronts l.self-inside.set.now.lexicon l.self-inside.fronts.now;
   nfas : AreInTurn l.self-inside.set.now.lexicon.terminals l.self-inside.nfas.now;
   matchers : l.self-inside.matchers.items ≡ l.self-inside.set.now.lexicon.terminals;
-  known : AreKnown l.fn.self.lexicon.terminals l.text l.known.items;
+  known : AreKnownIn l.fn.self.lexicon.terminals l.text l.known.items;
   boundary : IsCharBoundary l.text l.at;
   cut : IsCutTo l.fn.self.lexicon l.text l.at l.tokens.items;
   places : All (IsTokenPlace l.text) l.tokens.items;
