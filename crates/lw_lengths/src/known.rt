@@ -6,7 +6,7 @@ ghost use Rattle.lw_tokens.specs.Matching.{match_length};
 
 use crate::match_lengths;
 use lw_base::{LONGEST_TEXT, Name};
-use lw_foresee::Walker;
+use lw_foresee::{FirstBytes, Walker};
 use regex_nfa::Nfa;
 use std::alloc::Global;
 use std::marker::Model;
@@ -26,6 +26,7 @@ pub struct KnownLengths<'t> {
     alloc: Global,
     pattern: &'t Name,
     nfa: &'t Nfa,
+    first_bytes: &'t FirstBytes,
     text: &'t str,
     // how many searches have found a match
     matches: usize,
@@ -50,8 +51,15 @@ impl<'t> Model for KnownLengths<'t> {
 }
 
 impl<'t> KnownLengths<'t> {
-    /// Nothing is known yet of the matches of this pattern, which has this automaton, in this text.
-    pub fn new(alloc: Global, pattern: &'t Name, nfa: &'t Nfa, text: &'t str) -> KnownLengths<'t>
+    /// Nothing is known yet of the matches of this pattern, which has this automaton, in this text. With a byte whose flag is off no match
+    /// begins, so that a search which finds nothing there counts for none that has read far.
+    pub fn new(
+        alloc: Global,
+        pattern: &'t Name,
+        nfa: &'t Nfa,
+        first_bytes: &'t FirstBytes,
+        text: &'t str,
+    ) -> KnownLengths<'t>
         requires nfa { IsNfaOf pattern.now nfa.now }
         requires fits { length text.now ≤ LONGEST_TEXT }
         ensures { result ≡ record { pattern = pattern.now; text = text.now } }
@@ -60,6 +68,7 @@ impl<'t> KnownLengths<'t> {
             alloc,
             pattern,
             nfa,
+            first_bytes,
             text,
             matches: 0,
             far: 0,
@@ -92,7 +101,7 @@ impl<'t> KnownLengths<'t> {
         ensures { self.new ≡ self.old }
     {
         let most = self.nfa.states.len();
-        let stands_for = self.stands_for(bytes);
+        let stands_for = self.stands_for(at, bytes);
         if 0 < stands_for && self.far < most && self.reads_far(at, bytes) {
             self.far = self.far.saturating_add(stands_for);
             if most <= self.far {
@@ -101,18 +110,26 @@ impl<'t> KnownLengths<'t> {
         }
     }
 
-    // For how many searches this one is looked at: each that has found nothing is, and some of the others.
-    fn stands_for(&mut self, bytes: Option<usize>) -> usize
+    // For how many searches this one is looked at: each that has found nothing is, unless one byte told that, and some of the others.
+    fn stands_for(&mut self, at: usize, bytes: Option<usize>) -> usize
         ensures { self.new ≡ self.old }
     {
         if bytes.is_none() {
-            return 1;
+            return if self.is_ruled_out(at) { 0 } else { 1 };
         }
         self.matches = self.matches.wrapping_add(1);
         if self.matches % LOOKED_AT == 0 {
             LOOKED_AT
         } else {
             0
+        }
+    }
+
+    // Whether the byte at the place is one with which no match begins.
+    fn is_ruled_out(&self, at: usize) -> bool {
+        match self.text.as_bytes().get(at) {
+            Some(byte) => !self.first_bytes[*byte as usize],
+            None => false,
         }
     }
 

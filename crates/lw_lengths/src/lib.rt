@@ -19,8 +19,8 @@
 //!
 //! What it costs: two steps for each state and each byte of the text, and eight bytes of memory for each byte. That is more than a search
 //! takes which reads no further than its match, so a [`KnownLengths`] finds the lengths only once as many searches have read far as the
-//! automaton has states. It looks at each search that has found nothing, by a walk of at most 64 steps, and at one in 61 of those that have
-//! found a match, which then stands for all 61.
+//! automaton has states. It looks at each search that has found nothing, by a walk of at most 64 steps, but for those at a byte with which
+//! no match begins, and at one in 61 of those that have found a match, which then stands for all 61.
 #![tactic(auto)]
 
 mod known;

@@ -1,7 +1,7 @@
 // The lengths of matches at the places of texts, by hand.
 use crate::{KnownLengths, match_lengths};
 use lw_base::{LONGEST_TEXT, Name, NoMemory};
-use lw_foresee::nfa_of;
+use lw_foresee::{first_bytes_of, nfa_of};
 use std::alloc::Global;
 use std::test::Fail;
 
@@ -68,7 +68,8 @@ fn known_after(
     let Some(nfa) = nfa_of(alloc, &pattern)? else {
         return Ok(None);
     };
-    let mut known = KnownLengths::new(alloc, &pattern, &nfa, text);
+    let first_bytes = first_bytes_of(alloc, &pattern)?;
+    let mut known = KnownLengths::new(alloc, &pattern, &nfa, &first_bytes, text);
     for _ in 0..searches {
         known.note_search(0, None);
     }

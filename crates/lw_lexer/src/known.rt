@@ -24,7 +24,14 @@ pub(crate) fn known_lengths<'t>(
     let count = terminals.len().min(nfas.len());
     let mut known = Vec::with_capacity(alloc, count)?;
     for i in 0..count {
-        known.push(KnownLengths::new(alloc, terminals[i].pattern(), &nfas[i], text))?;
+        let terminal = &terminals[i];
+        known.push(KnownLengths::new(
+            alloc,
+            terminal.pattern(),
+            &nfas[i],
+            terminal.first_bytes(),
+            text,
+        ))?;
     }
     Ok(known)
 }

@@ -7,7 +7,7 @@ ghost use Rattle.lw_lexer.specs.Known.{AreKnownAt, IsKnownAt};
 ghost use Rattle.lw_lexer.specs.Longer.{over};
 
 use lw_lengths::KnownLengths;
-use lw_terminals::{Searched, TerminalMatcher};
+use lw_terminals::TerminalMatcher;
 
 /// The first terminal that matches more than so many bytes at the start of the text: its place among
 /// the terminals and how many bytes it matches. What is known is of a whole text, whose rest from the place `at` on this is.
@@ -91,12 +91,10 @@ fn known_length(
 {
     match known.length_at(at) {
         Some(bytes) => bytes,
-        None => match matcher.search(text) {
-            Searched::RuledOut => None,
-            Searched::Tried(bytes) => {
-                known.note_search(at, bytes);
-                bytes
-            }
-        },
+        None => {
+            let bytes = matcher.match_length(text);
+            known.note_search(at, bytes);
+            bytes
+        }
     }
 }

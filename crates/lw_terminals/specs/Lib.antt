@@ -2,4 +2,3 @@ pub mod Compiled
 pub mod TokenKinds
 pub mod Made
 pub mod Starting
-pub mod Told

@@ -21,7 +21,7 @@ mod terminal;
 mod token_set;
 
 pub use fault::MakeTokensFault;
-pub use matcher::{Searched, TerminalMatcher};
+pub use matcher::TerminalMatcher;
 pub use source::TerminalSource;
 pub use terminal::Terminal;
 pub use token_set::TokenSet;

@@ -5,15 +5,6 @@ use regex::{Matcher, Regex};
 use std::alloc::Global;
 use std::marker::Model;
 
-/// What a search for a terminal at the start of a text comes to.
-#[derive(Clone, Copy, Debug, PartialEq, Eq)]
-pub enum Searched {
-    /// The text's first byte tells that the terminal does not match, and nothing else was read.
-    RuledOut,
-    /// The text was read: how many bytes the terminal matches, or none.
-    Tried(Option<usize>),
-}
-
 /// What finds the matches of a terminal, seen as the text of its pattern and whether its tokens are
 /// hidden. Its caches grow as it is used, and no search fails.
 #[derive(Drop)]
@@ -43,7 +34,6 @@ impl<'t> TerminalMatcher<'t> {
     ghost use Rattle.lw_tokens.specs.Matching.{match_length};
     ghost use Rattle.lw_foresee.specs.FirstBytes.{AreFirstBytes};
     ghost use Rattle.lw_terminals.specs.Compiled.{IsCompiled};
-    ghost use Rattle.lw_terminals.specs.Told.{length_told};
 
     pub(crate) fn new(
         alloc: Global,
@@ -78,29 +68,16 @@ impl<'t> TerminalMatcher<'t> {
         ensures boundary { IfSome result (IsCharBoundary text.now) }
         ensures same { self.new ≡ self.old }
     {
-        match self.search(text) {
-            Searched::RuledOut => None,
-            Searched::Tried(bytes) => bytes,
-        }
-    }
-
-    /// The same, with whether the text had to be read for it. A byte with which no match begins costs one look into a table.
-    pub fn search(&mut self, text: &str) -> Searched
-        ensures length { length_told result ≡ match_length self.old.pattern text.now }
-        ensures boundary { IfSome (length_told result) (IsCharBoundary text.now) }
-        ensures same { self.new ≡ self.old }
-    {
         if self.is_ruled_out(text) {
-            return Searched::RuledOut;
+            return None;
         }
-        let bytes = match self.matcher.find(text) {
+        match self.matcher.find(text) {
             Some(found) if found.start() == 0 => Some(found.end()),
             _ => None,
-        };
-        Searched::Tried(bytes)
+        }
     }
 
-    // Whether the text's first byte tells that the terminal does not match.
+    // Whether the text's first byte tells that the terminal does not match: one look into a table.
     #[tactic(auto, using(crate::proofs::FirstByteLemmas::ruled_out))]
     fn is_ruled_out(&self, text: &str) -> bool
         ensures { IsTrue result → match_length self.now.pattern text.now ≡ None }

@@ -57,6 +57,13 @@ impl Terminal {
         &self.pattern
     }
 
+    /// For each byte whether a match may begin with it.
+    pub fn first_bytes(&self) -> &FirstBytes
+        ensures { AreFirstBytes self.now.pattern result.now }
+    {
+        &self.first_bytes
+    }
+
     /// What finds the terminal's matches.
     pub fn matcher(&self, alloc: Global) -> Result<TerminalMatcher<'_>, NoMemory>
         ensures { IfOk result (λ matcher. matcher ≡ self.now) }
