@@ -5,35 +5,20 @@
 //! Language Server Protocol 3.17, over the files that are named. `langbench make GRAMMAR N` generates a workspace of
 //! N documents, builds and edits it, and prints what it holds.
 //!
-//! [`top::run`] has the whole meaning, over any source, sinks, store and patterns; `main` hands in the
-//! real ones and the words of the command line, and ends with the status. `named` reads the files that the words name,
-//! `serve` keeps the conversation frame by frame and `desk` what a run leaves, `report` makes the lines of
-//! `check` and `making` those of `make`, `stop` has the causes that end a run early and `notes` their lines. How a run ends is defined
-//! in `specs/Run.antt`, command by command in `Checking.antt`, `Serving.antt` with `Named.antt`, and `Making.antt`, and the notes in
-//! `Notes.antt`.
+//! `lw_commands::run` has the whole meaning; `main` hands it the real streams, files and patterns and the words of the command line, and
+//! ends with its status.
 #![tactic(auto)]
 
 ghost use Rattle.std.specs.Prelude.{◌≡◌, ◌<◌};
 
-mod desk;
-mod making;
-mod named;
-mod notes;
-mod place;
-mod report;
-mod serve;
-mod stop;
-mod top;
-
-use desk::Desk;
 use lw_base::{Name, NoMemory, Steps};
+use lw_commands::{Desk, run};
 use lw_io::{FileStore, RealPatterns, StdSink, StdSource};
 use std::marker::Brand;
 use std::mem::forget;
 use std::process::ExitCode;
 use std::sync::ledger::{Blank, Ledger};
 use std::{env, io};
-use top::run;
 
 // Why the words of the command line could not be read.
 enum WordsFault {
@@ -109,12 +94,3 @@ fn start<L: Ledger>(rt: &HostRuntime, blank: Blank) -> u8
 fn main(rt: HostRuntime) -> ExitCode {
     ExitCode::from(start::<Brand>(&rt, Blank::new(1)))
 }
-
-#[cfg(test)]
-mod grammar_tests;
-#[cfg(test)]
-mod page_tests;
-#[cfg(test)]
-mod serve_tests;
-#[cfg(test)]
-mod tests;

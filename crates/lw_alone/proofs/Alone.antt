@@ -4,21 +4,21 @@ use Rattle.std.specs.Prelude.{if◌then◌else◌}
 use Rattle.std.specs.Str.{bytes_eq}
 use Rattle.lw_grammar.specs.declared.grammar.Grammar.{Grammar}
 use Rattle.lw_check.specs.Sorting.{AreShown}
-use Rattle.lw_outwards.specs.Known.{HasKnownTypes, HasOneRoot}
-use Rattle.lw_outwards.proofs.Enclosed.{tree_encloses}
-use Rattle.lw_outwards.proofs.OfTexts.{of_text}
-use Rattle.lw_outwards.proofs.OneRoot.{one_root}
-use Rattle.lw_outwards.proofs.Typed.{tree_known}
+use Rattle.lw_reading.specs.Known.{HasKnownTypes, HasOneRoot}
+use Rattle.lw_reading.proofs.Enclosed.{tree_encloses}
+use Rattle.lw_reading.proofs.OfTexts.{of_text}
+use Rattle.lw_reading.proofs.OneRoot.{one_root}
+use Rattle.lw_reading.proofs.Typed.{tree_known}
 use Rattle.lw_reading.specs.Reading.{Reads}
 use Rattle.lw_reading.specs.declared.parsed.Parsed.TheVariants.{Whole, Broken}
-use Rattle.lw_rooted.proofs.InText.{tree_owns}
+use Rattle.lw_reading.proofs.InText.{tree_owns}
 use Rattle.lw_scoping.specs.Outward.{ContainersComeFirst}
-use Rattle.lw_scopes.proofs.AloneAt.{alone_here}
-use Rattle.lw_scopes.specs.Diagnostics as diagnostic
-use Rattle.lw_scopes.specs.Diagnostics.{IsListAlone, alone_at}
-use Rattle.lw_scopes.specs.Faults.{IsFaultShown}
-use Rattle.lw_scopes.specs.Links as scope
-use Rattle.lw_scopes.specs.Links.{AreTreesOfTexts, IsTreeOfText}
+use Rattle.lw_link_rules.proofs.AloneAt.{alone_here}
+use Rattle.lw_link_rules.specs.Diagnostics as diagnostic
+use Rattle.lw_link_rules.specs.Diagnostics.{IsListAlone, alone_at}
+use Rattle.lw_link_rules.specs.Faults.{IsFaultShown}
+use Rattle.lw_link_rules.specs.Links as scope
+use Rattle.lw_link_rules.specs.Links.{AreTreesOfTexts, IsTreeOfText}
 use Rattle.lw_text.specs.declared.shown.Shown.{Shown}
 use Rattle.lw_tree.specs.declared.issue.Issue.{Issue}
 use Rattle.lw_tree.specs.Parts.{Parts}

@@ -3,8 +3,8 @@ ghost use Rattle.std.specs.Prelude.{ℕ, List, IfOk};
 ghost use Rattle.lw_reading.specs.Issues.{IfBroken, IfWhole, IsIssueWithin, IsNamed};
 ghost use Rattle.lw_reading.specs.Reading.{Reads};
 ghost use Rattle.lw_reading.specs.declared.parsed.Parsed.TheVariants.{Whole};
-ghost use Rattle.lw_rooted.specs.Within.{StandsInText};
-ghost use Rattle.lw_scopes.specs.Diagnostics.{IsListAlone};
+ghost use Rattle.lw_reading.specs.Within.{StandsInText};
+ghost use Rattle.lw_link_rules.specs.Diagnostics.{IsListAlone};
 
 use lw_base::{Items, NoMemory};
 use lw_check::{diagnostics_alone, issue_diagnostic};

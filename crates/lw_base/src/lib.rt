@@ -25,6 +25,3 @@ pub use sqlite_items::{Boxed, Items};
 pub use steps::Steps;
 pub use token::{Span, Token};
 pub use type_set::TypeSet;
-
-#[cfg(test)]
-mod tests;

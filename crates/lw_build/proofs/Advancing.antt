@@ -13,19 +13,19 @@ use Rattle.lw_machine.specs.Laws.{AreNews, last_list}
 use Rattle.lw_machine.specs.Validity.{AreCurrent, HaveSameContent, IsCurrent, content}
 use Rattle.lw_machine.specs.declared.published.Published.{Published}
 use Rattle.lw_machine.proofs.Places.{Among, first, later}
-use Rattle.lw_outcomes.specs.Readable.{HaveReadableTexts, IsReadable}
-use Rattle.lw_outcomes.proofs.OfDocuments.{have_links_and_lists}
-use Rattle.lw_outcomes.proofs.SameEnds.{built_by_any}
-use Rattle.lw_outcomes.proofs.Types.{tells_types}
+use Rattle.lw_machine.specs.Readable.{HaveReadableTexts, IsReadable}
+use Rattle.lw_machine.proofs.OfDocuments.{have_links_and_lists}
+use Rattle.lw_machine.proofs.SameEnds.{built_by_any}
+use Rattle.lw_machine.proofs.Types.{tells_types}
 use Rattle.lw_reading.specs.Laws.{IsReadOneWay}
-use Rattle.lw_scopes.proofs.OneList.{one_list}
-use Rattle.lw_scopes.specs.Diagnostics.{AreDiagnostics}
+use Rattle.lw_link_rules.proofs.OneList.{one_list}
+use Rattle.lw_link_rules.specs.Diagnostics.{AreDiagnostics}
 use Rattle.lw_text.specs.declared.shown.Shown.{Shown}
 use Rattle.lw_types.specs.Inferred.{AreTypesOf}
 use Rattle.lw_types.specs.declared.types.Types.{Types}
 use Rattle.lw_build.specs.Agreeing.{Agrees, Known, known, known_here}
 use Rattle.lw_build.specs.Built.{AreBuilt}
-use Rattle.lw_refs.specs.Led.{Led}
+use Rattle.lw_index.specs.Led.{Led}
 use Rattle.lw_build.specs.Linked.{AreLinked}
 use Rattle.lw_build.specs.Readings.{AreDocumentsRead, present_texts_of}
 use Rattle.lw_build.specs.Telling as telling

@@ -13,7 +13,7 @@ use Rattle.lw_machine.specs.Validity.{IsValid}
 use Rattle.lw_machine.proofs.Places.{one_or_two}
 use Rattle.lw_machine.proofs.Contents.{settled_alike}
 use Rattle.lw_machine.proofs.Validity.{stays_valid}
-use Rattle.lw_outcomes.specs.Readable.{IsReadable}
+use Rattle.lw_machine.specs.Readable.{IsReadable}
 use Rattle.lw_reading.specs.Laws.{IsReadOneWay}
 use Rattle.lw_text.specs.Changes.{AreMade}
 use Rattle.lw_text.specs.declared.change.Change.{Change}

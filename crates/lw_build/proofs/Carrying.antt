@@ -13,8 +13,8 @@ use Rattle.lw_index.specs.Indexed.{exports_in}
 use Rattle.lw_index.specs.declared.parts.Answer.{Answer}
 use Rattle.lw_index.specs.declared.parts.Export.{Export}
 use Rattle.lw_machine.proofs.Places.{one_or_two}
-use Rattle.lw_refs.specs.Led.{Led, answers_in}
-use Rattle.lw_scopes.specs.Links.{IsNumberBelow}
+use Rattle.lw_index.specs.Led.{Led, answers_in}
+use Rattle.lw_link_rules.specs.Links.{IsNumberBelow}
 use Rattle.lw_scoping.specs.Symbols.{IsNamedNode, exports}
 use Rattle.lw_tree.specs.Parts.{Parts}
 use Rattle.lw_build.specs.Linked.{AreLinkAnswers, StandsNumbered}

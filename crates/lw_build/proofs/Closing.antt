@@ -9,9 +9,9 @@ use Rattle.lw_grammar.specs.declared.grammar.Grammar.{Grammar}
 use Rattle.lw_machine.specs.Documents.{Document, shown_texts}
 use Rattle.lw_machine.specs.Validity.{AreCurrent, IsCurrent}
 use Rattle.lw_machine.proofs.Places.{one_or_two}
-use Rattle.lw_outcomes.specs.Readable.{IsReadable}
-use Rattle.lw_refs.specs.Led.{Led}
-use Rattle.lw_scopes.specs.Diagnostics.{AreDiagnostics}
+use Rattle.lw_machine.specs.Readable.{IsReadable}
+use Rattle.lw_index.specs.Led.{Led}
+use Rattle.lw_link_rules.specs.Diagnostics.{AreDiagnostics}
 use Rattle.lw_text.specs.declared.shown.Shown.{Shown}
 use Rattle.lw_build.specs.Built.{AreBuilt}
 use Rattle.lw_build.specs.Linked.{AreLinked}

@@ -8,7 +8,7 @@ use Rattle.std.proofs.lemmas.Option.{none-some}
 use Rattle.lw_docs.specs.Documents.{AreNumbered, ByAddress, Numbered}
 use Rattle.lw_grammar.specs.declared.grammar.Grammar.{Grammar}
 use Rattle.lw_index.specs.declared.parts.Answer.{Answer}
-use Rattle.lw_refs.specs.Led.{Led}
+use Rattle.lw_index.specs.Led.{Led}
 use Rattle.lw_machine.proofs.Places.{order}
 use Rattle.lw_reading.specs.Laws.{IsReadOneWay}
 use Rattle.lw_build.specs.Built.{AreBuilt, IsWorkspaceKept}

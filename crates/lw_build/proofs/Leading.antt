@@ -10,8 +10,8 @@ use Rattle.lw_docs.specs.Documents.{AreNumbered, ByAddress, IsAt, Numbered, numb
 use Rattle.lw_docs.specs.declared.doc.Doc.{Doc}
 use Rattle.lw_grammar.specs.declared.grammar.Grammar.{Grammar}
 use Rattle.lw_index.specs.declared.parts.Answer.{Answer}
-use Rattle.lw_refs.specs.Led.{Led, answers_in}
-use Rattle.lw_scopes.specs.Links.{IsNumberBelow}
+use Rattle.lw_index.specs.Led.{Led, answers_in}
+use Rattle.lw_link_rules.specs.Links.{IsNumberBelow}
 use Rattle.lw_build.specs.Linked.{AreLinkAnswers, AreLinksKept, OnlyReadLead, StandsNumbered}
 use Rattle.lw_build.specs.Readings.{HasReading, reading_at, tree_numbered, trees_of}
 use Rattle.lw_build.specs.declared.readings.Reading.{Reading}

@@ -10,8 +10,8 @@ use Rattle.std.proofs.lemmas.Option.{same_Some, none-some}
 use Rattle.lw_base.specs.declared.numbers.DocId.{DocId}
 use Rattle.lw_docs.specs.Documents.{ByAddress, IsAt, IsHeld, Numbered, numbered}
 use Rattle.lw_docs.specs.declared.doc.Doc.{Doc}
-use Rattle.lw_refs.specs.Led.{Led}
-use Rattle.lw_rooted.specs.Within.{StandsInText}
+use Rattle.lw_index.specs.Led.{Led}
+use Rattle.lw_reading.specs.Within.{StandsInText}
 use Rattle.lw_tree.specs.Parts.{Parts}
 use Rattle.lw_build.specs.Linked.{StandsNumbered}
 use Rattle.lw_build.specs.Readings.{HasReading, reading_at, tree_numbered, tree_of}

@@ -15,8 +15,8 @@ use Rattle.lw_link.specs.Indexed.{LeadsIntoHeld, link_of}
 use Rattle.lw_link.proofs.Linked.{address_is}
 use Rattle.lw_query.specs.Viewed as viewed
 use Rattle.lw_query.specs.Viewed.{AreViewsOf, IsLinkAnswer, LeadsAs}
-use Rattle.lw_refs.specs.Led.{Led, answers_in}
-use Rattle.lw_scopes.specs.Links.{IsNumberBelow}
+use Rattle.lw_index.specs.Led.{Led, answers_in}
+use Rattle.lw_link_rules.specs.Links.{IsNumberBelow}
 use Rattle.lw_scoping.specs.Links.{Link, LinksTo, Trees}
 use Rattle.lw_tree.specs.Parts.{Parts}
 use Rattle.lw_tree.specs.declared.node.Reference.{Reference}

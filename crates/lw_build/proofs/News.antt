@@ -9,8 +9,8 @@ use Rattle.lw_grammar.specs.declared.grammar.Grammar.{Grammar}
 use Rattle.lw_machine.specs.Building.{publication}
 use Rattle.lw_machine.specs.declared.published.Published.{Published}
 use Rattle.lw_machine.proofs.Places.{Among, first, later, one_or_two}
-use Rattle.lw_outcomes.proofs.Finite.{behind, here, here_or_there, in_either, nothing, there}
-use Rattle.lw_scopes.specs.Diagnostics.{AreDiagnostics}
+use Rattle.lw_machine.proofs.Finite.{behind, here, here_or_there, in_either, nothing, there}
+use Rattle.lw_link_rules.specs.Diagnostics.{AreDiagnostics}
 use Rattle.lw_text.specs.declared.shown.Shown.{Shown}
 use Rattle.lw_build.specs.Readings.{present_texts_of}
 use Rattle.lw_build.specs.Telling as telling

@@ -12,15 +12,15 @@ use Rattle.lw_reading.specs.Laws as law
 use Rattle.lw_reading.specs.Laws.{IsReadOneWay, IsSameReading}
 use Rattle.lw_reading.specs.Reading.{Reads}
 use Rattle.lw_reading.specs.declared.parsed.Parsed.TheVariants as parsed
-use Rattle.lw_refs.specs.Led.{Led, answers_in}
-use Rattle.lw_scopes.specs.Diagnostics as diagnostic
-use Rattle.lw_scopes.specs.Diagnostics.{AreDiagnostics, IsDiagnosticShown, IsList}
-use Rattle.lw_scopes.specs.Faults.{IsFaultShown}
-use Rattle.lw_scopes.specs.Links as of_text
-use Rattle.lw_scopes.specs.Links.{AreTreesOfTexts, IsNumberBelow, IsTreeOfText, Texts}
-use Rattle.lw_scopes.specs.TreeDiagnostics.{AreDiagnosticsOf, Diagnostic}
-use Rattle.lw_scopes.proofs.SameTables.{alike_trees, told_too}
-use Rattle.lw_scopes.proofs.SameTexts.{not_both, same_tables}
+use Rattle.lw_index.specs.Led.{Led, answers_in}
+use Rattle.lw_link_rules.specs.Diagnostics as diagnostic
+use Rattle.lw_link_rules.specs.Diagnostics.{AreDiagnostics, IsDiagnosticShown, IsList}
+use Rattle.lw_link_rules.specs.Faults.{IsFaultShown}
+use Rattle.lw_link_rules.specs.Links as of_text
+use Rattle.lw_link_rules.specs.Links.{AreTreesOfTexts, IsNumberBelow, IsTreeOfText, Texts}
+use Rattle.lw_link_rules.specs.TreeDiagnostics.{AreDiagnosticsOf, Diagnostic}
+use Rattle.lw_link_rules.proofs.SameTables.{alike_trees, told_too}
+use Rattle.lw_link_rules.proofs.SameTexts.{not_both, same_tables}
 use Rattle.lw_scoping.specs.Links.{Trees}
 use Rattle.lw_text.specs.declared.shown.Shown.{Shown}
 use Rattle.lw_tree.specs.Parts.{Parts}

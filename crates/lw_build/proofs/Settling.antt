@@ -13,13 +13,13 @@ use Rattle.lw_machine.proofs.FirstOf.{validated_at}
 use Rattle.lw_machine.proofs.Places.{Among, first, later, held_among, one_or_two}
 use Rattle.lw_machine.proofs.Settled.{settled}
 use Rattle.lw_machine.proofs.Validity.{seen}
-use Rattle.lw_outcomes.specs.Linked.{HasLinksAndList}
-use Rattle.lw_outcomes.specs.Readable.{AreReadable, IsReadable}
-use Rattle.lw_outcomes.specs.Telling.{TellsTypes}
-use Rattle.lw_outcomes.proofs.Existing.{links_and_list}
-use Rattle.lw_outcomes.proofs.Finite.{here, there}
-use Rattle.lw_scopes.specs.Diagnostics.{AreDiagnostics}
-use Rattle.lw_scopes.specs.Links.{AreLinks, Texts}
+use Rattle.lw_machine.specs.Linked.{HasLinksAndList}
+use Rattle.lw_machine.specs.Readable.{AreReadable, IsReadable}
+use Rattle.lw_machine.specs.Telling.{TellsTypes}
+use Rattle.lw_machine.proofs.Existing.{links_and_list}
+use Rattle.lw_machine.proofs.Finite.{here, there}
+use Rattle.lw_link_rules.specs.Diagnostics.{AreDiagnostics}
+use Rattle.lw_link_rules.specs.Links.{AreLinks, Texts}
 use Rattle.lw_build.proofs.Maps.{taken_here, taken_elsewhere}
 
 -- one of a list is contained in it

@@ -18,10 +18,10 @@ use Rattle.lw_link.specs.Indexed as indexed
 use Rattle.lw_link.specs.Indexed.{AreEntriesAt}
 use Rattle.lw_query.specs.Viewed as viewed
 use Rattle.lw_query.specs.Viewed.{IsLinkAnswer, LeadsAs}
-use Rattle.lw_refs.specs.Led.{Led, answers_in}
-use Rattle.lw_scopes.specs.Diagnostics as diagnostic
-use Rattle.lw_scopes.specs.Diagnostics.{AreDiagnostics}
-use Rattle.lw_scopes.specs.Links.{IsNumberBelow}
+use Rattle.lw_index.specs.Led.{Led, answers_in}
+use Rattle.lw_link_rules.specs.Diagnostics as diagnostic
+use Rattle.lw_link_rules.specs.Diagnostics.{AreDiagnostics}
+use Rattle.lw_link_rules.specs.Links.{IsNumberBelow}
 use Rattle.lw_scoping.specs.Links.{Link, LinksTo, Trees, own, out, nowhere}
 use Rattle.lw_scoping.specs.Symbols.{IsNamedNode, exports}
 use Rattle.lw_text.specs.declared.shown.Shown.{Shown}

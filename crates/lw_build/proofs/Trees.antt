@@ -9,12 +9,12 @@ use Rattle.lw_grammar.specs.declared.grammar.Grammar.{Grammar}
 use Rattle.lw_index.specs.declared.parts.Document.{Document}
 use Rattle.lw_link.specs.Indexed.{AreEntriesAt, IsIndexOf}
 use Rattle.lw_link.specs.Visible.{IsNumberAt}
-use Rattle.lw_outcomes.specs.Readable.{IsReadable}
+use Rattle.lw_machine.specs.Readable.{IsReadable}
 use Rattle.lw_reading.specs.Reading.{Reads}
 use Rattle.lw_reading.specs.declared.parsed.Parsed.{Parsed}
 use Rattle.lw_reading.specs.declared.parsed.Parsed.TheVariants as parsed
-use Rattle.lw_scopes.specs.Links as scope
-use Rattle.lw_scopes.specs.Links.{AreTreesOfTexts, IsTreeOfText}
+use Rattle.lw_link_rules.specs.Links as scope
+use Rattle.lw_link_rules.specs.Links.{AreTreesOfTexts, IsTreeOfText}
 use Rattle.lw_tree.specs.Parts.{Parts}
 use Rattle.lw_build.specs.Readings.{AreAllRead, AreDocumentsRead, IsDocumentRead, IsReadingOfText, reading_at, present_texts_of, tree_of, trees_of}
 use Rattle.lw_build.specs.Telling.{IsDocumentAs}

@@ -4,9 +4,9 @@ use Rattle.lw_grammar.specs.declared.grammar.Grammar.{Grammar}
 use Rattle.lw_scoping.specs.Doubles.{DoesExport, IsLeastOther}
 use Rattle.lw_scoping.specs.Links.{FitsThere, Link, LinksTo, Trees}
 use Rattle.lw_scoping.specs.Symbols.{IsNamedNode, exports}
-use Rattle.lw_scopes.specs.Links.{IsNumberBelow}
-use Rattle.lw_scopes.specs.TreeDiagnostics.{AreDiagnosticsOf, Diagnostic, IsDiagnosticOf, also_exported, duplicate, number, unresolved}
-use Rattle.lw_scopes.proofs.SameTables.{link_over}
+use Rattle.lw_link_rules.specs.Links.{IsNumberBelow}
+use Rattle.lw_link_rules.specs.TreeDiagnostics.{AreDiagnosticsOf, Diagnostic, IsDiagnosticOf, also_exported, duplicate, number, unresolved}
+use Rattle.lw_link_rules.proofs.SameTables.{link_over}
 use Rattle.lw_tree.specs.declared.node.Reference.{Reference}
 use Rattle.lw_tree.specs.Parts.{Parts}
 

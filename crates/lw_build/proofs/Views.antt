@@ -12,17 +12,17 @@ use Rattle.lw_base.specs.declared.numbers.DocId.{DocId}
 use Rattle.lw_docs.specs.Documents.{AreNumbered, ByAddress, Numbered}
 use Rattle.lw_grammar.specs.declared.grammar.Grammar.{Grammar}
 use Rattle.lw_index.specs.declared.parts.Answer.{Answer}
-use Rattle.lw_link.proofs.Rows.{zip_push}
+use Rattle.lw_base.proofs.Rows.{zip_push}
 use Rattle.lw_machine.specs.Documents.{present_texts}
 use Rattle.lw_machine.proofs.Entries.{both}
 use Rattle.lw_machine.proofs.Places.{Among, first, later, one_or_two, order, test_other, test_same}
-use Rattle.lw_outcomes.proofs.Finite.{here, here_or_there, nothing, there}
+use Rattle.lw_machine.proofs.Finite.{here, here_or_there, nothing, there}
 use Rattle.lw_query.specs.Built.{AreBuiltViews, IsBuiltView, StandsAmong, texts_seen, tree_seen, trees_seen}
 use Rattle.lw_query.specs.Viewed.{IsLinkAnswer}
 use Rattle.lw_query.specs.declared.view.View.{View}
-use Rattle.lw_refs.specs.Led.{Led, answers_in}
-use Rattle.lw_rooted.specs.Within.{StandsInText}
-use Rattle.lw_scopes.specs.Links.{AreTreesOfTexts, IsNumberBelow, IsTreeOfText}
+use Rattle.lw_index.specs.Led.{Led, answers_in}
+use Rattle.lw_reading.specs.Within.{StandsInText}
+use Rattle.lw_link_rules.specs.Links.{AreTreesOfTexts, IsNumberBelow, IsTreeOfText}
 use Rattle.lw_scoping.specs.Links.{Trees}
 use Rattle.lw_tree.specs.Parts.{Parts}
 use Rattle.lw_build.specs.Linked.{AreLinked, StandsNumbered}

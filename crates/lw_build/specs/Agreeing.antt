@@ -8,7 +8,7 @@ use Rattle.lw_docs.specs.Documents.{Numbered}
 use Rattle.lw_text.specs.declared.shown.Shown.{Shown}
 use Rattle.lw_machine.specs.Documents.{Document, Documents}
 use Rattle.lw_machine.specs.Validity.{IsValid}
-use Rattle.lw_outcomes.specs.Readable.{IsReadable}
+use Rattle.lw_machine.specs.Readable.{IsReadable}
 use Rattle.lw_build.specs.View.{WorkspaceView}
 
 -- text, version, open flag and last list

@@ -5,9 +5,9 @@ use Rattle.std.specs.FinMap.{get}
 use Rattle.lw_docs.specs.Documents.{AreNumbered, ByAddress, Numbered}
 use Rattle.lw_grammar.specs.declared.grammar.Grammar.{Grammar}
 use Rattle.lw_machine.specs.Validity.{AreCurrent}
-use Rattle.lw_outcomes.specs.Readable.{IsReadable}
+use Rattle.lw_machine.specs.Readable.{IsReadable}
 use Rattle.lw_reading.specs.Laws.{IsReadOneWay}
-use Rattle.lw_refs.specs.Led.{Led}
+use Rattle.lw_index.specs.Led.{Led}
 use Rattle.lw_build.specs.Linked.{AreLinked, OnlyReadLead}
 use Rattle.lw_build.specs.Readings.{AreDocumentsRead}
 use Rattle.lw_build.specs.Standing.{StandsBuilt}

@@ -9,8 +9,8 @@ use Rattle.lw_index.specs.Indexed.{Indexed}
 use Rattle.lw_index.specs.declared.parts.Answer.{Answer}
 use Rattle.lw_index.specs.declared.parts.Document.{Document}
 use Rattle.lw_query.specs.Viewed.{AreViewsOf, IsLinkAnswer}
-use Rattle.lw_refs.specs.Led.{Led, answers_in}
-use Rattle.lw_scopes.specs.Links.{IsNumberBelow}
+use Rattle.lw_index.specs.Led.{Led, answers_in}
+use Rattle.lw_link_rules.specs.Links.{IsNumberBelow}
 use Rattle.lw_scoping.specs.Links.{Trees}
 use Rattle.lw_tree.specs.Parts.{Parts}
 use Rattle.lw_build.specs.Readings.{AreAllRead, reading_at, tree_numbered, trees_of}

@@ -14,9 +14,9 @@ use Rattle.lw_link.specs.Indexed.{AreEntriesAt}
 use Rattle.lw_reading.specs.Issues.{IsNamed, IsIssueWithin}
 use Rattle.lw_reading.specs.Reading.{Reads}
 use Rattle.lw_reading.specs.declared.parsed.Parsed.TheVariants as parsed
-use Rattle.lw_rooted.specs.Within.{StandsInText}
+use Rattle.lw_reading.specs.Within.{StandsInText}
 use Rattle.lw_scoping.specs.Links.{Trees}
-use Rattle.lw_scopes.specs.Links.{Texts}
+use Rattle.lw_link_rules.specs.Links.{Texts}
 use Rattle.lw_symbols.specs.Locals.{AreLocalsOf}
 use Rattle.lw_tree.specs.Parts.{Parts}
 use Rattle.lw_build.specs.declared.readings.Reading.{Reading}

@@ -8,8 +8,8 @@ use Rattle.lw_docs.specs.Documents.{AreNumbered, ByAddress, Numbered}
 use Rattle.lw_index.specs.declared.parts.Answer.{Answer}
 use Rattle.lw_query.specs.Built.{tree_seen}
 use Rattle.lw_query.specs.declared.view.View.{View}
-use Rattle.lw_refs.specs.Led.{Led, answers_in}
-use Rattle.lw_rooted.specs.Within.{StandsInText}
+use Rattle.lw_index.specs.Led.{Led, answers_in}
+use Rattle.lw_reading.specs.Within.{StandsInText}
 use Rattle.lw_tree.specs.Parts.{Parts}
 use Rattle.lw_build.specs.Linked.{StandsNumbered}
 use Rattle.lw_build.specs.Readings.{AreAllRead, present_texts_of, reading_at, tree_numbered, tree_of}

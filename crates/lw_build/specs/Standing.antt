@@ -11,11 +11,11 @@ use Rattle.lw_docs.specs.Documents.{ByAddress, IsHeld, Numbered}
 use Rattle.lw_grammar.specs.declared.grammar.Grammar.{Grammar}
 use Rattle.lw_index.specs.Indexed.{exports_in}
 use Rattle.lw_index.specs.declared.parts.Export.{Export}
-use Rattle.lw_refs.specs.Led.{Led, answers_in}
-use Rattle.lw_scopes.specs.Diagnostics.{IsDiagnosticShown}
-use Rattle.lw_scopes.specs.Faults.{IsFaultShown}
-use Rattle.lw_scopes.specs.Links.{IsNumberBelow}
-use Rattle.lw_scopes.specs.TreeDiagnostics.{AreDiagnosticsOf, Diagnostic}
+use Rattle.lw_index.specs.Led.{Led, answers_in}
+use Rattle.lw_link_rules.specs.Diagnostics.{IsDiagnosticShown}
+use Rattle.lw_link_rules.specs.Faults.{IsFaultShown}
+use Rattle.lw_link_rules.specs.Links.{IsNumberBelow}
+use Rattle.lw_link_rules.specs.TreeDiagnostics.{AreDiagnosticsOf, Diagnostic}
 use Rattle.lw_scoping.specs.Links.{Trees}
 use Rattle.lw_scoping.specs.Symbols.{IsNamedNode, exports}
 use Rattle.lw_text.specs.declared.shown.Shown.{Shown}

@@ -12,8 +12,8 @@ use Rattle.lw_index.specs.declared.parts.Document.{Document}
 use Rattle.lw_machine.specs.Building.{publication}
 use Rattle.lw_machine.specs.declared.published.Published.{Published}
 use Rattle.lw_scoping.specs.Links.{Trees}
-use Rattle.lw_scopes.specs.Diagnostics.{AreDiagnostics}
-use Rattle.lw_scopes.specs.Links.{IsNumberBelow, Texts}
+use Rattle.lw_link_rules.specs.Diagnostics.{AreDiagnostics}
+use Rattle.lw_link_rules.specs.Links.{IsNumberBelow, Texts}
 use Rattle.lw_tree.specs.Parts.{Parts}
 use Rattle.lw_text.specs.declared.shown.Shown.{Shown}
 use Rattle.lw_build.specs.Linked.{AreLinkAnswers, IsIndexedAt}

@@ -21,7 +21,7 @@
 //! once, for its name, in the set of these names. A document that is linked takes one look-up in the index for each reference that leads
 //! out of it, beside time linear in its tree, and n log n for its n references. Where memory for the names is refused, all documents are
 //! linked and checked. While a build runs, it needs memory for the lists that are news, twice. What is kept of references takes an answer
-//! and a number for each (see `lw_refs`), and what stands a number for each document.
+//! and a number for each (see `lw_index::refs`), and what stands a number for each document.
 //!
 //! Once all is built, a workspace lends what the questions of an editor need: [`Workspace::seen`] the tree of a document by its number, its
 //! text, and where its references lead, and [`Workspace::views`] the list of all documents. It promises that these are the trees of
@@ -38,6 +38,3 @@ mod workspace;
 pub use fault::WorkFault;
 pub use seen::Seen;
 pub use workspace::Workspace;
-
-#[cfg(test)]
-mod tests;

@@ -7,7 +7,7 @@ ghost use Rattle.lw_index.specs.Indexed.{IsFreeFor};
 ghost use Rattle.lw_link.specs.Indexed.{AreEntriesAt};
 ghost use Rattle.lw_reading.specs.Issues.{IfBroken, IfWhole, IsIssueWithin, IsNamed};
 ghost use Rattle.lw_reading.specs.Reading.{Reads};
-ghost use Rattle.lw_rooted.specs.Within.{StandsInText};
+ghost use Rattle.lw_reading.specs.Within.{StandsInText};
 ghost use Rattle.lw_build.specs.declared.readings.Reading.{Reading as OneReading};
 ghost use Rattle.lw_build.specs.Readings.{AreAllRead, AreDocumentsRead, HasReading, IsReadingOfText, reading_at, tree_numbered, tree_of};
 

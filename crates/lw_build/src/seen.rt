@@ -2,7 +2,7 @@
 ghost use Rattle.std.specs.Prelude.{◌≡◌, ℕ, List, IfOk, MatchOption};
 ghost use Rattle.std.specs.List.{AllZip};
 ghost use Rattle.lw_docs.specs.Documents.{IsAt};
-ghost use Rattle.lw_refs.specs.Led.{answers_in};
+ghost use Rattle.lw_index.specs.Led.{answers_in};
 ghost use Rattle.lw_build.specs.Seen.{IsTextSeen, IsViewOf, StandsSeen};
 ghost use Rattle.lw_build.specs.Telling.{numbered_places};
 
@@ -10,8 +10,8 @@ use crate::readings::Readings;
 use lw_base::{DocId, Name, NoMemory, RefId};
 use lw_docs::{Doc, Docs};
 use lw_index::Answer;
+use lw_index::refs::RefIndex;
 use lw_query::{View, Views};
-use lw_refs::RefIndex;
 use lw_text::TextDoc;
 use lw_tree::Tree;
 use std::alloc::Global;

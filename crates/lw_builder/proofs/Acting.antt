@@ -6,15 +6,15 @@ use Rattle.lw_base.specs.declared.numbers.PropId.{PropId}
 use Rattle.lw_base.specs.declared.token.Token.{Token}
 use Rattle.lw_grammar.specs.declared.grammar.Grammar.{Grammar}
 use Rattle.lw_grammar.specs.declared.rule.Action.{Action}
-use Rattle.lw_sentences.specs.Marks as mark
-use Rattle.lw_marks.specs.Grown.{Held, Nothing, Takes}
-use Rattle.lw_marks.specs.Numbers.{IsNumberOfType, IsNumberOfProperty}
-use Rattle.lw_marks.specs.Brackets.{Bracket, InNode, grown}
-use Rattle.lw_marks.specs.Follows.{ChangesOpen, renames, wraps}
-use Rattle.lw_recipes.specs.declared.mark.TreeMark.TheVariants as numbered
-use Rattle.lw_recipes.specs.declared.recipe.ActionRecipe.{ActionRecipe}
-use Rattle.lw_recipes.specs.Meant.{MeansMark, acts}
-use Rattle.lw_recipes.specs.Making.{AreRecipesOf, RecipeLists, IsPutNumber}
+use Rattle.lw_grammar.specs.Marks as mark
+use Rattle.lw_reading.specs.Grown.{Held, Nothing, Takes}
+use Rattle.lw_reading.specs.Numbers.{IsNumberOfType, IsNumberOfProperty}
+use Rattle.lw_reading.specs.Brackets.{Bracket, InNode, grown}
+use Rattle.lw_reading.specs.Follows.{ChangesOpen, renames, wraps}
+use Rattle.lw_program.specs.declared.recipes.mark.TreeMark.TheVariants as numbered
+use Rattle.lw_program.specs.declared.recipes.recipe.ActionRecipe.{ActionRecipe}
+use Rattle.lw_program.specs.Meant.{MeansMark, acts}
+use Rattle.lw_program.specs.Making.{AreRecipesOf, RecipeLists, IsPutNumber}
 use Rattle.lw_builder.specs.declared.builder.Builder.{Builder}
 use Rattle.lw_builder.specs.Standing.{StandsOpen}
 use Rattle.lw_builder.specs.Steps.{DoesMark, EndsInNode, read_tokens}

@@ -6,10 +6,10 @@ use Rattle.std.proofs.lemmas.List.{get_or_default}
 use Rattle.lw_base.specs.declared.numbers.NodeId.{NodeId}
 use Rattle.lw_base.specs.declared.numbers.PropId.{PropId}
 use Rattle.lw_tree.specs.declared.node.Value.{Value}
-use Rattle.lw_preorder.specs.declared.finished.Finished.{Finished}
-use Rattle.lw_marks.specs.Grown.{Plain, Text, Number, Huge, Raw, Truth, as_value, Grown, Grow, Held, Nothing, Puts, Takes, Points, size, size_of}
-use Rattle.lw_preorder.specs.Finishing.{finished, finished_in, taken, blank_finished, adopted, adopts, adopts_all}
-use Rattle.lw_preorder.specs.Tables.{put_in}
+use Rattle.lw_builder.specs.declared.preorder.finished.Finished.{Finished}
+use Rattle.lw_reading.specs.Grown.{Plain, Text, Number, Huge, Raw, Truth, as_value, Grown, Grow, Held, Nothing, Puts, Takes, Points, size, size_of}
+use Rattle.lw_builder.specs.Finishing.{finished, finished_in, taken, blank_finished, adopted, adopts, adopts_all}
+use Rattle.lw_builder.specs.Tables.{put_in}
 use Rattle.lw_builder.proofs.Lengths.{as_many_finished_in}
 
 adopted_seam : (own : NodeId) (p : PropId) (xs ys : List Finished) (x : Finished) (k : ℕ) → k ≡ length xs →

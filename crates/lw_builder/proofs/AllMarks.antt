@@ -3,22 +3,22 @@ use Rattle.std.proofs.Common.{ℕ, ◌≡◌, ◌+◌, Some, List, [], ◌∷◌
 use Rattle.std.proofs.lemmas.List.{length-take-le}
 use Rattle.std.specs.Prelude.{not}
 use Rattle.std.proofs.lemmas.List.Elements.{All-filter}
-use Rattle.lw_gramread.specs.Places.{IsPlace}
+use Rattle.lw_gramlex.specs.Places.{IsPlace}
 use Rattle.lw_base.specs.declared.token.Token.{Token}
 use Rattle.lw_grammar.specs.declared.grammar.Grammar.{Grammar}
-use Rattle.lw_sentences.specs.Marks as mark
-use Rattle.lw_sentences.specs.Marks.{Mark}
-use Rattle.lw_marks.specs.Brackets.{Bracket}
-use Rattle.lw_marks.specs.Follows as follows
-use Rattle.lw_marks.specs.Follows.{ChangesOpen, FollowsMarks, Closes}
-use Rattle.lw_marks.specs.Grown.{Grown}
-use Rattle.lw_marks.specs.Numbers.{IsNamingProperty}
-use Rattle.lw_marks.specs.Trees.{IsOpenedTree, parts_of_tree}
+use Rattle.lw_grammar.specs.Marks as mark
+use Rattle.lw_grammar.specs.Marks.{Mark}
+use Rattle.lw_reading.specs.Brackets.{Bracket}
+use Rattle.lw_reading.specs.Follows as follows
+use Rattle.lw_reading.specs.Follows.{ChangesOpen, FollowsMarks, Closes}
+use Rattle.lw_reading.specs.Grown.{Grown}
+use Rattle.lw_reading.specs.Numbers.{IsNamingProperty}
+use Rattle.lw_reading.specs.Trees.{IsOpenedTree, parts_of_tree}
 use Rattle.lw_tree.specs.Parts.{Parts, SameTables}
-use Rattle.lw_recipes.specs.declared.mark.TreeMark.{TreeMark}
-use Rattle.lw_recipes.specs.Making.{AreRecipesOf, RecipeLists}
-use Rattle.lw_recipes.specs.Meant as meant
-use Rattle.lw_recipes.specs.Meant.{MeansMark, AreMeant}
+use Rattle.lw_program.specs.declared.recipes.mark.TreeMark.{TreeMark}
+use Rattle.lw_program.specs.Making.{AreRecipesOf, RecipeLists}
+use Rattle.lw_program.specs.Meant as meant
+use Rattle.lw_program.specs.Meant.{MeansMark, AreMeant}
 use Rattle.lw_builder.specs.declared.builder.Builder.{Builder}
 use Rattle.lw_builder.specs.Built.{ArePartsOf, visible_of, HasFollowed, GoesOnBy, token, other}
 use Rattle.lw_builder.specs.Steps.{read_tokens}

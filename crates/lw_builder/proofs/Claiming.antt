@@ -7,9 +7,9 @@ use Rattle.lw_base.specs.declared.numbers.NodeId.{NodeId}
 use Rattle.lw_base.specs.declared.numbers.PropId.{PropId}
 use Rattle.lw_tree.specs.declared.node.Reference.{Reference}
 use Rattle.lw_tree.specs.declared.node.Value.{Value}
-use Rattle.lw_marks.specs.Grown.{Plain, Text, Number, Huge, Raw, Truth, as_value, Held, Nothing, Puts, Takes, Points, size_of}
-use Rattle.lw_marks.specs.Trees.{points_of}
-use Rattle.lw_preorder.specs.Tables.{put_in, pointed, pointed_in}
+use Rattle.lw_reading.specs.Grown.{Plain, Text, Number, Huge, Raw, Truth, as_value, Held, Nothing, Puts, Takes, Points, size_of}
+use Rattle.lw_reading.specs.Trees.{points_of}
+use Rattle.lw_builder.specs.Tables.{put_in, pointed, pointed_in}
 use Rattle.lw_builder.specs.Contents.{nobody}
 use Rattle.lw_builder.specs.Owners.{with_owner, pointless, claimed, claims, claims_all}
 use Rattle.lw_builder.proofs.Lengths.{as_many_pointed_in}

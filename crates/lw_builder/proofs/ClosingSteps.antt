@@ -7,12 +7,12 @@ use Rattle.lw_base.specs.declared.token.Token.{Token}
 use Rattle.lw_grammar.specs.declared.grammar.Grammar.{Grammar}
 use Rattle.lw_grammar.specs.declared.rule.Op.{Op}
 use Rattle.lw_grammar.specs.declared.rule.Value0.{Value0}
-use Rattle.lw_sentences.specs.Marks as mark
-use Rattle.lw_marks.specs.Grown.{Grown, Held}
-use Rattle.lw_marks.specs.Brackets.{Bracket, InNode, InValue, Root, Shuts, in_value, in_node, at_root}
-use Rattle.lw_marks.specs.Follows.{ChangesOpen, shuts, Closes, root, shut, ended, left_out, MakesReference, PutsValueIn, a_reference, plain, RefersBy, written, by_type, IsCross}
-use Rattle.lw_recipes.specs.declared.recipe.ValueRecipe.{ValueRecipe}
-use Rattle.lw_recipes.specs.Making.{AreRecipesOf, IsReference}
+use Rattle.lw_grammar.specs.Marks as mark
+use Rattle.lw_reading.specs.Grown.{Grown, Held}
+use Rattle.lw_reading.specs.Brackets.{Bracket, InNode, InValue, Root, Shuts, in_value, in_node, at_root}
+use Rattle.lw_reading.specs.Follows.{ChangesOpen, shuts, Closes, root, shut, ended, left_out, MakesReference, PutsValueIn, a_reference, plain, RefersBy, written, by_type, IsCross}
+use Rattle.lw_program.specs.declared.recipes.recipe.ValueRecipe.{ValueRecipe}
+use Rattle.lw_program.specs.Making.{AreRecipesOf, IsReference}
 use Rattle.lw_builder.specs.declared.builder.Builder.{Builder}
 use Rattle.lw_builder.specs.declared.open.Open.{Open}
 use Rattle.lw_builder.specs.declared.open.Open.TheVariants as variant

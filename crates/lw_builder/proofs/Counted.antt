@@ -3,11 +3,11 @@ use Rattle.std.proofs.Common.{ℕ, ◌≡◌, ◌+◌, List, [], ◌∷◌, ◌+
 use Rattle.std.proofs.lemmas.List.{length-take-le}
 use Rattle.lw_base.specs.declared.token.Token.{Token}
 use Rattle.lw_grammar.specs.declared.grammar.Grammar.{Grammar}
-use Rattle.lw_sentences.specs.Marks as mark
-use Rattle.lw_sentences.specs.Marks.{Mark, kinds_of}
-use Rattle.lw_marks.specs.Brackets.{Bracket}
-use Rattle.lw_marks.specs.Follows as follows
-use Rattle.lw_marks.specs.Follows.{ChangesOpen, FollowsMarks, opens, puts, shuts, renames, wraps, ends}
+use Rattle.lw_grammar.specs.Marks as mark
+use Rattle.lw_grammar.specs.Marks.{Mark, kinds_of}
+use Rattle.lw_reading.specs.Brackets.{Bracket}
+use Rattle.lw_reading.specs.Follows as follows
+use Rattle.lw_reading.specs.Follows.{ChangesOpen, FollowsMarks, opens, puts, shuts, renames, wraps, ends}
 use Rattle.lw_builder.specs.declared.builder.Builder.{Builder}
 use Rattle.lw_builder.specs.Built.{HasFollowed}
 use Rattle.lw_builder.specs.Steps.{read_tokens}

@@ -11,21 +11,21 @@ use Rattle.lw_grammar.specs.declared.rule.Value0.{Value0}
 use Rattle.lw_tree.specs.declared.node.Reference.{Reference}
 use Rattle.lw_tree.specs.declared.node.Value.{Value}
 use Rattle.lw_tree.specs.declared.node.Value.TheVariants as value
-use Rattle.lw_sentences.specs.Marks as mark
-use Rattle.lw_marks.specs.Grown.{Plain, as_value, Grown, Held, Puts, Takes, Points, size, size_of}
-use Rattle.lw_marks.specs.Trees.{points_of}
-use Rattle.lw_marks.specs.Numbers.{IsNumberOfProperty}
-use Rattle.lw_marks.specs.Brackets.{Bracket, InNode, InValue, span_of_tokens, joined_texts}
-use Rattle.lw_marks.specs.Follows.{ChangesOpen, PutsValueIn, a_node, a_reference, plain, MakesReference}
-use Rattle.lw_preorder.specs.Finishing.{finished, finished_in}
-use Rattle.lw_preorder.specs.Tables.{put_in, stored, stored_in, pointed, pointed_in}
-use Rattle.lw_recipes.specs.declared.mark.TreeMark.TheVariants as numbered
-use Rattle.lw_recipes.specs.declared.recipe.Content.{Content}
-use Rattle.lw_recipes.specs.declared.recipe.Content.TheVariants as content
-use Rattle.lw_recipes.specs.declared.recipe.ValueRecipe.{ValueRecipe}
-use Rattle.lw_recipes.specs.Meant.{MeansMark, puts}
-use Rattle.lw_recipes.specs.Making as recipe
-use Rattle.lw_recipes.specs.Making.{AreRecipesOf, IsReference, RecipeLists, IsMadeBy}
+use Rattle.lw_grammar.specs.Marks as mark
+use Rattle.lw_reading.specs.Grown.{Plain, as_value, Grown, Held, Puts, Takes, Points, size, size_of}
+use Rattle.lw_reading.specs.Trees.{points_of}
+use Rattle.lw_reading.specs.Numbers.{IsNumberOfProperty}
+use Rattle.lw_reading.specs.Brackets.{Bracket, InNode, InValue, span_of_tokens, joined_texts}
+use Rattle.lw_reading.specs.Follows.{ChangesOpen, PutsValueIn, a_node, a_reference, plain, MakesReference}
+use Rattle.lw_builder.specs.Finishing.{finished, finished_in}
+use Rattle.lw_builder.specs.Tables.{put_in, stored, stored_in, pointed, pointed_in}
+use Rattle.lw_program.specs.declared.recipes.mark.TreeMark.TheVariants as numbered
+use Rattle.lw_program.specs.declared.recipes.recipe.Content.{Content}
+use Rattle.lw_program.specs.declared.recipes.recipe.Content.TheVariants as content
+use Rattle.lw_program.specs.declared.recipes.recipe.ValueRecipe.{ValueRecipe}
+use Rattle.lw_program.specs.Meant.{MeansMark, puts}
+use Rattle.lw_program.specs.Making as recipe
+use Rattle.lw_program.specs.Making.{AreRecipesOf, IsReference, RecipeLists, IsMadeBy}
 use Rattle.lw_builder.specs.declared.builder.Builder.{Builder}
 use Rattle.lw_builder.specs.declared.open.Open.{Open}
 use Rattle.lw_builder.specs.declared.open.Open.TheVariants as variant

@@ -10,15 +10,15 @@ use Rattle.lw_grammar.specs.declared.grammar.Grammar.{Grammar}
 use Rattle.lw_grammar.specs.declared.rule.Action.{Action}
 use Rattle.lw_grammar.specs.declared.rule.Op.{Op}
 use Rattle.lw_grammar.specs.declared.rule.Value0.{Value0}
-use Rattle.lw_sentences.specs.Marks as mark
-use Rattle.lw_sentences.specs.Marks.{Mark}
-use Rattle.lw_marks.specs.Brackets.{Bracket}
-use Rattle.lw_marks.specs.Follows as follows
-use Rattle.lw_marks.specs.Follows.{ChangesOpen, FollowsMarks}
-use Rattle.lw_recipes.specs.declared.mark.TreeMark.TheVariants as numbered
-use Rattle.lw_recipes.specs.Making.{AreRecipesOf}
-use Rattle.lw_recipes.specs.Meant as meant
-use Rattle.lw_recipes.specs.Meant.{MeansMark}
+use Rattle.lw_grammar.specs.Marks as mark
+use Rattle.lw_grammar.specs.Marks.{Mark}
+use Rattle.lw_reading.specs.Brackets.{Bracket}
+use Rattle.lw_reading.specs.Follows as follows
+use Rattle.lw_reading.specs.Follows.{ChangesOpen, FollowsMarks}
+use Rattle.lw_program.specs.declared.recipes.mark.TreeMark.TheVariants as numbered
+use Rattle.lw_program.specs.Making.{AreRecipesOf}
+use Rattle.lw_program.specs.Meant as meant
+use Rattle.lw_program.specs.Meant.{MeansMark}
 use Rattle.lw_builder.specs.declared.builder.Builder.{Builder}
 use Rattle.lw_builder.specs.Standing.{AreOpen}
 use Rattle.lw_builder.specs.Built.{ArePartsOf, HasFollowed, GoesOnBy, token, other}

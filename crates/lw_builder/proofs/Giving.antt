@@ -6,9 +6,9 @@ use Rattle.lw_base.specs.declared.numbers.PropId.{PropId}
 use Rattle.lw_tree.specs.declared.node.Reference.{Reference}
 use Rattle.lw_tree.specs.declared.node.Value.{Value}
 use Rattle.lw_tree.specs.declared.node.Value.TheVariants.{Text, Number, Huge, Raw, Truth, Child, Refers}
-use Rattle.lw_preorder.specs.declared.finished.Finished.{Finished}
-use Rattle.lw_preorder.specs.Finishing.{adopted, adopts, adopts_all, taken, blank_finished, IsPlaceWithin, AreWithin}
-use Rattle.lw_preorder.specs.Tables.{owned}
+use Rattle.lw_builder.specs.declared.preorder.finished.Finished.{Finished}
+use Rattle.lw_builder.specs.Finishing.{adopted, adopts, adopts_all, taken, blank_finished, IsPlaceWithin, AreWithin}
+use Rattle.lw_builder.specs.Tables.{owned}
 use Rattle.lw_builder.specs.Owners.{with_owner, pointless, claimed, claims, claims_all, IsClaimable, AreClaimable}
 
 within_at : (n : ℕ) (vs : List (PropId × Value)) (p : PropId) (v : Value) (rest : List (PropId × Value)) → AreWithin n (vs ++ (p, v) ∷ rest) → IsPlaceWithin n v

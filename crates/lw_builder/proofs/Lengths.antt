@@ -3,12 +3,12 @@ use Rattle.std.proofs.Common.{ℕ, ◌≡◌, ◌+◌, ◌≤◌, Option, Some, 
 use Rattle.lw_base.specs.declared.numbers.NodeId.{NodeId}
 use Rattle.lw_base.specs.declared.numbers.PropId.{PropId}
 use Rattle.lw_tree.specs.declared.node.Reference.{Reference}
-use Rattle.lw_marks.specs.Grown.{Grown, Grow, Held, Nothing, Puts, Takes, Points, size, size_of}
-use Rattle.lw_marks.specs.Trees.{points, points_of}
-use Rattle.lw_marks.specs.Brackets.{Bracket, InNode, InValue, Root}
-use Rattle.lw_preorder.specs.declared.finished.Finished.{Finished}
-use Rattle.lw_preorder.specs.Finishing.{under, finished, finished_in}
-use Rattle.lw_preorder.specs.Tables.{pointed, pointed_in}
+use Rattle.lw_reading.specs.Grown.{Grown, Grow, Held, Nothing, Puts, Takes, Points, size, size_of}
+use Rattle.lw_reading.specs.Trees.{points, points_of}
+use Rattle.lw_reading.specs.Brackets.{Bracket, InNode, InValue, Root}
+use Rattle.lw_builder.specs.declared.preorder.finished.Finished.{Finished}
+use Rattle.lw_builder.specs.Finishing.{under, finished, finished_in}
+use Rattle.lw_builder.specs.Tables.{pointed, pointed_in}
 use Rattle.lw_builder.specs.Contents.{nobody}
 use Rattle.lw_builder.specs.Standing.{nodes_in, points_in, all_finished, all_pointed}
 

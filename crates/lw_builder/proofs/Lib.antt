@@ -22,3 +22,17 @@ pub mod ClosingSteps
 pub mod Following
 pub mod Counted
 pub mod AllMarks
+pub mod Each
+pub mod Numbering
+pub mod PreorderLengths
+pub mod Nesting
+pub mod TreeNumbers
+pub mod ByNumber
+pub mod Placing
+pub mod Changing
+pub mod PartNumbers
+pub mod Joining
+pub mod NamedReferences
+pub mod NamedValues
+pub mod PlacesWithin
+pub mod WholeTables

@@ -6,22 +6,22 @@ use Rattle.lw_base.specs.declared.numbers.PropId.{PropId}
 use Rattle.lw_grammar.specs.declared.grammar.Grammar.{Grammar}
 use Rattle.lw_grammar.specs.declared.rule.Op.{Op}
 use Rattle.lw_grammar.specs.declared.rule.Value0.{Value0}
-use Rattle.lw_gramread.specs.Values.{word_name}
+use Rattle.lw_gramlex.specs.Values.{word_name}
 use Rattle.lw_tree.specs.declared.node.Reference.{Reference}
 use Rattle.lw_tree.specs.declared.node.Value.{Value}
 use Rattle.lw_tree.specs.declared.node.Value.TheVariants as value
-use Rattle.lw_marks.specs.Grown.{Plain, as_value}
-use Rattle.lw_marks.specs.Values as means
-use Rattle.lw_marks.specs.Values.{NumberMeans, fits, too_large, no_number, TokenMeans, TokenNames, text_said, unquoted}
-use Rattle.lw_marks.specs.Brackets.{span_of_tokens, joined_texts}
-use Rattle.lw_marks.specs.Follows as follows
-use Rattle.lw_marks.specs.Follows.{IsPlain, LooksUp, RefersBy}
-use Rattle.lw_recipes.specs.declared.recipe.Content.{Content}
-use Rattle.lw_recipes.specs.declared.recipe.Content.TheVariants as content
-use Rattle.lw_recipes.specs.declared.recipe.TextForm.{TextForm}
-use Rattle.lw_recipes.specs.declared.recipe.TextForm.TheVariants as form
-use Rattle.lw_recipes.specs.Making as recipe
-use Rattle.lw_recipes.specs.Making.{IsReference, IsMadeBy, IsNameForm, text_form}
+use Rattle.lw_reading.specs.Grown.{Plain, as_value}
+use Rattle.lw_reading.specs.Values as means
+use Rattle.lw_reading.specs.Values.{NumberMeans, fits, too_large, no_number, TokenMeans, TokenNames, text_said, unquoted}
+use Rattle.lw_reading.specs.Brackets.{span_of_tokens, joined_texts}
+use Rattle.lw_reading.specs.Follows as follows
+use Rattle.lw_reading.specs.Follows.{IsPlain, LooksUp, RefersBy}
+use Rattle.lw_program.specs.declared.recipes.recipe.Content.{Content}
+use Rattle.lw_program.specs.declared.recipes.recipe.Content.TheVariants as content
+use Rattle.lw_program.specs.declared.recipes.recipe.TextForm.{TextForm}
+use Rattle.lw_program.specs.declared.recipes.recipe.TextForm.TheVariants as form
+use Rattle.lw_program.specs.Making as recipe
+use Rattle.lw_program.specs.Making.{IsReference, IsMadeBy, IsNameForm, text_form}
 use Rattle.lw_builder.specs.Contents.{said_in, IsMadeValue}
 
 said_so : (name text : List ℕ) → said_in (text_form name) text ≡ text_said name text

@@ -4,12 +4,12 @@ use Rattle.lw_base.specs.declared.token.Token.{Token}
 use Rattle.lw_grammar.specs.declared.grammar.Grammar.{Grammar}
 use Rattle.lw_grammar.specs.declared.rule.Op.{Op}
 use Rattle.lw_grammar.specs.declared.rule.Value0.{Value0}
-use Rattle.lw_sentences.specs.Marks as mark
-use Rattle.lw_marks.specs.Grown.{Grown, Held, Nothing}
-use Rattle.lw_marks.specs.Numbers.{IsNumberOfProperty}
-use Rattle.lw_marks.specs.Brackets.{Bracket, InNode, InValue, Shuts}
-use Rattle.lw_marks.specs.Follows.{ChangesOpen, opens, puts, shuts, ends, PutsValueIn}
-use Rattle.lw_recipes.specs.Making.{AreRecipesOf, RecipeLists}
+use Rattle.lw_grammar.specs.Marks as mark
+use Rattle.lw_reading.specs.Grown.{Grown, Held, Nothing}
+use Rattle.lw_reading.specs.Numbers.{IsNumberOfProperty}
+use Rattle.lw_reading.specs.Brackets.{Bracket, InNode, InValue, Shuts}
+use Rattle.lw_reading.specs.Follows.{ChangesOpen, opens, puts, shuts, ends, PutsValueIn}
+use Rattle.lw_program.specs.Making.{AreRecipesOf, RecipeLists}
 
 module _ (g : Grammar) (text : List ℕ) (ts : List Token) where
   pub shuts_so : (bs after : List Bracket) → ChangesOpen g text ts mark.Shut bs after → Shuts ts bs after

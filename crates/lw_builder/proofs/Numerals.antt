@@ -7,8 +7,8 @@ use Rattle.std.proofs.lemmas.Bool.Decides.{nat_tests}
 use Rattle.std.proofs.lemmas.Str.Parse.{numerals_by_value, tells_by_index, digit_at}
 use Rattle.lw_base.specs.declared.token.Span.{Span}
 use Rattle.lw_tree.specs.declared.node.Value.TheVariants as value
-use Rattle.lw_marks.specs.Grown.{Plain, Number, Huge, Raw, as_value}
-use Rattle.lw_marks.specs.Values.{NumberMeans, fits, too_large, no_number}
+use Rattle.lw_reading.specs.Grown.{Plain, Number, Huge, Raw, as_value}
+use Rattle.lw_reading.specs.Values.{NumberMeans, fits, too_large, no_number}
 
 pub digits_by_index : (ds : List ℕ) → ((i : ℕ) → i < length ds → IsInRange 48 57 (get_or ds i 0)) → AllDigits 10 ds
 digits_by_index ds h = (numerals_by_value (λ ds. (i : ℕ) → i < length ds → IsInRange 48 57 (get_or ds i 0)) tells_by_index).to ds h

@@ -5,7 +5,7 @@ use Rattle.std.proofs.lemmas.Slice.Eq.{bytes_eq-Decides}
 use Rattle.lw_grammar.specs.declared.grammar.Grammar.{Grammar}
 use Rattle.lw_grammar.specs.Kinds.{first_uses}
 use Rattle.lw_grammar.proofs.FirstUses.{stands_in}
-use Rattle.lw_marks.specs.Numbers.{IsNumberOfType, IsNumberOfProperty}
+use Rattle.lw_reading.specs.Numbers.{IsNumberOfType, IsNumberOfProperty}
 
 neither : (a b : Bool) → (a || b) ≡ false → (a ≡ false) × (b ≡ false)
 neither true b is = absurd (true≢false is)

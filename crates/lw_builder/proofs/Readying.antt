@@ -8,12 +8,12 @@ use Rattle.lw_base.specs.declared.numbers.NodeId.{NodeId}
 use Rattle.lw_base.specs.declared.numbers.PropId.{PropId}
 use Rattle.lw_tree.specs.declared.node.Reference.{Reference}
 use Rattle.lw_tree.specs.declared.node.Value.{Value}
-use Rattle.lw_marks.specs.Grown.{Plain, Text, Number, Huge, Raw, Truth, as_value, Held, Nothing, Puts, Takes, Points, size, size_of}
-use Rattle.lw_marks.specs.Trees.{points_of}
-use Rattle.lw_marks.specs.Brackets.{Bracket, grown, span_of_tokens}
-use Rattle.lw_preorder.specs.declared.finished.Finished.{Finished}
-use Rattle.lw_preorder.specs.Finishing.{finished_in, adopts_all, IsPlaceWithin, AreWithin}
-use Rattle.lw_preorder.specs.Tables.{put_in, owned, stored_in, pointed_in}
+use Rattle.lw_reading.specs.Grown.{Plain, Text, Number, Huge, Raw, Truth, as_value, Held, Nothing, Puts, Takes, Points, size, size_of}
+use Rattle.lw_reading.specs.Trees.{points_of}
+use Rattle.lw_reading.specs.Brackets.{Bracket, grown, span_of_tokens}
+use Rattle.lw_builder.specs.declared.preorder.finished.Finished.{Finished}
+use Rattle.lw_builder.specs.Finishing.{finished_in, adopts_all, IsPlaceWithin, AreWithin}
+use Rattle.lw_builder.specs.Tables.{put_in, owned, stored_in, pointed_in}
 use Rattle.lw_builder.specs.declared.builder.Builder.{Builder}
 use Rattle.lw_builder.specs.declared.open.OpenNode.{OpenNode}
 use Rattle.lw_builder.specs.Contents.{nobody}

@@ -5,10 +5,10 @@ use Rattle.lw_base.specs.declared.numbers.PropId.{PropId}
 use Rattle.lw_base.specs.declared.token.Token.{Token}
 use Rattle.lw_grammar.specs.declared.grammar.Grammar.{Grammar}
 use Rattle.lw_tree.specs.declared.node.Value.TheVariants.{Child}
-use Rattle.lw_marks.specs.Grown.{Grown, Held, Nothing, Takes, size}
-use Rattle.lw_marks.specs.Brackets.{Bracket, InNode, grown}
-use Rattle.lw_preorder.specs.Finishing.{finished}
-use Rattle.lw_preorder.specs.Tables.{stored, pointed}
+use Rattle.lw_reading.specs.Grown.{Grown, Held, Nothing, Takes, size}
+use Rattle.lw_reading.specs.Brackets.{Bracket, InNode, grown}
+use Rattle.lw_builder.specs.Finishing.{finished}
+use Rattle.lw_builder.specs.Tables.{stored, pointed}
 use Rattle.lw_builder.specs.declared.builder.Builder.{Builder}
 use Rattle.lw_builder.specs.declared.open.Open.TheVariants as variant
 use Rattle.lw_builder.specs.declared.open.OpenNode.{OpenNode}

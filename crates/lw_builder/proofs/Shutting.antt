@@ -4,13 +4,13 @@ use Rattle.std.proofs.lemmas.List.{append-nil}
 use Rattle.lw_base.specs.declared.numbers.NodeId.{NodeId}
 use Rattle.lw_base.specs.declared.token.Token.{Token}
 use Rattle.lw_grammar.specs.declared.grammar.Grammar.{Grammar}
-use Rattle.lw_marks.specs.Grown.{Grown, Held, Nothing, size}
-use Rattle.lw_marks.specs.Brackets.{Bracket, InNode, InValue, Root, grown, Shuts, in_value, in_node, at_root}
-use Rattle.lw_preorder.specs.Finishing.{finished_in}
-use Rattle.lw_preorder.specs.Tables.{put_in, stored_in, pointed_in}
-use Rattle.lw_sentences.specs.Marks as mark
-use Rattle.lw_recipes.specs.declared.mark.TreeMark.TheVariants as numbered
-use Rattle.lw_recipes.specs.Meant.{MeansMark}
+use Rattle.lw_reading.specs.Grown.{Grown, Held, Nothing, size}
+use Rattle.lw_reading.specs.Brackets.{Bracket, InNode, InValue, Root, grown, Shuts, in_value, in_node, at_root}
+use Rattle.lw_builder.specs.Finishing.{finished_in}
+use Rattle.lw_builder.specs.Tables.{put_in, stored_in, pointed_in}
+use Rattle.lw_grammar.specs.Marks as mark
+use Rattle.lw_program.specs.declared.recipes.mark.TreeMark.TheVariants as numbered
+use Rattle.lw_program.specs.Meant.{MeansMark}
 use Rattle.lw_builder.specs.declared.builder.Builder.{Builder}
 use Rattle.lw_builder.specs.declared.open.Open.{Open}
 use Rattle.lw_builder.specs.declared.open.Open.TheVariants as variant

@@ -4,7 +4,7 @@ use Rattle.std.proofs.lemmas.List.{take_all, take_more}
 use Rattle.std.specs.Prelude.{slice_get, slice_range}
 use Rattle.lw_base.specs.declared.token.Span.{Span}
 use Rattle.lw_base.specs.declared.token.Token.{Token}
-use Rattle.lw_marks.specs.Brackets.{span_of_tokens, end_of, joined_texts}
+use Rattle.lw_reading.specs.Brackets.{span_of_tokens, end_of, joined_texts}
 
 end_is : (t : Token) (ts : List Token) (last : Token) → slice_get (t ∷ ts) (length ts) ≡ Some last → end_of t ts ≡ last.span.end
 end_is t [] last at = let e : t ≡ last = cc in ap (λ (u : Token). u.span.end) e

@@ -3,12 +3,12 @@ use Rattle.std.proofs.Common.{ℕ, ◌≡◌, Option, List, [], ◌∷◌, ◌++
 use Rattle.lw_grammar.specs.declared.grammar.Grammar.{Grammar}
 use Rattle.lw_grammar.specs.declared.rule.Op.{Op}
 use Rattle.lw_grammar.specs.declared.rule.Value0.{Value0}
-use Rattle.lw_sentences.specs.Marks as mark
-use Rattle.lw_marks.specs.Grown.{Grown, Held}
-use Rattle.lw_marks.specs.Numbers.{IsNumberOfProperty}
-use Rattle.lw_marks.specs.Brackets.{Bracket, InNode, InValue, Root}
-use Rattle.lw_recipes.specs.declared.mark.TreeMark.TheVariants as numbered
-use Rattle.lw_recipes.specs.Meant.{MeansMark}
+use Rattle.lw_grammar.specs.Marks as mark
+use Rattle.lw_reading.specs.Grown.{Grown, Held}
+use Rattle.lw_reading.specs.Numbers.{IsNumberOfProperty}
+use Rattle.lw_reading.specs.Brackets.{Bracket, InNode, InValue, Root}
+use Rattle.lw_program.specs.declared.recipes.mark.TreeMark.TheVariants as numbered
+use Rattle.lw_program.specs.Meant.{MeansMark}
 use Rattle.lw_builder.specs.declared.builder.Builder.{Builder}
 use Rattle.lw_builder.specs.declared.open.Open.{Open}
 use Rattle.lw_builder.specs.declared.open.Open.TheVariants as variant

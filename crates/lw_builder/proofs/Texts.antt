@@ -2,8 +2,8 @@
 use Rattle.std.proofs.Common.{ℕ, ◌≡◌, ◌<◌, ◌≤◌, ◌-◌, List, Bool, true, false, length, take, drop, refl, sym, ap, ◌∙◌, arith}
 use Rattle.std.specs.Prelude.{chars, nat_lt, encode_utf8_all, if◌then◌else◌, IfOk, Result, Ok, Err}
 use Rattle.std.proofs.lemmas.Bool.Decides.{nat_tests}
-use Rattle.lw_gramread.specs.Values.{with_escapes_read}
-use Rattle.lw_marks.specs.Values.{inner_text, unquoted}
+use Rattle.lw_gramlex.specs.Values.{with_escapes_read}
+use Rattle.lw_reading.specs.Values.{inner_text, unquoted}
 
 by_test : (b : Bool) (x y : List ℕ) → b ≡ true → (if b then x else y) ≡ x
 by_test true x y e = refl

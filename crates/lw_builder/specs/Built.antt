@@ -2,12 +2,12 @@
 use Rattle.std.specs.Prelude.{ℕ, ◌≡◌, ◌≤◌, List, Some, All, take, length, slice_get, not, filter}
 use Rattle.lw_base.specs.declared.token.Token.{Token}
 use Rattle.lw_grammar.specs.declared.grammar.Grammar.{Grammar}
-use Rattle.lw_gramread.specs.Places.{IsPlace}
-use Rattle.lw_sentences.specs.Marks.{Mark}
-use Rattle.lw_sentences.specs.Marks as mark
-use Rattle.lw_marks.specs.Brackets.{Bracket}
-use Rattle.lw_marks.specs.Follows.{ChangesOpen, FollowsMarks}
-use Rattle.lw_recipes.specs.Making.{AreRecipesOf}
+use Rattle.lw_gramlex.specs.Places.{IsPlace}
+use Rattle.lw_grammar.specs.Marks.{Mark}
+use Rattle.lw_grammar.specs.Marks as mark
+use Rattle.lw_reading.specs.Brackets.{Bracket}
+use Rattle.lw_reading.specs.Follows.{ChangesOpen, FollowsMarks}
+use Rattle.lw_program.specs.Making.{AreRecipesOf}
 use Rattle.lw_builder.specs.declared.builder.Builder.{Builder}
 use Rattle.lw_builder.specs.Standing.{StandsOpen}
 

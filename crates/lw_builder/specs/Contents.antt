@@ -3,17 +3,17 @@ use Rattle.std.specs.Prelude.{ℕ, ◌≡◌, Option, Some, None, List, [], ◌�
 use Rattle.lw_base.specs.declared.numbers.NodeId.{NodeId}
 use Rattle.lw_base.specs.declared.numbers.PropId.{PropId}
 use Rattle.lw_base.specs.declared.token.Token.{Token}
-use Rattle.lw_gramread.specs.Values.{word_name}
+use Rattle.lw_gramlex.specs.Values.{word_name}
 use Rattle.lw_tree.specs.declared.node.Reference.{Reference}
 use Rattle.lw_tree.specs.declared.node.Value.{Value}
 use Rattle.lw_tree.specs.declared.node.Value.TheVariants as value
-use Rattle.lw_marks.specs.Grown.{Plain, as_value}
-use Rattle.lw_marks.specs.Values.{unquoted, NumberMeans}
-use Rattle.lw_marks.specs.Brackets.{span_of_tokens, joined_texts}
-use Rattle.lw_recipes.specs.declared.recipe.Content.{Content}
-use Rattle.lw_recipes.specs.declared.recipe.Content.TheVariants as content
-use Rattle.lw_recipes.specs.declared.recipe.TextForm.{TextForm}
-use Rattle.lw_recipes.specs.declared.recipe.TextForm.TheVariants as form
+use Rattle.lw_reading.specs.Grown.{Plain, as_value}
+use Rattle.lw_reading.specs.Values.{unquoted, NumberMeans}
+use Rattle.lw_reading.specs.Brackets.{span_of_tokens, joined_texts}
+use Rattle.lw_program.specs.declared.recipes.recipe.Content.{Content}
+use Rattle.lw_program.specs.declared.recipes.recipe.Content.TheVariants as content
+use Rattle.lw_program.specs.declared.recipes.recipe.TextForm.{TextForm}
+use Rattle.lw_program.specs.declared.recipes.recipe.TextForm.TheVariants as form
 
 -- what a text says in this form
 abbrev pub said_in : TextForm → List ℕ → List ℕ

@@ -5,18 +5,18 @@ use Rattle.lw_base.specs.declared.numbers.PropId.{PropId}
 use Rattle.lw_grammar.specs.declared.grammar.Grammar.{Grammar}
 use Rattle.lw_grammar.specs.declared.rule.Op.{Op}
 use Rattle.lw_grammar.specs.declared.rule.Value0.{Value0}
-use Rattle.lw_sentences.specs.Marks as mark
+use Rattle.lw_grammar.specs.Marks as mark
 use Rattle.lw_tree.specs.declared.node.Reference.{Reference}
 use Rattle.lw_tree.specs.declared.node.Value.{Value}
-use Rattle.lw_marks.specs.Grown.{Grown, Held, size, size_of}
-use Rattle.lw_marks.specs.Trees.{points, points_of}
-use Rattle.lw_marks.specs.Numbers.{IsNumberOfProperty}
-use Rattle.lw_marks.specs.Brackets.{Bracket, InNode, InValue, Root}
-use Rattle.lw_preorder.specs.declared.finished.Finished.{Finished}
-use Rattle.lw_preorder.specs.Finishing.{finished, finished_in}
-use Rattle.lw_preorder.specs.Tables.{put_in, stored, stored_in, pointed, pointed_in}
-use Rattle.lw_recipes.specs.declared.mark.TreeMark.TheVariants as numbered
-use Rattle.lw_recipes.specs.Meant.{MeansMark}
+use Rattle.lw_reading.specs.Grown.{Grown, Held, size, size_of}
+use Rattle.lw_reading.specs.Trees.{points, points_of}
+use Rattle.lw_reading.specs.Numbers.{IsNumberOfProperty}
+use Rattle.lw_reading.specs.Brackets.{Bracket, InNode, InValue, Root}
+use Rattle.lw_builder.specs.declared.preorder.finished.Finished.{Finished}
+use Rattle.lw_builder.specs.Finishing.{finished, finished_in}
+use Rattle.lw_builder.specs.Tables.{put_in, stored, stored_in, pointed, pointed_in}
+use Rattle.lw_program.specs.declared.recipes.mark.TreeMark.TheVariants as numbered
+use Rattle.lw_program.specs.Meant.{MeansMark}
 use Rattle.lw_builder.specs.declared.open.Open.{Open}
 use Rattle.lw_builder.specs.declared.open.Open.TheVariants as variant
 use Rattle.lw_builder.specs.declared.open.OpenNode.{OpenNode}

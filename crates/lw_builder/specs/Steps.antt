@@ -2,13 +2,13 @@
 use Rattle.std.specs.Prelude.{ℕ, ◌≡◌, ◌+◌, ◌-◌, ◌≤◌, List, [], ◌∷◌, ◌++◌, None, Bool, true, false, length, take, count_by}
 use Rattle.lw_base.specs.declared.token.Token.{Token}
 use Rattle.lw_grammar.specs.declared.grammar.Grammar.{Grammar}
-use Rattle.lw_sentences.specs.Marks.{Mark}
-use Rattle.lw_marks.specs.Grown.{Grown, Held, size}
-use Rattle.lw_marks.specs.Brackets.{Bracket}
-use Rattle.lw_marks.specs.Follows.{ChangesOpen, Closes}
-use Rattle.lw_preorder.specs.Finishing.{finished, finished_in}
-use Rattle.lw_preorder.specs.Tables.{put_in, stored, stored_in, pointed, pointed_in}
-use Rattle.lw_recipes.specs.Making.{AreRecipesOf}
+use Rattle.lw_grammar.specs.Marks.{Mark}
+use Rattle.lw_reading.specs.Grown.{Grown, Held, size}
+use Rattle.lw_reading.specs.Brackets.{Bracket}
+use Rattle.lw_reading.specs.Follows.{ChangesOpen, Closes}
+use Rattle.lw_builder.specs.Finishing.{finished, finished_in}
+use Rattle.lw_builder.specs.Tables.{put_in, stored, stored_in, pointed, pointed_in}
+use Rattle.lw_program.specs.Making.{AreRecipesOf}
 use Rattle.lw_builder.specs.declared.open.Open.{Open}
 use Rattle.lw_builder.specs.declared.open.Open.TheVariants as variant
 use Rattle.lw_builder.specs.declared.open.OpenNode.{OpenNode}

@@ -2,11 +2,11 @@
 ghost use Rattle.std.specs.Prelude.{ℕ, ◌≤◌, ◌∷◌, List, OnOk, length};
 ghost use Rattle.lw_grammar.specs.declared.grammar.Grammar.{Grammar};
 ghost use Rattle.lw_grammar.specs.declared.rule.Action.{Action};
-ghost use Rattle.lw_sentences.specs.Marks as mark;
-ghost use Rattle.lw_marks.specs.Brackets.{Bracket, InNode, grown};
-ghost use Rattle.lw_marks.specs.Grown.{Held, Nothing, Takes};
-ghost use Rattle.lw_recipes.specs.declared.mark.TreeMark.TheVariants as numbered;
-ghost use Rattle.lw_recipes.specs.Meant.{MeansMark};
+ghost use Rattle.lw_grammar.specs.Marks as mark;
+ghost use Rattle.lw_reading.specs.Brackets.{Bracket, InNode, grown};
+ghost use Rattle.lw_reading.specs.Grown.{Held, Nothing, Takes};
+ghost use Rattle.lw_program.specs.declared.recipes.mark.TreeMark.TheVariants as numbered;
+ghost use Rattle.lw_program.specs.Meant.{MeansMark};
 ghost use Rattle.lw_builder.specs.Standing.{StandsOpen};
 ghost use Rattle.lw_builder.specs.Steps.{CanDo, DoesMark, EndsInNode, IsSameReading, read_tokens};
 

@@ -1,8 +1,8 @@
 // A tree as it is built, mark by mark.
 use crate::open::Open;
+use crate::preorder::Finished;
 use lw_base::{Name, NodeId, PropId, Token};
-use lw_preorder::Finished;
-use lw_recipes::Recipes;
+use lw_program::recipes::Recipes;
 use lw_tree::{Reference, Value};
 
 /// What the marks followed so far have built. Nodes are named by their places in the order of finishing.

@@ -1,8 +1,8 @@
 // What ends: nodes and values.
 ghost use Rattle.std.specs.Prelude.{ℕ, ◌≡◌, ◌++◌, ◌∷◌, [], ◌≤◌, IfOk, OnOk, drop, length};
 ghost use Rattle.lw_grammar.specs.declared.grammar.Grammar.{Grammar};
-ghost use Rattle.lw_marks.specs.Brackets.{joined_texts as joined_in};
-ghost use Rattle.lw_sentences.specs.Marks as mark;
+ghost use Rattle.lw_reading.specs.Brackets.{joined_texts as joined_in};
+ghost use Rattle.lw_grammar.specs.Marks as mark;
 ghost use Rattle.lw_builder.specs.Built.{ArePartsOf};
 ghost use Rattle.lw_builder.specs.Contents.{IsMadeValue, IsWorth, said_in};
 ghost use Rattle.lw_builder.specs.Steps.{CanDo, DoesMark, EndsInNode, EndsInValue, KeepsTables, IsKeptButRefs, IsSameReading, read_tokens};
@@ -13,7 +13,7 @@ use crate::finishing::place_behind;
 use crate::open::{Open, OpenNode, OpenValue};
 use crate::spans::{joined_texts, read_since, span_of_tokens};
 use lw_base::{Name, NoMemory, NodeId, RefId, Token};
-use lw_recipes::{Content, TextForm, ValueRecipe};
+use lw_program::recipes::{Content, TextForm, ValueRecipe};
 use lw_tree::{Reference, Value};
 use std::alloc::Global;
 
@@ -168,6 +168,3 @@ pub fn said_by(
     let text = joined_texts(alloc, text, tokens)?;
     said_in(alloc, form, text)
 }
-
-#[cfg(test)]
-mod tests;

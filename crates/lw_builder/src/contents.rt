@@ -2,14 +2,14 @@
 ghost use Rattle.std.specs.Prelude.{◌≡◌, ◌-◌, ◌≤◌, ◌↔◌, IfOk, IsTrue, EachIndex, length, take, drop, chars, encode_utf8_all, slice_index, string_bytes};
 ghost use Rattle.std.specs.Int.{IsInRange};
 ghost use Rattle.std.specs.Str.Parse.{IsNumeral, without_leading_sign};
-ghost use Rattle.lw_gramread.specs.Values.{word_name};
-ghost use Rattle.lw_marks.specs.Grown.{Plain, as_value};
-ghost use Rattle.lw_marks.specs.Values.{NumberMeans, unquoted};
+ghost use Rattle.lw_gramlex.specs.Values.{word_name};
+ghost use Rattle.lw_reading.specs.Grown.{Plain, as_value};
+ghost use Rattle.lw_reading.specs.Values.{NumberMeans, unquoted};
 ghost use Rattle.lw_builder.specs.Contents.{said_in};
 
 use lw_base::{Name, NoMemory, Span};
-use lw_gramread::{read_escapes, word_name};
-use lw_recipes::TextForm;
+use lw_gramlex::{read_escapes, word_name};
+use lw_program::recipes::TextForm;
 use lw_tree::Value;
 use std::alloc::Global;
 

@@ -1,17 +1,17 @@
 // A node as it is finished: what stands in it is given its place.
 ghost use Rattle.std.specs.Prelude.{◌≡◌, ◌<◌, ◌≤◌, ◌++◌, List, IfOk, length};
-ghost use Rattle.lw_marks.specs.Brackets.{Bracket, grown};
-ghost use Rattle.lw_marks.specs.Grown.{Held};
-ghost use Rattle.lw_preorder.specs.Finishing.{adopted, adopts, adopts_all, AreWithin, IsPlaceWithin};
-ghost use Rattle.lw_preorder.specs.Tables.{owned};
+ghost use Rattle.lw_reading.specs.Brackets.{Bracket, grown};
+ghost use Rattle.lw_reading.specs.Grown.{Held};
+ghost use Rattle.lw_builder.specs.Finishing.{adopted, adopts, adopts_all, AreWithin, IsPlaceWithin};
+ghost use Rattle.lw_builder.specs.Tables.{owned};
 ghost use Rattle.lw_builder.specs.Owners.{claimed, claims, claims_all, AreClaimable, IsClaimable};
 ghost use Rattle.lw_builder.specs.Steps.{IsFinished, IsReadyToFinish, IsSameReading, read_tokens};
 
 use crate::Builder;
 use crate::open::OpenNode;
+use crate::preorder::Finished;
 use crate::spans::{read_since, span_of_tokens};
 use lw_base::{NoMemory, NodeId, PropId, RefId};
-use lw_preorder::Finished;
 use lw_tree::{Node, Reference, Value};
 
 /// The place behind so many nodes or references. There are less than 2^32.

@@ -1,9 +1,9 @@
 // What is still open at the end is closed.
 ghost use Rattle.std.specs.Prelude.{◌≡◌, ◌<◌, ◌↔◌, ◌++◌, ◌∷◌, [], List, IsTrue, MatchOption, OnOk};
 ghost use Rattle.lw_grammar.specs.declared.grammar.Grammar.{Grammar};
-ghost use Rattle.lw_marks.specs.Brackets.{Root};
-ghost use Rattle.lw_marks.specs.Grown.{Grown};
-ghost use Rattle.lw_recipes.specs.Making.{IsReference};
+ghost use Rattle.lw_reading.specs.Brackets.{Root};
+ghost use Rattle.lw_reading.specs.Grown.{Grown};
+ghost use Rattle.lw_program.specs.Making.{IsReference};
 ghost use Rattle.lw_builder.specs.declared.open.Open.{Open as Opened};
 ghost use Rattle.lw_builder.specs.Standing.{StandsOpen};
 ghost use Rattle.lw_builder.specs.Steps.{IsClosing, IsSameReading, IsWholeTree, count_open};
@@ -11,7 +11,7 @@ ghost use Rattle.lw_builder.specs.Steps.{IsClosing, IsSameReading, IsWholeTree, 
 use crate::Builder;
 use crate::open::{Open, OpenValue};
 use lw_base::NoMemory;
-use lw_recipes::Content;
+use lw_program::recipes::Content;
 
 impl Builder<'_> {
     /// Closes all that is open, the innermost first.

@@ -4,7 +4,7 @@
 //! [`Builder`] follows them one by one and keeps what is open: nodes with what they hold so far, and values that are being read. At the
 //! end it gives the tree. [`tree_of`] does the same for a list of marks.
 //!
-//! Its model is what is open (`Bracket` of `lw_marks`), and `FollowsMarks` there says what marks leave open, by the grammar. How that
+//! Its model is what is open (`Bracket` of `lw_reading::marks`), and `FollowsMarks` there says what marks leave open, by the grammar. How that
 //! stands in the builder's tables says `specs/Standing.antt`: nodes are named by their places in the order of finishing, since a node is
 //! finished before it is known what it is put into.
 //!
@@ -27,6 +27,7 @@ mod leaving;
 mod marks;
 mod open;
 mod opening;
+pub mod preorder;
 mod spans;
 
 pub use builder::Builder;

@@ -1,21 +1,21 @@
 // What each mark does, and the tree at the end.
 ghost use Rattle.std.specs.Prelude.{ℕ, ◌≡◌, List, [], ◌∷◌, ◌++◌, IfOk, OnOk, take};
 ghost use Rattle.lw_grammar.specs.declared.grammar.Grammar.{Grammar};
-ghost use Rattle.lw_sentences.specs.Marks.{Mark};
-ghost use Rattle.lw_marks.specs.Brackets.{Bracket};
-ghost use Rattle.lw_marks.specs.Follows.{Closes, FollowsMarks};
-ghost use Rattle.lw_marks.specs.Grown.{Grown};
-ghost use Rattle.lw_marks.specs.Trees.{IsOpenedTree, parts_of_tree};
-ghost use Rattle.lw_recipes.specs.Making.{AreRecipesOf};
-ghost use Rattle.lw_recipes.specs.Meant.{AreMeant, MeansMark};
+ghost use Rattle.lw_grammar.specs.Marks.{Mark};
+ghost use Rattle.lw_reading.specs.Brackets.{Bracket};
+ghost use Rattle.lw_reading.specs.Follows.{Closes, FollowsMarks};
+ghost use Rattle.lw_reading.specs.Grown.{Grown};
+ghost use Rattle.lw_reading.specs.Trees.{IsOpenedTree, parts_of_tree};
+ghost use Rattle.lw_program.specs.Making.{AreRecipesOf};
+ghost use Rattle.lw_program.specs.Meant.{AreMeant, MeansMark};
 ghost use Rattle.lw_tree.specs.Parts.{SameTables, Tile};
 ghost use Rattle.lw_builder.specs.Built.{ArePartsOf, GoesOnBy, HasFollowed, IsOverSame, visible_of};
 
 use crate::Builder;
 use crate::finishing::place_behind;
+use crate::preorder::in_preorder;
 use lw_base::{Name, NoMemory, Token};
-use lw_preorder::in_preorder;
-use lw_recipes::{Recipes, TreeMark};
+use lw_program::recipes::{Recipes, TreeMark};
 use lw_tree::Tree;
 use std::alloc::Global;
 

@@ -3,9 +3,9 @@ ghost use Rattle.std.specs.Prelude.{ℕ, ◌≡◌, List, OnOk, slice_get};
 ghost use Rattle.lw_grammar.specs.declared.grammar.Grammar.{Grammar};
 ghost use Rattle.lw_grammar.specs.declared.rule.Op.{Op};
 ghost use Rattle.lw_grammar.specs.declared.rule.Value0.{Value0};
-ghost use Rattle.lw_sentences.specs.Marks as mark;
-ghost use Rattle.lw_recipes.specs.declared.mark.TreeMark.TheVariants as numbered;
-ghost use Rattle.lw_recipes.specs.Meant.{MeansMark};
+ghost use Rattle.lw_grammar.specs.Marks as mark;
+ghost use Rattle.lw_program.specs.declared.recipes.mark.TreeMark.TheVariants as numbered;
+ghost use Rattle.lw_program.specs.Meant.{MeansMark};
 ghost use Rattle.lw_builder.specs.Steps.{CanDo, DoesMark, IsSameReading};
 
 use crate::Builder;

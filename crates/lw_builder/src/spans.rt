@@ -1,7 +1,7 @@
 // Where tokens stand in a text, and what they say together.
 ghost use Rattle.std.specs.Prelude.{◌≡◌, ◌≤◌, IfOk, drop, length, slice_range, take};
-ghost use Rattle.lw_gramread.specs.Places.{IsPlace};
-ghost use Rattle.lw_marks.specs.Brackets.{joined_texts, span_of_tokens as span_by};
+ghost use Rattle.lw_gramlex.specs.Places.{IsPlace};
+ghost use Rattle.lw_reading.specs.Brackets.{joined_texts, span_of_tokens as span_by};
 ghost use Rattle.lw_builder.specs.Built.{ArePartsOf};
 
 use lw_base::{Name, NoMemory, Span, Token};

@@ -2,8 +2,8 @@
 use Rattle.std.proofs.Common.{ℕ, zero, suc, ◌≡◌, List, [], ◌∷◌, Some, None, map, slice_get, refl, sym, ap, subst, ◌∙◌}
 use Rattle.std.specs.List.{AllZip}
 use Rattle.std.proofs.lemmas.Option.{same_Some}
-use Rattle.lw_findings.specs.Finding.{Finds}
-use Rattle.lw_findings.proofs.Joining.{Finds-iff}
+use Rattle.lw_faults.specs.Finding.{Finds}
+use Rattle.lw_faults.proofs.Joining.{Finds-iff}
 use Rattle.lw_grammar.specs.declared.grammar.Grammar.{Grammar}
 use Rattle.lw_index.specs.declared.parts.Answer.{Answer}
 use Rattle.lw_index.specs.declared.parts.Answer.TheVariants.{Found, Missing}
@@ -14,7 +14,7 @@ use Rattle.lw_scoping.specs.Links.{Link, LinksTo, Trees}
 use Rattle.lw_scoping.proofs.Once.{one_target}
 use Rattle.lw_tree.specs.declared.node.Reference.{Reference}
 use Rattle.lw_tree.specs.Parts.{Parts}
-use Rattle.lw_scopes.specs.TreeDiagnostics.{Diagnostic}
+use Rattle.lw_link_rules.specs.TreeDiagnostics.{Diagnostic}
 use Rattle.lw_check.specs.Telling.{TellsAnswer, TellsAnswerAt}
 
 none_at : {X : Type 0} (i : ℕ) {x : X} → slice_get [] i ≡ Some x → ⊥

@@ -15,10 +15,10 @@ use Rattle.lw_link.specs.Indexed.{IsDocumentOf, IsIndexOf, link_of}
 use Rattle.lw_scoping.specs.Doubles.{IsLeastOther}
 use Rattle.lw_scoping.specs.Links.{Link, LinksTo, Trees}
 use Rattle.lw_scoping.proofs.Places.{among}
-use Rattle.lw_scopes.proofs.AloneAt.{alone_elsewhere}
-use Rattle.lw_scopes.specs.Diagnostics.{alone_at}
-use Rattle.lw_scopes.specs.Links.{IsNumberBelow}
-use Rattle.lw_scopes.specs.TreeDiagnostics.{Diagnostic, AreDiagnosticsOf, IsDiagnosticOf, unresolved, duplicate, also_exported, number}
+use Rattle.lw_link_rules.proofs.AloneAt.{alone_elsewhere}
+use Rattle.lw_link_rules.specs.Diagnostics.{alone_at}
+use Rattle.lw_link_rules.specs.Links.{IsNumberBelow}
+use Rattle.lw_link_rules.specs.TreeDiagnostics.{Diagnostic, AreDiagnosticsOf, IsDiagnosticOf, unresolved, duplicate, also_exported, number}
 use Rattle.lw_tree.specs.Keyed.{Entries, values_of}
 use Rattle.lw_tree.specs.Parts.{Parts, values_at}
 use Rattle.lw_tree.specs.declared.node.Value.{Value}

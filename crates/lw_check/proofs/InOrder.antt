@@ -14,7 +14,7 @@ use Rattle.std.proofs.lemmas.Slice.Eq.{bytes_eq-Decides}
 use Rattle.std.proofs.lemmas.List.Kept.{Contains-dedup, Contains-from_dedup, IsStrictlySortedBy-dedup}
 use Rattle.std.proofs.lemmas.List.Sorted.{Contains-permutation, IsPermutation-sym}
 use Rattle.std.proofs.lemmas.Map.Keys.{Less-from_sorted}
-use Rattle.lw_scopes.specs.TreeDiagnostics.{Diagnostic, DiagnosticPrecedes, by_start, by_code, by_end, by_message}
+use Rattle.lw_link_rules.specs.TreeDiagnostics.{Diagnostic, DiagnosticPrecedes, by_start, by_code, by_end, by_message}
 use Rattle.lw_check.specs.declared.sorting.KeyedDiagnostic.{KeyedDiagnostic}
 use Rattle.lw_check.specs.Sorting.{diagnostic_of, diagnostics_of}
 

@@ -4,7 +4,7 @@ use Rattle.std.proofs.lemmas.List.Elements.{All-get_or}
 use Rattle.std.proofs.lemmas.Option.{get_or_from_slice_get, slice_get_within}
 use Rattle.lw_grammar.specs.declared.grammar.Grammar.{Grammar}
 use Rattle.lw_numbers.specs.Numbering.{type_names}
-use Rattle.lw_outwards.specs.Known.{HasKnownTypes}
+use Rattle.lw_reading.specs.Known.{HasKnownTypes}
 use Rattle.lw_tree.specs.declared.node.Node.{Node}
 use Rattle.lw_tree.specs.Parts.{Parts}
 use Rattle.lw_types.specs.declared.types.Types.{Types}

@@ -1,10 +1,10 @@
 -- One diagnostic more, which is the only one of its kind, and what is told of all doubles.
 use Rattle.std.proofs.Common.{◌≡◌, ◌<◌, ℕ, List, [], ◌∷◌, ◌++◌, Contains, length, sym, subst, ◌∙◌}
 use Rattle.lw_base.specs.declared.numbers.NodeId.{NodeId}
-use Rattle.lw_findings.specs.Finding.{Finds, OfSome}
-use Rattle.lw_findings.proofs.Joining.{Finds-iff, Finds-pushed}
+use Rattle.lw_faults.specs.Finding.{Finds, OfSome}
+use Rattle.lw_faults.proofs.Joining.{Finds-iff, Finds-pushed}
 use Rattle.lw_grammar.specs.declared.grammar.Grammar.{Grammar}
-use Rattle.lw_scopes.specs.TreeDiagnostics.{Diagnostic}
+use Rattle.lw_link_rules.specs.TreeDiagnostics.{Diagnostic}
 use Rattle.lw_scoping.specs.Doubles.{HasDouble}
 use Rattle.lw_scoping.specs.Symbols.{IsNamedNode}
 use Rattle.lw_tree.specs.Parts.{Parts}

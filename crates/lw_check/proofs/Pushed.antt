@@ -3,16 +3,16 @@ use Rattle.std.proofs.Common.{◌≡◌, ℕ, List, [], ◌∷◌, ◌++◌, Som
 use Rattle.std.specs.FinMap.{empty}
 use Rattle.std.proofs.lemmas.Option.{same_Some}
 use Rattle.lw_base.specs.declared.token.Span.{Span}
-use Rattle.lw_findings.specs.Finding.{Finds, OfSome}
-use Rattle.lw_findings.proofs.Joining.{Finds-nothing}
+use Rattle.lw_faults.specs.Finding.{Finds, OfSome}
+use Rattle.lw_faults.proofs.Joining.{Finds-nothing}
 use Rattle.lw_grammar.specs.declared.grammar.Grammar.{Grammar}
 use Rattle.lw_index.specs.Indexed.{Indexed}
 use Rattle.lw_index.specs.Rivals.{HasNoRival, IsLeastRival, IsRival}
-use Rattle.lw_marks.specs.Numbers.{IsNumberOfType}
+use Rattle.lw_reading.specs.Numbers.{IsNumberOfType}
 use Rattle.lw_numbers.specs.Numbering.{type_names}
 use Rattle.lw_scoping.specs.Doubles.{HasDouble}
 use Rattle.lw_scoping.specs.Symbols.{IsNamedNode}
-use Rattle.lw_scopes.specs.TreeDiagnostics.{Diagnostic, duplicate_at, also_exported_at}
+use Rattle.lw_link_rules.specs.TreeDiagnostics.{Diagnostic, duplicate_at, also_exported_at}
 use Rattle.lw_tree.specs.declared.node.Node.{Node}
 use Rattle.lw_tree.specs.Parts.{Parts, name_of}
 use Rattle.lw_check.specs.declared.sorting.KeyedDiagnostic.{KeyedDiagnostic}

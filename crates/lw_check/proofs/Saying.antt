@@ -1,7 +1,7 @@
 -- Texts that are put together from the left and from the right, and what a diagnostic says.
 use Rattle.std.proofs.Common.{◌≡◌, ℕ, List, [], ◌∷◌, ◌++◌, refl, ap, ◌∙◌}
 use Rattle.lw_base.specs.declared.token.Span.{Span}
-use Rattle.lw_scopes.specs.TreeDiagnostics.{Diagnostic}
+use Rattle.lw_link_rules.specs.TreeDiagnostics.{Diagnostic}
 
 from_three : (a b c : List ℕ) → a ++ (b ++ c) ≡ (a ++ b) ++ c
 from_three [] b c = refl

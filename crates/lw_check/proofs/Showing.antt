@@ -9,11 +9,11 @@ use Rattle.lw_base.specs.declared.token.Span.{Span}
 use Rattle.lw_grammar.specs.declared.grammar.Grammar.{Grammar}
 use Rattle.lw_index.specs.declared.parts.Answer.{Answer}
 use Rattle.lw_index.specs.Indexed.{Indexed}
-use Rattle.lw_link.proofs.Rows.{zip_push}
-use Rattle.lw_rooted.specs.Within.{IsInText, StandsInText, value_place}
+use Rattle.lw_base.proofs.Rows.{zip_push}
+use Rattle.lw_reading.specs.Within.{IsInText, StandsInText, value_place}
 use Rattle.lw_scoping.proofs.Places.{among}
-use Rattle.lw_scopes.specs.Diagnostics.{IsDiagnosticShown}
-use Rattle.lw_scopes.specs.TreeDiagnostics.{Diagnostic}
+use Rattle.lw_link_rules.specs.Diagnostics.{IsDiagnosticShown}
+use Rattle.lw_link_rules.specs.TreeDiagnostics.{Diagnostic}
 use Rattle.lw_text.specs.declared.shown.Shown.{Shown}
 use Rattle.lw_tree.specs.Parts.{Parts, last_text, name_by, name_of, text_in, text_of, values_at}
 use Rattle.lw_tree.specs.declared.node.Reference.{Reference}

@@ -3,8 +3,8 @@
 use Rattle.std.specs.Prelude.{ℕ, ◌≡◌, ◌<◌, List, length}
 use Rattle.lw_grammar.specs.declared.grammar.Grammar.{Grammar}
 use Rattle.lw_index.specs.declared.parts.Answer.{Answer}
-use Rattle.lw_outwards.specs.Known.{HasKnownTypes}
-use Rattle.lw_rooted.specs.Within.{StandsInText}
+use Rattle.lw_reading.specs.Known.{HasKnownTypes}
+use Rattle.lw_reading.specs.Within.{StandsInText}
 use Rattle.lw_symbols.specs.declared.locals.Locals.{Locals}
 use Rattle.lw_symbols.specs.Locals.{AreLocalsOf}
 use Rattle.lw_tree.specs.Parts.{Parts}

@@ -3,8 +3,8 @@ use Rattle.std.specs.Prelude.{ℕ, List, map}
 use Rattle.std.specs.List.{AllZip}
 use Rattle.lw_grammar.specs.declared.grammar.Grammar.{Grammar}
 use Rattle.lw_scoping.specs.Links.{Trees}
-use Rattle.lw_scopes.specs.Diagnostics.{IsDiagnosticShown}
-use Rattle.lw_scopes.specs.TreeDiagnostics.{Diagnostic, AreDiagnosticsOf}
+use Rattle.lw_link_rules.specs.Diagnostics.{IsDiagnosticShown}
+use Rattle.lw_link_rules.specs.TreeDiagnostics.{Diagnostic, AreDiagnosticsOf}
 use Rattle.lw_text.specs.declared.shown.Shown.{Shown}
 use Rattle.lw_tree.specs.Parts.{Parts}
 use Rattle.lw_check.specs.declared.sorting.KeyedDiagnostic.{KeyedDiagnostic}

@@ -2,17 +2,17 @@
 -- Held against the table of diagnostics of a document.
 use Rattle.std.specs.Prelude.{ℕ, ◌≡◌, ◌<◌, ◌⊎◌, ◌↔◌, List, Some, AllPairs, Contains, length, slice_get}
 use Rattle.std.specs.List.{AllZip}
-use Rattle.lw_findings.specs.Finding.{AtSome, OfSome}
+use Rattle.lw_faults.specs.Finding.{AtSome, OfSome}
 use Rattle.lw_grammar.specs.declared.grammar.Grammar.{Grammar}
 use Rattle.lw_index.specs.declared.parts.Answer.{Answer}
 use Rattle.lw_index.specs.declared.parts.Answer.TheVariants.{Missing}
 use Rattle.lw_index.specs.Indexed.{Indexed}
 use Rattle.lw_index.specs.Rivals.{IsLeastRival}
-use Rattle.lw_marks.specs.Numbers.{IsNumberOfType}
+use Rattle.lw_reading.specs.Numbers.{IsNumberOfType}
 use Rattle.lw_scoping.specs.Doubles.{HasDouble}
 use Rattle.lw_scoping.specs.Symbols.{IsNamedNode, exports}
-use Rattle.lw_scopes.specs.Diagnostics.{IsDiagnosticShown}
-use Rattle.lw_scopes.specs.TreeDiagnostics.{Diagnostic, DiagnosticPrecedes, unresolved_at, duplicate_at, also_exported_at, out_of_range}
+use Rattle.lw_link_rules.specs.Diagnostics.{IsDiagnosticShown}
+use Rattle.lw_link_rules.specs.TreeDiagnostics.{Diagnostic, DiagnosticPrecedes, unresolved_at, duplicate_at, also_exported_at, out_of_range}
 use Rattle.lw_text.specs.declared.shown.Shown.{Shown}
 use Rattle.lw_tree.specs.Keyed.{values_of}
 use Rattle.lw_tree.specs.Parts.{Parts}

@@ -1,9 +1,9 @@
 // Nodes that stand beside earlier ones of their names and types.
 ghost use Rattle.std.specs.Prelude.{ℕ, ◌≡◌, ◌<◌, ◌↔◌, IfOk, IsTrue, OnOk, length};
-ghost use Rattle.lw_findings.specs.Finding.{Finds};
+ghost use Rattle.lw_faults.specs.Finding.{Finds};
 ghost use Rattle.lw_grammar.specs.declared.grammar.Grammar.{Grammar};
-ghost use Rattle.lw_outwards.specs.Known.{HasKnownTypes};
-ghost use Rattle.lw_scopes.specs.TreeDiagnostics.{duplicate_at};
+ghost use Rattle.lw_reading.specs.Known.{HasKnownTypes};
+ghost use Rattle.lw_link_rules.specs.TreeDiagnostics.{duplicate_at};
 ghost use Rattle.lw_scoping.specs.Doubles.{HasDouble};
 ghost use Rattle.lw_scoping.specs.Symbols.{IsNamedNode};
 ghost use Rattle.lw_symbols.specs.Locals.{AreLocalsOf};

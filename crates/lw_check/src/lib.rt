@@ -2,7 +2,7 @@
 //!
 //! Its model: a document is its text, and what it is told is a list of [`Shown`](lw_text::Shown), each
 //! with where it begins and ends, its code and its message. Which diagnostics a document has that is read whole is defined in
-//! `specs/TreeDiagnostics.antt` of `lw_scopes`, over the trees of all documents, and how the fault of one that is not in
+//! `specs/TreeDiagnostics.antt` of `lw_link_rules`, over the trees of all documents, and how the fault of one that is not in
 //! `specs/Faults.antt` there.
 //!
 //! [`diagnostics`] is given the tree of a document, its symbols, where each of its references leads (`lw_link`), the index of what all
@@ -20,6 +20,3 @@ mod sorting;
 mod unresolved;
 
 pub use document::{diagnostics, diagnostics_alone, issue_diagnostic, too_large};
-
-#[cfg(test)]
-mod tests;

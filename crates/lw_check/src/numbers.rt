@@ -1,7 +1,7 @@
 // Numbers that are out of range.
 ghost use Rattle.std.specs.Prelude.{◌≡◌, IfOk, OnOk};
-ghost use Rattle.lw_findings.specs.Finding.{Finds, OfSome};
-ghost use Rattle.lw_scopes.specs.TreeDiagnostics.{out_of_range};
+ghost use Rattle.lw_faults.specs.Finding.{Finds, OfSome};
+ghost use Rattle.lw_link_rules.specs.TreeDiagnostics.{out_of_range};
 ghost use Rattle.lw_tree.specs.Keyed.{values_of};
 ghost use Rattle.lw_check.specs.Sorting.{diagnostic_of, diagnostics_of};
 ghost use Rattle.lw_check.specs.Telling.{TellsValue};

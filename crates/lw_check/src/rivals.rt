@@ -1,10 +1,10 @@
 // Exports that other documents have too.
 ghost use Rattle.std.specs.Prelude.{◌≡◌, ◌<◌, IfOk, OnOk, false, length};
 ghost use Rattle.std.specs.FinMap as map;
-ghost use Rattle.lw_findings.specs.Finding.{Finds, OfSome};
+ghost use Rattle.lw_faults.specs.Finding.{Finds, OfSome};
 ghost use Rattle.lw_grammar.specs.declared.grammar.Grammar.{Grammar};
-ghost use Rattle.lw_outwards.specs.Known.{HasKnownTypes};
-ghost use Rattle.lw_scopes.specs.TreeDiagnostics.{also_exported_at};
+ghost use Rattle.lw_reading.specs.Known.{HasKnownTypes};
+ghost use Rattle.lw_link_rules.specs.TreeDiagnostics.{also_exported_at};
 ghost use Rattle.lw_scoping.specs.Symbols.{exports as exports_of};
 ghost use Rattle.lw_types.specs.Inferred.{AreTypesOf};
 ghost use Rattle.lw_check.specs.Sorting.{diagnostic_of, diagnostics_of};

@@ -1,9 +1,9 @@
 // What is told of a document, before it is shown.
 ghost use Rattle.std.specs.Prelude.{◌≡◌, ◌<◌, [], IfOk, false, length};
 ghost use Rattle.std.specs.FinMap as map;
-ghost use Rattle.lw_findings.specs.Finding.{Finds};
+ghost use Rattle.lw_faults.specs.Finding.{Finds};
 ghost use Rattle.lw_grammar.specs.declared.grammar.Grammar.{Grammar};
-ghost use Rattle.lw_outwards.specs.Known.{HasKnownTypes};
+ghost use Rattle.lw_reading.specs.Known.{HasKnownTypes};
 ghost use Rattle.lw_symbols.specs.Locals.{AreLocalsOf};
 ghost use Rattle.lw_types.specs.Inferred.{AreTypesOf};
 ghost use Rattle.lw_check.specs.Sorting.{diagnostic_of, diagnostics_of};

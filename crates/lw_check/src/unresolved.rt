@@ -1,9 +1,9 @@
 // References that lead nowhere.
 ghost use Rattle.std.specs.Prelude.{◌≡◌, ◌<◌, IfOk, OnOk, length};
-ghost use Rattle.lw_findings.specs.Finding.{AtSome, Finds};
+ghost use Rattle.lw_faults.specs.Finding.{AtSome, Finds};
 ghost use Rattle.lw_grammar.specs.declared.grammar.Grammar.{Grammar};
-ghost use Rattle.lw_outwards.specs.Known.{HasKnownTypes};
-ghost use Rattle.lw_scopes.specs.TreeDiagnostics.{unresolved_at};
+ghost use Rattle.lw_reading.specs.Known.{HasKnownTypes};
+ghost use Rattle.lw_link_rules.specs.TreeDiagnostics.{unresolved_at};
 ghost use Rattle.lw_types.specs.Inferred.{AreTypesOf};
 ghost use Rattle.lw_check.specs.Sorting.{diagnostic_of, diagnostics_of};
 ghost use Rattle.lw_check.specs.Telling.{TellsAnswer, TellsAnswerAt};

@@ -3,24 +3,24 @@ use Rattle.std.proofs.Common.{◌≡◌, ◌≢◌, ◌↔◌, ◌<◌, ◌⊎�
 use Rattle.std.proofs.lemmas.List.Elements.{All-contains, All-head, Contains-append_cases, Contains-append_left, Contains-append_right}
 use Rattle.lw_base.specs.declared.numbers.PropId.{PropId}
 use Rattle.lw_base.specs.declared.token.Token.{Token}
-use Rattle.lw_begins.specs.Gives.{PlacesGive}
-use Rattle.lw_findings.specs.Finding.{Finds, OfSome}
+use Rattle.lw_viable.specs.Gives.{PlacesGive}
+use Rattle.lw_faults.specs.Finding.{Finds, OfSome}
 use Rattle.lw_grammar.specs.declared.grammar.Grammar.{Grammar}
 use Rattle.lw_grammar.specs.Kinds.{Kinds}
-use Rattle.lw_marks.specs.Numbers.{IsNamingProperty}
-use Rattle.lw_marks.specs.Trees.{IsTree, parts_of_tree}
-use Rattle.lw_offers.specs.Starting.{IsBlankTree, IsFrontTree, ReferenceNext, marks_with, moved_by}
+use Rattle.lw_reading.specs.Numbers.{IsNamingProperty}
+use Rattle.lw_reading.specs.Trees.{IsTree, parts_of_tree}
+use Rattle.lw_places.specs.Starting.{IsBlankTree, IsFrontTree, ReferenceNext, marks_with, moved_by}
 use Rattle.lw_parse.specs.Parsers.{AreOfKinds, ParserParts}
 use Rattle.lw_program.specs.Says.{Task}
-use Rattle.lw_recipes.specs.declared.mark.TreeMark.{TreeMark}
-use Rattle.lw_recipes.specs.declared.mark.TreeMark.TheVariants as numbered
-use Rattle.lw_recipes.specs.Meant.{AreMeant}
-use Rattle.lw_recipes.specs.Meant as meant
-use Rattle.lw_rooted.specs.Growing.{GrowsRoot}
-use Rattle.lw_rooted.specs.Within.{StandInRow}
-use Rattle.lw_rooted.proofs.Rootable.{is_rootable}
+use Rattle.lw_program.specs.declared.recipes.mark.TreeMark.{TreeMark}
+use Rattle.lw_program.specs.declared.recipes.mark.TreeMark.TheVariants as numbered
+use Rattle.lw_program.specs.Meant.{AreMeant}
+use Rattle.lw_program.specs.Meant as meant
+use Rattle.lw_reading.specs.Growing.{GrowsRoot}
+use Rattle.lw_reading.specs.Within.{StandInRow}
+use Rattle.lw_reading.proofs.Rootable.{is_rootable}
 use Rattle.lw_scoping.specs.Links.{Trees}
-use Rattle.lw_sentences.specs.Marks.{Mark, kinds_of}
+use Rattle.lw_grammar.specs.Marks.{Mark, kinds_of}
 use Rattle.lw_tokens.specs.Cut.{kinds, visible}
 use Rattle.lw_tokens.specs.Lexicon.{Lexicon}
 use Rattle.lw_tree.specs.declared.node.Reference.{Reference}
@@ -31,8 +31,8 @@ use Rattle.lw_viable.specs.Marked.{MeanExactly, MeanSome}
 use Rattle.lw_viable.specs.Readings.{HasTask}
 use Rattle.lw_viable.specs.declared.reference_start.ReferenceStart.{ReferenceStart}
 use Rattle.lw_viable.proofs.Meaning.{meant_joined}
-use Rattle.lw_alike.proofs.Differing.{tables_of}
-use Rattle.lw_alike.proofs.Placed.{front_counts, one_place}
+use Rattle.lw_substitution.proofs.Differing.{tables_of}
+use Rattle.lw_substitution.proofs.Placed.{front_counts, one_place}
 use Rattle.lw_complete.specs.declared.starting.Blank.{Blank}
 use Rattle.lw_complete.specs.declared.typing.Typing.{Typing}
 use Rattle.lw_complete.specs.Starts.{AreMarksBehind, GoesOnBehind, GrowsReference, HasBlankTree, IsBlank, IsBlankName, IsBlankReady, IsParsedBy, IsSoundStart, IsTreeOfBlank, LeadsInBlank, StandsBehind}

@@ -3,15 +3,15 @@ use Rattle.std.proofs.Common.{◌≡◌, ◌<◌, ℕ, List, Some, length, slice
 use Rattle.std.proofs.lemmas.List.Elements.{All-contains}
 use Rattle.std.proofs.lemmas.Option.{same_Some, slice_get_within}
 use Rattle.lw_numbers.specs.Numbering.{type_names}
-use Rattle.lw_outwards.specs.Known.{HasOneRoot}
-use Rattle.lw_outwards.proofs.Enclosed.{tree_encloses}
-use Rattle.lw_outwards.proofs.OneRoot.{one_root}
-use Rattle.lw_outwards.proofs.Typed.{tree_known}
-use Rattle.lw_offers.specs.Targets.{HasTarget, renamed_to}
-use Rattle.lw_scopes.specs.Links.{IsNumberBelow}
+use Rattle.lw_reading.specs.Known.{HasOneRoot}
+use Rattle.lw_reading.proofs.Enclosed.{tree_encloses}
+use Rattle.lw_reading.proofs.OneRoot.{one_root}
+use Rattle.lw_reading.proofs.Typed.{tree_known}
+use Rattle.lw_places.specs.Targets.{HasTarget, renamed_to}
+use Rattle.lw_link_rules.specs.Links.{IsNumberBelow}
 use Rattle.lw_scoping.specs.Links.{Trees}
 use Rattle.lw_scoping.specs.Outward.{ContainersComeFirst}
-use Rattle.lw_sentences.specs.Marks.{Mark}
+use Rattle.lw_grammar.specs.Marks.{Mark}
 use Rattle.lw_tokens.specs.Cut.{visible}
 use Rattle.lw_tree.specs.declared.node.Reference.{Reference}
 use Rattle.lw_tree.specs.Parts.{Parts}

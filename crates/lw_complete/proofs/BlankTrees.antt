@@ -5,43 +5,43 @@ use Rattle.std.proofs.lemmas.List.Elements.{All-head, All-tail, filter-append}
 use Rattle.lw_base.specs.declared.numbers.PropId.{PropId}
 use Rattle.lw_base.specs.declared.token.Token.{Token}
 use Rattle.lw_builder.specs.Built.{ArePartsOf}
-use Rattle.lw_gramread.specs.Places.{IsPlace}
+use Rattle.lw_gramlex.specs.Places.{IsPlace}
 use Rattle.lw_grammar.specs.declared.grammar.Grammar.{Grammar}
 use Rattle.lw_grammar.specs.Kinds.{Kinds}
-use Rattle.lw_marks.specs.Brackets.{Bracket, Root}
-use Rattle.lw_marks.specs.Follows.{FollowsMarks, MakesReference}
-use Rattle.lw_marks.specs.Follows as f
-use Rattle.lw_marks.specs.Grown.{Plain, Text, Number, Huge, Raw, Truth, Grown, Grow, Held, Nothing, Puts, Takes, Points}
-use Rattle.lw_marks.specs.Numbers.{IsNamingProperty}
-use Rattle.lw_marks.specs.Trees.{IsOpenedTree, IsTree, parts_of_tree, points_of, refs}
-use Rattle.lw_offers.specs.Starting.{IsFrontTree, ReferenceNext, marks_with, moved_by}
-use Rattle.lw_offers.specs.Targets.{HasTarget, renamed_to}
-use Rattle.lw_rooted.specs.Growing.{GrowsRoot, ReadMarks}
-use Rattle.lw_rooted.specs.Within as within
-use Rattle.lw_rooted.specs.Within.{StandInRow}
-use Rattle.lw_rooted.proofs.OneTree.{one_follows, one_close}
-use Rattle.lw_rooted.proofs.OneValue.{one_number_of_property}
-use Rattle.lw_rooted.proofs.Rootable.{IsRootable}
-use Rattle.lw_scopes.specs.Links.{IsNumberBelow}
+use Rattle.lw_reading.specs.Brackets.{Bracket, Root}
+use Rattle.lw_reading.specs.Follows.{FollowsMarks, MakesReference}
+use Rattle.lw_reading.specs.Follows as f
+use Rattle.lw_reading.specs.Grown.{Plain, Text, Number, Huge, Raw, Truth, Grown, Grow, Held, Nothing, Puts, Takes, Points}
+use Rattle.lw_reading.specs.Numbers.{IsNamingProperty}
+use Rattle.lw_reading.specs.Trees.{IsOpenedTree, IsTree, parts_of_tree, points_of, refs}
+use Rattle.lw_places.specs.Starting.{IsFrontTree, ReferenceNext, marks_with, moved_by}
+use Rattle.lw_places.specs.Targets.{HasTarget, renamed_to}
+use Rattle.lw_reading.specs.Growing.{GrowsRoot, ReadMarks}
+use Rattle.lw_reading.specs.Within as within
+use Rattle.lw_reading.specs.Within.{StandInRow}
+use Rattle.lw_reading.proofs.OneTree.{one_follows, one_close}
+use Rattle.lw_reading.proofs.OneValue.{one_number_of_property}
+use Rattle.lw_reading.proofs.Rootable.{IsRootable}
+use Rattle.lw_link_rules.specs.Links.{IsNumberBelow}
 use Rattle.lw_scoping.specs.Links.{Trees}
-use Rattle.lw_sentences.specs.Marks.{Mark, Put, End, kinds_of}
-use Rattle.lw_sentences.specs.Sentences.{IsSentence}
+use Rattle.lw_grammar.specs.Marks.{Mark, Put, End, kinds_of}
+use Rattle.lw_grammar.specs.Sentences.{IsSentence}
 use Rattle.lw_tokens.specs.Cut.{kinds, visible}
 use Rattle.lw_tree.specs.Parts as parts
 use Rattle.lw_tree.specs.Parts.{Parts, SameTables, Tile}
 use Rattle.lw_tree.specs.declared.node.Reference.{Reference}
-use Rattle.lw_alike.specs.Growth.{AreAlikePlain, AreAlikeGrown, AreAlikeHeld}
-use Rattle.lw_alike.specs.Growth as alike
-use Rattle.lw_alike.specs.OneName.{AreAlikeTrees}
-use Rattle.lw_alike.specs.Places.{IsReferencePlace}
-use Rattle.lw_alike.specs.Tokens.{AreSameTokens}
-use Rattle.lw_alike.proofs.Blank.{whole_blank}
-use Rattle.lw_alike.proofs.Placed.{front_counts, place_moves}
-use Rattle.lw_alike.proofs.Standing.{stands_whole}
-use Rattle.lw_alike.proofs.Tabled.{trees_alike}
-use Rattle.lw_alike.proofs.Targeted.{target_both}
-use Rattle.lw_alike.proofs.Written.{front_kept}
-use Rattle.lw_tried.proofs.Around.{moved_kinds}
+use Rattle.lw_substitution.specs.Growth.{AreAlikePlain, AreAlikeGrown, AreAlikeHeld}
+use Rattle.lw_substitution.specs.Growth as alike
+use Rattle.lw_substitution.specs.OneName.{AreAlikeTrees}
+use Rattle.lw_substitution.specs.Places.{IsReferencePlace}
+use Rattle.lw_substitution.specs.Tokens.{AreSameTokens}
+use Rattle.lw_substitution.proofs.Blank.{whole_blank}
+use Rattle.lw_substitution.proofs.Placed.{front_counts, place_moves}
+use Rattle.lw_substitution.proofs.Standing.{stands_whole}
+use Rattle.lw_substitution.proofs.Tabled.{trees_alike}
+use Rattle.lw_substitution.proofs.Targeted.{target_both}
+use Rattle.lw_substitution.proofs.Written.{front_kept}
+use Rattle.lw_substitution.proofs.Around.{moved_kinds}
 
 -- ---- one tree of the same marks
 

@@ -3,20 +3,20 @@ use Rattle.std.proofs.Common.{◌≡◌, ◌∙◌, ◌↔◌, ◌⊎◌, inl, i
 use Rattle.lw_base.specs.declared.limits.TheConstants.{LONGEST_DOCUMENT}
 use Rattle.lw_base.specs.declared.token.Token.{Token}
 use Rattle.std.proofs.lemmas.List.Elements.{All-weaker}
-use Rattle.lw_gramread.specs.Places.{IsPlace}
+use Rattle.lw_gramlex.specs.Places.{IsPlace}
 use Rattle.lw_grammar.specs.declared.grammar.Grammar.{Grammar}
 use Rattle.lw_grammar.specs.Kinds.{AreKinds, Kinds}
 use Rattle.lw_grammar.proofs.KindLemmas.{one_kinds}
 use Rattle.lw_lexer.specs.TokenPlaces.{IsTokenPlace}
-use Rattle.lw_offers.specs.Offers.{AreOffers, IsKeywordNext, IsNameNext, IsOffer, IsOffered, Offer, OfferPrecedes, keyword_offer, name_offer}
-use Rattle.lw_offers.specs.Offers as offer
-use Rattle.lw_offers.specs.Words.{BeginsBy, IsTypedAt}
-use Rattle.lw_offers.proofs.OneWord.{one_word_typed}
-use Rattle.lw_rooted.proofs.Listed.{mapped}
-use Rattle.lw_scopes.specs.Links.{AreTreesOfTexts, Texts}
+use Rattle.lw_places.specs.Offers.{AreOffers, IsKeywordNext, IsNameNext, IsOffer, IsOffered, Offer, OfferPrecedes, keyword_offer, name_offer}
+use Rattle.lw_places.specs.Offers as offer
+use Rattle.lw_places.specs.Words.{BeginsBy, IsTypedAt}
+use Rattle.lw_places.proofs.OneWord.{one_word_typed}
+use Rattle.lw_reading.proofs.Listed.{mapped}
+use Rattle.lw_link_rules.specs.Links.{AreTreesOfTexts, Texts}
 use Rattle.lw_scoping.specs.Links.{Trees}
 use Rattle.lw_tokens.specs.Cut.{IsCut}
-use Rattle.lw_recut.specs.Recut.{IsEndOf, RecutterParts}
+use Rattle.lw_lexer.specs.Recut.{IsEndOf, RecutterParts}
 use Rattle.lw_tokens.specs.Lexicon.{IsLexicon, Lexicon}
 use Rattle.lw_tokens.proofs.OnePattern.{one_lexicon}
 use Rattle.lw_complete.specs.declared.typing.Typing.{Typing}

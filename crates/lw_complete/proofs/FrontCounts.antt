@@ -6,23 +6,23 @@ use Rattle.lw_base.specs.declared.token.Token.{Token}
 use Rattle.lw_grammar.specs.declared.grammar.Grammar.{Grammar}
 use Rattle.lw_grammar.specs.declared.rule.Op.{Op}
 use Rattle.lw_grammar.specs.declared.rule.Value0.{Value0}
-use Rattle.lw_marks.specs.Brackets.{Bracket, InNode, InValue, Root, Shuts, in_value, in_node, at_root}
-use Rattle.lw_marks.specs.Follows.{ChangesOpen, Closes, FollowsMarks, IsCross, MakesReference, PutsValueIn, RefersBy}
-use Rattle.lw_marks.specs.Follows as f
-use Rattle.lw_marks.specs.Grown.{Grown, Held}
-use Rattle.lw_marks.specs.Trees.{IsOpenedTree, points}
-use Rattle.lw_offers.specs.Starting.{ReferenceNext, marks_with, token_marks}
-use Rattle.lw_rooted.proofs.Listed.{same_head, same_tail}
-use Rattle.lw_rooted.proofs.OneTree.{one_follows}
-use Rattle.lw_sentences.specs.Marks.{Mark, Put, End}
-use Rattle.lw_sentences.specs.Marks as mark
+use Rattle.lw_reading.specs.Brackets.{Bracket, InNode, InValue, Root, Shuts, in_value, in_node, at_root}
+use Rattle.lw_reading.specs.Follows.{ChangesOpen, Closes, FollowsMarks, IsCross, MakesReference, PutsValueIn, RefersBy}
+use Rattle.lw_reading.specs.Follows as f
+use Rattle.lw_reading.specs.Grown.{Grown, Held}
+use Rattle.lw_reading.specs.Trees.{IsOpenedTree, points}
+use Rattle.lw_places.specs.Starting.{ReferenceNext, marks_with, token_marks}
+use Rattle.lw_reading.proofs.Listed.{same_head, same_tail}
+use Rattle.lw_reading.proofs.OneTree.{one_follows}
+use Rattle.lw_grammar.specs.Marks.{Mark, Put, End}
+use Rattle.lw_grammar.specs.Marks as mark
 use Rattle.lw_tree.specs.declared.node.Reference.{Reference}
 use Rattle.lw_tree.specs.Parts.{Parts}
-use Rattle.lw_alike.specs.Growth.{points_open}
-use Rattle.lw_alike.proofs.Counting.{count_refs}
-use Rattle.lw_alike.proofs.Going.{Goes, as_going, kinds_read}
-use Rattle.lw_alike.proofs.Going as going
-use Rattle.lw_alike.proofs.OneReference.{ReadsReference, reads, reads_reference, no_plain_reference}
+use Rattle.lw_substitution.specs.Growth.{points_open}
+use Rattle.lw_substitution.proofs.Counting.{count_refs}
+use Rattle.lw_substitution.proofs.Going.{Goes, as_going, kinds_read}
+use Rattle.lw_substitution.proofs.Going as going
+use Rattle.lw_substitution.proofs.OneReference.{ReadsReference, reads, reads_reference, no_plain_reference}
 use Rattle.lw_complete.proofs.FrontPlain.{IsCrossPut, ReadPlainly}
 use Rattle.lw_complete.proofs.FrontPlain as plainly
 

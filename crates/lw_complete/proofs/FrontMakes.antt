@@ -16,22 +16,22 @@ use Rattle.lw_grammar.specs.Named.{IsTerminal}
 use Rattle.lw_look.specs.Sites.{PartSite, Value, IsPartAt, ValueAt, ValueCallsAt}
 use Rattle.lw_look.specs.Sites as site
 use Rattle.lw_look.proofs.Standing.{one_stands, same_value}
-use Rattle.lw_marks.specs.Follows.{MakesReference}
+use Rattle.lw_reading.specs.Follows.{MakesReference}
 use Rattle.lw_program.specs.Numbered.{put_sites}
 use Rattle.lw_program.specs.ProgramOf.{ProgramParts, IsProgramOf}
 use Rattle.lw_program.specs.Says.{CallsBy, Reads, SaysTask, Task}
 use Rattle.lw_program.specs.Says as say
 use Rattle.lw_program.specs.declared.instr.Instr.{Instr}
-use Rattle.lw_recipes.specs.declared.mark.TreeMark.TheVariants as numbered
-use Rattle.lw_recipes.specs.declared.recipe.Content.{Content}
-use Rattle.lw_recipes.specs.declared.recipe.Content.TheVariants as content
-use Rattle.lw_recipes.specs.declared.recipe.TextForm.TheVariants as form
-use Rattle.lw_recipes.specs.declared.recipe.ValueRecipe.{ValueRecipe}
-use Rattle.lw_recipes.specs.Making.{AreRecipesOf, IsMadeBy, IsReference, RecipeLists, text_form}
-use Rattle.lw_recipes.specs.Making as made
-use Rattle.lw_recipes.specs.Meant.{AssignedAt, MeansMark}
-use Rattle.lw_recipes.specs.Meant as meant
-use Rattle.lw_sentences.specs.Marks.{Put}
+use Rattle.lw_program.specs.declared.recipes.mark.TreeMark.TheVariants as numbered
+use Rattle.lw_program.specs.declared.recipes.recipe.Content.{Content}
+use Rattle.lw_program.specs.declared.recipes.recipe.Content.TheVariants as content
+use Rattle.lw_program.specs.declared.recipes.recipe.TextForm.TheVariants as form
+use Rattle.lw_program.specs.declared.recipes.recipe.ValueRecipe.{ValueRecipe}
+use Rattle.lw_program.specs.Making.{AreRecipesOf, IsMadeBy, IsReference, RecipeLists, text_form}
+use Rattle.lw_program.specs.Making as made
+use Rattle.lw_program.specs.Meant.{AssignedAt, MeansMark}
+use Rattle.lw_program.specs.Meant as meant
+use Rattle.lw_grammar.specs.Marks.{Put}
 use Rattle.lw_viable.specs.Visiting.{IsReferencePut}
 use Rattle.lw_viable.proofs.Moves.Saying.{instr_at}
 

@@ -14,11 +14,11 @@ use Rattle.lw_look.specs.Sites.{PartSite, Body, Value, IsPartAt, ElementAt, Valu
 use Rattle.lw_look.specs.Sites as site
 use Rattle.lw_look.proofs.Standing.{one_stands, same_body, same_value, no_body_is_value}
 use Rattle.lw_program.specs.Numbered.{put_sites, act_sites}
-use Rattle.lw_recipes.specs.declared.mark.TreeMark.{TreeMark}
-use Rattle.lw_recipes.specs.Meant.{AreMeant, AssignedAt, MeansMark}
-use Rattle.lw_recipes.specs.Meant as meant
-use Rattle.lw_sentences.specs.Marks.{Mark}
-use Rattle.lw_sentences.specs.Marks as mark
+use Rattle.lw_program.specs.declared.recipes.mark.TreeMark.{TreeMark}
+use Rattle.lw_program.specs.Meant.{AreMeant, AssignedAt, MeansMark}
+use Rattle.lw_program.specs.Meant as meant
+use Rattle.lw_grammar.specs.Marks.{Mark}
+use Rattle.lw_grammar.specs.Marks as mark
 
 same_assigned : {p q : List ℕ} {op o : Op} {v w : Value0} {s t : Span} → ◌≡◌ {A = Element-F Element} (layer.Assign p op v s) (layer.Assign q o w t) → p ≡ q
 same_assigned e = cc

@@ -5,22 +5,22 @@ use Rattle.std.proofs.lemmas.List.Elements.{All-contains}
 use Rattle.std.proofs.lemmas.Option.{get_or_from_slice_get, slice_get_within}
 use Rattle.lw_grammar.specs.declared.grammar.Grammar.{Grammar}
 use Rattle.lw_grammar.specs.Kinds.{AreKinds, Kinds}
-use Rattle.lw_marks.specs.Trees.{IsOpenedTree}
+use Rattle.lw_reading.specs.Trees.{IsOpenedTree}
 use Rattle.lw_numbers.specs.Numbering.{type_names}
-use Rattle.lw_offers.specs.Starting.{IsFrontTree, ReferenceNext, marks_with}
-use Rattle.lw_outwards.specs.Known.{HasOneRoot}
-use Rattle.lw_outwards.proofs.Enclosed.{tree_encloses}
-use Rattle.lw_outwards.proofs.OneRoot.{one_root}
-use Rattle.lw_outwards.proofs.Typed.{opened_tree_known}
+use Rattle.lw_places.specs.Starting.{IsFrontTree, ReferenceNext, marks_with}
+use Rattle.lw_reading.specs.Known.{HasOneRoot}
+use Rattle.lw_reading.proofs.Enclosed.{tree_encloses}
+use Rattle.lw_reading.proofs.OneRoot.{one_root}
+use Rattle.lw_reading.proofs.Typed.{opened_tree_known}
 use Rattle.lw_parse.specs.Parsers.{ParserParts, ParsesFaultless}
-use Rattle.lw_recipes.specs.declared.mark.TreeMark.{TreeMark}
-use Rattle.lw_recipes.specs.declared.mark.TreeMark.TheVariants as numbered
-use Rattle.lw_recipes.specs.Making.{AreRecipesOf, RecipeLists}
-use Rattle.lw_recipes.specs.Meant.{AreMeant}
-use Rattle.lw_recipes.specs.Meant as meant
-use Rattle.lw_rooted.specs.Growing.{GrowsOpen}
+use Rattle.lw_program.specs.declared.recipes.mark.TreeMark.{TreeMark}
+use Rattle.lw_program.specs.declared.recipes.mark.TreeMark.TheVariants as numbered
+use Rattle.lw_program.specs.Making.{AreRecipesOf, RecipeLists}
+use Rattle.lw_program.specs.Meant.{AreMeant}
+use Rattle.lw_program.specs.Meant as meant
+use Rattle.lw_reading.specs.Growing.{GrowsOpen}
 use Rattle.lw_scoping.specs.Outward.{ContainersComeFirst}
-use Rattle.lw_sentences.specs.Marks.{Mark}
+use Rattle.lw_grammar.specs.Marks.{Mark}
 use Rattle.lw_tokens.specs.Cut.{visible}
 use Rattle.lw_tree.specs.declared.node.Reference.{Reference}
 use Rattle.lw_tree.specs.Parts.{Parts}

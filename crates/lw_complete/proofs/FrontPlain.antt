@@ -26,18 +26,18 @@ use Rattle.lw_faults.specs.Faults as list
 use Rattle.lw_lang.proofs.Lists.{at_place}
 use Rattle.lw_look.specs.Sites.{PartSite, Value, IsPartAt}
 use Rattle.lw_look.proofs.Reaching.{in_rule}
-use Rattle.lw_marks.specs.Follows.{IsCross}
-use Rattle.lw_offers.specs.Starting.{token_marks}
-use Rattle.lw_rooted.proofs.GoesOn.{AllTokens}
-use Rattle.lw_rooted.proofs.GoesOn as on
-use Rattle.lw_rooted.proofs.Listed.{alone, in_flat, mapped}
-use Rattle.lw_rooted.proofs.OneValue.{no_word_crosses, no_call_crosses}
-use Rattle.lw_rooted.proofs.Quiet.{makes_none_quiet, tokens_of}
-use Rattle.lw_sentences.specs.Marks.{Mark, Put, End}
-use Rattle.lw_sentences.specs.Marks as mark
-use Rattle.lw_sentences.specs.Sentences.{IsSentence}
-use Rattle.lw_sentences.specs.Yields.{Yields, Gives, YieldsAll, Repeats, Calls, RuleGives, ValueYields, ValueGives}
-use Rattle.lw_sentences.specs.Yields as y
+use Rattle.lw_reading.specs.Follows.{IsCross}
+use Rattle.lw_places.specs.Starting.{token_marks}
+use Rattle.lw_reading.proofs.GoesOn.{AllTokens}
+use Rattle.lw_reading.proofs.GoesOn as on
+use Rattle.lw_reading.proofs.Listed.{alone, in_flat, mapped}
+use Rattle.lw_reading.proofs.OneValue.{no_word_crosses, no_call_crosses}
+use Rattle.lw_reading.proofs.Quiet.{makes_none_quiet, tokens_of}
+use Rattle.lw_grammar.specs.Marks.{Mark, Put, End}
+use Rattle.lw_grammar.specs.Marks as mark
+use Rattle.lw_grammar.specs.Sentences.{IsSentence}
+use Rattle.lw_grammar.specs.Yields.{Yields, Gives, YieldsAll, Repeats, Calls, RuleGives, ValueYields, ValueGives}
+use Rattle.lw_grammar.specs.Yields as y
 
 -- a cross-reference is put
 abbrev pub IsCrossPut : Mark → Type 0

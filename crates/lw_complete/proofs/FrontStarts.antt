@@ -3,8 +3,8 @@ use Rattle.std.proofs.Common.{◌≡◌, ℕ, List, [], ◌∷◌, ◌++◌, Som
 use Rattle.std.proofs.lemmas.List.{append-nil, append_assoc}
 use Rattle.std.proofs.lemmas.List.Elements.{All-nil, All-cons}
 use Rattle.std.proofs.lemmas.Option.{same_Some}
-use Rattle.lw_begins.specs.Gives.{PlacesGive, TaskGives}
-use Rattle.lw_begins.specs.Gives as gives
+use Rattle.lw_viable.specs.Gives.{PlacesGive, TaskGives}
+use Rattle.lw_viable.specs.Gives as gives
 use Rattle.lw_faults.specs.Faults.{IsCheckFault}
 use Rattle.lw_grammar.specs.declared.fault.GrammarFault.{GrammarFault}
 use Rattle.lw_grammar.specs.declared.grammar.Grammar.{Grammar}
@@ -14,21 +14,21 @@ use Rattle.lw_grammar.specs.Kinds.{Kinds}
 use Rattle.lw_look.specs.Sites.{PartSite, Value, IsPartAt}
 use Rattle.lw_look.specs.Supplied.{IsSupplied}
 use Rattle.lw_look.proofs.Standing.{one_stands, same_value}
-use Rattle.lw_marks.specs.Follows.{IsCross, MakesReference}
-use Rattle.lw_offers.specs.Starting.{ComesNext, ReferenceNext, marks_with, token_marks}
+use Rattle.lw_reading.specs.Follows.{IsCross, MakesReference}
+use Rattle.lw_places.specs.Starting.{ComesNext, ReferenceNext, marks_with, token_marks}
 use Rattle.lw_program.specs.Numbered.{put_sites}
 use Rattle.lw_program.specs.Says.{Task, Reads}
-use Rattle.lw_recipes.specs.declared.mark.TreeMark.TheVariants as numbered
-use Rattle.lw_recipes.specs.Meant.{MeansMark}
-use Rattle.lw_recipes.specs.Meant as meant
-use Rattle.lw_sentences.specs.Marks.{Mark, Put, End, kinds_of}
-use Rattle.lw_sentences.specs.Marks as mark
-use Rattle.lw_sentences.specs.Sentences.{IsSentence}
-use Rattle.lw_sentences.specs.Yields.{ValueYields}
+use Rattle.lw_program.specs.declared.recipes.mark.TreeMark.TheVariants as numbered
+use Rattle.lw_program.specs.Meant.{MeansMark}
+use Rattle.lw_program.specs.Meant as meant
+use Rattle.lw_grammar.specs.Marks.{Mark, Put, End, kinds_of}
+use Rattle.lw_grammar.specs.Marks as mark
+use Rattle.lw_grammar.specs.Sentences.{IsSentence}
+use Rattle.lw_grammar.specs.Yields.{ValueYields}
 use Rattle.lw_viable.specs.Readings.{HasTask}
 use Rattle.lw_viable.specs.declared.reference_start.ReferenceStart.{ReferenceStart}
 use Rattle.lw_viable.proofs.Moves.Finishing.{places_give}
-use Rattle.lw_rooted.proofs.Listed.{same_tail}
+use Rattle.lw_reading.proofs.Listed.{same_tail}
 use Rattle.lw_complete.specs.declared.typing.Typing.{Typing}
 use Rattle.lw_complete.specs.Starts.{IsSoundStart, IsStartOf}
 use Rattle.lw_complete.specs.Typing.{grammar_of, kinds_before}

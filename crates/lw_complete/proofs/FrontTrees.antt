@@ -7,16 +7,16 @@ use Rattle.lw_faults.specs.Faults.{IsCheckFault, IsTypeFault}
 use Rattle.lw_grammar.specs.declared.fault.GrammarFault.{GrammarFault}
 use Rattle.lw_grammar.specs.declared.grammar.Grammar.{Grammar}
 use Rattle.lw_grammar.specs.Kinds.{Kinds}
-use Rattle.lw_marks.specs.Numbers.{IsNamingProperty}
-use Rattle.lw_marks.specs.Trees.{IsOpenedTree}
-use Rattle.lw_offers.specs.Starting.{ComesNext, ReferenceNext, marks_with, token_marks}
-use Rattle.lw_rooted.specs.Growing.{GrowsOpen}
-use Rattle.lw_rooted.proofs.Rootable.{is_rootable}
-use Rattle.lw_sentences.specs.Marks.{Mark, Put, End}
+use Rattle.lw_reading.specs.Numbers.{IsNamingProperty}
+use Rattle.lw_reading.specs.Trees.{IsOpenedTree}
+use Rattle.lw_places.specs.Starting.{ComesNext, ReferenceNext, marks_with, token_marks}
+use Rattle.lw_reading.specs.Growing.{GrowsOpen}
+use Rattle.lw_reading.proofs.Rootable.{is_rootable}
+use Rattle.lw_grammar.specs.Marks.{Mark, Put, End}
 use Rattle.lw_tokens.specs.Cut.{visible}
 use Rattle.lw_tree.specs.declared.node.Reference.{Reference}
 use Rattle.lw_tree.specs.Parts.{Parts}
-use Rattle.lw_alike.proofs.Blank.{begun_blank}
+use Rattle.lw_substitution.proofs.Blank.{begun_blank}
 use Rattle.lw_complete.proofs.FrontCounts.{stands_behind}
 use Rattle.lw_complete.proofs.FrontPlain.{ReadPlainly, sentence_plainly}
 

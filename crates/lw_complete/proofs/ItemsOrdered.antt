@@ -16,8 +16,8 @@ use Rattle.std.proofs.lemmas.List.Sorted.{All-permutation, Contains-permutation,
 use Rattle.std.proofs.lemmas.Map.Keys.{Less-from_sorted}
 use Rattle.std.proofs.lemmas.Slice.Eq.{bytes_eq-Decides}
 use Rattle.std.proofs.Math.ListN.{get_or-map}
-use Rattle.lw_rooted.proofs.Listed.{mapped}
-use Rattle.lw_offers.specs.Offers.{Offer, OfferPrecedes, by_kind, by_label, keyword_offer, name_offer}
+use Rattle.lw_reading.proofs.Listed.{mapped}
+use Rattle.lw_places.specs.Offers.{Offer, OfferPrecedes, by_kind, by_label, keyword_offer, name_offer}
 use Rattle.lw_complete.specs.declared.item.Item.{Item}
 use Rattle.lw_complete.specs.Items.{TakesThePlace, item_of, items_of, offer_of}
 

@@ -7,8 +7,8 @@ use Rattle.std.proofs.lemmas.List.Elements.{All-append, All-map, All-weaker}
 use Rattle.std.proofs.lemmas.Str.{IsCharBoundary-at_seam, IsCharBoundary-from_rest}
 use Rattle.lw_base.specs.declared.token.Token.{Token}
 use Rattle.lw_builder.specs.Built.{ArePartsOf}
-use Rattle.lw_gramread.specs.Places.{IsPlace}
-use Rattle.lw_offers.specs.Starting.{moved_by}
+use Rattle.lw_gramlex.specs.Places.{IsPlace}
+use Rattle.lw_places.specs.Starting.{moved_by}
 use Rattle.lw_tokens.specs.Cut.{IsCut, IsCutTo, token_at}
 use Rattle.lw_tokens.specs.Cut as cut
 use Rattle.lw_tokens.specs.Lexicon.{Lexicon}

@@ -6,35 +6,35 @@ use Rattle.std.proofs.lemmas.Option.{same_Some}
 use Rattle.lw_base.specs.declared.limits.TheConstants.{LONGEST_DOCUMENT}
 use Rattle.lw_base.specs.declared.token.Span.{Span}
 use Rattle.lw_base.specs.declared.token.Token.{Token}
-use Rattle.lw_begins.specs.Gives.{PlacesGive}
+use Rattle.lw_viable.specs.Gives.{PlacesGive}
 use Rattle.lw_grammar.specs.declared.grammar.Grammar.{Grammar}
 use Rattle.lw_grammar.specs.Kinds.{Kinds}
-use Rattle.lw_marks.specs.Brackets.{span_of_tokens}
-use Rattle.lw_offers.specs.Starting.{ComesNext, ReferenceNext}
-use Rattle.lw_offers.specs.Targets.{HasTarget, renamed_to}
+use Rattle.lw_reading.specs.Brackets.{span_of_tokens}
+use Rattle.lw_places.specs.Starting.{ComesNext, ReferenceNext}
+use Rattle.lw_places.specs.Targets.{HasTarget, renamed_to}
 use Rattle.lw_parse.specs.Parsers.{AreOfKinds, ParserParts}
 use Rattle.lw_program.specs.Says.{Task}
 use Rattle.lw_reading.specs.Laws.{IsReadOneWay}
 use Rattle.lw_reading.specs.Reading.{Reads}
 use Rattle.lw_reading.specs.Reading as reading
 use Rattle.lw_reading.specs.declared.parsed.Parsed.TheVariants.{Whole}
-use Rattle.lw_recut.specs.Recut.{IsCrossed, added, added_behind}
-use Rattle.lw_scopes.specs.Links.{IsNumberBelow}
+use Rattle.lw_lexer.specs.Recut.{IsCrossed, added, added_behind}
+use Rattle.lw_link_rules.specs.Links.{IsNumberBelow}
 use Rattle.lw_scoping.specs.Links.{Trees}
-use Rattle.lw_sentences.specs.Marks.{Mark}
-use Rattle.lw_sure.proofs.PartedLemmas.{cut_parted, whole_cut}
+use Rattle.lw_grammar.specs.Marks.{Mark}
+use Rattle.lw_matching.proofs.PartedLemmas.{cut_parted, whole_cut}
 use Rattle.lw_tokens.specs.Cut.{IsCut, kinds, visible}
 use Rattle.lw_tokens.specs.Keywords.{AreKeywords}
 use Rattle.lw_tokens.specs.Lexicon.{Lexicon}
 use Rattle.lw_tokens.specs.NextToken.{Next}
 use Rattle.lw_tree.specs.declared.node.Reference.{Reference}
 use Rattle.lw_tree.specs.Parts.{Parts}
-use Rattle.lw_tried.specs.Around.{IsCutAround}
-use Rattle.lw_tried.proofs.Around.{filled}
-use Rattle.lw_tried.proofs.Crossing.{none_crossed}
-use Rattle.lw_tried.proofs.Judged.{judged}
-use Rattle.lw_tried.proofs.NoReference.{no_sentence, none_spans}
-use Rattle.lw_tried.proofs.ReadSo.{read_so, told_apart}
+use Rattle.lw_substitution.specs.Around.{IsCutAround}
+use Rattle.lw_substitution.proofs.Around.{filled}
+use Rattle.lw_substitution.proofs.Crossing.{none_crossed}
+use Rattle.lw_substitution.proofs.Judged.{judged}
+use Rattle.lw_substitution.proofs.NoReference.{no_sentence, none_spans}
+use Rattle.lw_substitution.proofs.ReadSo.{read_so, told_apart}
 use Rattle.lw_viable.specs.Aims.{EndsSome}
 use Rattle.lw_viable.specs.Fronts.{IsProgramWith}
 use Rattle.lw_viable.specs.Readings.{HasTask}

@@ -3,14 +3,14 @@ use Rattle.std.proofs.Common.{◌<◌, ℕ, List, All, Contains, length}
 use Rattle.std.proofs.lemmas.List.Elements.{All-contains}
 use Rattle.lw_grammar.specs.declared.grammar.Grammar.{Grammar}
 use Rattle.lw_numbers.specs.Numbering.{type_names}
-use Rattle.lw_outwards.specs.Known.{HasKnownTypes, HasOneRoot}
-use Rattle.lw_outwards.proofs.Enclosed.{tree_encloses}
-use Rattle.lw_outwards.proofs.OfTexts.{of_text}
-use Rattle.lw_outwards.proofs.OneRoot.{one_root}
-use Rattle.lw_outwards.proofs.Typed.{tree_known}
+use Rattle.lw_reading.specs.Known.{HasKnownTypes, HasOneRoot}
+use Rattle.lw_reading.proofs.Enclosed.{tree_encloses}
+use Rattle.lw_reading.proofs.OfTexts.{of_text}
+use Rattle.lw_reading.proofs.OneRoot.{one_root}
+use Rattle.lw_reading.proofs.Typed.{tree_known}
 use Rattle.lw_reading.specs.Reading.{Reads}
 use Rattle.lw_reading.specs.declared.parsed.Parsed.TheVariants.{Whole}
-use Rattle.lw_rooted.proofs.InText.{tree_owns}
+use Rattle.lw_reading.proofs.InText.{tree_owns}
 use Rattle.lw_scoping.specs.Outward.{ContainersComeFirst}
 use Rattle.lw_tree.specs.declared.node.Reference.{Reference}
 use Rattle.lw_tree.specs.Parts.{Parts}

@@ -1,8 +1,8 @@
 -- What is told of some references, once one more is looked at.
 use Rattle.std.proofs.Common.{◌≡◌, ◌⊎◌, inl, inr, ◌++◌, ◌∷◌, [], ℕ, List, Contains, sym, subst}
 use Rattle.std.proofs.lemmas.List.Elements.{Contains-append_left, Contains-push, Contains-push_cases}
-use Rattle.lw_offers.specs.Targets.{HasTarget}
-use Rattle.lw_scopes.specs.Links.{IsNumberBelow}
+use Rattle.lw_places.specs.Targets.{HasTarget}
+use Rattle.lw_link_rules.specs.Links.{IsNumberBelow}
 use Rattle.lw_scoping.specs.Links.{Trees}
 use Rattle.lw_tree.specs.declared.node.Reference.{Reference}
 use Rattle.lw_tree.specs.Parts.{Parts}

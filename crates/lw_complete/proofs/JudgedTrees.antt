@@ -3,14 +3,14 @@ use Rattle.std.proofs.Common.{◌≡◌, ◌+◌, ◌++◌, ℕ, List, Bool, tru
 use Rattle.std.specs.Str.{bytes_eq}
 use Rattle.std.proofs.lemmas.Option.{same_Some}
 use Rattle.lw_grammar.specs.declared.grammar.Grammar.{Grammar}
-use Rattle.lw_offers.specs.Targets.{HasTarget, having_tree}
+use Rattle.lw_places.specs.Targets.{HasTarget, having_tree}
 use Rattle.lw_reading.specs.Laws.{IsReadOneWay, IsSameReading}
 use Rattle.lw_reading.specs.Laws as law
 use Rattle.lw_reading.specs.Reading.{Reads}
 use Rattle.lw_reading.specs.declared.parsed.Parsed.TheVariants.{Broken, Whole}
 use Rattle.lw_reading.proofs.OneReading.{one_reading}
-use Rattle.lw_scopes.specs.Links.{IsNumberBelow}
-use Rattle.lw_scopes.proofs.SameTables.{link_over}
+use Rattle.lw_link_rules.specs.Links.{IsNumberBelow}
+use Rattle.lw_link_rules.proofs.SameTables.{link_over}
 use Rattle.lw_scoping.specs.Alike.{AreAlike, HaveSameTables, both, neither}
 use Rattle.lw_scoping.specs.Links.{FitsThere, Trees}
 use Rattle.lw_scoping.proofs.Tables.{same_exports, same_named, same_own, turned}

@@ -3,12 +3,12 @@ use Rattle.std.proofs.Common.{ℕ, ◌≡◌, ◌↔◌, ◌+◌, ◌-◌, ◌�
 use Rattle.lw_base.specs.declared.token.Token.{Token}
 use Rattle.lw_grammar.specs.Kinds.{Kinds}
 use Rattle.lw_grammar.proofs.KindLemmas.{one_kinds}
-use Rattle.lw_offers.specs.Offers.{visible_token}
-use Rattle.lw_offers.specs.Words.{BeginsBy}
-use Rattle.lw_recut.specs.declared.recut.Recut.{Recut}
-use Rattle.lw_recut.specs.Recut.{IsRecut, RecutterParts, added, added_behind}
-use Rattle.lw_recut.proofs.Behind.{same_moved}
-use Rattle.lw_sure.specs.Parted.{moved}
+use Rattle.lw_places.specs.Offers.{visible_token}
+use Rattle.lw_places.specs.Words.{BeginsBy}
+use Rattle.lw_lexer.specs.declared.recut.recut.Recut.{Recut}
+use Rattle.lw_lexer.specs.Recut.{IsRecut, RecutterParts, added, added_behind}
+use Rattle.lw_lexer.proofs.Behind.{same_moved}
+use Rattle.lw_matching.specs.Parted.{moved}
 use Rattle.lw_tokens.specs.Cut.{IsCut}
 use Rattle.lw_tokens.specs.Lexicon.{IsLexicon, Lexicon}
 use Rattle.lw_tokens.proofs.OnePattern.{one_lexicon}

@@ -12,9 +12,9 @@ use Rattle.lw_base.specs.declared.numbers.KindId.{KindId}
 use Rattle.lw_base.specs.declared.token.Token.{Token}
 use Rattle.lw_grammar.specs.declared.grammar.Grammar.{Grammar}
 use Rattle.lw_grammar.specs.Kinds.{Kinds}
-use Rattle.lw_offers.specs.Offers.{IsKeywordNext, visible_token}
-use Rattle.lw_offers.specs.Words.{BeginsBy}
-use Rattle.lw_sentences.specs.Sentences.{Starts}
+use Rattle.lw_places.specs.Offers.{IsKeywordNext, visible_token}
+use Rattle.lw_places.specs.Words.{BeginsBy}
+use Rattle.lw_grammar.specs.Sentences.{Starts}
 use Rattle.lw_tokens.specs.Cut.{IsCut, kinds, visible}
 use Rattle.lw_tokens.specs.Lexicon.{Lexicon}
 use Rattle.lw_complete.specs.declared.typing.Typing.{Typing}

@@ -5,16 +5,16 @@ use Rattle.lw_base.specs.declared.numbers.PropId.{PropId}
 use Rattle.lw_base.specs.declared.token.Token.{Token}
 use Rattle.lw_grammar.specs.declared.grammar.Grammar.{Grammar}
 use Rattle.lw_grammar.specs.Kinds.{Kinds}
-use Rattle.lw_marks.specs.Brackets.{Bracket}
-use Rattle.lw_marks.specs.Follows.{Closes}
-use Rattle.lw_marks.specs.Grown.{Grown}
-use Rattle.lw_marks.specs.Trees.{IsOpenedTree, parts_of_tree}
-use Rattle.lw_offers.specs.Starting.{IsFrontTree, ReferenceNext}
-use Rattle.lw_offers.specs.Targets.{HasTarget, renamed_to}
-use Rattle.lw_rooted.proofs.OneTree.{one_close, one_follows}
-use Rattle.lw_scopes.specs.Links.{IsNumberBelow}
+use Rattle.lw_reading.specs.Brackets.{Bracket}
+use Rattle.lw_reading.specs.Follows.{Closes}
+use Rattle.lw_reading.specs.Grown.{Grown}
+use Rattle.lw_reading.specs.Trees.{IsOpenedTree, parts_of_tree}
+use Rattle.lw_places.specs.Starting.{IsFrontTree, ReferenceNext}
+use Rattle.lw_places.specs.Targets.{HasTarget, renamed_to}
+use Rattle.lw_reading.proofs.OneTree.{one_close, one_follows}
+use Rattle.lw_link_rules.specs.Links.{IsNumberBelow}
 use Rattle.lw_scoping.specs.Links.{Trees}
-use Rattle.lw_sentences.specs.Marks.{Mark}
+use Rattle.lw_grammar.specs.Marks.{Mark}
 use Rattle.lw_tree.specs.declared.node.Reference.{Reference}
 use Rattle.lw_tree.specs.Parts.{Parts, SameTables, values_at}
 use Rattle.lw_complete.specs.declared.starting.FrontNames.{FrontNames}

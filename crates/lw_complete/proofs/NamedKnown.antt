@@ -2,11 +2,11 @@
 use Rattle.std.proofs.Common.{◌≡◌, ◌↔◌, ◌⊎◌, inl, inr, ◌+◌, ◌<◌, ◌++◌, ◌∷◌, [], ℕ, List, Option, Some, None, All, Contains, append_assoc, get_or, length, map, take, sym, ap, ◌∙◌, subst, arith}
 use Rattle.std.proofs.lemmas.List.{map-append, take_more}
 use Rattle.std.proofs.lemmas.List.Elements.{All-contains, Contains-append_cases, Contains-append_left, Contains-append_right, Contains-get_or}
-use Rattle.lw_findings.specs.Finding.{Finds}
+use Rattle.lw_faults.specs.Finding.{Finds}
 use Rattle.lw_grammar.specs.Kinds.{Kinds}
-use Rattle.lw_offers.specs.Starting.{ReferenceNext}
+use Rattle.lw_places.specs.Starting.{ReferenceNext}
 use Rattle.lw_program.specs.Says.{Task}
-use Rattle.lw_rooted.proofs.Listed.{mapped}
+use Rattle.lw_reading.proofs.Listed.{mapped}
 use Rattle.lw_scoping.specs.Links.{Trees}
 use Rattle.lw_tokens.specs.Lexicon.{Lexicon}
 use Rattle.lw_viable.specs.declared.reference_start.ReferenceStart.{ReferenceStart}

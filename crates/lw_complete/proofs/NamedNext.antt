@@ -1,17 +1,17 @@
 -- The starts of the readings, and the sentences in which a reference comes next.
 use Rattle.std.proofs.Common.{◌≡◌, ◌++◌, ◌∷◌, [], ℕ, List, Some, All, Contains, append_assoc, slice_get, refl, sym, ap, ◌∙◌, subst}
 use Rattle.std.proofs.lemmas.List.Elements.{All-contains, All-weaker}
-use Rattle.lw_begins.specs.Gives.{PlacesGive}
+use Rattle.lw_viable.specs.Gives.{PlacesGive}
 use Rattle.lw_grammar.specs.declared.grammar.Grammar.{Grammar}
 use Rattle.lw_grammar.specs.Kinds.{Kinds}
-use Rattle.lw_marks.specs.Follows.{MakesReference}
+use Rattle.lw_reading.specs.Follows.{MakesReference}
 use Rattle.lw_parse.specs.Parsers.{ParserParts}
 use Rattle.lw_program.specs.Says.{Reads, Task}
-use Rattle.lw_recipes.specs.Making.{AreRecipesOf, RecipeLists}
-use Rattle.lw_rooted.proofs.Listed.{same_head, same_tail}
-use Rattle.lw_sentences.specs.Marks.{End, Mark, Put, Token, kinds_of}
-use Rattle.lw_sentences.specs.Sentences.{IsSentence}
-use Rattle.lw_offers.specs.Starting.{ComesNext, ReferenceNext, marks_with, token_marks}
+use Rattle.lw_program.specs.Making.{AreRecipesOf, RecipeLists}
+use Rattle.lw_reading.proofs.Listed.{same_head, same_tail}
+use Rattle.lw_grammar.specs.Marks.{End, Mark, Put, Token, kinds_of}
+use Rattle.lw_grammar.specs.Sentences.{IsSentence}
+use Rattle.lw_places.specs.Starting.{ComesNext, ReferenceNext, marks_with, token_marks}
 use Rattle.lw_viable.specs.Aims.{EndsSome}
 use Rattle.lw_viable.specs.ReferenceStarts.{AreReferenceStarts, IsReferenceStart, StartsAt}
 use Rattle.lw_viable.specs.declared.reference_start.ReferenceStart.{ReferenceStart}

@@ -1,21 +1,21 @@
 -- The names that are offered are those that may come next.
 use Rattle.std.proofs.Common.{◌≡◌, ◌++◌, ◌⊎◌, inl, inr, ◌↔◌, ◌∷◌, [], ℕ, List, Bool, true, false, IsTrue, All, Contains, map, refl, sym, subst, true≢false, arith}
 use Rattle.std.proofs.lemmas.List.Elements.{All-contains}
-use Rattle.lw_begins.specs.Gives.{PlacesGive}
-use Rattle.lw_findings.specs.Finding.{Finds, OfSome}
+use Rattle.lw_viable.specs.Gives.{PlacesGive}
+use Rattle.lw_faults.specs.Finding.{Finds, OfSome}
 use Rattle.lw_grammar.specs.Kinds.{Kinds}
 use Rattle.lw_parse.specs.Parsers.{ParserParts}
 use Rattle.lw_program.specs.Says.{Task}
-use Rattle.lw_rooted.proofs.Listed.{mapped}
+use Rattle.lw_reading.proofs.Listed.{mapped}
 use Rattle.lw_scoping.specs.Links.{Trees}
-use Rattle.lw_sentences.specs.Marks.{Mark}
-use Rattle.lw_sentences.specs.Sentences.{IsSentence}
+use Rattle.lw_grammar.specs.Marks.{Mark}
+use Rattle.lw_grammar.specs.Sentences.{IsSentence}
 use Rattle.lw_tokens.specs.Lexicon.{Lexicon}
-use Rattle.lw_offers.specs.Offers.{IsFoundNext, IsNameNext, LeadsSomewhere}
-use Rattle.lw_offers.specs.Offers as offer
-use Rattle.lw_offers.specs.Starting.{ComesNext, IsFindable, ReferenceNext, marks_with}
-use Rattle.lw_offers.specs.Starting as find
-use Rattle.lw_offers.specs.Words.{BeginsBy}
+use Rattle.lw_places.specs.Offers.{IsFoundNext, IsNameNext, LeadsSomewhere}
+use Rattle.lw_places.specs.Offers as offer
+use Rattle.lw_places.specs.Starting.{ComesNext, IsFindable, ReferenceNext, marks_with}
+use Rattle.lw_places.specs.Starting as find
+use Rattle.lw_places.specs.Words.{BeginsBy}
 use Rattle.lw_tokens.specs.Cut.{kinds, visible}
 use Rattle.lw_tree.specs.declared.node.Reference.{Reference}
 use Rattle.lw_tree.specs.Parts.{Parts}

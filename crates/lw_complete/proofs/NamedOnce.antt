@@ -3,8 +3,8 @@ use Rattle.std.proofs.Common.{◌≡◌, ℕ, List, ap₂, ◌∙◌}
 use Rattle.lw_grammar.specs.declared.grammar.Grammar.{Grammar}
 use Rattle.lw_grammar.specs.declared.rule.Op.{Op}
 use Rattle.lw_grammar.specs.declared.rule.Value0.{Value0}
-use Rattle.lw_sentences.specs.Marks.{Mark, Put}
-use Rattle.lw_offers.specs.Starting.{ReferenceNext}
+use Rattle.lw_grammar.specs.Marks.{Mark, Put}
+use Rattle.lw_places.specs.Starting.{ReferenceNext}
 use Rattle.lw_viable.specs.declared.reference_start.ReferenceStart.{ReferenceStart}
 use Rattle.lw_complete.specs.Starts.{IsStartOf}
 use Rattle.lw_complete.proofs.FrontMeaning.{one_mark, one_meaning}

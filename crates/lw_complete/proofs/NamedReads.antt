@@ -9,17 +9,17 @@ use Rattle.lw_grammar.specs.declared.grammar.Grammar.{Grammar}
 use Rattle.lw_grammar.specs.declared.rule.Op.{Op}
 use Rattle.lw_grammar.specs.declared.rule.Value0.{Value0}
 use Rattle.lw_grammar.specs.Kinds.{Kinds}
-use Rattle.lw_marks.specs.Brackets.{Bracket}
-use Rattle.lw_marks.specs.Follows.{FollowsMarks, LooksUp, MakesReference, PutsValueIn}
-use Rattle.lw_marks.specs.Follows as f
-use Rattle.lw_marks.specs.Grown.{Held}
-use Rattle.lw_marks.specs.Numbers.{IsNamingProperty}
-use Rattle.lw_offers.specs.Starting.{ComesNext, ReferenceNext, marks_with}
-use Rattle.lw_rooted.proofs.Meant.{IsRead, IsReadAs}
-use Rattle.lw_rooted.proofs.Meant as read
-use Rattle.lw_sentences.specs.Marks.{Mark}
+use Rattle.lw_reading.specs.Brackets.{Bracket}
+use Rattle.lw_reading.specs.Follows.{FollowsMarks, LooksUp, MakesReference, PutsValueIn}
+use Rattle.lw_reading.specs.Follows as f
+use Rattle.lw_reading.specs.Grown.{Held}
+use Rattle.lw_reading.specs.Numbers.{IsNamingProperty}
+use Rattle.lw_places.specs.Starting.{ComesNext, ReferenceNext, marks_with}
+use Rattle.lw_reading.proofs.Meant.{IsRead, IsReadAs}
+use Rattle.lw_reading.proofs.Meant as read
+use Rattle.lw_grammar.specs.Marks.{Mark}
 use Rattle.lw_tokens.specs.Cut.{visible}
-use Rattle.lw_alike.proofs.OneReference.{ReadsReference, no_plain_reference, reads, reads_reference}
+use Rattle.lw_substitution.proofs.OneReference.{ReadsReference, no_plain_reference, reads, reads_reference}
 use Rattle.lw_complete.proofs.FrontTrees.{both_grow}
 
 module _ (g : Grammar) (text : List ℕ) where

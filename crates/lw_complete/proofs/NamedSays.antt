@@ -1,6 +1,6 @@
 -- What the recipe of a reference says is what the reference looks up.
 use Rattle.std.proofs.Common.{◌≡◌, ◌↔◌, ℕ, List, Some, None, slice_get, refl, sym, ap, ◌∙◌, subst}
-use Rattle.lw_alike.proofs.OneReference.{no_plain_reference}
+use Rattle.lw_substitution.proofs.OneReference.{no_plain_reference}
 use Rattle.lw_base.specs.declared.numbers.TypeId.{TypeId}
 use Rattle.lw_base.specs.declared.token.Token.{Token}
 use Rattle.lw_builder.specs.Contents.{said_in}
@@ -8,23 +8,23 @@ use Rattle.lw_builder.proofs.Making.{looked_up}
 use Rattle.lw_grammar.specs.declared.grammar.Grammar.{Grammar}
 use Rattle.lw_grammar.specs.declared.rule.Op.{Op}
 use Rattle.lw_grammar.specs.declared.rule.Value0.{Value0}
-use Rattle.lw_marks.specs.Brackets.{joined_texts}
-use Rattle.lw_marks.specs.Follows.{LooksUp, MakesReference, PutsValueIn, RefersBy}
-use Rattle.lw_marks.specs.Follows as f
-use Rattle.lw_marks.specs.Grown.{Held, Nothing}
-use Rattle.lw_marks.specs.Numbers.{IsNumberOfType}
-use Rattle.lw_recipes.specs.declared.mark.TreeMark.TheVariants as numbered
-use Rattle.lw_recipes.specs.declared.recipe.Content.{Content}
-use Rattle.lw_recipes.specs.declared.recipe.Content.TheVariants as contents
-use Rattle.lw_recipes.specs.declared.recipe.Content.TheVariants.{Reference}
-use Rattle.lw_recipes.specs.declared.recipe.TextForm.{TextForm}
-use Rattle.lw_recipes.specs.declared.recipe.ValueRecipe.{ValueRecipe}
-use Rattle.lw_recipes.specs.Making.{AreRecipesOf, IsMadeBy, IsReference, RecipeLists}
-use Rattle.lw_recipes.specs.Making as making
-use Rattle.lw_recipes.specs.Meant.{MeansMark}
-use Rattle.lw_recipes.specs.Meant as meant
-use Rattle.lw_rooted.proofs.Meant.{IsReadAs, puts}
-use Rattle.lw_sentences.specs.Marks.{Put}
+use Rattle.lw_reading.specs.Brackets.{joined_texts}
+use Rattle.lw_reading.specs.Follows.{LooksUp, MakesReference, PutsValueIn, RefersBy}
+use Rattle.lw_reading.specs.Follows as f
+use Rattle.lw_reading.specs.Grown.{Held, Nothing}
+use Rattle.lw_reading.specs.Numbers.{IsNumberOfType}
+use Rattle.lw_program.specs.declared.recipes.mark.TreeMark.TheVariants as numbered
+use Rattle.lw_program.specs.declared.recipes.recipe.Content.{Content}
+use Rattle.lw_program.specs.declared.recipes.recipe.Content.TheVariants as contents
+use Rattle.lw_program.specs.declared.recipes.recipe.Content.TheVariants.{Reference}
+use Rattle.lw_program.specs.declared.recipes.recipe.TextForm.{TextForm}
+use Rattle.lw_program.specs.declared.recipes.recipe.ValueRecipe.{ValueRecipe}
+use Rattle.lw_program.specs.Making.{AreRecipesOf, IsMadeBy, IsReference, RecipeLists}
+use Rattle.lw_program.specs.Making as making
+use Rattle.lw_program.specs.Meant.{MeansMark}
+use Rattle.lw_program.specs.Meant as meant
+use Rattle.lw_reading.proofs.Meant.{IsReadAs, puts}
+use Rattle.lw_grammar.specs.Marks.{Put}
 
 -- what a reference is made by
 pub record IsReferenceBy (content : Content) : Type 0 where

@@ -9,8 +9,8 @@ use Rattle.lw_tokens.specs.Cut.{IsCut}
 use Rattle.lw_tokens.specs.Lexicon.{Lexicon}
 use Rattle.lw_tree.specs.declared.node.Reference.{Reference}
 use Rattle.lw_tree.specs.Parts.{Parts}
-use Rattle.lw_offers.specs.Starting.{ReferenceNext}
-use Rattle.lw_offers.specs.Words.{BeginsBy}
+use Rattle.lw_places.specs.Starting.{ReferenceNext}
+use Rattle.lw_places.specs.Words.{BeginsBy}
 use Rattle.lw_complete.specs.declared.judging.Judgement.{Judgement}
 use Rattle.lw_complete.specs.declared.judging.Judgement.TheVariants.{Leads, LeadsNowhere, NoReference}
 use Rattle.lw_complete.specs.declared.known.Known.{Known}

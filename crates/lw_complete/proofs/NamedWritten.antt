@@ -7,25 +7,25 @@ use Rattle.std.proofs.lemmas.List.Elements.{All-drop}
 use Rattle.std.proofs.lemmas.Slice.Eq.{starts_is}
 use Rattle.lw_base.specs.declared.numbers.TypeId.{TypeId}
 use Rattle.lw_base.specs.declared.token.Token.{Token}
-use Rattle.lw_begins.specs.Gives.{PlacesGive}
+use Rattle.lw_viable.specs.Gives.{PlacesGive}
 use Rattle.lw_builder.specs.Contents.{said_in}
 use Rattle.lw_grammar.specs.declared.grammar.Grammar.{Grammar}
 use Rattle.lw_grammar.specs.Kinds.{Kinds}
 use Rattle.lw_lang.proofs.CutPlaces.{all_known, are_parts}
 use Rattle.lw_lang.proofs.ParsedLemmas.{counted}
 use Rattle.lw_lexer.specs.TokenPlaces.{IsTokenPlace}
-use Rattle.lw_marks.specs.Brackets.{joined_texts}
-use Rattle.lw_offers.specs.Starting.{ReferenceNext}
-use Rattle.lw_offers.specs.Words.{BeginsBy}
+use Rattle.lw_reading.specs.Brackets.{joined_texts}
+use Rattle.lw_places.specs.Starting.{ReferenceNext}
+use Rattle.lw_places.specs.Words.{BeginsBy}
 use Rattle.lw_parse.specs.Parsers.{ParserParts}
 use Rattle.lw_program.specs.Says.{Task}
-use Rattle.lw_recipes.specs.declared.recipe.Content.TheVariants.{Reference}
-use Rattle.lw_recipes.specs.declared.recipe.TextForm.{TextForm}
-use Rattle.lw_recipes.specs.declared.recipe.ValueRecipe.{ValueRecipe}
-use Rattle.lw_recut.specs.declared.recut.Recut.{Recut}
-use Rattle.lw_recut.specs.Recut.{IsRecut, RecutterParts, added, added_behind}
-use Rattle.lw_rooted.proofs.Meant.{IsReadAs}
-use Rattle.lw_sure.specs.Parted.{moved}
+use Rattle.lw_program.specs.declared.recipes.recipe.Content.TheVariants.{Reference}
+use Rattle.lw_program.specs.declared.recipes.recipe.TextForm.{TextForm}
+use Rattle.lw_program.specs.declared.recipes.recipe.ValueRecipe.{ValueRecipe}
+use Rattle.lw_lexer.specs.declared.recut.recut.Recut.{Recut}
+use Rattle.lw_lexer.specs.Recut.{IsRecut, RecutterParts, added, added_behind}
+use Rattle.lw_reading.proofs.Meant.{IsReadAs}
+use Rattle.lw_matching.specs.Parted.{moved}
 use Rattle.lw_tokens.specs.Cut.{IsCut, kinds, visible}
 use Rattle.lw_tokens.specs.Lexicon.{Lexicon}
 use Rattle.lw_viable.specs.Aims.{EndsSome}

@@ -3,8 +3,8 @@ use Rattle.std.proofs.Common.{◌≡◌, ◌≤◌, ◌<◌, ◌+◌, ◌-◌, �
 use Rattle.std.proofs.lemmas.Bool.Decides.{nat_tests}
 use Rattle.std.proofs.Math.Seq.{get_or-append_seam}
 use Rattle.std.proofs.lemmas.List.{drop_more, drop-take, get_or-take, length-append, length-take-le, take-append-drop, take-take}
-use Rattle.lw_gramread.specs.FileTokens.{is_word_part}
-use Rattle.lw_offers.specs.Words.{IsTypedAt}
+use Rattle.lw_gramlex.specs.FileTokens.{is_word_part}
+use Rattle.lw_places.specs.Words.{IsTypedAt}
 
 pub is_ascii : (b : ℕ) → is_word_part b ≡ true → b < 128
 is_ascii b is = grind (arith, nat_tests)

@@ -6,12 +6,12 @@ use Rattle.lw_base.specs.declared.token.Span.{Span}
 use Rattle.lw_base.specs.declared.token.Token.{Token}
 use Rattle.lw_builder.proofs.SpanLemmas.{span_is}
 use Rattle.lw_grammar.specs.Kinds.{Kinds}
-use Rattle.lw_marks.specs.Brackets.{end_of, joined_texts, span_of_tokens}
-use Rattle.lw_recut.specs.Recut.{added, added_behind}
-use Rattle.lw_sure.specs.Parted.{moved}
+use Rattle.lw_reading.specs.Brackets.{end_of, joined_texts, span_of_tokens}
+use Rattle.lw_lexer.specs.Recut.{added, added_behind}
+use Rattle.lw_matching.specs.Parted.{moved}
 use Rattle.lw_tokens.specs.Cut.{kinds, visible}
 use Rattle.lw_tokens.specs.Lexicon.{Lexicon}
-use Rattle.lw_tried.proofs.Around.{moved_kinds}
+use Rattle.lw_substitution.proofs.Around.{moved_kinds}
 use Rattle.lw_complete.specs.declared.typing.Typing.{Typing}
 use Rattle.lw_complete.specs.declared.written.Written.{Written}
 use Rattle.lw_complete.specs.Starts.{IsWritten, TakesAll}

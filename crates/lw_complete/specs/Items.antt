@@ -1,6 +1,6 @@
 -- What is handed out as an offer.
 use Rattle.std.specs.Prelude.{ℕ, ◌≡◌, ◌++◌, List, map}
-use Rattle.lw_offers.specs.Offers.{Offer}
+use Rattle.lw_places.specs.Offers.{Offer}
 use Rattle.lw_complete.specs.declared.item.Item.{Item}
 
 -- the offer that an item stands for

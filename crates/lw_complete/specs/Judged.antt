@@ -1,11 +1,11 @@
 -- What is told of a name once it is written, in words of the code.
 use Rattle.std.specs.Prelude.{ℕ, ◌≡◌, ◌+◌, ◌++◌, List, Contains, length}
-use Rattle.lw_scopes.specs.Links.{IsNumberBelow}
+use Rattle.lw_link_rules.specs.Links.{IsNumberBelow}
 use Rattle.lw_scoping.specs.Links.{Trees}
 use Rattle.lw_tree.specs.declared.node.Reference.{Reference}
 use Rattle.lw_tree.specs.Parts.{Parts}
-use Rattle.lw_offers.specs.Offers.{HasReferenceAt}
-use Rattle.lw_offers.specs.Targets.{HasTarget}
+use Rattle.lw_places.specs.Offers.{HasReferenceAt}
+use Rattle.lw_places.specs.Targets.{HasTarget}
 use Rattle.lw_complete.specs.declared.judging.Judgement.{Judgement}
 use Rattle.lw_complete.specs.declared.judging.Judgement.TheVariants.{Leads, LeadsNowhere, NoReference}
 use Rattle.lw_complete.specs.declared.typing.Typing.{Typing}

@@ -2,27 +2,27 @@
 use Rattle.std.specs.Prelude.{ℕ, ◌≡◌, ◌≢◌, ◌≤◌, ◌+◌, ◌⊎◌, ◌↔◌, ◌++◌, ◌∷◌, [], List, Bool, Option, All, Contains, IsTrue, MatchOption, map, length, slice_get, Some, None}
 use Rattle.lw_base.specs.declared.limits.TheConstants.{LONGEST_DOCUMENT}
 use Rattle.lw_base.specs.declared.token.Token.{Token}
-use Rattle.lw_begins.specs.Gives.{PlacesGive}
+use Rattle.lw_viable.specs.Gives.{PlacesGive}
 use Rattle.lw_builder.specs.Built.{ArePartsOf}
 use Rattle.lw_grammar.specs.declared.grammar.Grammar.{Grammar}
 use Rattle.lw_grammar.specs.Kinds.{AreKinds, Kinds}
-use Rattle.lw_marks.specs.Brackets.{span_of_tokens}
-use Rattle.lw_marks.specs.Follows.{LooksUp, RefersBy}
-use Rattle.lw_offers.specs.Starting.{ComesNext, IsBlankTree, IsFrontTree, ReferenceNext, moved_by, marks_with}
-use Rattle.lw_offers.specs.Targets.{HasTarget, renamed_to}
-use Rattle.lw_offers.specs.Words.{BeginsBy}
-use Rattle.lw_marks.specs.Trees.{IsTree}
+use Rattle.lw_reading.specs.Brackets.{span_of_tokens}
+use Rattle.lw_reading.specs.Follows.{LooksUp, RefersBy}
+use Rattle.lw_places.specs.Starting.{ComesNext, IsBlankTree, IsFrontTree, ReferenceNext, moved_by, marks_with}
+use Rattle.lw_places.specs.Targets.{HasTarget, renamed_to}
+use Rattle.lw_places.specs.Words.{BeginsBy}
+use Rattle.lw_reading.specs.Trees.{IsTree}
 use Rattle.lw_parse.specs.Parsers.{AreOfKinds, ParserParts, ParsesFaultless}
 use Rattle.lw_program.specs.Says.{Task}
-use Rattle.lw_recipes.specs.declared.mark.TreeMark.{TreeMark}
-use Rattle.lw_recipes.specs.declared.mark.TreeMark.TheVariants as numbered
-use Rattle.lw_recipes.specs.Meant.{AreMeant, MeansMark}
-use Rattle.lw_recut.specs.Recut.{added, added_behind}
-use Rattle.lw_rooted.specs.Growing.{GrowsRoot}
-use Rattle.lw_scopes.specs.Links.{IsNumberBelow}
+use Rattle.lw_program.specs.declared.recipes.mark.TreeMark.{TreeMark}
+use Rattle.lw_program.specs.declared.recipes.mark.TreeMark.TheVariants as numbered
+use Rattle.lw_program.specs.Meant.{AreMeant, MeansMark}
+use Rattle.lw_lexer.specs.Recut.{added, added_behind}
+use Rattle.lw_reading.specs.Growing.{GrowsRoot}
+use Rattle.lw_link_rules.specs.Links.{IsNumberBelow}
 use Rattle.lw_scoping.specs.Links.{Trees}
-use Rattle.lw_sentences.specs.Marks.{Mark, Put, kinds_of}
-use Rattle.lw_sentences.specs.Sentences.{IsSentence}
+use Rattle.lw_grammar.specs.Marks.{Mark, Put, kinds_of}
+use Rattle.lw_grammar.specs.Sentences.{IsSentence}
 use Rattle.lw_tokens.specs.Cut.{IsCut, IsCutTo, kinds, visible}
 use Rattle.lw_tokens.specs.Lexicon.{Lexicon}
 use Rattle.lw_tree.specs.declared.node.Reference.{Reference}

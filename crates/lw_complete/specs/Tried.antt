@@ -4,7 +4,7 @@ use Rattle.lw_grammar.specs.Kinds.{Kinds}
 use Rattle.lw_parse.specs.Parsers.{ParserParts}
 use Rattle.lw_program.specs.Says.{Task}
 use Rattle.lw_reading.specs.Laws.{IsReadOneWay}
-use Rattle.lw_recut.specs.Recut.{IsRecut, RecutterParts}
+use Rattle.lw_lexer.specs.Recut.{IsRecut, RecutterParts}
 use Rattle.lw_scoping.specs.Links.{Trees}
 use Rattle.lw_tokens.specs.Lexicon.{Lexicon}
 use Rattle.lw_complete.specs.declared.known.Known.{Known}

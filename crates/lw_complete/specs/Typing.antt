@@ -7,7 +7,7 @@ use Rattle.lw_link.specs.Indexed.{IsIndexOf}
 use Rattle.lw_link.specs.Visible.{IsNumberAt}
 use Rattle.lw_parse.specs.Parsers.{AreOfKinds}
 use Rattle.lw_program.specs.Says.{Task}
-use Rattle.lw_recut.specs.Recut.{IsEndOf, RecutterParts}
+use Rattle.lw_lexer.specs.Recut.{IsEndOf, RecutterParts}
 use Rattle.lw_scoping.specs.Links.{Trees}
 use Rattle.lw_tokens.specs.Cut.{IsCut, kinds, visible}
 use Rattle.lw_tokens.specs.Lexicon.{IsLexicon, Lexicon}

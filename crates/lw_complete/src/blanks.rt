@@ -2,7 +2,7 @@
 ghost use Rattle.std.specs.Prelude.{◌≡◌, ◌≤◌, ◌<◌, ◌+◌, ◌++◌, List, Some, All, IfOk, length, map};
 ghost use Rattle.lw_base.specs.declared.limits.TheConstants.{LONGEST_DOCUMENT};
 ghost use Rattle.lw_grammar.specs.Kinds.{Kinds};
-ghost use Rattle.lw_offers.specs.Starting.{moved_by};
+ghost use Rattle.lw_places.specs.Starting.{moved_by};
 ghost use Rattle.lw_tokens.specs.Lexicon.{Lexicon};
 ghost use Rattle.lw_complete.specs.Starts.{IsBlankIfCut};
 ghost use Rattle.lw_complete.specs.Typing.{IsTypedBy};

@@ -4,10 +4,10 @@ ghost use Rattle.lw_base.specs.declared.limits.TheConstants.{LONGEST_DOCUMENT};
 ghost use Rattle.lw_grammar.specs.Kinds.{Kinds};
 ghost use Rattle.lw_link.specs.Indexed.{IsIndexOf};
 ghost use Rattle.lw_link.specs.Visible.{IsNumberAt};
-ghost use Rattle.lw_offers.specs.Offers.{AreOffers, IsOffered, Offer, OfferPrecedes, keyword_offer, name_offer};
-ghost use Rattle.lw_offers.specs.Words.{IsTypedAt};
+ghost use Rattle.lw_places.specs.Offers.{AreOffers, IsOffered, Offer, OfferPrecedes, keyword_offer, name_offer};
+ghost use Rattle.lw_places.specs.Words.{IsTypedAt};
 ghost use Rattle.lw_reading.specs.Laws.{IsReadOneWay};
-ghost use Rattle.lw_scopes.specs.Links.{AreTreesOfTexts, Texts};
+ghost use Rattle.lw_link_rules.specs.Links.{AreTreesOfTexts, Texts};
 ghost use Rattle.lw_scoping.specs.Links.{Trees};
 ghost use Rattle.lw_tokens.specs.Lexicon.{Lexicon};
 ghost use Rattle.lw_complete.specs.Items.{TakesThePlace, item_of, items_of, offer_of};
@@ -21,8 +21,8 @@ use crate::words::word_start;
 use lw_base::{DocId, LONGEST_DOCUMENT, Name, NoMemory};
 use lw_index::Index;
 use lw_lang::{Language, LexFault};
-use lw_opened::read_front;
-use lw_recut::Recutter;
+use lw_lexer::recut::Recutter;
+use lw_parse::opened::read_front;
 use std::alloc::Global;
 
 /// What may be written at a byte offset of a text, the text of the document of this number: keywords and names, in the order of their labels and

@@ -3,8 +3,8 @@ ghost use Rattle.std.specs.Prelude.{ℕ, ◌≡◌, ◌≢◌, ◌↔◌, ◌-�
 ghost use Rattle.lw_base.specs.declared.limits.TheConstants.{LONGEST_TEXT};
 ghost use Rattle.lw_grammar.specs.Kinds.{Kinds};
 ghost use Rattle.lw_look.specs.Supplied.{IsSupplied};
-ghost use Rattle.lw_offers.specs.Offers.{IsKeywordNext, visible_token};
-ghost use Rattle.lw_offers.specs.Words.{BeginsBy};
+ghost use Rattle.lw_places.specs.Offers.{IsKeywordNext, visible_token};
+ghost use Rattle.lw_places.specs.Words.{BeginsBy};
 ghost use Rattle.lw_program.specs.Says.{Task};
 ghost use Rattle.lw_tokens.specs.Cut.{IsCut};
 ghost use Rattle.lw_tokens.specs.Lexicon.{Lexicon};
@@ -12,8 +12,8 @@ ghost use Rattle.lw_complete.specs.Typing.{AreReadings, CutsBehind, IsTypedBy, g
 
 use crate::typing::Typing;
 use lw_base::{KindId, Name, NoMemory, Span, Token};
-use lw_recut::Recutter;
-use lw_terminals::TokenSet;
+use lw_lexer::recut::Recutter;
+use lw_matchers::TokenSet;
 use lw_viable::Fronts;
 use std::alloc::Global;
 

@@ -1,9 +1,9 @@
 // What is known of the cross-references that may come next.
 ghost use Rattle.std.specs.Prelude.{ℕ, ◌≡◌, ◌≤◌, ◌+◌, ◌++◌, List, Some, All, IfOk, OnOk, length, map};
 ghost use Rattle.lw_base.specs.declared.limits.TheConstants.{LONGEST_DOCUMENT};
-ghost use Rattle.lw_findings.specs.Finding.{Finds, OfSome};
+ghost use Rattle.lw_faults.specs.Finding.{Finds, OfSome};
 ghost use Rattle.lw_grammar.specs.Kinds.{Kinds};
-ghost use Rattle.lw_offers.specs.Starting.{ReferenceNext};
+ghost use Rattle.lw_places.specs.Starting.{ReferenceNext};
 ghost use Rattle.lw_program.specs.Says.{Task};
 ghost use Rattle.lw_scoping.specs.Links.{Trees};
 ghost use Rattle.lw_tokens.specs.Lexicon.{Lexicon};

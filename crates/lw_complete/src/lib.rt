@@ -5,16 +5,16 @@
 //! are kept (`lw_viable`). A keyword is offered where one of them goes on with it and it is one token there. A name is offered where one of
 //! them goes on with a cross-reference that it is read as, and it leads somewhere once it is written.
 //!
-//! Its model: offers are those of `lw_offers`, over the trees of all documents; an [`Item`] stands for an offer, with the span of the word
+//! Its model: offers are those of `lw_places::offers`, over the trees of all documents; an [`Item`] stands for an offer, with the span of the word
 //! that it takes the place of. The index stands for what the other documents export (`lw_link`).
 //!
-//! It promises exactly what `lw_offers` defines: all that is offered, in order, each once, and nothing else. Want of memory may take the
+//! It promises exactly what `lw_places::offers` defines: all that is offered, in order, each once, and nothing else. Want of memory may take the
 //! place of the answer.
 //!
 //! Names that are tried are those that would be found from one of the places where a cross-reference may come next: in the tree of what was
 //! read before, or in that of the whole text with the reference left blank, which is made once for each place, or among what other documents
-//! export. A name that begins with the word is cut with the end of the text before it (`lw_recut`), and read as what may come next there.
-//! Where the text goes on behind it as it does without it, the blank trees tell where it leads, by the laws of `lw_tried`: then no text is
+//! export. A name that begins with the word is cut with the end of the text before it (`lw_lexer::recut`), and read as what may come next there.
+//! Where the text goes on behind it as it does without it, the blank trees tell where it leads, by the laws of `lw_substitution::tried`: then no text is
 //! read for it. Only where its cut does not tell that, as where a pattern looks far ahead, is the text with the name in place of the word
 //! read.
 #![tactic(auto)]

@@ -1,7 +1,7 @@
 // The word that is being typed.
 ghost use Rattle.std.specs.Prelude.{◌≡◌, ◌≤◌, ◌||◌, length, slice_range, drop, take, IsCharBoundary, nat_eq};
-ghost use Rattle.lw_gramread.specs.FileTokens.{is_word_part};
-ghost use Rattle.lw_offers.specs.Words.{IsTypedAt};
+ghost use Rattle.lw_gramlex.specs.FileTokens.{is_word_part};
+ghost use Rattle.lw_places.specs.Words.{IsTypedAt};
 
 /// Where the word begins that ends at this byte offset: the longest run of ASCII letters, digits and underscores.
 pub(crate) fn word_start(text: &str, off: usize) -> usize

@@ -1,18 +1,18 @@
 // What a name is read as where it is written.
 ghost use Rattle.std.specs.Prelude.{◌≡◌, ◌≤◌, ◌↔◌, ◌∷◌, List, [], Some, slice_get, Contains, IfOk, IsTrue, length};
 ghost use Rattle.lw_base.specs.declared.numbers.TypeId.{TypeId};
-ghost use Rattle.lw_begins.specs.Gives.{PlacesGive};
+ghost use Rattle.lw_viable.specs.Gives.{PlacesGive};
 ghost use Rattle.lw_builder.specs.Built.{ArePartsOf};
 ghost use Rattle.lw_builder.specs.Contents.{said_in};
 ghost use Rattle.lw_grammar.specs.declared.grammar.Grammar.{Grammar};
 ghost use Rattle.lw_grammar.specs.Kinds.{Kinds};
-ghost use Rattle.lw_marks.specs.Brackets.{joined_texts};
-ghost use Rattle.lw_offers.specs.Starting.{ReferenceNext};
+ghost use Rattle.lw_reading.specs.Brackets.{joined_texts};
+ghost use Rattle.lw_places.specs.Starting.{ReferenceNext};
 ghost use Rattle.lw_parse.specs.Parsers.{AreOfKinds};
 ghost use Rattle.lw_program.specs.Says.{Task};
-ghost use Rattle.lw_recipes.specs.declared.recipe.TextForm.{TextForm};
-ghost use Rattle.lw_recipes.specs.declared.recipe.ValueRecipe.{ValueRecipe};
-ghost use Rattle.lw_recut.specs.Recut.{added, added_behind};
+ghost use Rattle.lw_program.specs.declared.recipes.recipe.TextForm.{TextForm};
+ghost use Rattle.lw_program.specs.declared.recipes.recipe.ValueRecipe.{ValueRecipe};
+ghost use Rattle.lw_lexer.specs.Recut.{added, added_behind};
 ghost use Rattle.lw_tokens.specs.Cut.{kinds, visible};
 ghost use Rattle.lw_tokens.specs.Lexicon.{Lexicon};
 ghost use Rattle.lw_viable.specs.Aims.{EndsSome};
@@ -26,10 +26,10 @@ use crate::known::Known;
 use crate::typing::Typing;
 use lw_base::{KindId, Name, NoMemory, Token};
 use lw_builder::said_by;
-use lw_opened::read_over;
+use lw_lexer::recut::Recut;
 use lw_parse::Parser;
-use lw_recipes::Content;
-use lw_recut::Recut;
+use lw_parse::opened::read_over;
+use lw_program::recipes::Content;
 use lw_viable::{ReferenceStart, only_token};
 use std::alloc::Global;
 

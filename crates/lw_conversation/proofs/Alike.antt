@@ -4,7 +4,7 @@ use Rattle.std.proofs.lemmas.List.Elements.{All-head, All-tail}
 use Rattle.lw_io.specs.Store.{FitsFile, file_at}
 use Rattle.lw_io.specs.declared.store.Found.{Found}
 use Rattle.lw_io.specs.declared.store.Found.TheVariants.{Text, Absent, NotUtf8, TooLong, Failed, NoMemory}
-use Rattle.lw_paths.specs.Paths.{IsPathOf}
+use Rattle.lw_io.specs.Paths.{IsPathOf}
 use Rattle.lw_conversation.specs.Reading as reading
 use Rattle.lw_conversation.specs.Reading.{AreOfFiles, Asked, FindsFile}
 

@@ -11,8 +11,8 @@ use Rattle.lw_text.specs.declared.place.Pos.{Pos}
 use Rattle.lw_text.specs.declared.units.Encoding.TheVariants.{Utf16}
 use Rattle.lw_text.proofs.Offsets.{IsOffset-only}
 use Rattle.lw_text.proofs.Positions.{IsPositionIn-only}
-use Rattle.lw_offers.specs.Offers.{AreOffers, Offer}
-use Rattle.lw_offers.proofs.OneWord.{one_word_typed}
+use Rattle.lw_places.specs.Offers.{AreOffers, Offer}
+use Rattle.lw_places.proofs.OneWord.{one_word_typed}
 use Rattle.lw_reading.specs.Laws.{IsReadOneWay, IsSameReading}
 use Rattle.lw_reading.specs.Laws as reading
 use Rattle.lw_reading.specs.Reading.{Reads}
@@ -28,15 +28,15 @@ use Rattle.lw_rpc.specs.declared.reply.Outcome.TheVariants.{Spot, Spots, Edits, 
 use Rattle.lw_rpc.specs.declared.reply.Reply.{Reply}
 use Rattle.lw_rpc.specs.declared.reply.Reply.TheVariants.{Done, Error}
 use Rattle.lw_rpc.specs.declared.reply.TextEdit.{TextEdit}
-use Rattle.lw_scopes.specs.Links.{Texts}
+use Rattle.lw_link_rules.specs.Links.{Texts}
 use Rattle.lw_tree.specs.declared.node.Reference.{Reference}
 use Rattle.lw_tree.specs.Parts.{Parts}
 use Rattle.lw_machine.specs.Documents.{Document, Documents, present_texts}
 use Rattle.lw_places.specs.Asked.{AreReferences, IsDefinition}
 use Rattle.lw_places.specs.Mentions.{Mention}
 use Rattle.lw_places.proofs.OneReply.{one_place_of_definition, one_list_of_references}
-use Rattle.lw_renaming.specs.Renamed.{IsRenamed, Refusal}
-use Rattle.lw_renaming.proofs.OneRename.{one_outcome as one_renaming}
+use Rattle.lw_places.specs.Renamed.{IsRenamed, Refusal}
+use Rattle.lw_places.proofs.OneRename.{one_outcome as one_renaming}
 use Rattle.lw_conversation.specs.declared.error_code.TheConstants.{REQUEST_FAILED}
 use Rattle.lw_conversation.specs.Asking as ask
 use Rattle.lw_conversation.specs.Asking.{AreEditsOf, IsAskedAt, IsEditOf, IsItemOf, IsLocationOf, IsRefusalText, RepliesTo, TellsCompletion, TellsDefinition, TellsReferences, TellsRename, by_document}

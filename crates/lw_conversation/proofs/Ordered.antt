@@ -24,9 +24,9 @@ use Rattle.lw_machine.specs.Documents.{Documents}
 use Rattle.lw_machine.specs.Events.{farewell}
 use Rattle.lw_machine.specs.declared.published.Published.{Published}
 use Rattle.lw_places.specs.Mentions.{Mention, MentionPrecedes, by_address, by_start, by_end}
-use Rattle.lw_renaming.specs.Renamed as rename
-use Rattle.lw_renaming.specs.Renamed.{IsRenamed}
-use Rattle.lw_scopes.specs.Links.{Texts}
+use Rattle.lw_places.specs.Renamed as rename
+use Rattle.lw_places.specs.Renamed.{IsRenamed}
+use Rattle.lw_link_rules.specs.Links.{Texts}
 use Rattle.lw_text.specs.declared.change.Change.{Change}
 use Rattle.lw_conversation.specs.Answered.{Answered, stops, passes}
 use Rattle.lw_conversation.specs.Asking as ask

@@ -12,8 +12,8 @@ use Rattle.lw_text.specs.Offset.{IsOffset}
 use Rattle.lw_text.specs.Position.{IsPosition}
 use Rattle.lw_text.specs.declared.place.Pos.{Pos}
 use Rattle.lw_text.specs.declared.units.Encoding.TheVariants.{Utf16}
-use Rattle.lw_offers.specs.Offers.{AreOffers, Offer}
-use Rattle.lw_offers.specs.Words.{IsTypedAt}
+use Rattle.lw_places.specs.Offers.{AreOffers, Offer}
+use Rattle.lw_places.specs.Words.{IsTypedAt}
 use Rattle.lw_reading.specs.Reading.{Reads}
 use Rattle.lw_reading.specs.declared.parsed.Parsed.TheVariants.{Whole}
 use Rattle.lw_rpc.specs.declared.message.Id.{Id}
@@ -27,13 +27,13 @@ use Rattle.lw_rpc.specs.declared.reply.Outcome.TheVariants.{Nothing, Spot, Spots
 use Rattle.lw_rpc.specs.declared.reply.Reply.{Reply}
 use Rattle.lw_rpc.specs.declared.reply.Reply.TheVariants.{Done, Error}
 use Rattle.lw_rpc.specs.declared.reply.TextEdit.{TextEdit}
-use Rattle.lw_scopes.specs.Links.{Texts}
+use Rattle.lw_link_rules.specs.Links.{Texts}
 use Rattle.lw_tree.specs.declared.node.Reference.{Reference}
 use Rattle.lw_tree.specs.Parts.{Parts}
 use Rattle.lw_machine.specs.Documents.{Document, Documents, present_texts}
 use Rattle.lw_places.specs.Asked.{AreReferences, IsDefinition}
 use Rattle.lw_places.specs.Mentions.{Mention}
-use Rattle.lw_renaming.specs.Renamed.{IsRenamed, Refusal, NoName, NotParsed, Shape, Rebound}
+use Rattle.lw_places.specs.Renamed.{IsRenamed, Refusal, NoName, NotParsed, Shape, Rebound}
 use Rattle.lw_conversation.specs.declared.error_code.TheConstants.{REQUEST_FAILED}
 
 -- a mention as an editor is told it

@@ -4,7 +4,7 @@ use Rattle.std.specs.Prelude.{ℕ, ◌≢◌, List, [], ◌∷◌, All, Option}
 use Rattle.lw_io.specs.Store.{AnswersFile, FitsFile, file_at}
 use Rattle.lw_io.specs.declared.store.Found.{Found}
 use Rattle.lw_io.specs.declared.store.Found.TheVariants.{Absent, Failed}
-use Rattle.lw_paths.specs.Paths.{HasNoPath, IsPathOf}
+use Rattle.lw_io.specs.Paths.{HasNoPath, IsPathOf}
 
 -- the path of a file that is read, and what the store answers
 pub record Asked : Type 0 where

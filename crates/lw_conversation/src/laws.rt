@@ -13,8 +13,8 @@ ghost use Rattle.lw_conversation.specs.Sessions.{Serves};
 ghost use Rattle.lw_conversation.specs.Standing.{Standing, beginning};
 ghost use Rattle.lw_conversation.specs.declared.ended.Ended.{Ended};
 
-use lw_offers::one_list;
-use lw_paths::one_path;
+use lw_io::paths::one_path;
+use lw_places::offers::one_list;
 
 /// By a grammar by which a text is read in one way, what a session does with the bodies of a stream is settled by what the store answers at its reads:
 /// where it stands after them, what it replies and publishes, and whether it is over. Where no read failed, the bodies and the files of the store settle

@@ -28,6 +28,3 @@ mod laws;
 pub use doc::{Doc, DocFault};
 pub use docs::Docs;
 pub use laws::the_least_is_next;
-
-#[cfg(test)]
-mod tests;

@@ -17,7 +17,7 @@ use Rattle.lw_faults.specs.Steps.{Step, step, GetsTo, ComesLayer, BodyBegins}
 use Rattle.lw_faults.specs.Steps as steps
 use Rattle.lw_faults.specs.Misplaced.{MisplacedAction, simple, current}
 use Rattle.lw_faults.specs.Worked.{StandsAlone, StandsNowhere, place, no_place, keyword_of, x_id, makes_b, takes_b, both, alone, two_parts, action_and_word, calls_f, acts_f, acts_in_fragment}
-use Rattle.lw_sentences.proofs.Every.{Every, differ, first_here, first_later, meant}
+use Rattle.lw_grammar.proofs.Every.{Every, differ, first_here, first_later, meant}
 use Rattle.lw_faults.proofs.AloneLemmas.{the_rule}
 use Rattle.lw_faults.proofs.StepLemmas.{HasWay, HoldsIn, HasNoFragment, can_come, holds_of_step, own_step, holds_behind}
 use Rattle.lw_faults.proofs.WorkedSteps.{word_way, word_goes, word_holds, assign_way, assign_goes, assign_holds, act_way, act_goes, act_holds, to_act, to_call, pair_goes, to_first, to_second, pair_holds, maybe_holds}

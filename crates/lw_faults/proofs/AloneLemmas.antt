@@ -6,7 +6,7 @@ use Rattle.lw_grammar.specs.declared.rule.Element.{Element}
 use Rattle.lw_grammar.specs.Named.{IsRule, IsEntry, declared_rule, declared_terminal}
 use Rattle.lw_faults.specs.Reads.{IsTokenCall}
 use Rattle.lw_faults.specs.Worked.{place, entry_rule, alone}
-use Rattle.lw_sentences.proofs.Every.{differ, first_here, meant, not_meant}
+use Rattle.lw_grammar.proofs.Every.{differ, first_here, meant, not_meant}
 
 pub none_there : {X : Type 0} (x : X) → ¬ Contains [] x
 none_there x (k, inside, is) = omega (arith, inside)

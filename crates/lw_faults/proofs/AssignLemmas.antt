@@ -10,11 +10,11 @@ use Rattle.lw_grammar.specs.Leaves as leaf
 use Rattle.lw_grammar.specs.Leaves.{Leaf, leaves, ValueLeaf, Calls, Cross, value_leaves}
 use Rattle.lw_grammar.specs.NameRules.{IsNameRule}
 use Rattle.lw_grammar.proofs.LeafLemmas.{leaves-Assign}
-use Rattle.lw_faults.specs.Written.{WritesCall}
-use Rattle.lw_faults.specs.Written as written
+use Rattle.lw_grammar.specs.Written.{WritesCall}
+use Rattle.lw_grammar.specs.Written as written
 use Rattle.lw_faults.specs.BadCalls.{CrossesBy}
 use Rattle.lw_faults.specs.BadCalls as bad
-use Rattle.lw_sentences.proofs.Every.{every_of}
+use Rattle.lw_grammar.proofs.Every.{every_of}
 
 module _ (rule : Rule) (p : List ℕ) (op : Op) (v : Value0) (s : Span) (l : ValueLeaf) (body : rule.body ≡ Assign p op v s) (parts : value_leaves v ≡ l ∷ []) where
   -- the assignment is the only leaf

@@ -16,7 +16,7 @@ use Rattle.lw_grammar.proofs.LeafLemmas.{leaves-Call, values-Call}
 use Rattle.lw_faults.specs.BadCalls.{BadAssignment}
 use Rattle.lw_faults.specs.BadCalls as bad
 use Rattle.lw_faults.specs.Worked.{StandsAlone, StandsNowhere, no_place, entry_rule, plain_rule, fragment_rule, node_rule, x_by, y_id, id_element, assigning}
-use Rattle.lw_sentences.proofs.Every.{every_of, differ, first_here, first_later, meant, not_meant}
+use Rattle.lw_grammar.proofs.Every.{every_of, differ, first_here, first_later, meant, not_meant}
 use Rattle.lw_faults.proofs.AssignLemmas.{only_leaf, only_part, leaf_there, part_there}
 use Rattle.lw_faults.proofs.NodeLemmas.{puts_makes, id_makes_none}
 

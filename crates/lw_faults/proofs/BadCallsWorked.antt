@@ -19,16 +19,16 @@ use Rattle.lw_grammar.specs.Named.{IsRule, IsTerminal, declared_rule, declared_t
 use Rattle.lw_grammar.specs.Nodes.{IsDataType}
 use Rattle.lw_grammar.proofs.FirstLemmas.{first_item}
 use Rattle.lw_grammar.proofs.LeafLemmas.{leaves-Call, values-Call, values-Cross}
-use Rattle.lw_faults.specs.Written.{WritesCall, Range, term_calls, term_ranges}
-use Rattle.lw_faults.specs.Written as written
+use Rattle.lw_grammar.specs.Written.{WritesCall, Range, term_calls, term_ranges}
+use Rattle.lw_grammar.specs.Written as written
 use Rattle.lw_faults.specs.BadCalls.{BadCall, CrossesBy, IsInOrder}
 use Rattle.lw_faults.specs.BadCalls as bad
 use Rattle.lw_faults.specs.Worked.{StandsAlone, StandsNowhere, place, no_place, entry_rule, plain_rule, terminal_id, x_id, y_id, id_element, x_value, t_terminal, with_terminal, calling_terminal, crossing}
-use Rattle.lw_sentences.proofs.Every.{every_of, every_at, differ, first_here, first_later, meant, not_meant}
+use Rattle.lw_grammar.proofs.Every.{every_of, every_at, differ, first_here, first_later, meant, not_meant}
 use Rattle.lw_faults.proofs.AloneLemmas.{the_rule}
 use Rattle.lw_faults.proofs.AssignLemmas.{writes, crosses, part_there, leaf_there}
 use Rattle.lw_faults.proofs.NodeLemmas.{puts_makes, id_makes_none}
-use Rattle.lw_faults.proofs.TermLemmas.{call_equations, range_equations, calls-Call, calls-Range, ranges-Call, ranges-Range}
+use Rattle.lw_grammar.proofs.TermLemmas.{call_equations, range_equations, calls-Call, calls-Range, ranges-Call, ranges-Range}
 
 none_there : {X : Type 0} (x : X) → ¬ Contains [] x
 none_there x (k, inside, is) = omega (arith, inside)

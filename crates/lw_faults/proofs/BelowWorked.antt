@@ -17,7 +17,7 @@ use Rattle.lw_faults.specs.Steps.{Step, step, IsBehind}
 use Rattle.lw_faults.specs.Properties.{NotASubtype}
 use Rattle.lw_faults.specs.Properties as property
 use Rattle.lw_faults.specs.Worked.{StandsAlone, StandsNowhere, no_place, interface_of, rule_returning, s_interface, s_action, making_s}
-use Rattle.lw_sentences.proofs.Every.{Every, every_of, differ, first_here, first_later, meant}
+use Rattle.lw_grammar.proofs.Every.{Every, every_of, differ, first_here, first_later, meant}
 use Rattle.lw_faults.proofs.StepLemmas.{holds_of_step, rule_there, own_step}
 use Rattle.lw_faults.proofs.WorkedSteps.{to_act}
 

@@ -18,7 +18,7 @@ use Rattle.lw_faults.specs.Steps as steps
 use Rattle.lw_faults.specs.Misplaced.{MisplacedCall, misplaced_call, FillsNode}
 use Rattle.lw_faults.specs.Misplaced as misplaced
 use Rattle.lw_faults.specs.Worked.{StandsAlone, StandsNowhere, place, no_place, x_id, both, entry_rule, alone, two_parts, node_rule, with_node, node_behind, node_before, node_and_word}
-use Rattle.lw_sentences.proofs.Every.{Every, differ, first_here, first_later, meant}
+use Rattle.lw_grammar.proofs.Every.{Every, differ, first_here, first_later, meant}
 use Rattle.lw_faults.proofs.ActsWorked.{x_leaf}
 use Rattle.lw_faults.proofs.AloneLemmas.{the_rule, one_no_id}
 use Rattle.lw_faults.proofs.StepLemmas.{HoldsIn, HasNoFragment, can_come, holds_of_step, own_step, holds_behind}

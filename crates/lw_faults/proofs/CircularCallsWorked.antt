@@ -12,12 +12,12 @@ use Rattle.lw_grammar.specs.Named.{IsRule, IsTerminal, declared_rule, declared_t
 use Rattle.lw_grammar.specs.Reached.{RuleCalls, calls, assigns}
 use Rattle.lw_grammar.proofs.FirstLemmas.{first_place, first_item}
 use Rattle.lw_grammar.proofs.LeafLemmas.{leaf_equations}
-use Rattle.lw_faults.specs.Written.{term_calls}
+use Rattle.lw_grammar.specs.Written.{term_calls}
 use Rattle.lw_faults.specs.Circles.{FragmentCalls, TerminalCalls, CircularCall}
 use Rattle.lw_faults.specs.Circles as circle
 use Rattle.lw_faults.specs.Worked.{StandsAlone, StandsNowhere, place, no_place, fragment_rule, terminal_id, f_caller, x_and, fragment_calling, a_and, t_terminal, terminal_calling}
-use Rattle.lw_sentences.proofs.Every.{Every, every_of, every_at, differ, first_here, first_later, meant}
-use Rattle.lw_faults.proofs.TermLemmas.{call_equations}
+use Rattle.lw_grammar.proofs.Every.{Every, every_of, every_at, differ, first_here, first_later, meant}
+use Rattle.lw_grammar.proofs.TermLemmas.{call_equations}
 
 -- ---- a fragment
 

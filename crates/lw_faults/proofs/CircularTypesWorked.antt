@@ -8,13 +8,13 @@ use Rattle.lw_grammar.specs.declared.declared_types.UnionDef.{UnionDef}
 use Rattle.lw_grammar.specs.declared.declared_types.Member.{Member}
 use Rattle.lw_grammar.specs.declared.declared_types.Member.TheVariants.{Named, Refers, Literal}
 use Rattle.lw_grammar.specs.Named.{IsInterface, IsUnion, declared_interface, declared_union}
-use Rattle.lw_faults.specs.Written.{HasDeclaration, InfersHere, IsKnownType}
-use Rattle.lw_faults.specs.Written as written
+use Rattle.lw_grammar.specs.Written.{HasDeclaration, InfersHere, IsKnownType}
+use Rattle.lw_grammar.specs.Written as written
 use Rattle.lw_faults.specs.Circles.{ExtendsType, HasMemberType, CircularType}
 use Rattle.lw_faults.specs.Circles as circle
 use Rattle.lw_faults.specs.Worked.{StandsAlone, StandsNowhere, place, no_place, types_alone, extends, a_extending, b_extending, union_of}
 use Rattle.lw_faults.proofs.AloneLemmas.{none_there}
-use Rattle.lw_sentences.proofs.Every.{every_of, every_at, differ, first_here, first_later, meant, not_meant}
+use Rattle.lw_grammar.proofs.Every.{every_of, every_at, differ, first_here, first_later, meant, not_meant}
 
 -- no type is inferred where no rule is
 infers_none : (interfaces : List Interface) (unions : List UnionDef) (file : ℕ) (s : Span) (name : List ℕ) → ¬ InfersHere (types_alone interfaces unions) file s name

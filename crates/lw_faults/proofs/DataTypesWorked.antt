@@ -17,7 +17,7 @@ use Rattle.lw_grammar.proofs.FirstLemmas.{first_item}
 use Rattle.lw_faults.specs.DataTypes.{MixedDataTypeRule, IsPlainMember, IsPlainUnion}
 use Rattle.lw_faults.specs.DataTypes as data_type
 use Rattle.lw_faults.specs.Worked.{StandsAlone, StandsNowhere, place, no_place, entry_rule, x_id, union_of, id_element, resulting}
-use Rattle.lw_sentences.proofs.Every.{every_of, differ, first_here, meant, not_meant}
+use Rattle.lw_grammar.proofs.Every.{every_of, differ, first_here, meant, not_meant}
 use Rattle.lw_faults.proofs.NodeLemmas.{puts_makes, id_makes_none}
 
 module _ (result : RuleResult) (unions : List UnionDef) (body : Element) where

@@ -8,7 +8,7 @@ use Rattle.lw_grammar.specs.Named.{IsEntry}
 use Rattle.lw_faults.specs.Entries.{NoEntry, no_entry, SecondEntry, second_entry, EntryMakesNoNode}
 use Rattle.lw_faults.specs.Entries as entries
 use Rattle.lw_faults.specs.Worked.{StandsAlone, StandsNowhere, place, no_place, plain_rule, x_id, of_rules, alone, in_file, a_entry, b_entry, entry_fragment, id_element}
-use Rattle.lw_sentences.proofs.Every.{first_here}
+use Rattle.lw_grammar.proofs.Every.{first_here}
 use Rattle.lw_faults.proofs.AloneLemmas.{the_rule, one_entry, one_no_id, only_one}
 use Rattle.lw_faults.proofs.NodeLemmas.{puts_makes, id_makes_none}
 

@@ -15,7 +15,6 @@ pub mod PutLemmas
 pub mod PropertiesWorked
 pub mod MixedWorked
 pub mod BelowWorked
-pub mod TermLemmas
 pub mod CircularTypesWorked
 pub mod CircularCallsWorked
 pub mod NodeLemmas
@@ -27,3 +26,5 @@ pub mod AssignmentsWorked
 pub mod NamesWorked
 pub mod NameRulesWorked
 pub mod SizesWorked
+pub mod Joining
+pub mod Listing

@@ -13,14 +13,14 @@ use Rattle.lw_grammar.specs.Leaves as leaf
 use Rattle.lw_grammar.specs.Leaves.{Leaf, leaves}
 use Rattle.lw_grammar.specs.Subtypes.{IsDeclared, by_interface, by_union}
 use Rattle.lw_grammar.proofs.LeafLemmas.{leaf_equations}
-use Rattle.lw_faults.specs.Written.{InfersHere, IsInferredType}
-use Rattle.lw_faults.specs.Written as written
+use Rattle.lw_grammar.specs.Written.{InfersHere, IsInferredType}
+use Rattle.lw_grammar.specs.Written as written
 use Rattle.lw_faults.specs.Steps.{Step, step, IsBehind, IsAct, IsNodeCall, IsCurrentType}
 use Rattle.lw_faults.specs.Steps as steps
 use Rattle.lw_faults.specs.Properties.{MixedProperty, mixed, PutsInto, is_list}
 use Rattle.lw_faults.specs.Properties as property
 use Rattle.lw_faults.specs.Worked.{StandsAlone, StandsNowhere, place, no_place, both, x_by, calls_id, twice, rule_returning, unknown_twice}
-use Rattle.lw_sentences.proofs.Every.{Every, every_of}
+use Rattle.lw_grammar.proofs.Every.{Every, every_of}
 use Rattle.lw_faults.proofs.AloneLemmas.{the_rule}
 use Rattle.lw_faults.proofs.StepLemmas.{holds_of_step, own_step}
 use Rattle.lw_faults.proofs.WorkedSteps.{assign_goes, to_assign, to_first, to_second}

@@ -14,7 +14,7 @@ use Rattle.lw_grammar.specs.Subtypes.{same}
 use Rattle.lw_grammar.proofs.LeafLemmas.{leaf_equations, leaves-Assign, values-Call, values-Cross}
 use Rattle.lw_faults.specs.Names.{NoNameRule, nameless}
 use Rattle.lw_faults.specs.Worked.{StandsAlone, StandsNowhere, no_place, alone, puts, both, two_parts, by_its_name}
-use Rattle.lw_sentences.proofs.Every.{Every, every_of, differ, first_here}
+use Rattle.lw_grammar.proofs.Every.{Every, every_of, differ, first_here}
 use Rattle.lw_faults.proofs.AloneLemmas.{the_rule, only_one}
 use Rattle.lw_faults.proofs.AssignLemmas.{only_part, leaf_there, part_there}
 

@@ -17,15 +17,16 @@ use Rattle.lw_grammar.specs.Leaves as leaf
 use Rattle.lw_grammar.specs.Leaves.{Leaf, leaves, ValueLeaf, Calls, Cross, value_leaves}
 use Rattle.lw_grammar.specs.Named.{Declaration, StandsBefore, declared_rule, declared_terminal, declared_interface}
 use Rattle.lw_grammar.proofs.LeafLemmas.{leaves-Act, leaves-Assign, values-Call, values-Cross}
-use Rattle.lw_faults.specs.Written.{WritesCall, IsNoRule, HasDeclaration, InfersHere, NamesType, IsKnownType, term_calls}
-use Rattle.lw_faults.specs.Written as written
-use Rattle.lw_faults.specs.Names.{Duplicate, UnknownRule, UnknownType, rule_space, type_space}
+use Rattle.lw_grammar.specs.Written.{WritesCall, IsNoRule, HasDeclaration, InfersHere, NamesType, IsKnownType, term_calls}
+use Rattle.lw_grammar.specs.Written as written
+use Rattle.lw_grammar.specs.Written.{rule_space, type_space}
+use Rattle.lw_faults.specs.Names.{Duplicate, UnknownRule, UnknownType}
 use Rattle.lw_faults.specs.Names as names
 use Rattle.lw_faults.specs.Worked.{StandsAlone, StandsNowhere, place, no_place, entry_rule, plain_rule, terminal_id, interface_of, x_id, y_id, alone, x_value, a_entry, behind_a, beside_interface, makes_declared}
-use Rattle.lw_sentences.proofs.Every.{Every, every_of, differ}
+use Rattle.lw_grammar.proofs.Every.{Every, every_of, differ}
 use Rattle.lw_faults.proofs.AloneLemmas.{none_there, the_rule}
 use Rattle.lw_faults.proofs.AssignLemmas.{writes, leaf_there, part_there, IsCallHere}
-use Rattle.lw_faults.proofs.TermLemmas.{call_equations}
+use Rattle.lw_grammar.proofs.TermLemmas.{call_equations}
 
 -- ---- a name that is declared twice
 

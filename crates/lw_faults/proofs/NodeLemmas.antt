@@ -11,7 +11,7 @@ use Rattle.lw_grammar.specs.Nodes as nodes
 use Rattle.lw_grammar.proofs.LeafLemmas.{leaves-Assign, leaves-Call}
 use Rattle.lw_faults.specs.Reads.{IsTokenCall}
 use Rattle.lw_faults.specs.Worked.{no_place, puts, id_element}
-use Rattle.lw_sentences.proofs.CallLemmas.{makes_none}
+use Rattle.lw_grammar.proofs.CallLemmas.{makes_none}
 
 module _ (g : Grammar) where
   -- a rule of one assignment makes nodes, and a rule that is a call of ID does not

@@ -31,7 +31,7 @@ use Rattle.lw_faults.specs.Attributes as kind
 use Rattle.lw_faults.specs.Properties.{MisfitsAttribute, IsRefusedKind, UnknownProperty, WrongPropertyForm}
 use Rattle.lw_faults.specs.Properties as property
 use Rattle.lw_faults.specs.Worked.{StandsAlone, StandsNowhere, no_place, of_rules, rule_returning, calls_endless, endless_fragment, with_endless, terminal_id, x_attribute, i_interface, with_attribute, j_interface, extending_type, u_union, united, x_by, calls_id, i_reference}
-use Rattle.lw_sentences.proofs.Every.{Every, every_of, every_at, differ, first_here, first_later, meant, not_meant}
+use Rattle.lw_grammar.proofs.Every.{Every, every_of, every_at, differ, first_here, first_later, meant, not_meant}
 use Rattle.lw_faults.proofs.LineageLemmas.{one_lineage}
 use Rattle.lw_faults.proofs.StepLemmas.{holds_of_step}
 use Rattle.lw_faults.proofs.WorkedSteps.{to_assign, to_call, to_first}

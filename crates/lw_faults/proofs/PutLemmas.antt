@@ -19,7 +19,7 @@ use Rattle.lw_faults.specs.Attributes.{HasAttribute, HasNoAttribute}
 use Rattle.lw_faults.specs.Properties.{MisfitsAttribute, UnknownProperty, WrongPropertyForm}
 use Rattle.lw_faults.specs.Properties as property
 use Rattle.lw_faults.specs.Worked.{StandsAlone, StandsNowhere, rule_returning, returning}
-use Rattle.lw_sentences.proofs.Every.{every_of}
+use Rattle.lw_grammar.proofs.Every.{every_of}
 use Rattle.lw_faults.proofs.LineageLemmas.{one_attribute}
 use Rattle.lw_faults.proofs.StepLemmas.{inside_rule, rule_there, own_step, holds_behind, own_current}
 use Rattle.lw_faults.proofs.WorkedSteps.{assign_holds, to_assign}

@@ -19,7 +19,7 @@ use Rattle.lw_faults.specs.Reads.{IsTokenCall, MayRead, ReadsAll}
 use Rattle.lw_faults.specs.Reads as read
 use Rattle.lw_faults.specs.Derivations.{IsEntryRule, ReadsNothing, reads_nothing, RepeatsNothing, repeats_nothing, NeverEnds, never_ends, HasPart, itself}
 use Rattle.lw_faults.specs.Worked.{StandsAlone, StandsNowhere, place, no_place, x_id, calling_rule, called_rule, calling_b, alone, repeating, a_a, endless_row, endless}
-use Rattle.lw_sentences.proofs.Every.{differ, first_here, first_later, meant, not_meant}
+use Rattle.lw_grammar.proofs.Every.{differ, first_here, first_later, meant, not_meant}
 use Rattle.lw_faults.proofs.AloneLemmas.{the_rule, one_entry, one_named, one_no_id, only_one}
 use Rattle.lw_faults.proofs.ReadLemmas.{what_reads, can_read, rule_reads, row_reads, row_ends}
 use Rattle.lw_faults.proofs.PartLemmas.{what_part}

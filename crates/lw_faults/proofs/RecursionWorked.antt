@@ -15,7 +15,7 @@ use Rattle.lw_faults.specs.Reads.{IsTokenCall, MayRead, Leads, LeadsAll, ComesFi
 use Rattle.lw_faults.specs.Reads as read
 use Rattle.lw_faults.specs.Derivations.{LeftRecursion, left_recursion}
 use Rattle.lw_faults.specs.Worked.{StandsAlone, StandsNowhere, place, no_place, puts, fragment_rule, recursive_row, recursive_ways, recursive_rule, behind_fragment, left_recursive, right_recursive}
-use Rattle.lw_sentences.proofs.Every.{differ, first_here, first_later, meant, not_meant}
+use Rattle.lw_grammar.proofs.Every.{differ, first_here, first_later, meant, not_meant}
 use Rattle.lw_faults.proofs.ReadLemmas.{what_reads, can_read, what_leads, can_lead, what_value_leads, rule_reads}
 use Rattle.lw_faults.proofs.WorkedReads.{puts_token, puts_leads, puts_can_lead}
 

@@ -14,7 +14,7 @@ use Rattle.lw_grammar.specs.Subtypes.{HasType}
 use Rattle.lw_grammar.proofs.LeafLemmas.{leaves_by}
 use Rattle.lw_faults.specs.Steps.{Step, step, PutsInFragment, GoesThrough, GoesLayer, GetsTo, ComesLayer, ComesAlong, BodyBegins, IsBehind, IsAct, IsNodeCall, NoneActs, IsCurrentType}
 use Rattle.lw_faults.specs.Steps as steps
-use Rattle.lw_sentences.proofs.Every.{Every, every_of}
+use Rattle.lw_grammar.proofs.Every.{Every, every_of}
 
 at_its_number : {X : Type 0} (xs : List X) (i : ℕ) (x : X) → slice_get xs i ≡ Some x → Contains xs x
 at_its_number xs i x is = (i, slice_get_within xs i x is, get_or_from_slice_get xs i x x is)

@@ -12,7 +12,7 @@ use Rattle.lw_grammar.specs.Leaves.{Assign, leaves, Calls, Cross, value_leaves}
 use Rattle.lw_grammar.specs.Named.{IsRule, IsTerminal}
 use Rattle.lw_grammar.specs.NameRules.{IsNameRule}
 use Rattle.lw_grammar.specs.Nodes.{MakesNodes, IsDataType}
-use Rattle.lw_faults.specs.Written.{WritesCall, term_calls, term_ranges}
+use Rattle.lw_grammar.specs.Written.{WritesCall, term_calls, term_ranges}
 
 -- one character each, the first no later than the second
 pub record IsInOrder (first last : List ℕ) : Type 0 where

@@ -9,7 +9,7 @@ use Rattle.lw_grammar.specs.declared.declared_types.UnionDef.{UnionDef}
 use Rattle.lw_grammar.specs.declared.declared_types.Member.TheVariants.{Named}
 use Rattle.lw_grammar.specs.Named.{IsRule, IsTerminal, IsInterface, IsUnion}
 use Rattle.lw_grammar.specs.Reached.{RuleCalls}
-use Rattle.lw_faults.specs.Written.{term_calls, IsKnownType}
+use Rattle.lw_grammar.specs.Written.{term_calls, IsKnownType}
 
 module _ (g : Grammar) where
   -- the interface extends the other, over one step or more, through interfaces alone

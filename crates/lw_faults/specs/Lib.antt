@@ -1,6 +1,5 @@
 pub mod Reads
 pub mod Steps
-pub mod Written
 pub mod Attributes
 pub mod Entries
 pub mod Names
@@ -12,3 +11,5 @@ pub mod Circles
 pub mod BadCalls
 pub mod Faults
 pub mod Worked
+pub mod Finding
+pub mod Telling

@@ -1,5 +1,5 @@
 -- Faults of names: 4 duplicate, 5 unknown rule, 6 unknown type, 18 no name rule.
-use Rattle.std.specs.Prelude.{ℕ, ◌≡◌, ◌<◌, List, Some, None, ◌++◌, map, slice_get, Contains}
+use Rattle.std.specs.Prelude.{ℕ, ◌≡◌, ◌<◌, List, Some, None, slice_get, Contains}
 use Rattle.lw_base.specs.declared.token.Span.{Span}
 use Rattle.lw_grammar.specs.declared.grammar.Grammar.{Grammar}
 use Rattle.lw_grammar.specs.declared.rule.Rule.{Rule}
@@ -9,18 +9,11 @@ use Rattle.lw_grammar.specs.declared.terminal.Terminal.{Terminal}
 use Rattle.lw_grammar.specs.declared.declared_types.Interface.{Interface}
 use Rattle.lw_grammar.specs.declared.declared_types.Attribute.{Attribute}
 use Rattle.lw_grammar.specs.Leaves.{Assign, leaves, Cross, value_leaves}
-use Rattle.lw_grammar.specs.Named.{Declaration, StandsBefore, declared_rule, declared_terminal, declared_interface, declared_union}
+use Rattle.lw_grammar.specs.Named.{Declaration, StandsBefore}
 use Rattle.lw_grammar.specs.NameRules.{IsNameRule}
-use Rattle.lw_faults.specs.Written.{WritesCall, term_calls, IsNoRule, HasDeclaration, NamesType, InfersHere, IsKnownType}
+use Rattle.lw_grammar.specs.Written.{rule_space, type_space, WritesCall, term_calls, IsNoRule, HasDeclaration, NamesType, InfersHere, IsKnownType}
 
 module _ (g : Grammar) where
-  -- the declarations of both spaces of names
-  abbrev pub rule_space : List Declaration
-  rule_space = map declared_rule g.rules ++ map declared_terminal g.terminals
-
-  abbrev pub type_space : List Declaration
-  type_space = map declared_interface g.interfaces ++ map declared_union g.unions
-
   -- A rule, terminal, interface or union has the name of one of its space that stands before it; a type is inferred that is declared; an interface
   -- has a second attribute of one name.
   pub data Duplicate : ℕ → Span → List ℕ → Type 0 where

@@ -13,7 +13,7 @@ use Rattle.lw_grammar.specs.declared.declared_types.Member.{Member}
 use Rattle.lw_grammar.specs.Leaves as leaf
 use Rattle.lw_grammar.specs.Leaves.{ValueLeaf, value_leaves}
 use Rattle.lw_grammar.specs.Subtypes.{HasType, IsDeclared, IsSubtype}
-use Rattle.lw_faults.specs.Written.{IsInferredType}
+use Rattle.lw_grammar.specs.Written.{IsInferredType}
 use Rattle.lw_faults.specs.Steps.{Step, step, IsBehind, CallsNode, IsCurrentType}
 use Rattle.lw_faults.specs.Attributes.{Kind, Plain, NodesOf, HasAttribute, HasNoAttribute, IsKindOf, TakesKind}
 

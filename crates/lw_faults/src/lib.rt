@@ -27,6 +27,7 @@
 //! ([`left_recursion`]), and so on.
 #![tactic(auto)]
 
+pub mod findings;
 mod laws;
 
 pub use laws::{

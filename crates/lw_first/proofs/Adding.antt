@@ -2,10 +2,10 @@
 use Rattle.std.proofs.Common.{◌≡◌, ℕ, ◌+◌, ◌<◌, List, [], ◌∷◌, ◌++◌, Contains, ◌⊎◌, inl, inr, ◌↔◌, take, length, get_or, refl, sym, ap, ◌∙◌, subst}
 use Rattle.std.proofs.lemmas.List.{take_more, get_or_default}
 use Rattle.std.proofs.lemmas.List.Elements.{Contains-append_left, Contains-push, Contains-push_cases}
-use Rattle.lw_heads.specs.declared.head.Head.{Head}
-use Rattle.lw_heads.specs.Heads.{kinds_in}
-use Rattle.lw_heads.specs.Sets.{AddsHeads, IsAmongHeads}
-use Rattle.lw_heads.proofs.HeadLemmas.{adds_as, adds_then}
+use Rattle.lw_first.specs.declared.heads.head.Head.{Head}
+use Rattle.lw_first.specs.Heads.{kinds_in}
+use Rattle.lw_first.specs.Sets.{AddsHeads, IsAmongHeads}
+use Rattle.lw_first.proofs.HeadLemmas.{adds_as, adds_then}
 
 pub ↔-sym : {P Q : Type 0} → P ↔ Q → Q ↔ P
 ↔-sym same = (same.1, same.0)

@@ -7,11 +7,11 @@ use Rattle.lw_grammar.specs.declared.rule.Rule.{Rule}
 use Rattle.lw_grammar.specs.Kinds.{Kinds, AreKinds, IsKeywordKind, IsTerminalKind}
 use Rattle.lw_grammar.specs.Named.{IsRule}
 use Rattle.lw_grammar.proofs.FirstLemmas.{first_place, one_terminal_kind}
-use Rattle.lw_derivations.proofs.OneName.{one_reads}
+use Rattle.lw_kinds.proofs.OneName.{one_reads}
 use Rattle.lw_look.proofs.Apart.{are_apart, no_terminal_is_rule}
-use Rattle.lw_heads.specs.declared.head.Head.{Head}
-use Rattle.lw_heads.specs.Sets.{IsAmongHeads}
-use Rattle.lw_derivations.specs.Crossing.{IsReadBy}
+use Rattle.lw_first.specs.declared.heads.head.Head.{Head}
+use Rattle.lw_first.specs.Sets.{IsAmongHeads}
+use Rattle.lw_kinds.specs.Crossing.{IsReadBy}
 use Rattle.lw_first.specs.Forms.{HeadBefore, FollowedBefore, RuleBefore, KeywordBefore, CallBefore, CrossBefore}
 
 -- a head that has no room is the same before each head

@@ -17,8 +17,8 @@ use Rattle.lw_graph.specs.Walks.{Links, HasEdge}
 use Rattle.lw_look.specs.Sites.{Part, Body, Value, element_parts, value_parts}
 use Rattle.lw_look.specs.ReadBy as read
 use Rattle.lw_look.proofs.Reaching.{unmapped, one_item}
-use Rattle.lw_look.proofs.Standing.{among}
-use Rattle.lw_derivations.specs.Crossing.{IsReadBy}
+use Rattle.lw_base.proofs.Lists.{among}
+use Rattle.lw_kinds.specs.Crossing.{IsReadBy}
 use Rattle.lw_first.specs.Calling.{HasCall, here, inside, AddsCalls}
 
 module _ (g : Grammar) (r : ℕ) where

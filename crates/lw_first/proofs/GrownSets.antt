@@ -4,8 +4,8 @@ use Rattle.std.proofs.lemmas.Bool.{cases_eq, ltb-true, ltb-false}
 use Rattle.std.proofs.lemmas.List.{set-get_or}
 use Rattle.std.proofs.lemmas.List.Sums.{sum_by-set}
 use Rattle.std.proofs.lemmas.Option.{same_Some, slice_get_read}
-use Rattle.lw_heads.specs.declared.head.Head.{Head}
-use Rattle.lw_heads.specs.Sets.{AddsHeads, IsAmongHeads, IsInSet, most_heads}
+use Rattle.lw_first.specs.declared.heads.head.Head.{Head}
+use Rattle.lw_first.specs.Sets.{AddsHeads, IsAmongHeads, IsInSet, most_heads}
 use Rattle.lw_first.specs.Rounds.{heads_missing_in, GrewOrSame}
 
 set_here : {X : Type 0} (xs : List X) (i : ℕ) (y : X) → i < length xs → slice_get (set xs i y) i ≡ Some y

@@ -8,3 +8,12 @@ pub mod PartForms
 pub mod RoundSteps
 pub mod RowForms
 pub mod Turns
+pub mod HeadLemmas
+pub mod Distinct
+pub mod Windows
+pub mod Putting
+pub mod FollowCallForms
+pub mod CallSites
+pub mod UnderWay
+pub mod RowBehind
+pub mod Beginning

@@ -9,7 +9,7 @@ use Rattle.lw_grammar.specs.Kinds.{Kinds}
 use Rattle.lw_look.specs.Heads.{Can, RowCan, ManyCan}
 use Rattle.lw_look.specs.Heads as can
 use Rattle.lw_look.specs.Sites.{Part, Body, Value, element_parts, value_parts}
-use Rattle.lw_subtypes.proofs.Lists.{map_at}
+use Rattle.lw_base.proofs.Lists.{map_at}
 use Rattle.lw_first.specs.Calling.{HasCall, here, inside}
 
 module _ (g : Grammar) (kinds : Kinds) (k : ℕ) (Old New : ℕ → List ℕ → Type 0) where

@@ -1,10 +1,10 @@
 -- Which heads are new, one head after the other.
 use Rattle.std.proofs.Common.{◌≡◌, ℕ, ◌+◌, List, [], ◌∷◌, ◌++◌, ◌⊎◌, inl, inr, length, sym, subst, arith}
 use Rattle.std.proofs.lemmas.List.{length_push}
-use Rattle.lw_heads.specs.declared.head.Head.{Head}
-use Rattle.lw_heads.specs.Heads.{kinds_in}
-use Rattle.lw_heads.specs.Sets.{AddsHeads, IsAmongHeads}
-use Rattle.lw_heads.proofs.HeadLemmas.{among_one, among_joined, adds_keeps, adds_all}
+use Rattle.lw_first.specs.declared.heads.head.Head.{Head}
+use Rattle.lw_first.specs.Heads.{kinds_in}
+use Rattle.lw_first.specs.Sets.{AddsHeads, IsAmongHeads}
+use Rattle.lw_first.proofs.HeadLemmas.{among_one, among_joined, adds_keeps, adds_all}
 use Rattle.lw_first.specs.New.{AreNew}
 
 module _ (start old new fresh : List Head) (head : Head) (was : AreNew fresh start old) (adds : AddsHeads (λ h. h ≡ kinds_in head) old new) where

@@ -13,9 +13,9 @@ use Rattle.lw_grammar.specs.Kinds.{Kinds}
 use Rattle.lw_look.specs.Sites.{Body, Value}
 use Rattle.lw_look.specs.ReadBy as read
 use Rattle.lw_look.specs.Heads as can
-use Rattle.lw_heads.specs.declared.head.Head.{Head}
-use Rattle.lw_heads.specs.Sets.{AddsHeads, IsAmongHeads, IsInSet}
-use Rattle.lw_heads.proofs.HeadLemmas.{adds_as}
+use Rattle.lw_first.specs.declared.heads.head.Head.{Head}
+use Rattle.lw_first.specs.Sets.{AddsHeads, IsAmongHeads, IsInSet}
+use Rattle.lw_first.proofs.HeadLemmas.{adds_as}
 use Rattle.lw_first.specs.Before.{CanBefore, RowCanBefore, ManyCanBefore}
 use Rattle.lw_first.specs.Forms.{KeywordBefore, CallBefore, CrossBefore, ValuesBefore, ChosenBefore, MaybeBefore, OnceBefore}
 

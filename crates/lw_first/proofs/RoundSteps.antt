@@ -7,17 +7,17 @@ use Rattle.std.proofs.lemmas.Option.{same_Some}
 use Rattle.lw_grammar.specs.declared.grammar.Grammar.{Grammar}
 use Rattle.lw_grammar.specs.declared.rule.Rule.{Rule}
 use Rattle.lw_grammar.specs.Kinds.{Kinds}
-use Rattle.lw_sentences.specs.Marks.{Mark, kinds_of}
-use Rattle.lw_sentences.specs.Yields.{RuleGives}
+use Rattle.lw_grammar.specs.Marks.{Mark, kinds_of}
+use Rattle.lw_grammar.specs.Yields.{RuleGives}
 use Rattle.lw_look.specs.Heads.{Can, AreClosedHeads}
 use Rattle.lw_look.specs.Sites.{Body}
 use Rattle.lw_look.specs.Supplied.{NodesAreTold}
 use Rattle.lw_look.proofs.Growing.{grown_head}
 use Rattle.lw_graph.specs.Walks.{Links, HasEdge, successors_of}
-use Rattle.lw_heads.specs.declared.head.Head.{Head}
-use Rattle.lw_heads.specs.declared.head.Head.TheVariants.{Nothing}
-use Rattle.lw_heads.specs.Sets.{AddsHeads, IsAmongHeads, IsInSet}
-use Rattle.lw_heads.proofs.HeadLemmas.{adds_to_none, among_one}
+use Rattle.lw_first.specs.declared.heads.head.Head.{Head}
+use Rattle.lw_first.specs.declared.heads.head.Head.TheVariants.{Nothing}
+use Rattle.lw_first.specs.Sets.{AddsHeads, IsAmongHeads, IsInSet}
+use Rattle.lw_first.proofs.HeadLemmas.{adds_to_none, among_one}
 use Rattle.lw_first.specs.Before.{CanBefore}
 use Rattle.lw_first.specs.Calling.{HasAllCalls, HasCall}
 use Rattle.lw_first.specs.Rounds.{BodyCan, GrowsAt, StaysTrue, AreRulesSettled, SettlesMore, WorksOrRests, NoneWaits, rounds_left}

@@ -6,9 +6,9 @@ use Rattle.lw_grammar.specs.Kinds.{Kinds}
 use Rattle.lw_look.specs.Sites.{Body}
 use Rattle.lw_look.specs.Heads as can
 use Rattle.lw_look.specs.Heads.{Can, ManyCan}
-use Rattle.lw_heads.specs.declared.head.Head.{Head}
-use Rattle.lw_heads.specs.Sets.{AddsHeads, IsAmongHeads, IsInSet}
-use Rattle.lw_heads.proofs.HeadLemmas.{adds_to_none, adds_keeps, adds_all, among_none}
+use Rattle.lw_first.specs.declared.heads.head.Head.{Head}
+use Rattle.lw_first.specs.Sets.{AddsHeads, IsAmongHeads, IsInSet}
+use Rattle.lw_first.proofs.HeadLemmas.{adds_to_none, adds_keeps, adds_all, among_none}
 use Rattle.lw_first.specs.Before.{CanBefore, ManyCanBefore}
 use Rattle.lw_first.specs.Forms.{OnceBefore}
 use Rattle.lw_first.specs.New.{AreNew}

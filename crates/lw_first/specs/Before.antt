@@ -5,10 +5,10 @@ use Rattle.lw_grammar.specs.declared.rule.Element.{Element}
 use Rattle.lw_grammar.specs.Kinds.{Kinds}
 use Rattle.lw_look.specs.Sites.{Part}
 use Rattle.lw_look.specs.Heads.{Can, RowCan, ManyCan}
-use Rattle.lw_heads.specs.declared.head.Head.{Head}
-use Rattle.lw_heads.specs.Sets.{IsAmongHeads, IsInSet}
+use Rattle.lw_first.specs.declared.heads.head.Head.{Head}
+use Rattle.lw_first.specs.Sets.{IsAmongHeads, IsInSet}
 use Rattle.lw_first.specs.declared.first.First.{First}
-use Rattle.lw_lexicon.specs.Known.{IsKnownLexicon}
+use Rattle.lw_kinds.specs.LexiconKnown.{IsKnownLexicon}
 
 -- `sets` has for each rule its heads, and `after` are those behind the part, the row, or the part that is read any number of times
 module _ (g : Grammar) (kinds : Kinds) (k : ℕ) (sets : List (List Head)) where

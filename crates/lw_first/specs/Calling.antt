@@ -6,7 +6,7 @@ use Rattle.lw_grammar.specs.Named.{IsRule}
 use Rattle.lw_graph.specs.Walks.{Links, HasEdge}
 use Rattle.lw_look.specs.Sites.{Part, Body, inner_parts}
 use Rattle.lw_look.specs.ReadBy.{PartReadsBy}
-use Rattle.lw_lexicon.specs.Known.{IsKnownLexicon}
+use Rattle.lw_kinds.specs.LexiconKnown.{IsKnownLexicon}
 use Rattle.lw_first.specs.declared.callers.Caller.{Caller}
 
 module _ (g : Grammar) where

@@ -8,9 +8,9 @@ use Rattle.lw_grammar.specs.Kinds.{Kinds, IsKeywordKind, IsTerminalKind}
 use Rattle.lw_grammar.specs.Named.{IsRule}
 use Rattle.lw_look.specs.Sites.{Body, Value}
 use Rattle.lw_look.specs.Heads.{Can}
-use Rattle.lw_heads.specs.declared.head.Head.{Head}
-use Rattle.lw_heads.specs.Sets.{IsAmongHeads, IsInSet}
-use Rattle.lw_derivations.specs.Crossing.{IsReadBy}
+use Rattle.lw_first.specs.declared.heads.head.Head.{Head}
+use Rattle.lw_first.specs.Sets.{IsAmongHeads, IsInSet}
+use Rattle.lw_kinds.specs.Crossing.{IsReadBy}
 use Rattle.lw_first.specs.Before.{CanBefore, ManyCanBefore}
 
 module _ (k : ℕ) where

@@ -3,3 +3,9 @@ pub mod Calling
 pub mod Forms
 pub mod New
 pub mod Rounds
+pub mod Heads
+pub mod Sets
+pub mod Followed
+pub mod Rows
+pub mod Calls
+pub mod FollowRounds

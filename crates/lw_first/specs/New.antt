@@ -1,7 +1,7 @@
 -- Which heads of a set are new, in words of the code.
 use Rattle.std.specs.Prelude.{ℕ, ◌≡◌, ◌+◌, ◌⊎◌, List, length}
-use Rattle.lw_heads.specs.declared.head.Head.{Head}
-use Rattle.lw_heads.specs.Sets.{IsAmongHeads}
+use Rattle.lw_first.specs.declared.heads.head.Head.{Head}
+use Rattle.lw_first.specs.Sets.{IsAmongHeads}
 
 -- these heads, and no others, the set got
 pub record AreNew (fresh old new : List Head) : Type 0 where

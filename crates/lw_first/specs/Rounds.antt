@@ -7,9 +7,9 @@ use Rattle.lw_grammar.specs.Kinds.{Kinds}
 use Rattle.lw_look.specs.Sites.{Body}
 use Rattle.lw_look.specs.Heads.{Can, AreTrueHeads}
 use Rattle.lw_look.specs.Supplied.{NodesAreTold}
-use Rattle.lw_heads.specs.declared.head.Head.{Head}
-use Rattle.lw_heads.specs.Sets.{IsInSet, most_heads}
-use Rattle.lw_lexicon.specs.Known.{IsKnownLexicon}
+use Rattle.lw_first.specs.declared.heads.head.Head.{Head}
+use Rattle.lw_first.specs.Sets.{IsInSet, most_heads}
+use Rattle.lw_kinds.specs.LexiconKnown.{IsKnownLexicon}
 use Rattle.lw_first.specs.declared.rounds.Work.{Work}
 use Rattle.lw_first.specs.Calling.{HasAllCalls}
 

@@ -5,14 +5,14 @@ ghost use Rattle.lw_grammar.specs.declared.rule.Rule.{Rule};
 ghost use Rattle.lw_grammar.specs.declared.rule.Value0.{Value0};
 ghost use Rattle.lw_grammar.specs.Named.{IsRule};
 ghost use Rattle.lw_look.specs.Sites.{Body, Value};
-ghost use Rattle.lw_derivations.specs.Crossing.{IsReadBy};
-ghost use Rattle.lw_lexicon.specs.Known.{IsKnownLexicon};
+ghost use Rattle.lw_kinds.specs.Crossing.{IsReadBy};
+ghost use Rattle.lw_kinds.specs.LexiconKnown.{IsKnownLexicon};
 ghost use Rattle.lw_first.specs.Calling.{AddsCalls, HasAllCalls, HasCall, IsCaller};
 
 use lw_base::{Name, NoMemory};
 use lw_grammar::{Element, Value0};
 use lw_graph::Graph;
-use lw_lexicon::Lexicon;
+use lw_kinds::lexicon::Lexicon;
 use lw_numbers::Called;
 use std::alloc::Global;
 

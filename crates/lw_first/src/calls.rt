@@ -1,15 +1,15 @@
 // What a keyword and a call may begin with.
 ghost use Rattle.std.specs.Prelude.{◌∷◌, ◌≤◌, [], OnOk, length};
 ghost use Rattle.lw_grammar.specs.Kinds.{Kinds, AreKinds};
-ghost use Rattle.lw_heads.specs.Heads.{kinds_in};
-ghost use Rattle.lw_heads.specs.Sets.{AddsHeads};
+ghost use Rattle.lw_first.specs.Heads.{kinds_in};
+ghost use Rattle.lw_first.specs.Sets.{AddsHeads};
 ghost use Rattle.lw_first.specs.Before.{IsReady};
 ghost use Rattle.lw_first.specs.Forms.{CallBefore, CrossBefore, FollowedBefore, HeadBefore, KeywordBefore, RuleBefore};
 
 use crate::First;
+use crate::heads::{Head, HeadSet};
 use lw_base::{KindId, Name, NoMemory};
-use lw_heads::{Head, HeadSet};
-use lw_lexicon::Callee;
+use lw_kinds::lexicon::Callee;
 
 impl First<'_> {
     /// Puts in what may come where the keyword stands and one of these heads is behind it.

@@ -2,16 +2,16 @@
 ghost use Rattle.std.specs.Prelude.{IfOk, OnOk};
 ghost use Rattle.lw_grammar.specs.Kinds.{Kinds, AreKinds};
 ghost use Rattle.lw_look.specs.Sites.{Body, Value};
-ghost use Rattle.lw_heads.specs.Sets.{AddsHeads};
+ghost use Rattle.lw_first.specs.Sets.{AddsHeads};
 ghost use Rattle.lw_first.specs.Before.{CanBefore, RowCanBefore, ManyCanBefore, IsReady};
 ghost use Rattle.lw_first.specs.Forms.{ChosenBefore, MaybeBefore, OnceBefore, ValuesBefore};
 ghost use Rattle.lw_first.specs.New.{AreNew};
 
 use crate::fresh::{put_all, put_new};
+use crate::heads::{Head, HeadSet};
 use lw_base::NoMemory;
 use lw_grammar::{Element, Value0};
-use lw_heads::{Head, HeadSet};
-use lw_lexicon::Lexicon;
+use lw_kinds::lexicon::Lexicon;
 use std::alloc::Global;
 
 /// What calls of a grammar's rules may begin with, by which it is found what its parts may.

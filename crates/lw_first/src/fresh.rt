@@ -1,10 +1,10 @@
 // Heads that are put into a set, all of them, and which of them are new.
 ghost use Rattle.std.specs.Prelude.{IfOk, OnOk};
-ghost use Rattle.lw_heads.specs.Sets.{AddsHeads, IsAmongHeads};
+ghost use Rattle.lw_first.specs.Sets.{AddsHeads, IsAmongHeads};
 ghost use Rattle.lw_first.specs.New.{AreNew};
 
+use crate::heads::{Head, HeadSet};
 use lw_base::NoMemory;
-use lw_heads::{Head, HeadSet};
 use std::alloc::Global;
 
 /// Puts these heads in.

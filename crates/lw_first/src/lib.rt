@@ -22,7 +22,9 @@
 mod callers;
 mod calls;
 mod first;
+pub mod follow;
 mod fresh;
+pub mod heads;
 mod rounds;
 
 pub use first::First;

@@ -3,16 +3,16 @@ ghost use Rattle.std.specs.Prelude.{ℕ, ◌≡◌, ◌<◌, ◌≤◌, All, Con
 ghost use Rattle.lw_grammar.specs.Kinds.{Kinds, AreKinds};
 ghost use Rattle.lw_look.specs.Heads.{AreClosedHeads, AreTrueHeads};
 ghost use Rattle.lw_look.specs.Supplied.{NodesAreTold};
-ghost use Rattle.lw_heads.specs.Sets.{IsInSet};
-ghost use Rattle.lw_lexicon.specs.Known.{IsKnownLexicon};
+ghost use Rattle.lw_first.specs.Sets.{IsInSet};
+ghost use Rattle.lw_kinds.specs.LexiconKnown.{IsKnownLexicon};
 ghost use Rattle.lw_first.specs.Rounds.{GrewOrSame, GrowsAt, IsWork, NoneWaits, SettlesMore, StaysTrue, WorksOrRests};
 
 use crate::First;
 use crate::callers::callers_of_rules;
+use crate::heads::{Head, HeadSet};
 use lw_base::NoMemory;
 use lw_graph::Graph;
-use lw_heads::{Head, HeadSet};
-use lw_lexicon::Lexicon;
+use lw_kinds::lexicon::Lexicon;
 use std::alloc::Global;
 
 /// For each rule what its calls may begin with, cut to `k` kinds: all heads, and no others. Rules are gone through by rounds until

@@ -43,6 +43,3 @@ pub use limits::{LONGEST_BODY, LONGEST_HEADER_PART, LONGEST_SESSION};
 pub use reader::FrameReader;
 pub use whole::{Frames, read_pieces};
 pub use write::{frame, header_part};
-
-#[cfg(test)]
-mod tests;

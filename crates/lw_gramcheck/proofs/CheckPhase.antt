@@ -11,10 +11,10 @@ use Rattle.lw_faults.specs.Circles.{CircularCall}
 use Rattle.lw_faults.specs.BadCalls.{BadCall, BadAssignment}
 use Rattle.lw_faults.specs.Faults.{fault, IsCheckFault, HasNoCircle, AreFaults, AreCheckFaults}
 use Rattle.lw_faults.specs.Faults as is
-use Rattle.lw_findings.specs.Finding.{Finds, IsFaultOf}
-use Rattle.lw_findings.proofs.Joining.{Finds-iff, Finds-then}
-use Rattle.lw_parts.specs.Plain as plain
-use Rattle.lw_parts.specs.Plain.{IsPlainFault}
+use Rattle.lw_faults.specs.Finding.{Finds, IsFaultOf}
+use Rattle.lw_faults.proofs.Joining.{Finds-iff, Finds-then}
+use Rattle.lw_gramcheck.specs.Plain as plain
+use Rattle.lw_gramcheck.specs.Plain.{IsPlainFault}
 use Rattle.lw_gramcheck.specs.Reading as reads
 use Rattle.lw_gramcheck.specs.Reading.{IsReadingFault}
 

@@ -1,2 +1,9 @@
 pub mod Reading
 pub mod Judging
+pub mod Knowing
+pub mod Parts
+pub mod Sites
+pub mod BadSites
+pub mod Edges
+pub mod Plain
+pub mod Found

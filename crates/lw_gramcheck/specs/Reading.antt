@@ -3,7 +3,7 @@ use Rattle.lw_grammar.specs.declared.fault.GrammarFault.{GrammarFault}
 use Rattle.lw_grammar.specs.declared.grammar.Grammar.{Grammar}
 use Rattle.lw_faults.specs.Derivations.{LeftRecursion, ReadsNothing, RepeatsNothing, NeverEnds}
 use Rattle.lw_faults.specs.Misplaced.{MisplacedAction, MisplacedCall}
-use Rattle.lw_findings.specs.Finding.{IsFaultOf}
+use Rattle.lw_faults.specs.Finding.{IsFaultOf}
 
 pub data IsReadingFault (g : Grammar) (f : GrammarFault) : Type 0 where
   left_recursion : IsFaultOf 7 (LeftRecursion g) f → IsReadingFault g f

@@ -1,16 +1,16 @@
 // From a grammar and its types to the faults of its rules.
 ghost use Rattle.std.specs.Prelude.{◌≤◌, IfOk, IsTrue, OnOk};
 ghost use Rattle.lw_faults.specs.Faults.{AreCheckFaults};
-ghost use Rattle.lw_findings.specs.Finding.{Finds};
+ghost use Rattle.lw_faults.specs.Finding.{Finds};
 ghost use Rattle.lw_types.specs.Inferred.{AreTypesOf};
 ghost use Rattle.lw_gramcheck.specs.Reading.{IsReadingFault};
 
+use crate::order::find_order_faults;
+use crate::parts::{Checker, find_circular_calls, find_plain_faults};
 use lw_base::{Items, NoMemory};
-use lw_derivations::{Reading, find_derivation_faults};
-use lw_findings::Findings;
+use lw_faults::findings::Findings;
 use lw_grammar::{Grammar, GrammarFault};
-use lw_order::find_order_faults;
-use lw_parts::{Checker, find_circular_calls, find_plain_faults};
+use lw_kinds::derivations::{Reading, find_derivation_faults};
 use lw_types::Types;
 use std::alloc::Global;
 

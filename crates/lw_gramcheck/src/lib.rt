@@ -15,6 +15,8 @@
 mod checking;
 mod fault;
 mod judging;
+pub mod order;
+pub mod parts;
 
 pub use checking::check;
 pub use fault::JudgeFault;

@@ -1,10 +1,8 @@
 -- The items at the places that pass: they are settled, and each is one of the list.
 use Rattle.std.proofs.Common.{◌≡◌, ℕ, zero, suc, List, ◌∷◌, Contains, refl, ap, arith}
+use Rattle.lw_base.proofs.Lists.{there}
 use Rattle.lw_grammar.specs.Kept.{KeepsPassingFrom}
 use Rattle.lw_grammar.specs.Kept as keep
-
-pub there : {X : Type 0} (x : X) (xs : List X) (y : X) → Contains xs y → Contains (x ∷ xs) y
-there x xs y (k, inside, is) = (suc k, omega arith, is)
 
 module _ {X : Type 0} (passes : ℕ → Type 0) where
   pub kept_once : {i : ℕ} {xs ys zs : List X} → KeepsPassingFrom passes i xs ys → KeepsPassingFrom passes i xs zs → ys ≡ zs

@@ -3,3 +3,17 @@ pub mod FirstUses
 pub mod KeptLemmas
 pub mod KindLemmas
 pub mod LeafLemmas
+pub mod Every
+pub mod Meaning
+pub mod Joined
+pub mod Starting
+pub mod KeywordRows
+pub mod TwoWays
+pub mod LeavesPutIn
+pub mod CallLemmas
+pub mod StatesWorked
+pub mod DottedWorked
+pub mod FragmentWorked
+pub mod TwiceWorked
+pub mod TermLemmas
+pub mod Naming

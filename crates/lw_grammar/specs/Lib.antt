@@ -8,3 +8,9 @@ pub mod Kept
 pub mod Kinds
 pub mod KindTexts
 pub mod Size
+pub mod Marks
+pub mod Yields
+pub mod Sentences
+pub mod Worked
+pub mod WellFormed
+pub mod Written

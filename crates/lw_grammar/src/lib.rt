@@ -11,8 +11,10 @@
 
 mod declared_types;
 mod fault;
+pub mod formed;
 mod grammar;
 mod rule;
+pub mod sentences;
 mod terminal;
 
 pub use declared_types::{Attribute, Interface, Member, UnionDef, ValueKind};

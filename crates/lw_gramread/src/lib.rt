@@ -1,30 +1,30 @@
-//! Reading grammar files: the tokens of a file, and what they say.
+//! Which grammar a grammar file says: the syntax of grammar files, and its reader.
 //!
-//! Its model: a file is its list of bytes, and its tokens are cut from it as `specs/FileTokens.antt`
-//! and `specs/FileCut.antt` say, by the form that each token has to have. White space and comments are
-//! passed over. Where no token stands, a token of one character does that can follow nowhere, so that
-//! every text has one cut ([`every_text_has_one_cut`]), and a reader refuses at a token. The forms are
-//! those of Langium's grammar language, of which these files are a stated part.
+//! Its model: the tokens of a file, as `lw_gramlex` cuts them, say something each, a [`Lexeme`]. Lists of
+//! lexemes spell the things of a grammar, rule by rule, and with each thing its value in the plain types of
+//! `lw_grammar`, places included. The rules are those of Langium's grammar language, of which these are a
+//! stated part. The definitions stand in `specs/`:
 //!
-//! It promises that [`front_tokens`] gives the cut of a text, up to the first token that can follow
-//! nowhere; that each token stands at a part of the text that splits no character; and that its bytes
-//! have the form of its kind, which is what the functions on a token's text ask for.
+//! - `Lexemes.antt`: what a token says; `OptionalTokens.antt`, `Spans.antt`: what the rules share.
+//! - `DeclaredTypes.antt`, `ParserRules.antt`, `TerminalRules.antt`: what spells an interface or a union, a
+//!   parser rule, a terminal.
+//! - `Syntax.antt`: what spells a file, and which grammar a text says.
+//! - `Forms.antt`: which form that is left out a token tells; `Refusals.antt`: where a file goes wrong.
+//! - `PlacesWithin.antt`: that all places of what a file says are in its text.
+//!
+//! It promises that [`read_grammar`] gives the grammar that a text says, and that it says no other; and else
+//! the first token that cannot follow those before it, or the first parenthesis that is opened inside 64
+//! others. A token that tells a form which is left out is told with that form, and no other is. All places
+//! that it gives are in the text.
+//!
+//! `Steps.antt` and the files of steps beside it are the reader's own way through a file; the lemmas show
+//! that what it comes to is what the rules say.
 #![tactic(auto)]
 
-mod cut;
-mod hidden;
-mod laws;
-mod regex;
-mod string;
-mod symbol;
-mod token;
-mod values;
-mod word;
+mod form;
+mod lexeme;
+mod reader;
 
-pub use cut::front_tokens;
-pub use laws::{comments_and_slashes, every_text_has_one_cut};
-pub use token::{FileKind, FileToken, Symbol};
-pub use values::{is_reserved, read_escapes, regex_text, string_value, word_name};
-
-#[cfg(test)]
-mod tests;
+pub use form::Form;
+pub use lexeme::{Lexeme, Reserved};
+pub use reader::{ReadFault, read_grammar};

@@ -28,6 +28,3 @@ mod order;
 
 pub use graph::Graph;
 pub use node_set::NodeSet;
-
-#[cfg(test)]
-mod tests;

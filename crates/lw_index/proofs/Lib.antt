@@ -13,3 +13,11 @@ pub mod Gathered
 pub mod OthersLemmas
 pub mod Exchanged
 pub mod LetteredLemmas
+pub mod Order
+pub mod Turns
+pub mod Halves
+pub mod PairOrder
+pub mod Pairing
+pub mod Gathering
+pub mod RefsView
+pub mod Holding

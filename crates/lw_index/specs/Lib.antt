@@ -9,3 +9,7 @@ pub mod Least
 pub mod Others
 pub mod Entered
 pub mod Lettered
+pub mod Led
+pub mod Users
+pub mod Uses
+pub mod Pairs

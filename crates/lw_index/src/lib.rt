@@ -26,9 +26,7 @@ mod exporters;
 mod index;
 mod names;
 mod parts;
+pub mod refs;
 
 pub use index::Index;
 pub use parts::{Answer, Delta, Document, Export, Target};
-
-#[cfg(test)]
-mod tests;

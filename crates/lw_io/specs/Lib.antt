@@ -9,3 +9,5 @@ pub mod MemSink
 pub mod MemStore
 pub mod MemPatterns
 pub mod Whole
+pub mod Paths
+pub mod Written

@@ -25,6 +25,7 @@ mod mem_patterns;
 mod mem_sink;
 mod mem_source;
 mod mem_store;
+pub mod paths;
 mod patterns;
 mod real_patterns;
 mod refusals;
@@ -48,6 +49,3 @@ pub use std_sink::StdSink;
 pub use std_source::StdSource;
 pub use store::{Found, Store};
 pub use whole::{ReadFault, WriteFault, read_all, write_all};
-
-#[cfg(test)]
-mod tests;

@@ -14,9 +14,9 @@ use Rattle.indexmap.specs.IndexSet.{insert_key, insert_all}
 use Rattle.lw_grammar.specs.Kinds.{first_uses}
 use Rattle.lw_grammar.specs.Named.{IsFirst}
 use Rattle.lw_grammar.proofs.FirstUses.{same_text}
-use Rattle.lw_sentences.proofs.Every.{every_of}
+use Rattle.lw_grammar.proofs.Every.{every_of}
 use Rattle.lw_numbers.proofs.Gathering.{inserted_first}
-use Rattle.lw_derivations.proofs.PassingReads.{at_front, further}
+use Rattle.lw_kinds.proofs.PassingReads.{at_front, further}
 use Rattle.lw_kinds.specs.Gathering.{put_use, put_uses}
 use Rattle.lw_kinds.specs.Uses.{Use}
 

@@ -11,7 +11,7 @@ use Rattle.lw_grammar.specs.declared.rule.Op.{Op}
 use Rattle.lw_grammar.specs.declared.rule.Value0.{Value0}
 use Rattle.lw_grammar.specs.Leaves as leaf
 use Rattle.lw_grammar.specs.Leaves.{Leaf, leaves, ValueLeaf, Literal, Calls, Cross, value_leaves}
-use Rattle.lw_derivations.specs.Crossing.{IsReadBy}
+use Rattle.lw_kinds.specs.Crossing.{IsReadBy}
 use Rattle.lw_kinds.specs.declared.gathering.Gathered.{Gathered}
 use Rattle.lw_kinds.specs.Calls.{PartCallsName, LeafCallsName, IsTerminalSo, PartsCallTerminal, LeavesCallTerminal, Marks}
 use Rattle.lw_kinds.specs.Gathering.{GathersParts, GathersLeaves, put_use, put_uses}

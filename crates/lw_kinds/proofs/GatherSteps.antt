@@ -4,8 +4,8 @@ use Rattle.std.proofs.lemmas.List.Concat.{flat_map-append}
 use Rattle.std.proofs.lemmas.List.Elements.{Contains-append_left, Contains-append_right, Contains-append_cases}
 use Rattle.lw_grammar.specs.declared.grammar.Grammar.{Grammar}
 use Rattle.lw_grammar.specs.Leaves.{Leaf, ValueLeaf}
-use Rattle.lw_sentences.proofs.Every.{every_of}
-use Rattle.lw_derivations.proofs.PassingReads.{at_front}
+use Rattle.lw_grammar.proofs.Every.{every_of}
+use Rattle.lw_kinds.proofs.PassingReads.{at_front}
 use Rattle.lw_kinds.specs.declared.gathering.Gathered.{Gathered}
 use Rattle.lw_kinds.specs.Calls.{PartCallsName, LeafCallsName, IsTerminalSo, PartsCallTerminal, LeavesCallTerminal}
 use Rattle.lw_kinds.specs.Gathering.{Gathers, GathersParts, GathersLeaves, put_uses}

@@ -4,7 +4,7 @@ use Rattle.lw_base.specs.declared.numbers.RuleId.{RuleId}
 use Rattle.lw_grammar.specs.declared.grammar.Grammar.{Grammar}
 use Rattle.lw_grammar.specs.NameRules.{IsNameRule}
 use Rattle.lw_numbers.specs.Numbering.{IsNumbered}
-use Rattle.lw_derivations.proofs.OneName.{one_reads}
+use Rattle.lw_kinds.proofs.OneName.{one_reads}
 use Rattle.lw_kinds.specs.NameRuleNumbers.{IsNameRuleNumber}
 
 module _ (g : Grammar) (wanted : List ℕ) where

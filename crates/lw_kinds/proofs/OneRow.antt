@@ -10,7 +10,7 @@ use Rattle.lw_grammar.specs.Reached.{IsReached}
 use Rattle.lw_grammar.proofs.FirstLemmas.{first_item}
 use Rattle.lw_grammar.proofs.KeptLemmas.{kept_once}
 use Rattle.lw_grammar.proofs.KindLemmas.{one_kinds}
-use Rattle.lw_derivations.proofs.PassingReads.{at_front, further}
+use Rattle.lw_kinds.proofs.PassingReads.{at_front, further}
 use Rattle.lw_kinds.specs.Rows.{KindRow, AreKindRowOf}
 use Rattle.lw_kinds.specs.Uses.{Use, IsFirstUse, rule_keyword_uses}
 use Rattle.lw_kinds.proofs.FirstTexts.{texts_of}

@@ -5,8 +5,8 @@ use Rattle.std.proofs.lemmas.Bool.{cases_eq, cases_lt}
 use Rattle.std.proofs.lemmas.List.{map-append, get_or_append_left, get_or_push, length-append}
 use Rattle.std.proofs.lemmas.List.Elements.{Contains-get_or, Contains-append_left, Contains-append_right, Contains-append_cases}
 use Rattle.lw_grammar.specs.Kept as keep
-use Rattle.lw_sentences.proofs.Every.{every_of}
-use Rattle.lw_derivations.proofs.PassingReads.{at_front}
+use Rattle.lw_grammar.proofs.Every.{every_of}
+use Rattle.lw_kinds.proofs.PassingReads.{at_front}
 use Rattle.lw_kinds.specs.Gathering.{ArePlacesBelow}
 use Rattle.lw_kinds.proofs.KeptSteps.{keep_next, leave_next}
 

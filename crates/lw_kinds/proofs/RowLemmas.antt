@@ -15,8 +15,8 @@ use Rattle.lw_grammar.specs.Kinds as kind
 use Rattle.lw_grammar.specs.Leaves.{leaves}
 use Rattle.lw_grammar.specs.Reached.{IsReached}
 use Rattle.lw_graph.specs.Walks.{HasNode}
-use Rattle.lw_derivations.specs.Edges.{SomeBelow}
-use Rattle.lw_derivations.proofs.BelowLemmas.{below_none, below_more}
+use Rattle.lw_kinds.specs.Edges.{SomeBelow}
+use Rattle.lw_kinds.proofs.BelowLemmas.{below_none, below_more}
 use Rattle.lw_kinds.specs.declared.gathering.Gathered.{Gathered}
 use Rattle.lw_kinds.specs.Calls.{RuleMarks}
 use Rattle.lw_kinds.specs.Gathering.{GathersLeaves, IsGatheredBelow, IsKindBy, ArePlacesBelow, put_uses}

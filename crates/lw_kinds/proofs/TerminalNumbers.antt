@@ -15,8 +15,8 @@ use Rattle.lw_grammar.specs.Kinds as kind
 use Rattle.lw_grammar.specs.Named.{IsTerminal}
 use Rattle.lw_grammar.proofs.FirstLemmas.{first_place, first_item}
 use Rattle.lw_grammar.proofs.KindLemmas.{one_kinds}
-use Rattle.lw_subtypes.proofs.Reaching.{has_place, at_place}
-use Rattle.lw_derivations.proofs.TokenCalls.{got_there}
+use Rattle.lw_numbers.proofs.Reaching.{has_place, at_place}
+use Rattle.lw_kinds.proofs.TokenCalls.{got_there}
 use Rattle.lw_kinds.specs.Rows.{KindRow, AreKindRowOf}
 use Rattle.lw_kinds.specs.Uses.{Use}
 use Rattle.lw_kinds.proofs.FirstTexts.{texts_of}

@@ -17,9 +17,9 @@ use Rattle.lw_grammar.specs.Reached as reached
 use Rattle.lw_grammar.proofs.FirstLemmas.{first_place}
 use Rattle.lw_grammar.proofs.KeptLemmas.{kept_once}
 use Rattle.lw_grammar.proofs.LeafLemmas.{leaf_equations}
-use Rattle.lw_sentences.specs.Worked.{nowhere, id_terminal, int_terminal, space_terminal}
-use Rattle.lw_sentences.proofs.CallLemmas.{calls_only}
-use Rattle.lw_sentences.proofs.Every.{every_of, every_at, differ, first_here, first_later, meant}
+use Rattle.lw_grammar.specs.Worked.{nowhere, id_terminal, int_terminal, space_terminal}
+use Rattle.lw_grammar.proofs.CallLemmas.{calls_only}
+use Rattle.lw_grammar.proofs.Every.{every_of, every_at, differ, first_here, first_later, meant}
 use Rattle.lw_kinds.specs.Rows.{AreKindRowOf}
 use Rattle.lw_kinds.specs.Uses.{Use, IsFirstUse, leaf_keyword_uses, rule_keyword_uses}
 use Rattle.lw_kinds.specs.Worked.{quoted_at, reached_rule, unused_first, unused_first_row, use_at}

@@ -7,7 +7,7 @@ use Rattle.lw_grammar.specs.Leaves.{Leaf, Call, Assign, ValueLeaf, Literal, Call
 use Rattle.lw_grammar.specs.Named.{IsTerminal}
 use Rattle.lw_grammar.specs.Reached.{IsReached, RuleCalls}
 use Rattle.lw_graph.specs.Walks.{HasNode}
-use Rattle.lw_derivations.specs.Crossing.{IsReadBy}
+use Rattle.lw_kinds.specs.Crossing.{IsReadBy}
 
 module _ (g : Grammar) where
   -- the part of a value calls the rule or terminal of this name

@@ -9,9 +9,9 @@ use Rattle.lw_grammar.specs.Kept.{KeepsPassing}
 use Rattle.lw_grammar.specs.Leaves.{Leaf, ValueLeaf}
 use Rattle.lw_grammar.specs.Reached.{IsReached}
 use Rattle.lw_numbers.specs.Tables.{AreNumbersOf}
-use Rattle.lw_name_rules.specs.NameTable.{AreNameRulesOf}
+use Rattle.lw_numbers.specs.NameTable.{AreNameRulesOf}
 use Rattle.lw_graph.specs.Walks.{HasNode}
-use Rattle.lw_derivations.specs.Edges.{SomeBelow}
+use Rattle.lw_kinds.specs.Edges.{SomeBelow}
 use Rattle.lw_kinds.specs.declared.gathering.Gathered.{Gathered}
 use Rattle.lw_kinds.specs.declared.names.Names.{Names}
 use Rattle.lw_kinds.specs.Calls.{PartsCallTerminal, LeavesCallTerminal, RuleMarks, Marks}

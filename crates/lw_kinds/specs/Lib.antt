@@ -4,3 +4,12 @@ pub mod NameRuleNumbers
 pub mod Rows
 pub mod Uses
 pub mod Worked
+pub mod Crossing
+pub mod Known
+pub mod Passing
+pub mod Rounds
+pub mod Edges
+pub mod Reading
+pub mod Telling
+pub mod LexiconKnown
+pub mod Callees

@@ -5,7 +5,7 @@ use Rattle.lw_grammar.specs.declared.grammar.Grammar.{Grammar}
 use Rattle.lw_grammar.specs.declared.rule.Rule.{Rule}
 use Rattle.lw_grammar.specs.declared.rule.Element.TheVariants.{Keyword, Call, Group}
 use Rattle.lw_grammar.specs.declared.terminal.Terminal.{Terminal}
-use Rattle.lw_sentences.specs.Worked.{nowhere, named_rule, id_terminal, int_terminal, space_terminal, rules_alone}
+use Rattle.lw_grammar.specs.Worked.{nowhere, named_rule, id_terminal, int_terminal, space_terminal, rules_alone}
 use Rattle.lw_kinds.specs.Rows.{KindRow}
 use Rattle.lw_kinds.specs.Uses.{Use}
 

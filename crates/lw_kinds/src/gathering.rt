@@ -2,16 +2,16 @@
 ghost use Rattle.std.specs.Prelude.{◌≡◌, [], false, IfOk, OnOk, length, replicate};
 ghost use Rattle.std.specs.List.{flat_map};
 ghost use Rattle.lw_grammar.specs.Leaves.{leaves, value_leaves};
-ghost use Rattle.lw_derivations.specs.Crossing.{IsReadBy};
-ghost use Rattle.lw_derivations.specs.Reading.{IsReadingOf};
+ghost use Rattle.lw_kinds.specs.Crossing.{IsReadBy};
+ghost use Rattle.lw_kinds.specs.Reading.{IsReadingOf};
 ghost use Rattle.lw_kinds.specs.Calls.{IsTerminalSo, Marks};
 ghost use Rattle.lw_kinds.specs.Gathering.{AreNamesKnown, HasMarks, GathersParts, GathersLeaves, IsGatheredBelow, put_use};
 
+use crate::derivations::Reading;
 use crate::kind_table::FirstUse;
 use crate::names::{Names, terminal_place};
 use indexmap::IndexMap;
 use lw_base::{Name, NoMemory};
-use lw_derivations::Reading;
 use lw_grammar::{Element, Value0};
 use std::alloc::Global;
 

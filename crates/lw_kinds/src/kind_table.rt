@@ -4,20 +4,20 @@ ghost use Rattle.lw_grammar.specs.declared.grammar.Grammar.{Grammar};
 ghost use Rattle.lw_grammar.specs.Kinds.{Kinds, AreKinds, IsKeywordKind, IsTerminalKind};
 ghost use Rattle.lw_grammar.specs.Size.{size};
 ghost use Rattle.lw_numbers.specs.Tables.{AreNumbersOf};
-ghost use Rattle.lw_name_rules.specs.NameTable.{AreNameRulesOf};
-ghost use Rattle.lw_derivations.specs.Reading.{IsReadingOf};
+ghost use Rattle.lw_numbers.specs.NameTable.{AreNameRulesOf};
+ghost use Rattle.lw_kinds.specs.Reading.{IsReadingOf};
 ghost use Rattle.lw_kinds.specs.Rows.{AreKindRowOf};
 ghost use Rattle.lw_kinds.specs.Uses.{IsFirstUse};
 
+use crate::derivations::Reading;
 use crate::gathering::Gathered;
 use crate::names::{Names, terminal_place};
 use crate::terminals::kind_places;
 use indexmap::IndexMap;
 use lw_base::{KindId, Name, NoMemory, Span};
-use lw_derivations::Reading;
 use lw_grammar::Grammar;
-use lw_name_rules::NameRules;
 use lw_numbers::Numbers;
+use lw_numbers::name_rules::NameRules;
 use std::alloc::Global;
 use std::marker::Model;
 

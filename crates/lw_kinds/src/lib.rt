@@ -19,9 +19,11 @@
 //! time, as expected, and a terminal in time that is logarithmic in the number of terminals.
 #![tactic(auto)]
 
+pub mod derivations;
 mod gathering;
 mod kind_table;
 mod laws;
+pub mod lexicon;
 mod names;
 mod naming;
 mod terminals;

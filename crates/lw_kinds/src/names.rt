@@ -3,12 +3,12 @@ ghost use Rattle.std.specs.Prelude.{ℕ, List, MatchOption};
 ghost use Rattle.lw_grammar.specs.declared.terminal.Terminal.{Terminal};
 ghost use Rattle.lw_grammar.specs.Named.{IsTerminal};
 ghost use Rattle.lw_numbers.specs.Tables.{AreNumbersOf};
-ghost use Rattle.lw_derivations.specs.Crossing.{IsReadBy};
+ghost use Rattle.lw_kinds.specs.Crossing.{IsReadBy};
 ghost use Rattle.lw_kinds.specs.Gathering.{AreNamesKnown};
 
 use lw_base::Name;
 use lw_grammar::Grammar;
-use lw_name_rules::NameRules;
+use lw_numbers::name_rules::NameRules;
 use lw_numbers::{Called, Numbers};
 
 /// A grammar, and what is known of its names.

@@ -2,12 +2,12 @@
 ghost use Rattle.std.specs.Prelude.{ℕ, MatchOption};
 ghost use Rattle.lw_grammar.specs.declared.grammar.Grammar.{Grammar};
 ghost use Rattle.lw_numbers.specs.Tables.{AreNumbersOf};
-ghost use Rattle.lw_name_rules.specs.NameTable.{AreNameRulesOf};
+ghost use Rattle.lw_numbers.specs.NameTable.{AreNameRulesOf};
 ghost use Rattle.lw_kinds.specs.NameRuleNumbers.{IsNameRuleNumber};
 
 use lw_base::{Name, RuleId};
-use lw_name_rules::NameRules;
 use lw_numbers::Numbers;
+use lw_numbers::name_rules::NameRules;
 
 /// The number of the rule or terminal that reads a cross-reference to this type where none is written. Rules and terminals are counted
 /// together, rules first. Both look-ups take constant time, as expected.

@@ -16,6 +16,3 @@ mod counts;
 
 pub use breaks::next_break;
 pub use counts::{break_count, char_count, utf16_len};
-
-#[cfg(test)]
-mod tests;

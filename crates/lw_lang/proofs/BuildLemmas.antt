@@ -9,10 +9,10 @@ use Rattle.lw_grammar.specs.Size.{size, element_size, term_size}
 use Rattle.lw_load.specs.declared.limits.TheConstants.{LARGEST_GRAMMAR}
 use Rattle.lw_gramcheck.specs.Judging.{IsFaultless}
 use Rattle.lw_kinds.specs.Rows.{KindRow, AreKindRowOf}
-use Rattle.lw_terminals.specs.TokenKinds.{TokenKinds}
-use Rattle.lw_token_sets.specs.TokenSets.{IsTokenSetOf, HasTokens}
-use Rattle.lw_token_sets.proofs.Unlisted.{taken_unlisted}
-use Rattle.lw_token_sets.specs.Taken.{HasTaken}
+use Rattle.lw_matchers.specs.TokenKinds.{TokenKinds}
+use Rattle.lw_terminals.specs.TokenSets.{IsTokenSetOf, HasTokens}
+use Rattle.lw_terminals.proofs.Unlisted.{taken_unlisted}
+use Rattle.lw_terminals.specs.Taken.{HasTaken}
 use Rattle.lw_lang.specs.Compiled.{HasSoundTokens, HasTables, IsClear, GrammarCauses, CountsPatterns}
 use Rattle.lw_lang.specs.Language.{LanguageView}
 use Rattle.lw_lang.specs.declared.fault.CompileFault.{CompileFault}

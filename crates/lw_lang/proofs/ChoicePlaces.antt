@@ -16,11 +16,11 @@ use Rattle.lw_grammar.specs.Kinds.{Kinds}
 use Rattle.lw_look.specs.Sites.{PartSite, rule_of, Part, Body, Value, element_parts, value_parts, inner_parts, IsPartAt, ElementAt, ValueAt}
 use Rattle.lw_look.specs.Sites as at
 use Rattle.lw_look.proofs.Reaching.{among_parts, unmapped, one_item}
-use Rattle.lw_syntax.specs.PlacesWithin.{element_spans, layer_spans, value_spans, value_layer_spans}
+use Rattle.lw_gramread.specs.PlacesWithin.{element_spans, layer_spans, value_spans, value_layer_spans}
 use Rattle.lw_load.specs.Standing.{Stands, AreIn}
-use Rattle.lw_told.proofs.Spans.{at_front, behind_front}
-use Rattle.lw_points.specs.Written.{IsSpanOf, IsWrittenAt}
-use Rattle.lw_points.specs.Written as written
+use Rattle.lw_lang.proofs.Spans.{at_front, behind_front}
+use Rattle.lw_lookahead.specs.Written.{IsSpanOf, IsWrittenAt}
+use Rattle.lw_lookahead.specs.Written as written
 use Rattle.lw_lookahead.specs.Conflicts.{CausesNoTables}
 use Rattle.lw_lookahead.specs.declared.fault.LookFault.{LookFault}
 use Rattle.lw_lookahead.specs.declared.fault.LookFault.TheVariants as look

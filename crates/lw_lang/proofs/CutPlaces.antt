@@ -4,15 +4,15 @@ use Rattle.std.specs.Prelude.{if◌then◌else◌}
 use Rattle.std.proofs.lemmas.List.Elements.{All-nil, All-cons, All-head, All-tail, All-push, All-weaker}
 use Rattle.std.proofs.lemmas.Option.{slice_get_within}
 use Rattle.lw_base.specs.declared.token.Token.{Token}
-use Rattle.lw_gramread.specs.Places.{IsPlace}
+use Rattle.lw_gramlex.specs.Places.{IsPlace}
 use Rattle.lw_lexer.specs.TokenPlaces.{IsTokenPlace}
 use Rattle.lw_tokens.specs.Lexicon.{Lexicon}
 use Rattle.lw_tokens.specs.NextToken as next
 use Rattle.lw_tokens.specs.NextToken.{Next, IsNextToken}
 use Rattle.lw_tokens.specs.Cut as cut
 use Rattle.lw_tokens.specs.Cut.{IsCutTo, visible}
-use Rattle.lw_rooted.specs.Within as within
-use Rattle.lw_rooted.specs.Within.{StandInRow}
+use Rattle.lw_reading.specs.Within as within
+use Rattle.lw_reading.specs.Within.{StandInRow}
 use Rattle.lw_tree.specs.Parts as parts
 use Rattle.lw_tree.specs.Parts.{Tile}
 

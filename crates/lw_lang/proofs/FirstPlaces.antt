@@ -10,13 +10,13 @@ use Rattle.lw_grammar.specs.Reached.{IsReached}
 use Rattle.lw_grammar.proofs.KeptLemmas.{kept_from}
 use Rattle.lw_kinds.specs.Rows.{KindRow, AreKindRowOf}
 use Rattle.lw_kinds.specs.Uses.{Use, IsFirstUse, part_keyword_uses, leaf_keyword_uses, rule_keyword_uses}
-use Rattle.lw_syntax.specs.PlacesWithin.{IsWithin, rule_spans, result_spans, element_spans, value_spans}
+use Rattle.lw_gramread.specs.PlacesWithin.{IsWithin, rule_spans, result_spans, element_spans, value_spans}
 use Rattle.lw_load.specs.Standing.{Stands, AreIn}
-use Rattle.lw_told.proofs.Spans.{at_front, behind_front, leaf_stands, value_stands}
-use Rattle.lw_token_sets.specs.declared.fault.TermFault.{TermFault}
-use Rattle.lw_token_sets.specs.declared.fault.TermFault.TheVariants.{TooManyKinds, KeywordBlank, PatternLong, PatternRefused, EmptyMatch, NoMemory}
-use Rattle.lw_token_sets.specs.Taken.{IsTried}
-use Rattle.lw_token_sets.specs.TokenSets.{CausesNoTokens}
+use Rattle.lw_lang.proofs.Spans.{at_front, behind_front, leaf_stands, value_stands}
+use Rattle.lw_terminals.specs.declared.fault.TermFault.{TermFault}
+use Rattle.lw_terminals.specs.declared.fault.TermFault.TheVariants.{TooManyKinds, KeywordBlank, PatternLong, PatternRefused, EmptyMatch, NoMemory}
+use Rattle.lw_terminals.specs.Taken.{IsTried}
+use Rattle.lw_terminals.specs.TokenSets.{CausesNoTokens}
 use Rattle.lw_lang.specs.ToldTerms.{IsTerminalNumber, CanBeTold}
 use Rattle.lw_lang.proofs.Lists.{in_nothing, in_one, in_flat_map, at_place}
 

@@ -6,8 +6,8 @@ use Rattle.lw_grammar.specs.declared.grammar.Grammar.{Grammar}
 use Rattle.lw_gramcheck.specs.Judging.{AreFirstFaults}
 use Rattle.lw_gramcheck.specs.Judging as judging
 use Rattle.lw_load.specs.Standing.{Stands}
-use Rattle.lw_told.specs.Placed.{HasPlace}
-use Rattle.lw_told.proofs.Places.{type_fault_placed, check_fault_placed}
+use Rattle.lw_lang.specs.Placed.{HasPlace}
+use Rattle.lw_lang.proofs.Places.{type_fault_placed, check_fault_placed}
 use Rattle.lw_lang.specs.Judged.{IsJudged}
 use Rattle.lw_lang.specs.Compiled.{GrammarCauses, CountsPatterns, KeepsPatterns}
 use Rattle.lw_lang.specs.declared.fault.CompileFault.{CompileFault}

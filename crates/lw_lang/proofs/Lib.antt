@@ -14,3 +14,6 @@ pub mod ChoicePlaces
 pub mod LookLemmas
 pub mod Supplied
 pub mod OneWay
+pub mod Spans
+pub mod Places
+mod Telling

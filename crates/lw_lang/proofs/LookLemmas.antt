@@ -6,12 +6,12 @@ use Rattle.lw_grammar.specs.Kinds.{Kinds, AreKinds}
 use Rattle.lw_look.specs.Looks.{IsLL}
 use Rattle.lw_look.specs.Strings.{HasMoreStrings}
 use Rattle.lw_look.specs.Supplied.{NodesAreTold}
-use Rattle.lw_points.specs.declared.point.TheConstants.{MOST_STRINGS}
+use Rattle.lw_lookahead.specs.declared.points.point.TheConstants.{MOST_STRINGS}
 use Rattle.lw_lookahead.specs.Conflicts.{CausesNoTables}
 use Rattle.lw_lookahead.specs.declared.fault.LookFault.{LookFault}
 use Rattle.lw_lookahead.specs.declared.kept.Tables.{Tables}
 use Rattle.lw_lookahead.specs.Tables.{AreTables}
-use Rattle.lw_subtypes.specs.Kinship.{AreNodeRules}
+use Rattle.lw_numbers.specs.Kinship.{AreNodeRules}
 use Rattle.lw_lang.specs.Compiled.{HasTables}
 
 -- flags by which rules make nodes tell it of each

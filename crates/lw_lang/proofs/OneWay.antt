@@ -7,10 +7,10 @@ use Rattle.lw_lang.specs.Compiled.{IsClear}
 use Rattle.lw_grammar.specs.Kinds.{Kinds}
 use Rattle.lw_grammar.proofs.KindLemmas.{one_kinds}
 use Rattle.lw_kinds.specs.Uses.{Use}
-use Rattle.lw_token_sets.specs.Limits.{IsBlank, AreNotBlank}
+use Rattle.lw_terminals.specs.Limits.{IsBlank, AreNotBlank}
 use Rattle.lw_look.specs.Looks.{IsLL}
 use Rattle.lw_reading.specs.Laws.{HasNoEmptyKeyword, IsReadOneWay}
-use Rattle.lw_unambiguous.proofs.Parsed.{same_sentence}
+use Rattle.lw_look.proofs.Parsed.{same_sentence}
 
 -- keywords that are not blank are not empty
 not_empty : (words : List Use) (k : ℕ) → AreNotBlank words → slice_get (map (λ word. word.0) words) k ≡ Some [] → ⊥

@@ -7,22 +7,22 @@ use Rattle.lw_base.specs.declared.token.Token.{Token}
 use Rattle.lw_grammar.specs.declared.grammar.Grammar.{Grammar}
 use Rattle.lw_grammar.specs.Kinds.{Kinds, kind_count}
 use Rattle.lw_grammar.specs.KindTexts.{texts_of}
-use Rattle.lw_sentences.specs.Sentences.{Starts}
+use Rattle.lw_grammar.specs.Sentences.{Starts}
 use Rattle.lw_lexer.specs.TokenPlaces.{IsTokenPlace}
 use Rattle.lw_parse.specs.Outcomes.{IsOnlyTree, IsFirstImpossible, EndsShort}
 use Rattle.lw_parse.specs.Parsers.{ParserParts, AreOfKinds}
 use Rattle.lw_reading.specs.Reading as reading
 use Rattle.lw_reading.specs.Reading.{IsFirstUnexpected, EndsEarly, ReadsBy}
 use Rattle.lw_reading.specs.declared.parsed.Parsed.TheVariants.{Whole, Broken}
-use Rattle.lw_syntax.specs.PlacesWithin.{IsWithin}
+use Rattle.lw_gramread.specs.PlacesWithin.{IsWithin}
 use Rattle.lw_tokens.specs.Cut.{visible}
 use Rattle.lw_tokens.specs.Lexicon.{Lexicon, IsLexicon, HasForm}
 use Rattle.lw_tree.specs.Parts.{Parts}
 use Rattle.lw_tree.specs.declared.issue.Issue.TheVariants.{Syntax, End}
 use Rattle.std.specs.List.{AllZip}
 use Rattle.lw_lang.specs.Parsing.{CanParse}
-use Rattle.lw_rooted.specs.Within.{StandsInText}
-use Rattle.lw_rooted.proofs.InText.{tree_in}
+use Rattle.lw_reading.specs.Within.{StandsInText}
+use Rattle.lw_reading.proofs.InText.{tree_in}
 use Rattle.lw_lang.proofs.CutPlaces.{all_known, stand_in_row}
 
 length-AllZip : {A B : Type 0} (R : A → B → Type 0) (xs : List A) (ys : List B) → AllZip R xs ys → length xs ≡ length ys

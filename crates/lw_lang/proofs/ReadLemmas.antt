@@ -11,7 +11,7 @@ use Rattle.lw_reading.specs.declared.parsed.Parsed.{Parsed}
 use Rattle.lw_reading.specs.declared.parsed.Parsed.TheVariants.{Broken}
 use Rattle.lw_reading.specs.Reading.{Reads, ReadsBy}
 use Rattle.lw_reading.specs.Reading as reading
-use Rattle.lw_syntax.specs.PlacesWithin.{IsWithin}
+use Rattle.lw_gramread.specs.PlacesWithin.{IsWithin}
 use Rattle.lw_lang.specs.Language.{LanguageView}
 use Rattle.lw_reading.specs.Issues.{IfBroken, IsNamed}
 use Rattle.lw_lang.specs.Parsing.{CanParse}

@@ -18,7 +18,7 @@ use Rattle.lw_grammar.specs.declared.rule.Value0.TheOpen as value
 use Rattle.lw_grammar.specs.declared.rule.Value0.TheOpen.{Value0-F}
 use Rattle.lw_grammar.specs.Kinds.{Kinds, AreKinds}
 use Rattle.lw_grammar.specs.NameRules.{IsNameRule}
-use Rattle.lw_formed.specs.WellFormed.{IsWellFormed}
+use Rattle.lw_grammar.specs.WellFormed.{IsWellFormed}
 use Rattle.lw_gramcheck.specs.Judging.{IsFaultless}
 use Rattle.lw_load.specs.FilledChoices.{value_choice_sizes, value_layer_choice_sizes, element_choice_sizes, layer_choice_sizes, HasFilledChoices}
 use Rattle.lw_look.specs.Sites.{PartSite, Part, Body, Value, element_parts, value_parts, inner_parts, IsPartAt}
@@ -26,9 +26,9 @@ use Rattle.lw_look.specs.Sites as site
 use Rattle.lw_look.specs.Supplied.{ChoicesHaveParts, IsSupplied, ReadingIsTold}
 use Rattle.lw_look.proofs.Known.{lacks_nothing}
 use Rattle.lw_look.proofs.Supplying.{supplied}
-use Rattle.lw_name_rules.specs.NameTable.{AreNameRulesOf}
-use Rattle.lw_token_sets.specs.Numbered.{AreNumberedKindsOf}
-use Rattle.lw_token_sets.specs.declared.numbered.NumberedKinds.{NumberedKinds}
+use Rattle.lw_numbers.specs.NameTable.{AreNameRulesOf}
+use Rattle.lw_terminals.specs.Numbered.{AreNumberedKindsOf}
+use Rattle.lw_terminals.specs.declared.numbered.NumberedKinds.{NumberedKinds}
 use Rattle.lw_lang.proofs.LookLemmas.{nodes_told}
 
 -- ---- each of these sizes is that of a choice that has a part

@@ -4,9 +4,9 @@ use Rattle.lw_grammar.specs.declared.grammar.Grammar.{Grammar}
 use Rattle.lw_grammar.specs.Kinds.{Kinds, AreKinds}
 use Rattle.lw_gramcheck.specs.Judging.{IsFaultless}
 use Rattle.lw_kinds.specs.Rows.{KindRow, AreKindRowOf}
-use Rattle.lw_token_sets.specs.declared.fault.TermFault.{TermFault}
-use Rattle.lw_token_sets.specs.TokenSets as token
-use Rattle.lw_token_sets.proofs.Unlisted.{causes_unlisted}
+use Rattle.lw_terminals.specs.declared.fault.TermFault.{TermFault}
+use Rattle.lw_terminals.specs.TokenSets as token
+use Rattle.lw_terminals.proofs.Unlisted.{causes_unlisted}
 use Rattle.lw_lookahead.specs.Conflicts.{CausesNoTables}
 use Rattle.lw_lookahead.specs.declared.fault.LookFault.{LookFault}
 use Rattle.lw_lang.specs.Compiled.{GrammarCauses, HasSoundTokens, IsBehindTokens, CountsPatterns, KeepsPatterns}

@@ -4,7 +4,7 @@ use Rattle.std.proofs.lemmas.List.Elements.{All-contains, All-head, All-nil, All
 use Rattle.lw_base.specs.declared.numbers.RuleId.{RuleId}
 use Rattle.lw_grammar.specs.declared.grammar.Grammar.{Grammar}
 use Rattle.lw_grammar.specs.declared.terminal.Terminal.{Terminal}
-use Rattle.lw_syntax.specs.PlacesWithin.{IsWithin, terminal_spans, term_spans}
+use Rattle.lw_gramread.specs.PlacesWithin.{IsWithin, terminal_spans, term_spans}
 use Rattle.lw_load.specs.Standing.{Stands, AreIn}
 use Rattle.lw_lang.specs.ToldTerms.{IsTerminalNumber, IsPlacedAs, IsTerminalToldAs}
 use Rattle.lw_lang.specs.declared.told_term.FilePlace.{FilePlace}

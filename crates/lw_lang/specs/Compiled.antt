@@ -10,12 +10,12 @@ use Rattle.lw_load.specs.Loading.{Files, Loads}
 use Rattle.lw_load.specs.LoadFaults.{Stops, IsOfFiles}
 use Rattle.lw_gramcheck.specs.Judging.{IsFaultless}
 use Rattle.lw_kinds.specs.Rows.{KindRow, AreKindRowOf}
-use Rattle.lw_token_sets.specs.declared.fault.TermFault.{TermFault}
-use Rattle.lw_token_sets.specs.TokenSets as token
-use Rattle.lw_token_sets.specs.TokenSets.{HasTokens}
+use Rattle.lw_terminals.specs.declared.fault.TermFault.{TermFault}
+use Rattle.lw_terminals.specs.TokenSets as token
+use Rattle.lw_terminals.specs.TokenSets.{HasTokens}
 use Rattle.lw_look.specs.Looks.{IsLL}
 use Rattle.lw_look.specs.Strings.{HasMoreStrings}
-use Rattle.lw_points.specs.declared.point.TheConstants.{MOST_STRINGS}
+use Rattle.lw_lookahead.specs.declared.points.point.TheConstants.{MOST_STRINGS}
 use Rattle.lw_lookahead.specs.Conflicts.{CausesNoTables}
 use Rattle.lw_lookahead.specs.declared.fault.LookFault.{LookFault}
 use Rattle.lw_lang.specs.Judged.{AreAllTold}

@@ -3,8 +3,8 @@ use Rattle.std.specs.Prelude.{ℕ, List}
 use Rattle.lw_grammar.specs.declared.fault.GrammarFault.{GrammarFault}
 use Rattle.lw_grammar.specs.declared.grammar.Grammar.{Grammar}
 use Rattle.lw_gramcheck.specs.Judging.{AreFirstFaults}
-use Rattle.lw_told.specs.declared.told.ToldFault.{ToldFault}
-use Rattle.lw_told.specs.Telling.{AreToldAs}
+use Rattle.lw_lang.specs.declared.told.told.ToldFault.{ToldFault}
+use Rattle.lw_lang.specs.Telling.{AreToldAs}
 use Rattle.lw_lang.specs.declared.fault.CompileFault.{CompileFault}
 use Rattle.lw_lang.specs.declared.fault.CompileFault.TheVariants.{Faults, NoMemory}
 

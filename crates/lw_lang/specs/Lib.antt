@@ -6,3 +6,6 @@ pub mod Parsing
 pub mod Ready
 pub mod Compiled
 pub mod Judged
+pub mod Placed
+pub mod Telling
+pub mod Texts

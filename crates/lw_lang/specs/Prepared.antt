@@ -6,7 +6,7 @@ use Rattle.lw_grammar.specs.KindTexts.{texts_of}
 use Rattle.lw_tokens.specs.Lexicon.{IsLexicon}
 use Rattle.lw_types.specs.Inferred.{AreTypesOf}
 use Rattle.lw_types.specs.declared.types.Types.{Types}
-use Rattle.lw_terminals.specs.TokenKinds.{TokenKinds}
+use Rattle.lw_matchers.specs.TokenKinds.{TokenKinds}
 use Rattle.lw_parse.specs.Parsers.{ParserParts, ParsesFaultless}
 
 pub record IsPrepared (g : Grammar) (types : Types) (tokens : TokenKinds) (parser : ParserParts) : Type 0 where

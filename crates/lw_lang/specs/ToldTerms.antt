@@ -7,8 +7,8 @@ use Rattle.lw_grammar.specs.declared.grammar.Grammar.{Grammar}
 use Rattle.lw_grammar.specs.declared.terminal.Terminal.{Terminal}
 use Rattle.lw_load.specs.Standing.{AreIn}
 use Rattle.lw_text.specs.Position.{IsPosition}
-use Rattle.lw_token_sets.specs.declared.fault.TermFault.{TermFault}
-use Rattle.lw_token_sets.specs.declared.fault.TermFault.TheVariants.{TooManyKinds, KeywordBlank, PatternLong, PatternRefused, EmptyMatch, NoMemory}
+use Rattle.lw_terminals.specs.declared.fault.TermFault.{TermFault}
+use Rattle.lw_terminals.specs.declared.fault.TermFault.TheVariants.{TooManyKinds, KeywordBlank, PatternLong, PatternRefused, EmptyMatch, NoMemory}
 use Rattle.lw_lang.specs.declared.told_term.FilePlace.{FilePlace}
 use Rattle.lw_lang.specs.declared.told_term.ToldTerminal.{ToldTerminal}
 use Rattle.lw_lang.specs.declared.told_term.PatternProblem.TheVariants as problem

@@ -11,7 +11,7 @@ pub(crate) fn entry(g: &Grammar) -> Option<RuleId>
     requires { length g.now.rules ≤ 65535 }
     ensures { MatchOption result ((r : ℕ) (rule : Rule) → ¬ IsEntry g.now r rule) (λ r. (rule : Rule) × IsEntry g.now r.0 rule) }
 {
-    match lw_derivations::entry(g) {
+    match lw_kinds::derivations::entry(g) {
         Some(number) => Some(RuleId(number as u16)),
         None => None,
     }

@@ -3,11 +3,11 @@ ghost use Rattle.std.specs.Prelude.{◌≡◌};
 ghost use Rattle.lw_lang.specs.Compiled.{of_load};
 ghost use Rattle.lw_lang.specs.declared.fault.CompileFault.TheVariants.{NoMemory as no_memory};
 
+use crate::told::ToldFault;
 use crate::told_look::ToldLookFault;
 use crate::told_term::ToldTermFault;
 use lw_base::{Items, NoMemory};
 use lw_load::LoadFault;
-use lw_told::ToldFault;
 
 /// Why a grammar is not compiled.
 #[derive(Drop)]

@@ -8,10 +8,10 @@ ghost use Rattle.lw_types.specs.Inferred.{AreTypesOf};
 ghost use Rattle.lw_lang.specs.Judged.{IsJudged};
 
 use crate::fault::CompileFault;
+use crate::told::told_faults;
 use lw_base::{Name, NoMemory};
 use lw_gramcheck::{JudgeFault, judge};
 use lw_grammar::{Grammar, GrammarFault};
-use lw_told::told_faults;
 use lw_types::Types;
 use std::alloc::Global;
 

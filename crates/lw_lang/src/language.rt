@@ -13,7 +13,7 @@ ghost use Rattle.lw_tokens.specs.Cut.{HasNoTokenAt, IsCharacterAt, IsCut};
 ghost use Rattle.lw_tokens.specs.Lexicon.{IsLexicon, Lexicon};
 ghost use Rattle.lw_tree.specs.Parts.{Tile};
 ghost use Rattle.lw_types.specs.Inferred.{AreTypesOf};
-ghost use Rattle.lw_rooted.specs.Within.{StandsInText};
+ghost use Rattle.lw_reading.specs.Within.{StandsInText};
 ghost use Rattle.lw_reading.specs.Issues.{IfBroken, IfWhole, IsNamed, IsIssueWithin};
 ghost use Rattle.lw_lang.specs.Parsing.{CanParse};
 ghost use Rattle.lw_lang.specs.Prepared.{IsPrepared};

@@ -6,8 +6,8 @@
 //! grammar and the texts by which messages name its kinds.
 //!
 //! Any grammar is loaded, and judged (`lw_gramcheck`): where something is wrong with it, all faults of the first phase that has
-//! any are told, each by the path of its file and the position there (`lw_told`). Of one without a fault the set of tokens is
-//! made (`lw_token_sets`), and then it is found out whether the next kinds of tokens tell the ways of its choices apart
+//! any are told, each by the path of its file and the position there (`lw_lang::told`). Of one without a fault the set of tokens is
+//! made (`lw_terminals`), and then it is found out whether the next kinds of tokens tell the ways of its choices apart
 //! (`lw_lookahead`); why not is told in the same way. What has passed all of this is made ready: by the tables its rules are
 //! parsed (`lw_parse`), and nothing of that is made anew for a text. Who asks more of a text than its reading cuts it into tokens himself
 //! ([`Language::cut`]) and is lent what texts are parsed by ([`Language::parser`]).
@@ -19,15 +19,10 @@
 mod compiler;
 mod entry;
 mod fault;
-#[cfg(test)]
-mod fault_tests;
 mod judging;
 mod language;
 mod laws;
-#[cfg(test)]
-mod reading_tests;
-#[cfg(test)]
-mod syntax_tests;
+pub mod told;
 mod told_look;
 mod told_term;
 

@@ -2,13 +2,13 @@
 ghost use Rattle.std.specs.Prelude.{◌≡◌, ◌≤◌, [], ◌∷◌, None, All, IfSome, length};
 ghost use Rattle.lw_base.specs.declared.limits.TheConstants.{LONGEST_TEXT};
 ghost use Rattle.lw_load.specs.Standing.{AreIn, Stands};
-ghost use Rattle.lw_token_sets.specs.declared.fault.TermFault.{TermFault};
+ghost use Rattle.lw_terminals.specs.declared.fault.TermFault.{TermFault};
 ghost use Rattle.lw_lang.specs.ToldTerms.{CanBeTold, IsTerminalNumber, IsPlacedAs, IsTermToldAs, IsTerminalToldAs};
 
 use lw_base::{Name, RuleId, Span};
 use lw_grammar::{Grammar, Terminal};
+use lw_terminals::TermFault;
 use lw_text::{Pos, position};
-use lw_token_sets::TermFault;
 
 /// A place in the files of a grammar, as a reader finds it: the path of the file, and the position there, line and UTF-16
 /// unit from zero.

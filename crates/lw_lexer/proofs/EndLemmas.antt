@@ -4,8 +4,8 @@ use Rattle.std.proofs.lemmas.Bool.{cases_lt}
 use Rattle.std.proofs.Math.ListN.{get_or-eq_default}
 use Rattle.std.proofs.lemmas.List.{get_or-replicate, length-replicate}
 use Rattle.regex_nfa.specs.declared.nfa.Nfa.{Nfa}
-use Rattle.lw_foresee.specs.Nfas.{AreNfas}
-use Rattle.lw_sure.specs.Next.{NextStays}
+use Rattle.lw_matching.specs.Nfas.{AreNfas}
+use Rattle.lw_matching.specs.Next.{NextStays}
 use Rattle.lw_tokens.specs.Lexicon.{Lexicon}
 use Rattle.lw_tokens.specs.NextToken.{IsNextToken}
 use Rattle.lw_lexer.specs.Fronts.{IsEnd}

@@ -6,7 +6,7 @@ use Rattle.std.proofs.lemmas.Bool.Decides.{nat_tests}
 use Rattle.std.proofs.lemmas.Option.{same_Some, slice_get_within, slice_get_read, get_or_from_slice_get}
 use Rattle.std.proofs.lemmas.Slice.Eq.{bytes_eq-Decides}
 use Rattle.std.proofs.lemmas.Str.{IsCharBoundary-from_take}
-use Rattle.lw_terminals.specs.Starting.{StartsAt, AreStarting}
+use Rattle.lw_matchers.specs.Starting.{StartsAt, AreStarting}
 use Rattle.lw_tokens.specs.NextToken.{Begins, IsLongest, HasNone}
 use Rattle.lw_lexer.specs.Longer.{is_longer, longer_of}
 

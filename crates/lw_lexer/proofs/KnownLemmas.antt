@@ -1,7 +1,7 @@
 -- What is known of the terminals' matches in a text, one terminal after the other, and at its places.
 use Rattle.std.proofs.Common.{ℕ, List, drop, IsCharBoundary, sym, ap, subst}
 use Rattle.lw_tokens.specs.Lexicon.{TerminalForm}
-use Rattle.lw_lengths.specs.Known.{Tried}
+use Rattle.lw_matching.specs.Known.{Tried}
 use Rattle.lw_lexer.specs.Known.{AreKnownIn, AreKnownAt}
 
 -- what is known of a text is known at each of its places

@@ -4,3 +4,8 @@ pub mod NextLemmas
 pub mod TerminalLemmas
 pub mod EndLemmas
 pub mod FrontLemmas
+mod Automata
+pub mod Behind
+mod FrontEnds
+mod SameTokens
+mod Seaming

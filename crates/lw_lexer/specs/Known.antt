@@ -1,9 +1,9 @@
 -- The automata of terminals, and what is known of their matches in one text.
 use Rattle.std.specs.Prelude.{ℕ, ◌≡◌, List, Some, drop, slice_get, IsCharBoundary}
 use Rattle.regex_nfa.specs.declared.nfa.Nfa.{Nfa}
-use Rattle.lw_foresee.specs.Nfas.{IsNfaOf}
+use Rattle.lw_matching.specs.Nfas.{IsNfaOf}
 use Rattle.lw_tokens.specs.Lexicon.{TerminalForm}
-use Rattle.lw_lengths.specs.Known.{Tried}
+use Rattle.lw_matching.specs.Known.{Tried}
 
 -- as far as there are automata each is that of the terminal in its turn
 abbrev pub AreInTurn : List TerminalForm → List Nfa → Type 0

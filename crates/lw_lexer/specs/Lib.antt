@@ -3,3 +3,5 @@ pub mod Place
 pub mod TokenPlaces
 pub mod Fronts
 pub mod Known
+pub mod Recut
+pub mod Seams

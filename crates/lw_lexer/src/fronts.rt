@@ -1,15 +1,15 @@
 // The fronts that a set of tokens knows.
 ghost use Rattle.std.specs.Prelude.{◌≡◌, ◌↔◌, ◌<◌, ◌∷◌, ◌++◌, [], ℕ, IfOk, IfSome, IsTrue, All, false, slice_index_or, Some};
-ghost use Rattle.lw_foresee.specs.Nfas.{AreNfas};
+ghost use Rattle.lw_matching.specs.Nfas.{AreNfas};
 ghost use Rattle.lw_lexer.specs.Fronts.{AreEnds, AreFronts, IsEnd, IsFront};
 
 use crate::Lexer;
 use crate::front::Front;
 use crate::next::Next;
 use lw_base::{Items, Name, NoMemory};
-use lw_foresee::Walker;
-use lw_sure::next_stays;
-use lw_terminals::TokenSet;
+use lw_matchers::TokenSet;
+use lw_matching::Walker;
+use lw_matching::sure::next_stays;
 use regex_nfa::Nfa;
 use std::alloc::Global;
 use std::marker::Model;
@@ -52,8 +52,8 @@ struct Finder<'s> {
 
 impl<'s> Model for Finder<'s> {
     ghost use Rattle.std.specs.Prelude.{◌≡◌};
-    ghost use Rattle.lw_foresee.specs.Nfas.{AreNfas};
-    ghost use Rattle.lw_terminals.specs.TokenKinds.{TokenKinds};
+    ghost use Rattle.lw_matching.specs.Nfas.{AreNfas};
+    ghost use Rattle.lw_matchers.specs.TokenKinds.{TokenKinds};
 
     ghost Value = { TokenKinds };
 

@@ -4,7 +4,7 @@ ghost use Rattle.lw_tokens.specs.NextToken.{IsLongest, HasNone};
 ghost use Rattle.lw_lexer.specs.Longer.{is_longer, longer_of};
 
 use lw_base::Name;
-use lw_terminals::TokenSet;
+use lw_matchers::TokenSet;
 
 /// The longest of the keywords that the text begins with: its place among them and its length. Only
 /// those that begin with the text's first byte are looked at.

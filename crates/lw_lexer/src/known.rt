@@ -4,8 +4,8 @@ ghost use Rattle.lw_base.specs.declared.limits.TheConstants.{LONGEST_TEXT};
 ghost use Rattle.lw_lexer.specs.Known.{AreInTurn, AreKnownIn};
 
 use lw_base::NoMemory;
-use lw_lengths::KnownLengths;
-use lw_terminals::TokenSet;
+use lw_matchers::TokenSet;
+use lw_matching::lengths::KnownLengths;
 use regex_nfa::Nfa;
 use std::alloc::Global;
 

@@ -17,7 +17,7 @@ use crate::known::known_lengths;
 use crate::next::{Next, next_token};
 use crate::{LexFault, LexerTables};
 use lw_base::{Items, Name, NoMemory, Span, Token};
-use lw_terminals::{TerminalMatcher, TokenSet};
+use lw_matchers::{TerminalMatcher, TokenSet};
 use regex_nfa::Nfa;
 use std::alloc::Global;
 use std::marker::Model;
@@ -35,7 +35,7 @@ pub struct Lexer<'s> {
 
 impl<'s> Model for Lexer<'s> {
     ghost use Rattle.std.specs.Prelude.{◌≡◌};
-    ghost use Rattle.lw_terminals.specs.TokenKinds.{TokenKinds, AreTokenKinds};
+    ghost use Rattle.lw_matchers.specs.TokenKinds.{TokenKinds, AreTokenKinds};
     ghost use Rattle.lw_lexer.specs.Fronts.{AreFronts};
     ghost use Rattle.lw_lexer.specs.Known.{AreInTurn};
 
@@ -82,7 +82,7 @@ impl<'s> Lexer<'s> {
     /// At each token the patterns of which a match may begin with its first byte are tried once at its start, and of the keywords those
     /// that begin with that byte. That is linear in the length of the text where no pattern looks much further than it matches. Where one
     /// does, as `a*b` over a row of `a`, which it reads to its end at each letter, its matches at all places of the text are found at once
-    /// when that has been seen some times, see [`KnownLengths`](lw_lengths::KnownLengths): linear as well, and eight bytes of memory for
+    /// when that has been seen some times, see [`KnownLengths`](lw_matching::lengths::KnownLengths): linear as well, and eight bytes of memory for
     /// each byte of the text. A pattern with another assertion than that of the start, as `\b` or `$`, has no such table, nor has one that
     /// there is no memory for: there it is quadratic, for as long as the row is.
     pub fn cut(&mut self, alloc: Global, text: &Name) -> Result<Vec<Token>, LexFault>

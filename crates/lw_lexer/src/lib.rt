@@ -1,6 +1,6 @@
 //! Texts cut into tokens.
 //!
-//! A [`Lexer`] cuts texts by the keywords and terminals of a [`TokenSet`](lw_terminals::TokenSet). Its model
+//! A [`Lexer`] cuts texts by the keywords and terminals of a [`TokenSet`](lw_matchers::TokenSet). Its model
 //! is the cut itself, the list of tokens that `specs/Cut.antt` of `lw_tokens` defines by the rest of the
 //! text at each place; the code keeps a place and goes over the text once.
 //!
@@ -10,7 +10,7 @@
 //! [`LexerTables`] are a set of tokens with what is found out about it once: which of its keywords and blanks end before which bytes,
 //! whatever comes behind (`specs/Fronts.antt`), so that they are known by their first bytes and no pattern is tried. They are seen as the
 //! set; that any of this is known, is promised nowhere. They hold the automata of the terminals too, by which a text that some pattern reads
-//! far in at many places is gone through once (`lw_lengths`).
+//! far in at many places is gone through once (`lw_matching::lengths`).
 #![tactic(auto)]
 
 mod fault;
@@ -20,6 +20,7 @@ mod keyword;
 mod known;
 mod lexer;
 mod next;
+pub mod recut;
 mod tables;
 mod terminal;
 
@@ -27,6 +28,3 @@ pub use fault::LexFault;
 pub use lexer::Lexer;
 pub use next::Next;
 pub use tables::LexerTables;
-
-#[cfg(test)]
-mod tests;

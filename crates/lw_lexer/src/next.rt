@@ -5,14 +5,14 @@ ghost use Rattle.lw_lexer.specs.Longer.{length_or_zero, keyword_next};
 ghost use Rattle.lw_lexer.specs.Place.{next_of};
 ghost use Rattle.lw_lexer.specs.Fronts.{AreFronts};
 ghost use Rattle.lw_lexer.specs.Known.{AreKnownAt};
-ghost use Rattle.lw_terminals.specs.TokenKinds.{AreTokenKinds};
+ghost use Rattle.lw_matchers.specs.TokenKinds.{AreTokenKinds};
 
 use crate::front::{Front, known_next};
 use crate::keyword::longest_keyword;
 use crate::terminal::first_terminal;
 use lw_base::{Items, KindId};
-use lw_lengths::KnownLengths;
-use lw_terminals::{TerminalMatcher, TokenSet};
+use lw_matchers::{TerminalMatcher, TokenSet};
+use lw_matching::lengths::KnownLengths;
 
 /// A token at the start of a text: its kind, how many bytes it takes, and whether the parser skips it.
 #[derive(Clone, Copy, PartialEq, Eq)]

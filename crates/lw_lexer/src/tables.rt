@@ -4,7 +4,7 @@ ghost use Rattle.std.specs.Prelude.{◌≡◌, IfOk};
 use crate::front::Front;
 use crate::fronts::fronts_of;
 use lw_base::{Items, NoMemory};
-use lw_terminals::TokenSet;
+use lw_matchers::TokenSet;
 use regex_nfa::Nfa;
 use std::alloc::Global;
 use std::marker::Model;
@@ -31,7 +31,7 @@ impl Drop for LexerTables {
 }
 
 impl Model for LexerTables {
-    ghost use Rattle.lw_terminals.specs.TokenKinds.{TokenKinds};
+    ghost use Rattle.lw_matchers.specs.TokenKinds.{TokenKinds};
     ghost use Rattle.lw_lexer.specs.Fronts.{AreFronts};
     ghost use Rattle.lw_lexer.specs.Known.{AreInTurn};
 

@@ -2,12 +2,12 @@
 ghost use Rattle.std.specs.Prelude.{◌≡◌, ◌<◌, ℕ, IfSome, IsCharBoundary, MatchOption, length, slice_get, Some, option_map};
 ghost use Rattle.lw_tokens.specs.NextToken.{IsFirstOver, NoneOver, lengths};
 ghost use Rattle.lw_tokens.specs.Matching.{match_length};
-ghost use Rattle.lw_lengths.specs.Known.{Tried};
+ghost use Rattle.lw_matching.specs.Known.{Tried};
 ghost use Rattle.lw_lexer.specs.Known.{AreKnownAt, IsKnownAt};
 ghost use Rattle.lw_lexer.specs.Longer.{over};
 
-use lw_lengths::KnownLengths;
-use lw_terminals::TerminalMatcher;
+use lw_matchers::TerminalMatcher;
+use lw_matching::lengths::KnownLengths;
 
 /// The first terminal that matches more than so many bytes at the start of the text: its place among
 /// the terminals and how many bytes it matches. What is known is of a whole text, whose rest from the place `at` on this is.

@@ -2,7 +2,7 @@
 use Rattle.std.proofs.Common.{ℕ, ◌<◌, [], length, get_or, ap, arith}
 use Rattle.std.proofs.lemmas.Option.{slice_get-get_or}
 use Rattle.lw_grammar.specs.declared.grammar.Grammar.{Grammar}
-use Rattle.lw_marks.specs.Numbers.{IsNumberOfType}
+use Rattle.lw_reading.specs.Numbers.{IsNumberOfType}
 use Rattle.lw_numbers.specs.Numbering.{type_names}
 use Rattle.lw_tree.specs.declared.node.Reference.{Reference}
 use Rattle.lw_types.specs.Inferred.{AreTypesOf}

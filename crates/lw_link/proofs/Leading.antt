@@ -5,7 +5,7 @@ use Rattle.std.specs.Prelude.{if◌then◌else◌}
 use Rattle.std.specs.Str.{bytes_eq}
 use Rattle.std.proofs.lemmas.Option.{same_Some}
 use Rattle.std.proofs.lemmas.Slice.Eq.{bytes_eq-Decides}
-use Rattle.lw_offers.specs.Targets.{HasTarget, having_tree}
+use Rattle.lw_places.specs.Targets.{HasTarget, having_tree}
 use Rattle.lw_scoping.specs.Firsts.{IsFirstIn, found, none}
 use Rattle.lw_scoping.specs.Links.{Fits, FitsThere, IsOwn, Link, LinksTo, Trees, own, out, nowhere}
 use Rattle.lw_scoping.specs.Outward.{LeadsOut}

@@ -1,7 +1,6 @@
 pub mod Entered
 pub mod Linked
 pub mod Known
-pub mod Rows
 pub mod RootLemmas
 pub mod NamesSorted
 pub mod PutLevels

@@ -11,13 +11,13 @@ use Rattle.std.proofs.lemmas.Cmp.{ranked}
 use Rattle.std.proofs.lemmas.Option.{none-some, same_Some}
 use Rattle.lw_grammar.specs.declared.grammar.Grammar.{Grammar}
 use Rattle.lw_grammar.specs.Subtypes.{IsSubtype}
-use Rattle.lw_marks.specs.Numbers.{IsNumberOfType}
+use Rattle.lw_reading.specs.Numbers.{IsNumberOfType}
 use Rattle.lw_tree.specs.declared.node.Reference.{Reference}
 use Rattle.lw_tree.specs.Parts.{Parts}
 use Rattle.lw_scoping.specs.Links.{Trees, StandsNoLater, by_address, by_node, IsOwn, FitsThere, LinksTo, own, out, nowhere}
 use Rattle.lw_scoping.specs.Symbols.{exports, IsNamedNode}
 use Rattle.lw_scoping.proofs.Relations.{own_as}
-use Rattle.lw_scopes.specs.Links.{IsNumberBelow}
+use Rattle.lw_link_rules.specs.Links.{IsNumberBelow}
 use Rattle.lw_types.specs.Sets.{AreNumbersBelow}
 use Rattle.lw_index.specs.declared.parts.Answer.TheVariants.{Found, Missing}
 use Rattle.lw_index.specs.declared.parts.Document.{Document}

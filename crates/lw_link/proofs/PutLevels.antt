@@ -6,8 +6,8 @@ use Rattle.std.specs.Ordering.{nat_cmp}
 use Rattle.std.proofs.lemmas.List.{append-nil}
 use Rattle.std.proofs.lemmas.List.Elements.{Contains-append_cases, Contains-append_left, Contains-append_right}
 use Rattle.lw_base.specs.declared.numbers.NodeId.{NodeId}
-use Rattle.lw_findings.specs.Finding.{Finds, OfSome}
-use Rattle.lw_findings.proofs.Joining.{Finds-iff, Finds-read, Finds-then}
+use Rattle.lw_faults.specs.Finding.{Finds, OfSome}
+use Rattle.lw_faults.proofs.Joining.{Finds-iff, Finds-read, Finds-then}
 use Rattle.lw_scoping.specs.Outward.{LeadsOut, outermost, inner}
 use Rattle.lw_scoping.specs.Symbols.{child_numbers, is_named_node, locals}
 use Rattle.lw_scoping.proofs.Paths.{leads_once}

@@ -10,19 +10,19 @@ use Rattle.std.specs.declared.cmp.Ordering.TheVariants.{Less}
 use Rattle.std.specs.Prelude.{IsTrue}
 use Rattle.std.proofs.lemmas.Option.{none-some, same_Some}
 use Rattle.lw_base.specs.declared.numbers.NodeId.{NodeId}
-use Rattle.lw_findings.specs.Finding.{Finds, OfSome}
-use Rattle.lw_findings.proofs.Joining.{Finds-then}
+use Rattle.lw_faults.specs.Finding.{Finds, OfSome}
+use Rattle.lw_faults.proofs.Joining.{Finds-then}
 use Rattle.lw_grammar.specs.declared.grammar.Grammar.{Grammar}
-use Rattle.lw_grammar.proofs.KeptLemmas.{there}
+use Rattle.lw_base.proofs.Lists.{there}
 use Rattle.lw_index.specs.declared.parts.Document.{Document}
 use Rattle.lw_index.specs.Elsewhere.{AreElsewhere, IsElsewhere}
 use Rattle.lw_index.specs.Indexed.{Indexed}
-use Rattle.lw_marks.specs.Numbers.{IsNumberOfType}
-use Rattle.lw_offers.specs.Targets.{AreVisible, HasTarget, renamed_to}
-use Rattle.lw_outcomes.specs.Telling.{TellsTypes}
-use Rattle.lw_outcomes.proofs.Linking.{link}
-use Rattle.lw_outwards.specs.Known.{HasOneRoot}
-use Rattle.lw_scopes.specs.Links.{IsNumberBelow}
+use Rattle.lw_reading.specs.Numbers.{IsNumberOfType}
+use Rattle.lw_places.specs.Targets.{AreVisible, HasTarget, renamed_to}
+use Rattle.lw_machine.specs.Telling.{TellsTypes}
+use Rattle.lw_machine.proofs.Linking.{link}
+use Rattle.lw_reading.specs.Known.{HasOneRoot}
+use Rattle.lw_link_rules.specs.Links.{IsNumberBelow}
 use Rattle.lw_scoping.specs.Links.{IsOwn, Link, LinksTo, Trees, own}
 use Rattle.lw_scoping.specs.Outward.{ContainersComeFirst, LeadsOut}
 use Rattle.lw_scoping.specs.Symbols.{child_numbers, exports, is_named_node, locals}

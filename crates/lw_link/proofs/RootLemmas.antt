@@ -11,12 +11,12 @@ use Rattle.std.proofs.lemmas.Slice.Eq.{bytes_eq-Decides}
 use Rattle.lw_grammar.specs.declared.grammar.Grammar.{Grammar}
 use Rattle.lw_index.specs.declared.parts.Answer.{Answer}
 use Rattle.lw_index.specs.declared.parts.Answer.TheVariants.{Found, Missing}
-use Rattle.lw_marks.specs.Numbers.{IsNumberOfType}
-use Rattle.lw_outwards.specs.Known.{HasOneRoot}
-use Rattle.lw_rooted.proofs.Listed.{in_flat}
-use Rattle.lw_scopes.proofs.AloneAt.{alone_here}
-use Rattle.lw_scopes.specs.Diagnostics.{alone_at}
-use Rattle.lw_scopes.specs.Links.{IsNumberBelow}
+use Rattle.lw_reading.specs.Numbers.{IsNumberOfType}
+use Rattle.lw_reading.specs.Known.{HasOneRoot}
+use Rattle.lw_reading.proofs.Listed.{in_flat}
+use Rattle.lw_link_rules.proofs.AloneAt.{alone_here}
+use Rattle.lw_link_rules.specs.Diagnostics.{alone_at}
+use Rattle.lw_link_rules.specs.Links.{IsNumberBelow}
 use Rattle.lw_scoping.specs.Firsts.{IsFirstIn, none}
 use Rattle.lw_scoping.specs.Links.{StandsNoLater, by_node, Fits, FitsThere, IsOwn, LinksTo, own, out, nowhere}
 use Rattle.lw_scoping.specs.Outward.{LeadsOut, outermost, inner}

@@ -2,9 +2,9 @@
 ghost use Rattle.std.specs.Prelude.{ℕ, ◌≡◌, ◌<◌, List, IfOk, All, length, map};
 ghost use Rattle.std.specs.List.{AllZip};
 ghost use Rattle.lw_grammar.specs.declared.grammar.Grammar.{Grammar};
-ghost use Rattle.lw_outwards.specs.Known.{HasKnownTypes, HasOneRoot};
-ghost use Rattle.lw_scopes.specs.Diagnostics.{alone_at};
-ghost use Rattle.lw_scopes.specs.Links.{IsNumberBelow};
+ghost use Rattle.lw_reading.specs.Known.{HasKnownTypes, HasOneRoot};
+ghost use Rattle.lw_link_rules.specs.Diagnostics.{alone_at};
+ghost use Rattle.lw_link_rules.specs.Links.{IsNumberBelow};
 ghost use Rattle.lw_scoping.specs.Links.{LinksTo};
 ghost use Rattle.lw_scoping.specs.Outward.{ContainersComeFirst};
 ghost use Rattle.lw_symbols.specs.Locals.{AreLocalsOf};

@@ -1,11 +1,11 @@
 //! Which symbol each reference of a document leads to.
 //!
-//! What links are is said in `lw_scoping`, over the trees of all documents by their addresses, and in `lw_scopes` by a grammar. Here they
+//! What links are is said in `lw_scoping`, over the trees of all documents by their addresses, and in `lw_link_rules` by a grammar. Here they
 //! are found: [`resolve`] looks at the symbols of the reference's own tree first, from the node that it stands in outwards
 //! (`lw_symbols`), and then asks the index of what all documents export (`lw_index`), which counts one step. [`answers`] does so for all
 //! references of a tree, and [`answers_alone`] where no other document is, without an index. [`entries`] is what a document with a tree puts into the index.
 //!
-//! What a reference could be written as is said in `lw_offers`: [`visible`] gives the names by which it would lead somewhere, and [`finds`]
+//! What a reference could be written as is said in `lw_places::offers`: [`visible`] gives the names by which it would lead somewhere, and [`finds`]
 //! tells whether it leads somewhere by the name that it has, in a tree that need not be the one that the index has the exports of.
 //!
 //! Its model: an answer is a document by its number and a node, and stands for the link that `link_of` makes of it
@@ -26,6 +26,3 @@ pub use alone::answers_alone;
 pub use entering::entries;
 pub use resolving::{answers, resolve};
 pub use targets::{finds, visible};
-
-#[cfg(test)]
-mod tests;

@@ -2,13 +2,13 @@
 ghost use Rattle.std.specs.Prelude.{◌≡◌, ◌<◌, ◌≤◌, ◌+◌, ◌⊎◌, ℕ, List, Some, IfOk, All, length, map, slice_get};
 ghost use Rattle.std.specs.List.{AllZip};
 ghost use Rattle.lw_grammar.specs.declared.grammar.Grammar.{Grammar};
-ghost use Rattle.lw_scopes.specs.Links.{IsNumberBelow};
+ghost use Rattle.lw_link_rules.specs.Links.{IsNumberBelow};
 ghost use Rattle.lw_scoping.specs.Links.{LinksTo, Trees};
 ghost use Rattle.lw_scoping.specs.Outward.{ContainersComeFirst};
 ghost use Rattle.lw_symbols.specs.Locals.{AreLocalsOf};
 ghost use Rattle.lw_numbers.specs.Numbering.{type_names};
 ghost use Rattle.lw_tree.specs.declared.node.Reference.{Reference};
-ghost use Rattle.lw_outwards.specs.Known.{HasKnownTypes};
+ghost use Rattle.lw_reading.specs.Known.{HasKnownTypes};
 ghost use Rattle.lw_types.specs.Inferred.{AreTypesOf};
 ghost use Rattle.lw_link.specs.Indexed.{IsDocumentOf, IsIndexOf, LeadsIntoHeld, link_of};
 

@@ -15,19 +15,19 @@ use Rattle.lw_grammar.specs.declared.rule.Action.{Action}
 use Rattle.lw_grammar.specs.declared.terminal.Primitive.{Primitive}
 use Rattle.lw_grammar.specs.declared.terminal.Terminal.{Terminal}
 use Rattle.lw_grammar.specs.declared.terminal.TermElement.{TermElement}
-use Rattle.lw_gramread.specs.declared.token.Symbol.{Symbol}
-use Rattle.lw_syntax.specs.declared.lexeme.Reserved.{Reserved}
-use Rattle.lw_syntax.specs.declared.lexeme.Lexeme.{Lexeme}
-use Rattle.lw_syntax.specs.declared.lexeme.Lexeme.TheVariants.{Word}
-use Rattle.lw_syntax.specs.OptionalTokens.{MayTake, MayTakeWord}
-use Rattle.lw_syntax.specs.DeclaredTypes as types
-use Rattle.lw_syntax.specs.DeclaredTypes.{SpellsMoreNames, SpellsAbove, SpellsSingle, SpellsMembers, SpellsMoreMembers, SpellsTypeEnd, SpellsAttribute, SpellsAttributes, SpellsInterface, SpellsUnion}
-use Rattle.lw_syntax.specs.ParserRules as rules
-use Rattle.lw_syntax.specs.ParserRules.{SpellsCrossRule, SpellsValue, SpellsValues, SpellsMoreValues, SpellsActionType, SpellsPut, SpellsAction, SpellsMark, SpellsPart, SpellsElement, SpellsMoreElements, SpellsRow, SpellsMoreRows, SpellsChoice, SpellsResult, SpellsRule}
-use Rattle.lw_syntax.specs.TerminalRules as terms
-use Rattle.lw_syntax.specs.TerminalRules.{SpellsTermMark, SpellsTermPart, SpellsTerm, SpellsMoreTerms, SpellsTermRow, SpellsMoreTermRows, SpellsTermChoice, SpellsTermHead, SpellsTerminal}
-use Rattle.lw_syntax.specs.Syntax as syntax
-use Rattle.lw_syntax.specs.Syntax.{SpellsGrammarName, SpellsImports}
+use Rattle.lw_gramlex.specs.declared.token.Symbol.{Symbol}
+use Rattle.lw_gramread.specs.declared.lexeme.Reserved.{Reserved}
+use Rattle.lw_gramread.specs.declared.lexeme.Lexeme.{Lexeme}
+use Rattle.lw_gramread.specs.declared.lexeme.Lexeme.TheVariants.{Word}
+use Rattle.lw_gramread.specs.OptionalTokens.{MayTake, MayTakeWord}
+use Rattle.lw_gramread.specs.DeclaredTypes as types
+use Rattle.lw_gramread.specs.DeclaredTypes.{SpellsMoreNames, SpellsAbove, SpellsSingle, SpellsMembers, SpellsMoreMembers, SpellsTypeEnd, SpellsAttribute, SpellsAttributes, SpellsInterface, SpellsUnion}
+use Rattle.lw_gramread.specs.ParserRules as rules
+use Rattle.lw_gramread.specs.ParserRules.{SpellsCrossRule, SpellsValue, SpellsValues, SpellsMoreValues, SpellsActionType, SpellsPut, SpellsAction, SpellsMark, SpellsPart, SpellsElement, SpellsMoreElements, SpellsRow, SpellsMoreRows, SpellsChoice, SpellsResult, SpellsRule}
+use Rattle.lw_gramread.specs.TerminalRules as terms
+use Rattle.lw_gramread.specs.TerminalRules.{SpellsTermMark, SpellsTermPart, SpellsTerm, SpellsMoreTerms, SpellsTermRow, SpellsMoreTermRows, SpellsTermChoice, SpellsTermHead, SpellsTerminal}
+use Rattle.lw_gramread.specs.Syntax as syntax
+use Rattle.lw_gramread.specs.Syntax.{SpellsGrammarName, SpellsImports}
 use Rattle.lw_load.proofs.Rising.{Rises, later}
 
 -- a name stands at this place, not before `low`, and the tokens begin behind its start

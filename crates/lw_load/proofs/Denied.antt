@@ -5,8 +5,8 @@ use Rattle.lw_base.specs.declared.limits.TheConstants.{LONGEST_TEXT}
 use Rattle.lw_grammar.specs.Size.{size}
 use Rattle.lw_io.specs.declared.store.Found.TheVariants.{Text}
 use Rattle.lw_io.specs.Store.{file_at, FitsFile, AnswersFile}
-use Rattle.lw_syntax.specs.Syntax.{Syntax}
-use Rattle.lw_syntax.specs.PlacesWithin.{StandsWithin}
+use Rattle.lw_gramread.specs.Syntax.{Syntax}
+use Rattle.lw_gramread.specs.PlacesWithin.{StandsWithin}
 use Rattle.lw_load.specs.declared.limits.TheConstants.{LARGEST_GRAMMAR}
 use Rattle.lw_load.specs.declared.fault.LoadFault.{LoadFault}
 use Rattle.lw_load.specs.declared.fault.LoadFault.TheVariants.{Read, TooLarge, NoMemory}

@@ -6,9 +6,9 @@ use Rattle.lw_grammar.specs.declared.grammar.Grammar.{Grammar}
 use Rattle.lw_grammar.specs.declared.grammar.Import.{Import}
 use Rattle.lw_grammar.specs.declared.rule.Rule.{Rule}
 use Rattle.lw_grammar.specs.declared.terminal.Terminal.{Terminal}
-use Rattle.lw_syntax.specs.declared.lexeme.Lexeme.{Lexeme}
-use Rattle.lw_syntax.specs.Syntax as syntax
-use Rattle.lw_syntax.specs.Syntax.{Syntax, SpellsItem, SpellsItems, SpellsFile, bare_grammar, with_item, with_items}
+use Rattle.lw_gramread.specs.declared.lexeme.Lexeme.{Lexeme}
+use Rattle.lw_gramread.specs.Syntax as syntax
+use Rattle.lw_gramread.specs.Syntax.{Syntax, SpellsItem, SpellsItems, SpellsFile, bare_grammar, with_item, with_items}
 use Rattle.lw_load.proofs.Rising.{Rises, later, file_rises}
 use Rattle.lw_load.proofs.Behind.{IsNamed, interface_named, union_named, rule_named, terminal_named, grammar_name_behind, imports_behind}
 use Rattle.lw_load.proofs.Filled.{HasParts, terminal_filled}

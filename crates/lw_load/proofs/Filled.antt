@@ -7,11 +7,11 @@ use Rattle.lw_grammar.specs.declared.terminal.TermElement.{TermElement, out-Term
 use Rattle.lw_grammar.specs.declared.terminal.TermElement.TheFolds.{map-TermElement}
 use Rattle.lw_grammar.specs.declared.terminal.TermElement.TheVariants as term
 use Rattle.lw_grammar.specs.declared.terminal.TermElement.TheOpen.{TermElement-F}
-use Rattle.lw_syntax.specs.declared.lexeme.Lexeme.{Lexeme}
-use Rattle.lw_syntax.specs.Spans.{across, term_group_of, term_choice_of}
-use Rattle.lw_syntax.specs.TerminalRules as terms
-use Rattle.lw_syntax.specs.TerminalRules.{SpellsTermMark, SpellsTermPart, SpellsTerm, SpellsMoreTerms, SpellsTermRow, SpellsMoreTermRows, SpellsTermChoice, SpellsTerminal}
-use Rattle.lw_formed.specs.WellFormed.{choices, layer_choices}
+use Rattle.lw_gramread.specs.declared.lexeme.Lexeme.{Lexeme}
+use Rattle.lw_gramread.specs.Spans.{across, term_group_of, term_choice_of}
+use Rattle.lw_gramread.specs.TerminalRules as terms
+use Rattle.lw_gramread.specs.TerminalRules.{SpellsTermMark, SpellsTermPart, SpellsTerm, SpellsMoreTerms, SpellsTermRow, SpellsMoreTermRows, SpellsTermChoice, SpellsTerminal}
+use Rattle.lw_grammar.specs.WellFormed.{choices, layer_choices}
 
 -- each choice of these sizes has a part
 abbrev pub AreFilled : List ℕ → Type 0

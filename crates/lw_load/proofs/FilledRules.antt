@@ -11,10 +11,10 @@ use Rattle.lw_grammar.specs.declared.rule.Value0.{Value0, out-Value0, fold_out-V
 use Rattle.lw_grammar.specs.declared.rule.Value0.TheFolds.{map-Value0}
 use Rattle.lw_grammar.specs.declared.rule.Value0.TheOpen.{Value0-F}
 use Rattle.lw_grammar.specs.declared.rule.Value0.TheVariants as value
-use Rattle.lw_syntax.specs.declared.lexeme.Lexeme.{Lexeme}
-use Rattle.lw_syntax.specs.ParserRules as rules
-use Rattle.lw_syntax.specs.ParserRules.{SpellsValue, SpellsValues, SpellsMoreValues, SpellsMark, SpellsPart, SpellsElement, SpellsMoreElements, SpellsRow, SpellsMoreRows, SpellsChoice, SpellsRule}
-use Rattle.lw_syntax.specs.Spans.{across, covering, span_of, span_of_value, group_of, choice_of, value_among}
+use Rattle.lw_gramread.specs.declared.lexeme.Lexeme.{Lexeme}
+use Rattle.lw_gramread.specs.ParserRules as rules
+use Rattle.lw_gramread.specs.ParserRules.{SpellsValue, SpellsValues, SpellsMoreValues, SpellsMark, SpellsPart, SpellsElement, SpellsMoreElements, SpellsRow, SpellsMoreRows, SpellsChoice, SpellsRule}
+use Rattle.lw_gramread.specs.Spans.{across, covering, span_of, span_of_value, group_of, choice_of, value_among}
 use Rattle.lw_load.specs.FilledChoices.{value_choice_sizes, value_layer_choice_sizes, element_choice_sizes, layer_choice_sizes}
 use Rattle.lw_load.proofs.Filled.{AreFilled, each_filled, none_empty}
 

@@ -12,8 +12,8 @@ use Rattle.lw_grammar.specs.declared.terminal.Terminal.{Terminal}
 use Rattle.lw_grammar.specs.declared.declared_types.Interface.{Interface}
 use Rattle.lw_grammar.specs.declared.declared_types.UnionDef.{UnionDef}
 use Rattle.lw_grammar.specs.Size.{size, element_size, term_size}
-use Rattle.lw_syntax.specs.Syntax.{bare_grammar}
-use Rattle.lw_syntax.specs.PlacesWithin.{StandsWithin, IsWithin, rule_spans, terminal_spans, interface_spans, union_spans}
+use Rattle.lw_gramread.specs.Syntax.{bare_grammar}
+use Rattle.lw_gramread.specs.PlacesWithin.{StandsWithin, IsWithin, rule_spans, terminal_spans, interface_spans, union_spans}
 use Rattle.lw_load.specs.Paths.{import_path}
 use Rattle.lw_load.specs.Loading.{with_file, imports_in}
 use Rattle.lw_load.specs.Standing.{AreIn, Stands}

@@ -4,8 +4,8 @@ use Rattle.std.proofs.lemmas.List.Elements.{Contains-append_cases}
 use Rattle.lw_grammar.specs.declared.grammar.Grammar.{Grammar}
 use Rattle.lw_grammar.specs.declared.rule.Rule.{Rule}
 use Rattle.lw_grammar.specs.declared.terminal.Terminal.{Terminal}
-use Rattle.lw_formed.specs.WellFormed.{IsWellFormed}
-use Rattle.lw_syntax.specs.Syntax.{bare_grammar}
+use Rattle.lw_grammar.specs.WellFormed.{IsWellFormed}
+use Rattle.lw_gramread.specs.Syntax.{bare_grammar}
 use Rattle.lw_load.specs.FilledChoices.{HasFilledChoices}
 use Rattle.lw_load.specs.Loading.{rules_in, terminals_in, with_file}
 use Rattle.lw_load.proofs.Filled.{HasParts}

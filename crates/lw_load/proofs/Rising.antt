@@ -2,17 +2,17 @@
 use Rattle.std.proofs.Common.{ℕ, zero, suc, ◌≡◌, ◌+◌, ◌<◌, ◌≤◌, List, [], ◌∷◌, length, true, drop, arith}
 use Rattle.std.proofs.lemmas.Str.{length-encode, len_utf8_bounds}
 use Rattle.lw_base.specs.declared.token.Span.{Span}
-use Rattle.lw_gramread.specs.declared.token.FileKind.{FileKind}
-use Rattle.lw_gramread.specs.declared.token.FileKind.TheVariants as kind
-use Rattle.lw_gramread.specs.declared.token.FileToken.{FileToken}
-use Rattle.lw_gramread.specs.FileCut.{IsFileCut}
-use Rattle.lw_gramread.specs.FileTokens.{IsWord, IsFileToken}
-use Rattle.lw_gramread.specs.Symbols.{spelling}
-use Rattle.lw_gramread.specs.Values.{part_of}
-use Rattle.lw_gramread.proofs.CutLemmas.{IsCutFrom, whole, token_from}
-use Rattle.lw_gramread.proofs.PlaceLemmas.{is_short, symbol_short}
-use Rattle.lw_syntax.specs.declared.lexeme.Lexeme.{Lexeme}
-use Rattle.lw_syntax.specs.Lexemes.{saying, lexemes_of, place_of}
+use Rattle.lw_gramlex.specs.declared.token.FileKind.{FileKind}
+use Rattle.lw_gramlex.specs.declared.token.FileKind.TheVariants as kind
+use Rattle.lw_gramlex.specs.declared.token.FileToken.{FileToken}
+use Rattle.lw_gramlex.specs.FileCut.{IsFileCut}
+use Rattle.lw_gramlex.specs.FileTokens.{IsWord, IsFileToken}
+use Rattle.lw_gramlex.specs.Symbols.{spelling}
+use Rattle.lw_gramlex.specs.Values.{part_of}
+use Rattle.lw_gramlex.proofs.CutLemmas.{IsCutFrom, whole, token_from}
+use Rattle.lw_gramlex.proofs.PlaceLemmas.{is_short, symbol_short}
+use Rattle.lw_gramread.specs.declared.lexeme.Lexeme.{Lexeme}
+use Rattle.lw_gramread.specs.Lexemes.{saying, lexemes_of, place_of}
 
 -- the first begins at this place or behind it, and each other behind where the one before it begins
 pub data Rises : ℕ → List Lexeme → Type 0 where

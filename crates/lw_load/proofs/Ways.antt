@@ -6,7 +6,7 @@ use Rattle.std.proofs.lemmas.Simd.{map-map}
 use Rattle.lw_grammar.specs.declared.grammar.Grammar.{Grammar}
 use Rattle.lw_grammar.specs.declared.grammar.Import.{Import}
 use Rattle.lw_grammar.specs.Size.{size}
-use Rattle.lw_syntax.specs.Syntax.{Syntax, bare_grammar}
+use Rattle.lw_gramread.specs.Syntax.{Syntax, bare_grammar}
 use Rattle.lw_load.specs.declared.limits.TheConstants.{LARGEST_GRAMMAR}
 use Rattle.lw_load.specs.declared.fault.LoadFault.{LoadFault}
 use Rattle.lw_load.specs.declared.fault.LoadFault.TheVariants.{Absent, NotUtf8, TooLong, StoreFault, Read, TooLarge, NoMemory}

@@ -8,10 +8,10 @@ use Rattle.lw_grammar.specs.Size.{size}
 use Rattle.lw_io.specs.Causes.{Faulted}
 use Rattle.lw_io.specs.Store.{file_at}
 use Rattle.lw_text.specs.Position.{IsPosition}
-use Rattle.lw_syntax.specs.declared.reader.ReadFault.{ReadFault}
-use Rattle.lw_syntax.specs.declared.reader.ReadFault.TheVariants as reading
-use Rattle.lw_syntax.specs.Refusals.{IsRefusal}
-use Rattle.lw_syntax.specs.Syntax.{Syntax}
+use Rattle.lw_gramread.specs.declared.reader.ReadFault.{ReadFault}
+use Rattle.lw_gramread.specs.declared.reader.ReadFault.TheVariants as reading
+use Rattle.lw_gramread.specs.Refusals.{IsRefusal}
+use Rattle.lw_gramread.specs.Syntax.{Syntax}
 use Rattle.lw_load.specs.declared.limits.TheConstants.{LARGEST_GRAMMAR}
 use Rattle.lw_load.specs.declared.fault.LoadFault.{LoadFault}
 use Rattle.lw_load.specs.declared.fault.LoadFault.TheVariants.{Absent, NotUtf8, TooLong, StoreFault, Read, TooLarge, NoMemory}

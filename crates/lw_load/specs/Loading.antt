@@ -12,7 +12,7 @@ use Rattle.lw_grammar.specs.declared.declared_types.Interface.{Interface}
 use Rattle.lw_grammar.specs.declared.declared_types.UnionDef.{UnionDef}
 use Rattle.lw_grammar.specs.Size.{size}
 use Rattle.lw_io.specs.Store.{file_at}
-use Rattle.lw_syntax.specs.Syntax.{Syntax, bare_grammar}
+use Rattle.lw_gramread.specs.Syntax.{Syntax, bare_grammar}
 use Rattle.lw_load.specs.declared.limits.TheConstants.{LARGEST_GRAMMAR}
 use Rattle.lw_load.specs.declared.loader.Loaded.{Loaded}
 use Rattle.lw_load.specs.Paths.{walked, import_path}

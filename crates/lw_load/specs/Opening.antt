@@ -3,10 +3,10 @@ use Rattle.std.specs.Prelude.{ℕ, ◌≡◌, ◌≢◌, ◌+◌, ◌<◌, ◌�
 use Rattle.lw_base.specs.declared.limits.TheConstants.{LONGEST_TEXT}
 use Rattle.lw_grammar.specs.declared.grammar.Grammar.{Grammar}
 use Rattle.lw_grammar.specs.Size.{size}
-use Rattle.lw_syntax.specs.declared.reader.ReadFault.TheVariants as reading
-use Rattle.lw_syntax.specs.Refusals.{IsRefusal}
-use Rattle.lw_syntax.specs.Syntax.{Syntax}
-use Rattle.lw_syntax.specs.PlacesWithin.{StandsWithin}
+use Rattle.lw_gramread.specs.declared.reader.ReadFault.TheVariants as reading
+use Rattle.lw_gramread.specs.Refusals.{IsRefusal}
+use Rattle.lw_gramread.specs.Syntax.{Syntax}
+use Rattle.lw_gramread.specs.PlacesWithin.{StandsWithin}
 use Rattle.lw_text.specs.Position.{IsPosition}
 use Rattle.lw_load.specs.declared.limits.TheConstants.{LARGEST_GRAMMAR}
 use Rattle.lw_load.specs.declared.fault.LoadFault.{LoadFault}

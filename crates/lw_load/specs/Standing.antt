@@ -3,7 +3,7 @@ use Rattle.std.specs.Prelude.{ℕ, ◌≡◌, ◌≤◌, List, [], ◌∷◌, So
 use Rattle.lw_base.specs.declared.limits.TheConstants.{LONGEST_TEXT}
 use Rattle.lw_base.specs.declared.token.Span.{Span}
 use Rattle.lw_grammar.specs.declared.grammar.Grammar.{Grammar}
-use Rattle.lw_syntax.specs.PlacesWithin.{rule_spans, terminal_spans, interface_spans, union_spans, IsWithin}
+use Rattle.lw_gramread.specs.PlacesWithin.{rule_spans, terminal_spans, interface_spans, union_spans, IsWithin}
 
 module _ (texts : List (List ℕ)) where
   -- the places are in the text of the file of this number

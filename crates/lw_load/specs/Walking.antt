@@ -1,7 +1,7 @@
 -- How a walk over the files of a grammar goes on.
 use Rattle.std.specs.Prelude.{ℕ, ◌≡◌, ◌+◌, ◌≤◌, List, [], ◌∷◌, ◌++◌, Option, map, reverse, Contains}
 use Rattle.lw_grammar.specs.Size.{size}
-use Rattle.lw_syntax.specs.Syntax.{bare_grammar}
+use Rattle.lw_gramread.specs.Syntax.{bare_grammar}
 use Rattle.lw_load.specs.declared.limits.TheConstants.{LARGEST_GRAMMAR}
 use Rattle.lw_load.specs.declared.opening.Opened.{Opened}
 use Rattle.lw_load.specs.declared.walk.Walk.{Walk}

@@ -3,7 +3,7 @@ ghost use Rattle.std.specs.Prelude.{◌≡◌};
 ghost use Rattle.lw_load.specs.declared.fault.LoadFault.TheVariants.{NoMemory as no_memory};
 
 use lw_base::{Name, NoMemory};
-use lw_syntax::ReadFault;
+use lw_gramread::ReadFault;
 use lw_text::Pos;
 
 /// Why a grammar is not loaded. The path is that of the file that is to blame: the root's as it was given, any

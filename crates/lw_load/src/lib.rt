@@ -1,6 +1,6 @@
 //! Which grammar a root file says with all that it imports: the walk over the files, and the join of what they say.
 //!
-//! Its model: a file that is loaded has an address, a text, and what that says (`lw_syntax`). The files come in load
+//! Its model: a file that is loaded has an address, a text, and what that says (`lw_gramread`). The files come in load
 //! order: the root, then each import depth first in the order of the text, each file once. The grammar has the things
 //! of all files, each with the number of its file. The definitions stand in `specs/`:
 //!
@@ -13,7 +13,7 @@
 //!
 //! It promises that [`load`] gives the grammar of a root file and no other, or the first fault, and then the files say
 //! none; that the grammar is not larger than [`LARGEST_GRAMMAR`]; that each choice in a terminal has a part, and no rule
-//! stands where a terminal stands (`lw_formed`); that each choice in a rule has a part, too; and that each place in it is
+//! stands where a terminal stands (`lw_grammar::formed`); that each choice in a rule has a part, too; and that each place in it is
 //! in the text of its file, so that whoever finds something wrong can tell where.
 #![tactic(auto)]
 
@@ -29,6 +29,3 @@ mod walk;
 pub use fault::LoadFault;
 pub use limits::LARGEST_GRAMMAR;
 pub use loader::{Loaded, load};
-
-#[cfg(test)]
-mod tests;

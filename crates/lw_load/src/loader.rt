@@ -1,7 +1,7 @@
 // The walk over the files of a grammar.
 ghost use Rattle.std.specs.Prelude.{◌≡◌, ◌<◌, ◌≤◌, IfOk, IfErr, IfSome, length};
 ghost use Rattle.lw_grammar.specs.Size.{size};
-ghost use Rattle.lw_formed.specs.WellFormed.{IsWellFormed};
+ghost use Rattle.lw_grammar.specs.WellFormed.{IsWellFormed};
 ghost use Rattle.lw_load.specs.FilledChoices.{HasFilledChoices};
 ghost use Rattle.lw_load.specs.declared.limits.TheConstants.{LARGEST_GRAMMAR};
 ghost use Rattle.lw_load.specs.declared.loader.Loaded.{Loaded};

@@ -2,18 +2,18 @@
 ghost use Rattle.std.specs.Prelude.{◌≡◌, ◌≢◌, ◌≤◌, ℕ, length, IfOk, IfErr, IfSome};
 ghost use Rattle.lw_base.specs.declared.limits.TheConstants.{LONGEST_TEXT};
 ghost use Rattle.lw_grammar.specs.declared.grammar.Grammar.{Grammar};
-ghost use Rattle.lw_syntax.specs.declared.reader.ReadFault.TheVariants.{NoMemory as no_memory};
-ghost use Rattle.lw_syntax.specs.Syntax.{Syntax};
-ghost use Rattle.lw_syntax.specs.Refusals.{IsRefusal};
-ghost use Rattle.lw_syntax.specs.PlacesWithin.{StandsWithin, IsRefusalWithin};
+ghost use Rattle.lw_gramread.specs.declared.reader.ReadFault.TheVariants.{NoMemory as no_memory};
+ghost use Rattle.lw_gramread.specs.Syntax.{Syntax};
+ghost use Rattle.lw_gramread.specs.Refusals.{IsRefusal};
+ghost use Rattle.lw_gramread.specs.PlacesWithin.{StandsWithin, IsRefusalWithin};
 ghost use Rattle.lw_load.specs.LoadFaults.{CountsLoad, place_of_refusal};
 ghost use Rattle.lw_load.specs.Opening.{SaysOnly, IsFound, IsUnreadable, CannotLoad};
 
 use crate::fault::LoadFault;
 use lw_base::Name;
 use lw_grammar::Grammar;
+use lw_gramread::{ReadFault, read_grammar};
 use lw_io::{Found, Store};
-use lw_syntax::{ReadFault, read_grammar};
 use lw_text::position;
 use std::alloc::Global;
 

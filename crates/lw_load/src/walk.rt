@@ -1,7 +1,7 @@
 // A walk over the files of a grammar.
 ghost use Rattle.std.specs.Prelude.{◌≡◌, ◌≢◌, ◌≤◌, ◌++◌, ◌⊎◌, ◌+◌, ◌<◌, [], ◌∷◌, length, map, MatchBool, if◌then◌else◌, reverse, OnOk, IfOk, IfErr, IfSome, Contains};
 ghost use Rattle.lw_grammar.specs.Size.{size};
-ghost use Rattle.lw_syntax.specs.Syntax.{bare_grammar};
+ghost use Rattle.lw_gramread.specs.Syntax.{bare_grammar};
 ghost use Rattle.lw_load.specs.declared.limits.TheConstants.{LARGEST_GRAMMAR};
 ghost use Rattle.lw_load.specs.declared.fault.LoadFault.TheVariants.{TooLarge as too_large, NoMemory as no_memory};
 ghost use Rattle.lw_load.specs.Paths.{import_path};

@@ -10,9 +10,9 @@ use Rattle.lw_grammar.specs.Leaves.{keywords_in}
 use Rattle.lw_grammar.specs.Named.{IsRule, declared_rule, declared_terminal}
 use Rattle.lw_grammar.specs.Kinds.{Kinds, AreKinds, IsKeywordKind, IsTerminalKind, first_uses}
 use Rattle.lw_grammar.proofs.FirstUses.{stands_in}
-use Rattle.lw_grammar.proofs.KeptLemmas.{there}
-use Rattle.lw_sentences.proofs.KeywordRows.{keyword_once}
-use Rattle.lw_sentences.proofs.Meaning.{one_of_two}
+use Rattle.lw_base.proofs.Lists.{there}
+use Rattle.lw_grammar.proofs.KeywordRows.{keyword_once}
+use Rattle.lw_grammar.proofs.Meaning.{one_of_two}
 
 -- a text has one kind, and no name is that of a terminal and of a rule
 pub record AreApart (g : Grammar) (kinds : Kinds) : Type 0 where

@@ -19,7 +19,7 @@ use Rattle.lw_look.specs.Supplied.{ChoicesHaveParts}
 use Rattle.lw_look.specs.Choices.{inside, value_choices, value_layer_choice_sites, element_choices, layer_choice_sites, rule_choices, choice_sites, IsChoice, alternatives, optional, repeated}
 use Rattle.lw_look.proofs.ByParts.{by_all_parts}
 use Rattle.lw_look.proofs.Paths.{LiesAt, lies_at_itself, lies_at_whole, not_at_part, one_part, lies_in_rule}
-use Rattle.lw_look.proofs.Standing.{among}
+use Rattle.lw_base.proofs.Lists.{among}
 
 none_there : (s : PartSite) → ¬ Contains [] s
 none_there s (k, within, is) = omega arith

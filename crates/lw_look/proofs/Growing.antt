@@ -4,8 +4,8 @@ use Rattle.lw_grammar.specs.declared.grammar.Grammar.{Grammar}
 use Rattle.lw_grammar.specs.declared.rule.Rule.{Rule}
 use Rattle.lw_grammar.specs.Named.{IsEntry}
 use Rattle.lw_grammar.specs.Kinds.{Kinds}
-use Rattle.lw_sentences.specs.Marks.{Mark, kinds_of}
-use Rattle.lw_sentences.specs.Yields.{RuleGives}
+use Rattle.lw_grammar.specs.Marks.{Mark, kinds_of}
+use Rattle.lw_grammar.specs.Yields.{RuleGives}
 use Rattle.lw_look.specs.Sites.{PartSite, body, Body, CallsAt}
 use Rattle.lw_look.specs.Looks.{After}
 use Rattle.lw_look.specs.Looks as look

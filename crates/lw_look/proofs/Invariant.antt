@@ -3,8 +3,8 @@ use Rattle.std.proofs.Common.{◌≡◌, ℕ, List, [], ◌∷◌, ◌++◌}
 use Rattle.lw_grammar.specs.declared.grammar.Grammar.{Grammar}
 use Rattle.lw_grammar.specs.declared.rule.Op.{Op}
 use Rattle.lw_grammar.specs.Kinds.{Kinds}
-use Rattle.lw_sentences.specs.Marks.{Mark, kinds_of}
-use Rattle.lw_sentences.specs.Sentences.{IsSentence}
+use Rattle.lw_grammar.specs.Marks.{Mark, kinds_of}
+use Rattle.lw_grammar.specs.Sentences.{IsSentence}
 use Rattle.lw_look.specs.Sites.{PartSite}
 use Rattle.lw_look.specs.Looks.{After}
 use Rattle.lw_look.specs.Things.{Thing, Do, Assigned, Again, Leave, RestGives}

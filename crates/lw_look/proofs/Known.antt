@@ -19,9 +19,9 @@ use Rattle.lw_grammar.specs.Named.{IsFirst, IsRule, IsTerminal, Declaration, Sta
 use Rattle.lw_grammar.specs.Reached.{RuleCalls}
 use Rattle.lw_grammar.specs.Reached as reached
 use Rattle.lw_grammar.proofs.FirstUses.{same_text}
-use Rattle.lw_grammar.proofs.KeptLemmas.{there}
+use Rattle.lw_base.proofs.Lists.{there}
 use Rattle.lw_grammar.proofs.LeafLemmas.{values_by}
-use Rattle.lw_sentences.proofs.Every.{differ, first_here, first_later}
+use Rattle.lw_grammar.proofs.Every.{differ, first_here, first_later}
 use Rattle.lw_faults.specs.BadCalls.{BadCall}
 use Rattle.lw_faults.specs.BadCalls as bad
 use Rattle.lw_faults.specs.Derivations.{IsReachedRule, never_ends}
@@ -30,12 +30,12 @@ use Rattle.lw_faults.specs.Faults as list
 use Rattle.lw_faults.specs.Reads.{MayRead}
 use Rattle.lw_faults.specs.Names.{Duplicate, UnknownRule}
 use Rattle.lw_faults.specs.Names as fault
-use Rattle.lw_faults.specs.Written.{WritesCall, IsNoRule}
-use Rattle.lw_faults.specs.Written as written
-use Rattle.lw_formed.specs.WellFormed.{IsWellFormed}
+use Rattle.lw_grammar.specs.Written.{WritesCall, IsNoRule}
+use Rattle.lw_grammar.specs.Written as written
+use Rattle.lw_grammar.specs.WellFormed.{IsWellFormed}
 use Rattle.lw_look.specs.Supplied.{IsKnownCall, ChoicesHaveParts, LacksNothing, ReadingIsTold}
 use Rattle.lw_look.proofs.Apart.{each}
-use Rattle.lw_look.proofs.Standing.{among}
+use Rattle.lw_base.proofs.Lists.{among}
 
 -- ---- a name that is declared once means what is declared
 

@@ -27,11 +27,11 @@ use Rattle.lw_grammar.specs.Reached.{IsReached, RuleCalls}
 use Rattle.lw_grammar.specs.Reached as reached
 use Rattle.lw_grammar.proofs.FirstUses.{Contains-first_uses}
 use Rattle.lw_grammar.proofs.LeafLemmas.{leaves_by, values_by}
-use Rattle.lw_grammar.proofs.KeptLemmas.{there}
-use Rattle.lw_sentences.specs.Marks.{Mark}
-use Rattle.lw_sentences.specs.Yields.{Yields, Gives, YieldsAll, Calls, RuleGives, ValueYields, ValueGives}
-use Rattle.lw_sentences.specs.Yields as y
-use Rattle.lw_sentences.proofs.Every.{first_here, first_later}
+use Rattle.lw_base.proofs.Lists.{there}
+use Rattle.lw_grammar.specs.Marks.{Mark}
+use Rattle.lw_grammar.specs.Yields.{Yields, Gives, YieldsAll, Calls, RuleGives, ValueYields, ValueGives}
+use Rattle.lw_grammar.specs.Yields as y
+use Rattle.lw_grammar.proofs.Every.{first_here, first_later}
 use Rattle.lw_faults.specs.Derivations.{IsReachedRule}
 use Rattle.lw_faults.specs.Reads.{MayRead, ReadsLayer, ReadsAll, CallReads, ValueReads, ValueReadsLayer}
 use Rattle.lw_faults.specs.Reads as may
@@ -41,7 +41,8 @@ use Rattle.lw_look.specs.Sites.{PartSite, body, ◌▸◌, rule_of, Part, Body, 
 use Rattle.lw_look.specs.Sites as site
 use Rattle.lw_look.specs.Supplied.{LacksNothing, NodesAreTold, IsKnownCall, IsSupplied}
 use Rattle.lw_look.proofs.Reaching.{in_rule, call_leaf, value_call_leaf}
-use Rattle.lw_look.proofs.Standing.{place_of, row_part_stands, way_stands}
+use Rattle.lw_base.proofs.Lists.{place_of}
+use Rattle.lw_look.proofs.Standing.{row_part_stands, way_stands}
 
 -- ---- the kinds hold the keywords and the terminals of reached rules
 

@@ -16,11 +16,11 @@ use Rattle.lw_grammar.specs.declared.rule.Op.TheVariants.{One}
 use Rattle.lw_grammar.specs.declared.rule.Rule.{Rule}
 use Rattle.lw_grammar.specs.Named.{IsEntry}
 use Rattle.lw_grammar.specs.Kinds.{Kinds}
-use Rattle.lw_sentences.specs.Marks.{Mark, kinds_of}
-use Rattle.lw_sentences.specs.Worked.{nowhere, word, named_rule, rules_alone}
-use Rattle.lw_sentences.specs.Yields.{Yields, Gives, YieldsAll, ValueYields, ValueGives}
-use Rattle.lw_sentences.specs.Yields as y
-use Rattle.lw_sentences.proofs.Every.{Every, every_at}
+use Rattle.lw_grammar.specs.Marks.{Mark, kinds_of}
+use Rattle.lw_grammar.specs.Worked.{nowhere, word, named_rule, rules_alone}
+use Rattle.lw_grammar.specs.Yields.{Yields, Gives, YieldsAll, ValueYields, ValueGives}
+use Rattle.lw_grammar.specs.Yields as y
+use Rattle.lw_grammar.proofs.Every.{Every, every_at}
 use Rattle.lw_look.specs.Sites.{PartSite, body, ◌▸◌, Part, Body, Value, inner_parts, element_parts, value_parts, IsPartAt, ElementAt, ValueAt, AlternativeAt, OptionalAt, RepeatedAt}
 use Rattle.lw_look.specs.Sites as site
 use Rattle.lw_look.specs.Looks.{After, Look, IsLL, window, PartYields}

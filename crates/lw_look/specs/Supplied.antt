@@ -16,8 +16,8 @@ use Rattle.lw_grammar.specs.NameRules.{IsNameRule}
 use Rattle.lw_grammar.specs.Nodes.{MakesNodes}
 use Rattle.lw_grammar.specs.Reached.{IsReached, RuleCalls}
 use Rattle.lw_grammar.specs.Kinds.{Kinds, IsKeywordKind}
-use Rattle.lw_sentences.specs.Marks.{Mark}
-use Rattle.lw_sentences.specs.Yields.{Calls}
+use Rattle.lw_grammar.specs.Marks.{Mark}
+use Rattle.lw_grammar.specs.Yields.{Calls}
 use Rattle.lw_faults.specs.Derivations.{IsReachedRule}
 use Rattle.lw_faults.specs.Reads.{MayRead}
 use Rattle.lw_look.specs.Sites.{PartSite, rule_of, Part, Body, Value, IsPartAt}

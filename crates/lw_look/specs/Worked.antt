@@ -1,5 +1,5 @@
 -- Two grammars that are written out: one whose ways no look-ahead tells apart, and one whose ways the second kind does. Of both, and of
--- `two_ways` of lw_sentences, the laws say for which k they are LL(k).
+-- `two_ways` of lw_grammar::sentences, the laws say for which k they are LL(k).
 use Rattle.std.specs.Prelude.{ℕ, List, [], ◌∷◌, true, false, codes}
 use Rattle.lw_grammar.specs.declared.grammar.Grammar.{Grammar}
 use Rattle.lw_grammar.specs.declared.rule.Rule.{Rule}
@@ -8,7 +8,7 @@ use Rattle.lw_grammar.specs.declared.rule.Element.{Element}
 use Rattle.lw_grammar.specs.declared.rule.Element.TheVariants.{Assign, Group, Choice}
 use Rattle.lw_grammar.specs.declared.rule.Value0.TheVariants as value
 use Rattle.lw_grammar.specs.Kinds.{Kinds}
-use Rattle.lw_sentences.specs.Worked.{nowhere, word, named_rule, id_call, id_terminal, rules_alone}
+use Rattle.lw_grammar.specs.Worked.{nowhere, word, named_rule, id_call, id_terminal, rules_alone}
 
 -- ---- two equal ways: grammar C entry A: x=ID | y=ID; terminal ID: /[_a-zA-Z][\w_]*/;
 

@@ -3,8 +3,8 @@ use Rattle.std.proofs.Common.{◌≡◌, ℕ, zero, suc, ◌+◌, ◌<◌, List,
 use Rattle.std.specs.List.{AllZip}
 use Rattle.std.proofs.lemmas.List.{take_more}
 use Rattle.std.proofs.lemmas.Option.{slice_get_read}
-use Rattle.lw_heads.specs.declared.head.Head.{Head}
-use Rattle.lw_points.specs.declared.point.Point.{Point}
+use Rattle.lw_first.specs.declared.heads.head.Head.{Head}
+use Rattle.lw_lookahead.specs.declared.points.point.Point.{Point}
 use Rattle.lw_lookahead.specs.declared.fault.LookFault.{LookFault}
 use Rattle.lw_lookahead.specs.declared.fault.LookFault.TheVariants as fault
 use Rattle.lw_lookahead.specs.Seen.{AreEntriesOfChoice}

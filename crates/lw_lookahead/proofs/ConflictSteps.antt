@@ -2,8 +2,8 @@
 use Rattle.std.proofs.Common.{◌≡◌, ℕ, ◌+◌, ◌-◌, ◌<◌, ◌≤◌, List, Some, Contains, ◌⊎◌, inl, inr, ◌↔◌, length, get_or, slice_get, sym, ap, ◌∙◌, subst, arith}
 use Rattle.std.proofs.lemmas.Bool.{cases_lt}
 use Rattle.std.proofs.lemmas.Option.{same_Some, slice_get-get_or, slice_get_within}
-use Rattle.lw_heads.specs.declared.head.Head.{Head}
-use Rattle.lw_heads.specs.Heads.{kinds_in}
+use Rattle.lw_first.specs.declared.heads.head.Head.{Head}
+use Rattle.lw_first.specs.Heads.{kinds_in}
 use Rattle.lw_lookahead.specs.Entries.{AreEntries, AreFirstWays, IsLeastPair, IsNoLaterPair, IsOfBoth, of_ways}
 use Rattle.lw_lookahead.specs.Shared.{IsFirstPrinted}
 use Rattle.lw_lookahead.proofs.WayHeads.{of_ways_has}

@@ -14,13 +14,13 @@ use Rattle.lw_look.specs.Sites.{PartSite}
 use Rattle.lw_look.specs.Choices as choice
 use Rattle.lw_look.specs.Strings.{AreDifferent, AreStrings, HasMoreStrings, LookString}
 use Rattle.lw_look.specs.Strings as different
-use Rattle.lw_heads.specs.declared.head.Head.{Head}
-use Rattle.lw_heads.specs.Heads.{kinds_in}
-use Rattle.lw_heads.specs.Sets.{AreDistinctHeads}
-use Rattle.lw_points.specs.declared.point.Point.{Point}
-use Rattle.lw_points.specs.Points.{strings_in}
-use Rattle.lw_derivations.proofs.PassingReads.{further}
-use Rattle.lw_subtypes.proofs.Lists.{at_map, at_of, has_at, map_has, the_first}
+use Rattle.lw_first.specs.declared.heads.head.Head.{Head}
+use Rattle.lw_first.specs.Heads.{kinds_in}
+use Rattle.lw_first.specs.Sets.{AreDistinctHeads}
+use Rattle.lw_lookahead.specs.declared.points.point.Point.{Point}
+use Rattle.lw_lookahead.specs.Points.{strings_in}
+use Rattle.lw_kinds.proofs.PassingReads.{further}
+use Rattle.lw_base.proofs.Lists.{at_map, at_of, has_at, map_has, the_first}
 use Rattle.lw_lookahead.specs.Entries.{of_way, of_ways}
 use Rattle.lw_lookahead.specs.Seen.{IsSeenAt}
 use Rattle.lw_lookahead.specs.Shared.{heads_at}

@@ -3,8 +3,8 @@ use Rattle.std.proofs.Common.{◌≡◌, zero, suc, ◌≤◌, List, [], ◌∷�
 use Rattle.std.proofs.lemmas.List.Elements.{Contains-append_cases}
 use Rattle.lw_look.specs.Strings.{AreDifferent, LookString}
 use Rattle.lw_look.specs.Strings as different
-use Rattle.lw_derivations.proofs.PassingReads.{further}
-use Rattle.lw_subtypes.proofs.Lists.{first_or_later, the_first}
+use Rattle.lw_kinds.proofs.PassingReads.{further}
+use Rattle.lw_base.proofs.Lists.{first_or_later, the_first}
 
 abbrev Strings : Type 0
 Strings = List LookString

@@ -14,11 +14,11 @@ use Rattle.lw_look.specs.Choices.{choice_sites}
 use Rattle.lw_look.specs.Looks.{IsLL, Look, window}
 use Rattle.lw_look.specs.Sites.{PartSite}
 use Rattle.lw_look.proofs.ChoiceSites.{all_listed}
-use Rattle.lw_heads.specs.declared.head.Head.{Head}
-use Rattle.lw_heads.specs.Heads.{kinds_in}
-use Rattle.lw_points.specs.declared.point.Point.{Point}
-use Rattle.lw_points.specs.Written.{IsWrittenAt}
-use Rattle.lw_subtypes.proofs.Lists.{at_of}
+use Rattle.lw_first.specs.declared.heads.head.Head.{Head}
+use Rattle.lw_first.specs.Heads.{kinds_in}
+use Rattle.lw_lookahead.specs.declared.points.point.Point.{Point}
+use Rattle.lw_lookahead.specs.Written.{IsWrittenAt}
+use Rattle.lw_base.proofs.Lists.{at_of}
 use Rattle.lw_lookahead.specs.declared.fault.Conflict.{Conflict}
 use Rattle.lw_lookahead.specs.Conflicts.{IsClearAt, IsFirstConflict, IsShared}
 use Rattle.lw_lookahead.specs.Entries.{AreEntries, IsOfBoth}

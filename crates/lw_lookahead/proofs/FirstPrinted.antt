@@ -5,7 +5,7 @@ use Rattle.std.specs.Ordering.{nat_cmp, ordering_reverse}
 use Rattle.std.proofs.lemmas.Cmp.{nat_list_cmp_total}
 use Rattle.std.proofs.lemmas.List.{take_more}
 use Rattle.std.proofs.lemmas.List.Elements.{Contains-append_left, Contains-push, Contains-push_cases}
-use Rattle.lw_heads.specs.declared.head.Head.{Head}
+use Rattle.lw_first.specs.declared.heads.head.Head.{Head}
 use Rattle.lw_lookahead.specs.Shared.{StandsInFront, IsFirstPrintedOf, KeepsFirst, head_text}
 
 -- ---- texts by their order

@@ -3,7 +3,7 @@ use Rattle.std.proofs.Common.{◌≡◌, ℕ, ◌<◌, ◌≤◌, List, [], ◌�
 use Rattle.std.specs.Option.{IfSome}
 use Rattle.std.proofs.lemmas.Bool.{cases_lt}
 use Rattle.std.proofs.lemmas.List.Elements.{Contains-append_left, Contains-push, Contains-push_cases}
-use Rattle.lw_heads.specs.declared.head.Head.{Head}
+use Rattle.lw_first.specs.declared.heads.head.Head.{Head}
 use Rattle.lw_lookahead.specs.Entries.{AreFirstWays, AreUpTo, IsLeastPair, IsLeastPairOf, IsNoLaterPair, IsOfBoth}
 
 abbrev Pairs : Type 0

@@ -9,13 +9,13 @@ use Rattle.lw_look.specs.Heads.{AreClosedAfters, AreClosedHeads, AreTrueAfters, 
 use Rattle.lw_look.specs.Sites.{PartSite}
 use Rattle.lw_look.specs.Strings.{HasMoreStrings}
 use Rattle.lw_look.proofs.ChoiceSites.{all_listed, listed_once}
-use Rattle.lw_heads.specs.declared.head.Head.{Head}
-use Rattle.lw_heads.specs.Sets.{IsInSet}
-use Rattle.lw_points.specs.declared.point.Point.{Point}
-use Rattle.lw_points.specs.declared.point.PointsFault.{PointsFault}
-use Rattle.lw_points.specs.declared.point.PointsFault.TheVariants as points
-use Rattle.lw_points.specs.declared.point.TheConstants.{MOST_STRINGS}
-use Rattle.lw_points.specs.Points.{ArePoints, CausesNoPoints, strings_in}
+use Rattle.lw_first.specs.declared.heads.head.Head.{Head}
+use Rattle.lw_first.specs.Sets.{IsInSet}
+use Rattle.lw_lookahead.specs.declared.points.point.Point.{Point}
+use Rattle.lw_lookahead.specs.declared.points.point.PointsFault.{PointsFault}
+use Rattle.lw_lookahead.specs.declared.points.point.PointsFault.TheVariants as points
+use Rattle.lw_lookahead.specs.declared.points.point.TheConstants.{MOST_STRINGS}
+use Rattle.lw_lookahead.specs.Points.{ArePoints, CausesNoPoints, strings_in}
 use Rattle.lw_lookahead.specs.declared.fault.LookFault.{LookFault}
 use Rattle.lw_lookahead.specs.Faults.{look_fault}
 use Rattle.lw_lookahead.specs.Seen.{AreSeen, CausesNoChoices, IsSeenAt}

@@ -9,9 +9,9 @@ use Rattle.lw_look.specs.Choices.{choice_sites}
 use Rattle.lw_look.specs.Looks.{Look, window}
 use Rattle.lw_look.specs.Sites.{PartSite}
 use Rattle.lw_look.proofs.HeadsCover.{one_head}
-use Rattle.lw_heads.specs.declared.head.Head.{Head}
-use Rattle.lw_heads.specs.Heads.{kinds_in}
-use Rattle.lw_heads.proofs.Distinct.{same_kinds}
+use Rattle.lw_first.specs.declared.heads.head.Head.{Head}
+use Rattle.lw_first.specs.Heads.{kinds_in}
+use Rattle.lw_first.proofs.Distinct.{same_kinds}
 use Rattle.lw_lookahead.specs.declared.kept.Tables.{Tables}
 use Rattle.lw_lookahead.specs.Entries.{AreEntries}
 use Rattle.lw_lookahead.specs.Tables.{AreEntriesAt, AreTables}

@@ -1,6 +1,6 @@
 -- What is gathered from the heads of a way, and from ways, one after the other.
 use Rattle.std.proofs.Common.{◌≡◌, ℕ, ◌+◌, ◌<◌, List, [], ◌∷◌, ◌++◌, None, Contains, length, take, get_or, sym, ap, ◌∙◌, subst, append_assoc, append-nil, arith}
-use Rattle.lw_heads.specs.declared.head.Head.{Head}
+use Rattle.lw_first.specs.declared.heads.head.Head.{Head}
 use Rattle.lw_lookahead.specs.declared.entries.Entries.{Entries}
 use Rattle.lw_lookahead.specs.Entries.{AreUpTo, IsLeastPairOf, of_way, of_ways}
 use Rattle.lw_lookahead.specs.Gathered.{AreGatheredWays}

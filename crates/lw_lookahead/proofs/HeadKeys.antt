@@ -4,9 +4,9 @@ use Rattle.std.specs.Map.{lookup}
 use Rattle.std.specs.Option.{option_eq}
 use Rattle.std.proofs.lemmas.Bool.{eq-eqb}
 use Rattle.std.proofs.lemmas.Map.Views.{Contains-from_lookup}
-use Rattle.lw_heads.specs.declared.head.Head.{Head}
-use Rattle.lw_heads.specs.contracts.head.HeadPartialEq.TheImpl.{eq-value}
-use Rattle.lw_heads.proofs.Distinct.{head_exact, head_same}
+use Rattle.lw_first.specs.declared.heads.head.Head.{Head}
+use Rattle.lw_first.specs.contracts.heads.head.HeadPartialEq.TheImpl.{eq-value}
+use Rattle.lw_first.proofs.Distinct.{head_exact, head_same}
 
 abbrev pub found : Head → List (Head × ℕ) → Option ℕ
 found head entries = lookup ((eq-value).it head) entries

@@ -16,3 +16,12 @@ pub mod Counting
 pub mod FoundChoices
 pub mod FirstConflict
 pub mod TableFaults
+pub mod ChoiceForms
+pub mod SiteForms
+pub mod FollowForms
+pub mod PutSteps
+pub mod WayLemmas
+pub mod PointForms
+pub mod PointsGatherSteps
+pub mod LeadForms
+pub mod RuleSteps

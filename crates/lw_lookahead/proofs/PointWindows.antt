@@ -9,12 +9,12 @@ use Rattle.lw_look.specs.Looks.{Look, window}
 use Rattle.lw_look.specs.Sites.{PartSite}
 use Rattle.lw_look.proofs.HeadsCover.{look_can}
 use Rattle.lw_look.proofs.HeadsTrue.{look_true}
-use Rattle.lw_heads.specs.declared.head.Head.{Head}
-use Rattle.lw_heads.specs.declared.head.Head.TheVariants.{Nothing}
-use Rattle.lw_heads.specs.Heads.{kinds_in}
-use Rattle.lw_heads.specs.Sets.{IsInSet}
-use Rattle.lw_points.specs.declared.point.Point.{Point}
-use Rattle.lw_points.specs.Points.{IsPointAt}
+use Rattle.lw_first.specs.declared.heads.head.Head.{Head}
+use Rattle.lw_first.specs.declared.heads.head.Head.TheVariants.{Nothing}
+use Rattle.lw_first.specs.Heads.{kinds_in}
+use Rattle.lw_first.specs.Sets.{IsInSet}
+use Rattle.lw_lookahead.specs.declared.points.point.Point.{Point}
+use Rattle.lw_lookahead.specs.Points.{IsPointAt}
 use Rattle.lw_lookahead.specs.Seen.{IsSeenAt}
 use Rattle.lw_lookahead.specs.Shared.{AreFewHeads, heads_at}
 use Rattle.lw_lookahead.proofs.FewWays.{few_ways}

@@ -5,7 +5,7 @@ use Rattle.std.specs.Prelude.{codes}
 use Rattle.std.proofs.lemmas.List.{take_more}
 use Rattle.std.proofs.lemmas.List.Concat.{flat_map-append}
 use Rattle.lw_base.specs.declared.numbers.KindId.{KindId}
-use Rattle.lw_heads.specs.Heads.{seen_in}
+use Rattle.lw_first.specs.Heads.{seen_in}
 use Rattle.lw_lookahead.specs.Printed.{window_text, shown, spaced}
 
 module _ (texts : List (List ℕ)) where

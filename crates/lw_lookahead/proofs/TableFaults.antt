@@ -4,8 +4,8 @@ use Rattle.lw_grammar.specs.declared.grammar.Grammar.{Grammar}
 use Rattle.lw_grammar.specs.Kinds.{Kinds}
 use Rattle.lw_grammar.specs.KindTexts.{texts_of}
 use Rattle.lw_look.specs.Strings.{HasMoreStrings}
-use Rattle.lw_points.specs.declared.point.Point.{Point}
-use Rattle.lw_points.specs.declared.point.TheConstants.{MOST_STRINGS}
+use Rattle.lw_lookahead.specs.declared.points.point.Point.{Point}
+use Rattle.lw_lookahead.specs.declared.points.point.TheConstants.{MOST_STRINGS}
 use Rattle.lw_lookahead.specs.declared.fault.LookFault.{LookFault}
 use Rattle.lw_lookahead.specs.declared.fault.LookFault.TheVariants as fault
 use Rattle.lw_lookahead.specs.Conflicts.{CausesNoTables}

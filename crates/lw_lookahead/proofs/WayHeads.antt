@@ -5,8 +5,8 @@ use Rattle.std.proofs.lemmas.List.{length-map, length-take, length-take-le, take
 use Rattle.std.proofs.lemmas.List.Sums.{sum_by-cons}
 use Rattle.std.proofs.lemmas.Option.{slice_get_within}
 use Rattle.std.proofs.lemmas.List.Elements.{Contains-append_cases, Contains-append_left, Contains-append_right}
-use Rattle.lw_heads.specs.declared.head.Head.{Head}
-use Rattle.lw_subtypes.proofs.Lists.{at_map, at_of, has_at, map_has}
+use Rattle.lw_first.specs.declared.heads.head.Head.{Head}
+use Rattle.lw_base.proofs.Lists.{at_map, at_of, has_at, map_has}
 use Rattle.lw_lookahead.specs.Entries.{AreUpTo, of_way, of_ways}
 
 abbrev Pair : Type 0

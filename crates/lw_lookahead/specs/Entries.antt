@@ -1,7 +1,7 @@
 -- The heads of ways, each beside its way; what is known of entries, which have each head once; and which ways have a head in common.
 use Rattle.std.specs.Prelude.{ℕ, ◌≡◌, ◌+◌, ◌<◌, ◌≤◌, ◌⊎◌, List, [], ◌∷◌, ◌++◌, Option, Some, None, Contains, length, map}
-use Rattle.lw_heads.specs.declared.head.Head.{Head}
-use Rattle.lw_heads.specs.Heads.{kinds_in}
+use Rattle.lw_first.specs.declared.heads.head.Head.{Head}
+use Rattle.lw_first.specs.Heads.{kinds_in}
 
 -- the heads of a way, and those of ways that are counted from this number
 abbrev pub of_way : ℕ → List Head → List (Head × ℕ)

@@ -1,6 +1,6 @@
 -- What is gathered from the ways of a choice.
 use Rattle.std.specs.Prelude.{ℕ, List}
-use Rattle.lw_heads.specs.declared.head.Head.{Head}
+use Rattle.lw_first.specs.declared.heads.head.Head.{Head}
 use Rattle.lw_lookahead.specs.declared.entries.Entries.{Entries}
 use Rattle.lw_lookahead.specs.Entries.{AreFirstWays, IsLeastPairOf}
 

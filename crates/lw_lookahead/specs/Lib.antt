@@ -6,3 +6,8 @@ pub mod Tables
 pub mod Conflicts
 pub mod Shared
 pub mod Seen
+pub mod Written
+pub mod Points
+pub mod Ways
+pub mod Counted
+pub mod Gathering

@@ -6,11 +6,11 @@ use Rattle.lw_look.specs.Choices.{choice_sites}
 use Rattle.lw_look.specs.Looks.{Look, window}
 use Rattle.lw_look.specs.Sites.{PartSite}
 use Rattle.lw_look.specs.Strings.{HasMoreStrings}
-use Rattle.lw_heads.specs.declared.head.Head.{Head}
-use Rattle.lw_heads.specs.Heads.{kinds_in}
-use Rattle.lw_points.specs.declared.point.Point.{Point}
-use Rattle.lw_points.specs.declared.point.TheConstants.{MOST_STRINGS}
-use Rattle.lw_points.specs.Written.{IsWrittenAt}
+use Rattle.lw_first.specs.declared.heads.head.Head.{Head}
+use Rattle.lw_first.specs.Heads.{kinds_in}
+use Rattle.lw_lookahead.specs.declared.points.point.Point.{Point}
+use Rattle.lw_lookahead.specs.declared.points.point.TheConstants.{MOST_STRINGS}
+use Rattle.lw_lookahead.specs.Written.{IsWrittenAt}
 use Rattle.lw_lookahead.specs.declared.fault.LookFault.{LookFault}
 use Rattle.lw_lookahead.specs.declared.fault.LookFault.TheVariants as fault
 use Rattle.lw_lookahead.specs.Entries.{AreEntries, AreFirstWays}

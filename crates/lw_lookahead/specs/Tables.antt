@@ -6,8 +6,8 @@ use Rattle.lw_grammar.specs.Kinds.{Kinds}
 use Rattle.lw_look.specs.Choices.{choice_sites}
 use Rattle.lw_look.specs.Looks.{Look, window}
 use Rattle.lw_look.specs.Sites.{PartSite}
-use Rattle.lw_heads.specs.declared.head.Head.{Head}
-use Rattle.lw_heads.specs.Heads.{kinds_in}
+use Rattle.lw_first.specs.declared.heads.head.Head.{Head}
+use Rattle.lw_first.specs.Heads.{kinds_in}
 use Rattle.lw_lookahead.specs.declared.kept.Tables.{Tables}
 
 -- these entries have exactly the windows of the choice at the site, by their heads, each with its way

@@ -5,12 +5,12 @@ ghost use Rattle.lw_grammar.specs.Kinds.{Kinds};
 ghost use Rattle.lw_look.specs.Choices.{choice_sites};
 ghost use Rattle.lw_look.specs.Looks.{Look};
 ghost use Rattle.lw_look.specs.Sites.{PartSite};
-ghost use Rattle.lw_heads.specs.Heads.{seen_in};
+ghost use Rattle.lw_first.specs.Heads.{seen_in};
 ghost use Rattle.lw_lookahead.specs.Tables.{AreTables};
 
 use crate::Tables;
 use lw_base::{KindId, PointId};
-use lw_heads::Head;
+use lw_first::heads::Head;
 
 impl Tables {
     /// The way, counted from one, that this window comes next at. It takes no memory and expected constant time.

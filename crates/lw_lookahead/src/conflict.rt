@@ -2,17 +2,17 @@
 ghost use Rattle.std.specs.Prelude.{ℕ, ◌≤◌, ◌↔◌, Contains, IsTrue, IfOk};
 ghost use Rattle.lw_grammar.specs.Kinds.{Kinds, AreKinds};
 ghost use Rattle.lw_grammar.specs.KindTexts.{texts_of};
-ghost use Rattle.lw_lexicon.specs.Known.{IsKnownLexicon};
+ghost use Rattle.lw_kinds.specs.LexiconKnown.{IsKnownLexicon};
 ghost use Rattle.lw_lookahead.specs.Entries.{AreEntries, AreFirstWays, IsLeastPair};
 ghost use Rattle.lw_lookahead.specs.Shared.{AreFewHeads, StandsInFront, IsConflictAt, IsFirstPrintedOf, KeepsFirst, heads_at};
 
 use crate::Conflict;
+use crate::points::Point;
 use crate::printed::print;
 use indexmap::IndexMap;
 use lw_base::{Name, NoMemory};
-use lw_heads::Head;
-use lw_lexicon::Lexicon;
-use lw_points::Point;
+use lw_first::heads::Head;
+use lw_kinds::lexicon::Lexicon;
 use std::alloc::Global;
 
 /// The conflict of a choice, whose heads have these first ways, where this is the least pair of ways that have one in common.

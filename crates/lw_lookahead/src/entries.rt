@@ -1,12 +1,12 @@
 // The heads of the ways of a choice.
 ghost use Rattle.std.specs.Prelude.{ℕ, ◌≡◌, ◌+◌, ◌<◌, ◌≤◌, ◌⊎◌, List, [], ◌∷◌, ◌++◌, Some, IfSome, IfOk, OnOk, length, slice_get};
-ghost use Rattle.lw_heads.specs.declared.head.Head.{Head as the_head};
+ghost use Rattle.lw_first.specs.declared.heads.head.Head.{Head as the_head};
 ghost use Rattle.lw_lookahead.specs.Entries.{AreUpTo, IsNoLaterPair, of_way, of_ways};
 ghost use Rattle.lw_lookahead.specs.Gathered.{AreGatheredWays};
 
 use indexmap::IndexMap;
 use lw_base::NoMemory;
-use lw_heads::{Head, HeadSet};
+use lw_first::heads::{Head, HeadSet};
 use std::alloc::Global;
 
 /// The heads of the ways of a choice, each with the first way that has it, and the least pair of ways that have one in common.

@@ -3,9 +3,9 @@ ghost use Rattle.std.specs.Prelude.{◌≡◌};
 ghost use Rattle.lw_lookahead.specs.declared.fault.LookFault.TheVariants.{NoMemory as no_memory};
 ghost use Rattle.lw_lookahead.specs.Faults.{look_fault};
 
+use crate::points::PointsFault;
 use lw_base::{Name, NoMemory, Span};
-use lw_heads::Head;
-use lw_points::PointsFault;
+use lw_first::heads::Head;
 
 /// A choice at which two ways may be followed by the same.
 #[derive(Drop)]
@@ -26,7 +26,7 @@ pub struct Conflict {
 pub enum LookFault {
     /// Two ways of a choice cannot be told apart.
     Conflict(Conflict),
-    /// The ways of all choices have more strings than [`MOST_STRINGS`](lw_points::MOST_STRINGS).
+    /// The ways of all choices have more strings than [`MOST_STRINGS`](crate::points::MOST_STRINGS).
     TooMany,
     /// There was no memory.
     NoMemory,

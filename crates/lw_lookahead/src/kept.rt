@@ -4,7 +4,7 @@ ghost use Rattle.std.specs.List.{All};
 ghost use Rattle.lw_lookahead.specs.Entries.{AreEntries};
 
 use indexmap::IndexMap;
-use lw_heads::Head;
+use lw_first::heads::Head;
 
 /// For each choice of a grammar, by its number, which way to take by the kinds that come next.
 #[derive(Drop)]

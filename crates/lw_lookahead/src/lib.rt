@@ -8,7 +8,7 @@
 //! kinds, and then end marks. A [`Conflict`] names a choice by its place, two ways, a head that both have, and how its window is printed:
 //! the texts of its kinds joined by one space, where an end mark is `<end>`.
 //!
-//! It promises tables exactly for grammars that are LL(k) and have at most [`MOST_STRINGS`](lw_points::MOST_STRINGS) strings; that
+//! It promises tables exactly for grammars that are LL(k) and have at most [`MOST_STRINGS`](crate::points::MOST_STRINGS) strings; that
 //! they hold exactly the windows of each way; and for other grammars the first choice that is in conflict, the least pair of its ways and the
 //! string that they share which is printed first. No grammar is in conflict that has too many strings.
 //!
@@ -23,6 +23,7 @@ mod entries;
 mod fault;
 mod kept;
 mod making;
+pub mod points;
 mod printed;
 
 pub use fault::{Conflict, LookFault};

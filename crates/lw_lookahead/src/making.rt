@@ -7,8 +7,8 @@ ghost use Rattle.lw_grammar.specs.Size.{size};
 ghost use Rattle.lw_look.specs.Looks.{IsLL};
 ghost use Rattle.lw_look.specs.Strings.{HasMoreStrings};
 ghost use Rattle.lw_look.specs.Supplied.{NodesAreTold};
-ghost use Rattle.lw_lexicon.specs.Known.{IsKnownLexicon};
-ghost use Rattle.lw_points.specs.declared.point.TheConstants.{MOST_STRINGS};
+ghost use Rattle.lw_kinds.specs.LexiconKnown.{IsKnownLexicon};
+ghost use Rattle.lw_lookahead.specs.declared.points.point.TheConstants.{MOST_STRINGS};
 ghost use Rattle.lw_lookahead.specs.Conflicts.{CausesNoTables};
 ghost use Rattle.lw_lookahead.specs.Seen.{AreEntriesOfChoice, AreSeen, CausesNoChoices};
 ghost use Rattle.lw_lookahead.specs.Shared.{AreFewHeads, CausesNoEntries, CausesNoEntriesAt};
@@ -16,14 +16,14 @@ ghost use Rattle.lw_lookahead.specs.Tables.{AreTables};
 
 use crate::conflict::conflict_at;
 use crate::entries::Entries;
+use crate::points::{Point, points};
 use crate::{LookFault, Tables};
 use indexmap::IndexMap;
 use lw_base::NoMemory;
+use lw_first::follow::rule_followers;
+use lw_first::heads::Head;
 use lw_first::{First, rule_heads};
-use lw_follow::rule_followers;
-use lw_heads::Head;
-use lw_lexicon::Lexicon;
-use lw_points::{Point, points};
+use lw_kinds::lexicon::Lexicon;
 use std::alloc::Global;
 
 /// The tables of a grammar for windows of `k` kinds. Strings are counted first; then the first choice decides at which a window comes next

@@ -3,12 +3,12 @@ ghost use Rattle.std.specs.Prelude.{◌≡◌, ◌++◌, [], IfOk, OnOk, codes, 
 ghost use Rattle.std.specs.Option.{option_map};
 ghost use Rattle.lw_grammar.specs.Kinds.{Kinds, AreKinds};
 ghost use Rattle.lw_grammar.specs.KindTexts.{quoted, texts_of};
-ghost use Rattle.lw_heads.specs.Heads.{seen_in};
-ghost use Rattle.lw_lexicon.specs.Known.{IsKnownLexicon};
+ghost use Rattle.lw_first.specs.Heads.{seen_in};
+ghost use Rattle.lw_kinds.specs.LexiconKnown.{IsKnownLexicon};
 ghost use Rattle.lw_lookahead.specs.Printed.{window_text, shown, spaced};
 
 use lw_base::{KindId, Name, NoMemory};
-use lw_lexicon::Lexicon;
+use lw_kinds::lexicon::Lexicon;
 use std::alloc::Global;
 
 /// The texts of the kinds in a window, joined by one space. An end mark is `<end>`.

@@ -5,8 +5,8 @@ use Rattle.std.proofs.lemmas.Option.{same_Some}
 use Rattle.std.specs.FinMap.{get, insert, keys}
 use Rattle.lw_grammar.specs.declared.grammar.Grammar.{Grammar}
 use Rattle.lw_machine.specs.declared.published.Published.{Published}
-use Rattle.lw_scopes.specs.Diagnostics.{AreDiagnostics}
-use Rattle.lw_scopes.specs.Links.{AreLinks}
+use Rattle.lw_link_rules.specs.Diagnostics.{AreDiagnostics}
+use Rattle.lw_link_rules.specs.Links.{AreLinks}
 use Rattle.lw_machine.specs.declared.state.State.{State}
 use Rattle.lw_machine.specs.declared.state.State.TheVariants.{Changed, Parsed, IndexedContent, ComputedScopes, Linked, IndexedReferences, Validated}
 use Rattle.lw_machine.specs.Documents.{Document, Documents, rank, present_texts, shown_texts}

@@ -5,9 +5,9 @@ use Rattle.lw_grammar.specs.declared.grammar.Grammar.{Grammar}
 use Rattle.lw_text.specs.declared.shown.Shown.{Shown}
 use Rattle.lw_reading.specs.Laws.{IsReadOneWay}
 use Rattle.lw_machine.specs.declared.published.Published.{Published}
-use Rattle.lw_scopes.specs.Diagnostics.{AreDiagnostics}
-use Rattle.lw_scopes.specs.Links.{Texts, AreLinks}
-use Rattle.lw_scopes.proofs.OneList.{one_list, one_list_of_links}
+use Rattle.lw_link_rules.specs.Diagnostics.{AreDiagnostics}
+use Rattle.lw_link_rules.specs.Links.{Texts, AreLinks}
+use Rattle.lw_link_rules.proofs.OneList.{one_list, one_list_of_links}
 use Rattle.lw_machine.specs.Documents.{Document, Documents, IsBuilt, rank, shown_texts}
 use Rattle.lw_machine.specs.Settling.{Differ, Agree, Settles, SettlesAt, IsSettled, links_differ, list_differs, list_agrees, links_agree, not_linked}
 use Rattle.lw_machine.specs.Settling as settling

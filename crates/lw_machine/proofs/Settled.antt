@@ -2,7 +2,7 @@
 use Rattle.std.proofs.Common.{◌≡◌, ◌≢◌, ℕ, List, [], ◌∷◌, Option, Some, None, inl, inr, ◌⊎◌, sym, refl, ◌∙◌, subst, subst₂}
 use Rattle.std.specs.FinMap.{get, insert, keys}
 use Rattle.lw_grammar.specs.declared.grammar.Grammar.{Grammar}
-use Rattle.lw_scopes.specs.Links.{Texts}
+use Rattle.lw_link_rules.specs.Links.{Texts}
 use Rattle.lw_machine.specs.Documents.{Document, Documents, shown_texts}
 use Rattle.lw_machine.specs.Settling as settling
 use Rattle.lw_machine.specs.Settling.{Differ, Agree, Settles, SettlesAt, IsSettled}

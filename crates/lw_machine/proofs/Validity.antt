@@ -6,10 +6,10 @@ use Rattle.std.specs.FinMap.{get, insert, remove, empty, get-empty}
 use Rattle.lw_grammar.specs.declared.grammar.Grammar.{Grammar}
 use Rattle.lw_machine.specs.declared.published.Published.{Published}
 use Rattle.lw_text.specs.declared.shown.Shown.{Shown}
-use Rattle.lw_scopes.specs.Diagnostics.{AreDiagnostics}
-use Rattle.lw_scopes.specs.Links.{Texts}
-use Rattle.lw_scopes.proofs.OneList.{one_list}
-use Rattle.lw_scopes.proofs.SameTexts.{diagnostics_of_same_texts}
+use Rattle.lw_link_rules.specs.Diagnostics.{AreDiagnostics}
+use Rattle.lw_link_rules.specs.Links.{Texts}
+use Rattle.lw_link_rules.proofs.OneList.{one_list}
+use Rattle.lw_link_rules.proofs.SameTexts.{diagnostics_of_same_texts}
 use Rattle.lw_reading.specs.Laws.{IsReadOneWay}
 use Rattle.lw_machine.specs.declared.state.State.{State}
 use Rattle.lw_machine.specs.declared.state.State.TheVariants.{Changed, Parsed, IndexedContent, ComputedScopes, Linked, IndexedReferences, Validated}

@@ -8,7 +8,7 @@ use Rattle.std.specs.declared.cmp.Ordering.TheVariants.{Greater}
 use Rattle.lw_grammar.specs.declared.grammar.Grammar.{Grammar}
 use Rattle.lw_text.specs.declared.shown.Shown.{Shown}
 use Rattle.lw_machine.specs.declared.published.Published.{Published}
-use Rattle.lw_scopes.specs.Diagnostics.{AreDiagnostics}
+use Rattle.lw_link_rules.specs.Diagnostics.{AreDiagnostics}
 use Rattle.lw_machine.specs.Documents.{Document, Documents, IsBuilt, next, rank, shown_texts}
 use Rattle.lw_machine.specs.Settling.{IsSettled}
 use Rattle.lw_machine.specs.declared.state.State.TheVariants.{Parsed, IndexedReferences}

@@ -5,7 +5,7 @@ use Rattle.std.specs.Cmp.Lexicographic.{slice_cmp}
 use Rattle.std.specs.FinMap.{FinMap, get}
 use Rattle.std.specs.Ordering.{nat_cmp}
 use Rattle.lw_text.specs.declared.shown.Shown.{Shown}
-use Rattle.lw_scopes.specs.Links.{Texts}
+use Rattle.lw_link_rules.specs.Links.{Texts}
 use Rattle.lw_machine.specs.declared.state.State.{State}
 use Rattle.lw_machine.specs.declared.state.State.TheVariants.{Changed, Parsed, IndexedContent, ComputedScopes, Linked, IndexedReferences, Validated}
 

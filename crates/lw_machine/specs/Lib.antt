@@ -4,3 +4,7 @@ pub mod Building
 pub mod Events
 pub mod Validity
 pub mod Laws
+pub mod Clean
+pub mod Readable
+pub mod Telling
+pub mod Linked

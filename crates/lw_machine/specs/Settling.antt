@@ -4,8 +4,8 @@
 use Rattle.std.specs.Prelude.{ℕ, ◌≡◌, ◌≢◌, ◌<◌, ◌≤◌, List, Option, Some, None}
 use Rattle.std.specs.FinMap.{get}
 use Rattle.lw_grammar.specs.declared.grammar.Grammar.{Grammar}
-use Rattle.lw_scopes.specs.Diagnostics.{AreDiagnostics}
-use Rattle.lw_scopes.specs.Links.{Texts, AreLinks}
+use Rattle.lw_link_rules.specs.Diagnostics.{AreDiagnostics}
+use Rattle.lw_link_rules.specs.Links.{Texts, AreLinks}
 use Rattle.lw_machine.specs.Documents.{Document, Documents, rank, shown_texts}
 use Rattle.lw_machine.specs.declared.state.State.{State}
 use Rattle.lw_machine.specs.declared.state.State.TheVariants.{ComputedScopes, IndexedReferences, Validated}

@@ -4,8 +4,8 @@ use Rattle.std.specs.Prelude.{ℕ, ℤ, ◌≡◌, ◌≤◌, ◌⊎◌, List, B
 use Rattle.std.specs.FinMap.{get}
 use Rattle.lw_grammar.specs.declared.grammar.Grammar.{Grammar}
 use Rattle.lw_text.specs.declared.shown.Shown.{Shown}
-use Rattle.lw_scopes.specs.Diagnostics.{AreDiagnostics}
-use Rattle.lw_scopes.specs.Links.{Texts, AreLinks}
+use Rattle.lw_link_rules.specs.Diagnostics.{AreDiagnostics}
+use Rattle.lw_link_rules.specs.Links.{Texts, AreLinks}
 use Rattle.lw_scoping.specs.Links.{Link}
 use Rattle.lw_machine.specs.Documents.{Document, Documents, rank, present_texts, shown_texts}
 use Rattle.lw_machine.specs.declared.state.State.TheVariants.{Validated}

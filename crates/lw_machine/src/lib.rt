@@ -19,6 +19,7 @@
 #![tactic(auto)]
 
 mod laws;
+pub mod outcomes;
 mod published;
 mod state;
 

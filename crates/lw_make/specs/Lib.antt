@@ -1,1 +1,5 @@
 pub mod Made
+pub mod Making
+pub mod Summaries
+pub mod Unedited
+pub mod Counting

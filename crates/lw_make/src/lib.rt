@@ -12,6 +12,7 @@
 mod documents;
 mod edits;
 mod laws;
+pub mod making;
 
 pub use documents::{LONGEST_MADE_TEXT, STATES, made_address, made_text};
 pub use edits::{DOCUMENTS_PER_EDIT, MadeEdit, edit_count, made_edit};
@@ -19,6 +20,3 @@ pub use laws::{
     addresses_are_distinct, documents_written_out, edits_go_behind_the_model,
     texts_have_their_lengths,
 };
-
-#[cfg(test)]
-mod tests;

@@ -6,8 +6,8 @@ use Rattle.std.proofs.lemmas.List.{length-map, get_or-map}
 use Rattle.std.proofs.lemmas.List.Elements.{Contains-get_or, Contains-append_left, Contains-append_right, Contains-append_cases}
 use Rattle.lw_grammar.specs.declared.grammar.Grammar.{Grammar}
 use Rattle.lw_grammar.specs.Named.{Declaration, declared_rule, declared_terminal, declared_interface, declared_union}
-use Rattle.lw_faults.specs.Names.{rule_space, type_space}
-use Rattle.lw_faults.specs.Written.{IsNoRule}
+use Rattle.lw_grammar.specs.Written.{rule_space, type_space}
+use Rattle.lw_grammar.specs.Written.{IsNoRule}
 use Rattle.lw_numbers.specs.declared.standing.Place.{Place}
 use Rattle.lw_numbers.specs.declared.standing.Standing.{Standing}
 use Rattle.lw_numbers.specs.Presence.{HasRule, IsDeclaredBefore}

@@ -3,3 +3,16 @@ pub mod Numbering
 pub mod Presence
 pub mod Standing
 pub mod Tables
+pub mod Parts
+pub mod Above
+pub mod Ascending
+pub mod Kin
+pub mod KinGraph
+pub mod KinOf
+pub mod Kinship
+pub mod Lists
+pub mod Makers
+pub mod PutIn
+pub mod Spoken
+pub mod NameTable
+pub mod Searching

@@ -21,9 +21,12 @@
 mod called;
 mod declares;
 mod first_uses;
+pub mod leaves;
+pub mod name_rules;
 mod numbers;
 mod presence;
 mod standing;
+pub mod subtypes;
 
 pub use called::Called;
 pub use declares::Declares;

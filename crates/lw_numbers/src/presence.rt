@@ -1,8 +1,8 @@
 // Whether names are declared, and whether before a place.
 ghost use Rattle.std.specs.Prelude.{◌↔◌, IsTrue, MatchBool};
 ghost use Rattle.lw_grammar.specs.declared.grammar.Grammar.{Grammar};
-ghost use Rattle.lw_faults.specs.Names.{rule_space, type_space};
-ghost use Rattle.lw_faults.specs.Written.{HasDeclaration, IsNoRule};
+ghost use Rattle.lw_grammar.specs.Written.{rule_space, type_space};
+ghost use Rattle.lw_grammar.specs.Written.{HasDeclaration, IsNoRule};
 ghost use Rattle.lw_numbers.specs.Presence.{HasRule, IsDeclaredBefore};
 ghost use Rattle.lw_numbers.specs.Tables.{AreNumbersOf};
 

@@ -8,3 +8,10 @@ pub mod Parsed
 pub mod Tabled
 pub mod Reading
 pub mod Windows
+mod AllHidden
+mod Begun
+mod Found
+mod Lent
+mod ReadKinds
+mod SameOpened
+mod TreesSoFar

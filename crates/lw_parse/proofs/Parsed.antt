@@ -5,17 +5,17 @@ use Rattle.lw_grammar.specs.declared.fault.GrammarFault.{GrammarFault}
 use Rattle.lw_grammar.specs.declared.grammar.Grammar.{Grammar}
 use Rattle.lw_grammar.specs.Kinds.{Kinds}
 use Rattle.lw_faults.specs.Faults.{IsCheckFault, IsTypeFault}
-use Rattle.lw_sentences.specs.Sentences.{IsWhole}
+use Rattle.lw_grammar.specs.Sentences.{IsWhole}
 use Rattle.lw_tree.specs.Parts.{Parts}
-use Rattle.lw_marks.specs.Brackets.{Root}
-use Rattle.lw_marks.specs.Follows.{FollowsMarks, Closes}
-use Rattle.lw_marks.specs.Follows as follows
-use Rattle.lw_marks.specs.Trees.{IsOpenedTree}
-use Rattle.lw_rooted.specs.Growing.{GrowsRoot}
-use Rattle.lw_rooted.proofs.OneTree.{one_follows, one_close}
-use Rattle.lw_rooted.proofs.Rootable.{is_rootable}
-use Rattle.lw_rooted.proofs.Sentence.{whole_tree}
-use Rattle.lw_recipes.specs.declared.mark.TreeMark.{TreeMark}
+use Rattle.lw_reading.specs.Brackets.{Root}
+use Rattle.lw_reading.specs.Follows.{FollowsMarks, Closes}
+use Rattle.lw_reading.specs.Follows as follows
+use Rattle.lw_reading.specs.Trees.{IsOpenedTree}
+use Rattle.lw_reading.specs.Growing.{GrowsRoot}
+use Rattle.lw_reading.proofs.OneTree.{one_follows, one_close}
+use Rattle.lw_reading.proofs.Rootable.{is_rootable}
+use Rattle.lw_reading.proofs.Sentence.{whole_tree}
+use Rattle.lw_program.specs.declared.recipes.mark.TreeMark.{TreeMark}
 use Rattle.lw_builder.specs.Built.{visible_of}
 use Rattle.lw_parse.specs.Marked.{MeanOnlySentence}
 use Rattle.lw_parse.specs.Outcomes.{kinds_seen, IsOnlyTree}

@@ -5,9 +5,9 @@ use Rattle.lw_grammar.specs.declared.grammar.Grammar.{Grammar}
 use Rattle.lw_grammar.specs.declared.rule.Rule.{Rule}
 use Rattle.lw_grammar.specs.Kinds.{Kinds}
 use Rattle.lw_grammar.specs.Reached as reached
-use Rattle.lw_sentences.specs.Marks.{Mark, kinds_of}
-use Rattle.lw_sentences.specs.Sentences.{IsWhole}
-use Rattle.lw_sentences.proofs.Joined.{kinds_join}
+use Rattle.lw_grammar.specs.Marks.{Mark, kinds_of}
+use Rattle.lw_grammar.specs.Sentences.{IsWhole}
+use Rattle.lw_grammar.proofs.Joined.{kinds_join}
 use Rattle.lw_look.specs.Supplied.{ChoicesHaveParts}
 use Rattle.lw_look.specs.Things.{Thing}
 use Rattle.lw_look.specs.Parses.{Parses}
@@ -16,9 +16,9 @@ use Rattle.lw_look.proofs.Apart.{are_apart}
 use Rattle.lw_look.proofs.Parsing.{parse_ends, parse_too_long}
 use Rattle.lw_program.specs.declared.instr.Instr.TheVariants.{Call}
 use Rattle.lw_program.specs.Says.{Task}
-use Rattle.lw_recipes.specs.declared.mark.TreeMark.{TreeMark}
-use Rattle.lw_recipes.specs.Meant.{AreMeant}
-use Rattle.lw_begins.specs.Gives.{OpensNode}
+use Rattle.lw_program.specs.declared.recipes.mark.TreeMark.{TreeMark}
+use Rattle.lw_program.specs.Meant.{AreMeant}
+use Rattle.lw_viable.specs.Gives.{OpensNode}
 use Rattle.lw_viable.proofs.Meaning.{meant_joined}
 use Rattle.lw_parse.specs.Marked.{MeanOnlySentence}
 use Rattle.lw_parse.specs.Parsers.{ParserParts, TellWays, IsParserOf}

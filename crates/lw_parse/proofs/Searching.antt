@@ -6,7 +6,7 @@ use Rattle.std.proofs.lemmas.Option.{slice_get-get_or}
 use Rattle.lw_base.specs.declared.token.Token.{Token}
 use Rattle.lw_grammar.specs.declared.grammar.Grammar.{Grammar}
 use Rattle.lw_grammar.specs.Kinds.{Kinds}
-use Rattle.lw_sentences.specs.Sentences.{Starts}
+use Rattle.lw_grammar.specs.Sentences.{Starts}
 use Rattle.lw_builder.specs.Built.{visible_of}
 use Rattle.lw_viable.specs.Fronts.{seen}
 use Rattle.lw_parse.specs.Outcomes.{kinds_seen, CanStand, IsFirstImpossible}

@@ -14,8 +14,8 @@ use Rattle.lw_grammar.specs.declared.rule.Value0.TheOpen as value
 use Rattle.lw_grammar.specs.Kinds.{Kinds}
 use Rattle.lw_grammar.specs.Named.{IsRule}
 use Rattle.lw_grammar.specs.Reached.{IsReached}
-use Rattle.lw_sentences.specs.Marks.{Mark, kinds_of}
-use Rattle.lw_sentences.specs.Marks as mark
+use Rattle.lw_grammar.specs.Marks.{Mark, kinds_of}
+use Rattle.lw_grammar.specs.Marks as mark
 use Rattle.lw_look.specs.Looks.{Look, window}
 use Rattle.lw_look.specs.Sites.{PartSite, rule_of, body, ◌▸◌, Body, Value, IsPartAt, ElementAt, ValueAt, RepeatedAt, OptionalAt, ValueCallsAt}
 use Rattle.lw_look.specs.Sites as site
@@ -30,11 +30,11 @@ use Rattle.lw_program.specs.declared.instr.Instr.TheVariants.{Token, Call}
 use Rattle.lw_program.specs.ProgramOf.{IsProgramOf, StartsRuleAt}
 use Rattle.lw_program.specs.Says.{Task, Does, Reads, thing_of, CallsBy, IsPoint, StandFrom, SaysTask}
 use Rattle.lw_program.specs.Says as say
-use Rattle.lw_recipes.specs.declared.mark.TreeMark.{TreeMark}
-use Rattle.lw_recipes.specs.declared.mark.TreeMark.TheVariants as numbered
-use Rattle.lw_recipes.specs.Meant.{AssignedAt, AreMeant}
-use Rattle.lw_recipes.specs.Meant as meant
-use Rattle.lw_begins.specs.Gives.{OpensNode}
+use Rattle.lw_program.specs.declared.recipes.mark.TreeMark.{TreeMark}
+use Rattle.lw_program.specs.declared.recipes.mark.TreeMark.TheVariants as numbered
+use Rattle.lw_program.specs.Meant.{AssignedAt, AreMeant}
+use Rattle.lw_program.specs.Meant as meant
+use Rattle.lw_viable.specs.Gives.{OpensNode}
 use Rattle.lw_viable.specs.Growing.{Change}
 use Rattle.lw_viable.specs.Moves.{left}
 use Rattle.lw_viable.specs.Readings.{IsPlacedTask}

@@ -15,9 +15,9 @@ use Rattle.lw_grammar.specs.declared.rule.Value0.TheOpen.{Value0-F}
 use Rattle.lw_grammar.specs.Kinds.{Kinds, AreKinds}
 use Rattle.lw_grammar.specs.Named.{IsRule}
 use Rattle.lw_grammar.specs.Reached.{IsReached}
-use Rattle.lw_sentences.specs.Marks.{Mark, kinds_of}
-use Rattle.lw_sentences.specs.Marks as mark
-use Rattle.lw_sentences.specs.Sentences.{IsWhole}
+use Rattle.lw_grammar.specs.Marks.{Mark, kinds_of}
+use Rattle.lw_grammar.specs.Marks as mark
+use Rattle.lw_grammar.specs.Sentences.{IsWhole}
 use Rattle.lw_look.specs.Looks.{Look, window}
 use Rattle.lw_look.specs.Looks as look
 use Rattle.lw_look.specs.Sites.{PartSite, rule_of, ◌▸◌, Body, Value, IsPartAt, ElementAt, ValueAt, RepeatedAt, OptionalAt}
@@ -36,7 +36,7 @@ use Rattle.lw_program.specs.declared.instr.Instr.TheVariants.{Loop}
 use Rattle.lw_program.specs.ProgramOf.{IsProgramOf}
 use Rattle.lw_program.specs.Says.{Task, Does, Reads, thing_of, CallsBy, IsPoint, StandFrom, SaysTask}
 use Rattle.lw_program.specs.Says as say
-use Rattle.lw_begins.specs.Gives.{OpensNode}
+use Rattle.lw_viable.specs.Gives.{OpensNode}
 use Rattle.lw_viable.specs.Readings.{IsPlacedTask}
 use Rattle.lw_viable.specs.Readings as place
 use Rattle.lw_viable.proofs.Moves.Doing.{element_form, value_form}

@@ -11,7 +11,7 @@ use Rattle.lw_grammar.specs.declared.rule.Value0.TheOpen as value
 use Rattle.lw_grammar.specs.declared.rule.Value0.TheOpen.{Value0-F}
 use Rattle.lw_grammar.specs.Kinds.{Kinds}
 use Rattle.lw_grammar.specs.Reached.{IsReached}
-use Rattle.lw_sentences.specs.Marks.{Mark}
+use Rattle.lw_grammar.specs.Marks.{Mark}
 use Rattle.lw_look.specs.Sites.{PartSite, rule_of, ◌▸◌, Body, Value, element_parts, IsPartAt, ElementAt, ValueAt, ValueCallsAt, RepeatedAt}
 use Rattle.lw_look.specs.Sites as site
 use Rattle.lw_look.specs.Things.{Thing, Do, Assigned, Again, Leave, parts_from, Ways, AsksNothing}
@@ -21,8 +21,8 @@ use Rattle.lw_look.specs.Parses as parse
 use Rattle.lw_look.proofs.OneWay.{two_forms, two_value_forms}
 use Rattle.lw_look.proofs.Standing.{row_part_stands}
 use Rattle.lw_program.specs.Says.{Task, Does, layer_thing, thing_of, StandFrom}
-use Rattle.lw_recipes.specs.Meant.{AssignedAt}
-use Rattle.lw_recipes.specs.Meant as meant
+use Rattle.lw_program.specs.Meant.{AssignedAt}
+use Rattle.lw_program.specs.Meant as meant
 use Rattle.lw_viable.specs.Moves.{side_by_side}
 use Rattle.lw_viable.specs.Readings.{IsPlacedTask}
 use Rattle.lw_viable.specs.Readings as place

@@ -3,7 +3,7 @@ use Rattle.std.proofs.Common.{◌≡◌, ℕ, zero, suc, ◌≤◌, List, [], �
 use Rattle.std.proofs.lemmas.List.{take-map}
 use Rattle.std.specs.Option.{option_map}
 use Rattle.lw_base.specs.declared.numbers.KindId.{KindId}
-use Rattle.lw_heads.specs.Heads.{seen_in}
+use Rattle.lw_first.specs.Heads.{seen_in}
 use Rattle.lw_look.specs.Looks.{window}
 
 pub three_places : (ks : List ℕ) → window 3 ks ≡ slice_get ks 0 ∷ slice_get ks 1 ∷ slice_get ks 2 ∷ []

@@ -1,8 +1,8 @@
 -- What a run decides to do at a place, in words of the code.
 use Rattle.std.specs.Prelude.{ℕ, ◌-◌, List, [], ◌∷◌, ◌++◌, Option, Some, None, drop}
 use Rattle.lw_program.specs.declared.instr.Instr.{Instr}
-use Rattle.lw_recipes.specs.declared.mark.TreeMark.{TreeMark}
-use Rattle.lw_recipes.specs.declared.mark.TreeMark.TheVariants as mark
+use Rattle.lw_program.specs.declared.recipes.mark.TreeMark.{TreeMark}
+use Rattle.lw_program.specs.declared.recipes.mark.TreeMark.TheVariants as mark
 use Rattle.lw_viable.specs.Moves.{side_by_side, left}
 use Rattle.lw_parse.specs.Running.{RunState, Entered, NotEntered, TurnsTo, GivesUp}
 use Rattle.lw_parse.specs.declared.turn.Places.{Places}

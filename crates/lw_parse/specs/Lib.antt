@@ -3,3 +3,4 @@ pub mod Outcomes
 pub mod Running
 pub mod Marked
 pub mod Deciding
+pub mod Readings

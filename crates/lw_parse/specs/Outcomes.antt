@@ -4,10 +4,10 @@ use Rattle.std.specs.Prelude.{⊤, ℕ, ◌≡◌, ◌⊎◌, List, [], ◌∷�
 use Rattle.lw_base.specs.declared.token.Token.{Token}
 use Rattle.lw_grammar.specs.declared.grammar.Grammar.{Grammar}
 use Rattle.lw_grammar.specs.Kinds.{Kinds}
-use Rattle.lw_sentences.specs.Marks.{Mark, kinds_of}
-use Rattle.lw_sentences.specs.Sentences.{IsSentence, IsWhole, Starts}
+use Rattle.lw_grammar.specs.Marks.{Mark, kinds_of}
+use Rattle.lw_grammar.specs.Sentences.{IsSentence, IsWhole, Starts}
 use Rattle.lw_tree.specs.Parts.{Parts}
-use Rattle.lw_marks.specs.Trees.{IsTree}
+use Rattle.lw_reading.specs.Trees.{IsTree}
 use Rattle.lw_builder.specs.Built.{visible_of}
 use Rattle.lw_parse.specs.declared.fault.ParseFault.{ParseFault}
 use Rattle.lw_parse.specs.declared.fault.ParseFault.TheVariants.{Unexpected, UnexpectedEnd, NoMemory}

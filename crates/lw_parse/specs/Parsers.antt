@@ -11,9 +11,9 @@ use Rattle.lw_grammar.specs.Named.{IsEntry}
 use Rattle.lw_faults.specs.Faults.{IsCheckFault, IsTypeFault}
 use Rattle.lw_look.specs.Supplied.{IsSupplied}
 use Rattle.lw_program.specs.ProgramOf.{ProgramParts}
-use Rattle.lw_recipes.specs.Making.{RecipeLists, AreRecipesOf}
-use Rattle.lw_begins.specs.Told.{BeginsParts}
-use Rattle.lw_heads.specs.declared.head.Head.{Head}
+use Rattle.lw_program.specs.Making.{RecipeLists, AreRecipesOf}
+use Rattle.lw_viable.specs.Told.{BeginsParts}
+use Rattle.lw_first.specs.declared.heads.head.Head.{Head}
 use Rattle.lw_look.specs.Choices.{choice_sites}
 use Rattle.lw_look.specs.Sites.{PartSite}
 use Rattle.lw_lookahead.specs.Tables.{AreEntriesAt}

@@ -10,8 +10,8 @@ use Rattle.lw_look.specs.Looks.{Look, window}
 use Rattle.lw_look.specs.Sites.{PartSite}
 use Rattle.lw_program.specs.declared.instr.Instr.{Instr}
 use Rattle.lw_program.specs.declared.instr.Instr.TheVariants.{Token, End, Shut, Act, Row, Choice, Maybe, Loop, Once, Put, Call}
-use Rattle.lw_recipes.specs.declared.mark.TreeMark.{TreeMark}
-use Rattle.lw_recipes.specs.declared.mark.TreeMark.TheVariants as mark
+use Rattle.lw_program.specs.declared.recipes.mark.TreeMark.{TreeMark}
+use Rattle.lw_program.specs.declared.recipes.mark.TreeMark.TheVariants as mark
 use Rattle.lw_viable.specs.Growing.{Change}
 use Rattle.lw_viable.specs.Moves.{side_by_side, left}
 use Rattle.lw_viable.specs.Turning.{Enters}

@@ -2,7 +2,7 @@
 ghost use Rattle.std.specs.Prelude.{ℕ, ◌≡◌, ◌≢◌, ◌+◌, ◌<◌, ◌≤◌, None, Some, IfOk, MatchOption, slice_get};
 ghost use Rattle.std.specs.Option.{option_map};
 ghost use Rattle.lw_base.specs.declared.numbers.PointId.{PointId};
-ghost use Rattle.lw_heads.specs.Heads.{seen_in};
+ghost use Rattle.lw_first.specs.Heads.{seen_in};
 ghost use Rattle.lw_look.specs.Looks.{window};
 ghost use Rattle.lw_parse.specs.Running.{state_of, IsWayBy};
 ghost use Rattle.lw_parse.specs.Deciding.{IsDecided, IsStepBy};
@@ -11,7 +11,7 @@ use crate::run::Run;
 use crate::turn::{Places, Step, Turn};
 use lw_base::{KindId, NoMemory, PointId, RuleId};
 use lw_program::Instr;
-use lw_recipes::TreeMark;
+use lw_program::recipes::TreeMark;
 
 impl Run<'_> {
     /// What is done at this place, if anything can be.

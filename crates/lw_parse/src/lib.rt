@@ -21,6 +21,7 @@
 
 mod deciding;
 mod fault;
+pub mod opened;
 mod parser;
 mod run;
 mod search;

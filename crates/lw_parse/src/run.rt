@@ -2,7 +2,7 @@
 ghost use Rattle.std.specs.Prelude.{ℕ, ◌≡◌, ◌≢◌, ◌-◌, [], ◌∷◌, Some, IfOk, OnOk, MatchOption, drop, map};
 ghost use Rattle.lw_grammar.specs.declared.grammar.Grammar.{Grammar};
 ghost use Rattle.lw_grammar.specs.Kinds.{Kinds};
-ghost use Rattle.lw_sentences.specs.Sentences.{IsWhole};
+ghost use Rattle.lw_grammar.specs.Sentences.{IsWhole};
 ghost use Rattle.lw_look.specs.Supplied.{IsSupplied};
 ghost use Rattle.lw_viable.specs.Moves.{left, side_by_side};
 ghost use Rattle.lw_parse.specs.Deciding.{marks_in, places_in, places_of, unread_after, unread_behind};
@@ -13,7 +13,7 @@ ghost use Rattle.lw_parse.specs.Running.{state_of, went_on};
 use crate::Parser;
 use crate::turn::{Places, Step, Turn};
 use lw_base::{KindId, NoMemory};
-use lw_recipes::TreeMark;
+use lw_program::recipes::TreeMark;
 use std::alloc::Global;
 
 /// The kinds of the visible tokens that are unread, the places that are still to be done, the first last, and the marks that were left.

@@ -1,5 +1,5 @@
 // What is done at a place.
-use lw_recipes::TreeMark;
+use lw_program::recipes::TreeMark;
 
 /// Places that are to be done, the first first.
 #[derive(Clone, Copy, Debug)]

@@ -3,3 +3,13 @@ pub mod OnePlace
 pub mod OneMeant
 pub mod SameTrees
 pub mod OneReply
+pub mod Addresses
+pub mod Mentioned
+pub mod Untouched
+pub mod SameShapes
+pub mod Texts
+pub mod OneRebound
+pub mod OneRename
+pub mod Written
+mod OneList
+pub mod OneWord

@@ -2,7 +2,7 @@
 use Rattle.std.proofs.Common.{◌≡◌, ℕ, List, Bool, Option, Some, None, refl, sym, ap, ◌∙◌, subst, subst₂}
 use Rattle.std.proofs.lemmas.Option.{same_Some}
 use Rattle.lw_base.specs.declared.token.Span.{Span}
-use Rattle.lw_faults.proofs.Sorted.{same_list}
+use Rattle.lw_base.proofs.Sorted.{same_list}
 use Rattle.lw_tree.specs.declared.node.Reference.{Reference}
 use Rattle.lw_tree.specs.Parts.{Parts, name_of}
 use Rattle.lw_scoping.specs.Links.{Link, LinksTo, Trees}

@@ -2,8 +2,8 @@
 use Rattle.std.proofs.Common.{◌≡◌, ℕ, List, Bool, Option}
 use Rattle.lw_grammar.specs.declared.grammar.Grammar.{Grammar}
 use Rattle.lw_reading.specs.Laws.{IsReadOneWay}
-use Rattle.lw_scopes.specs.Links.{IsNumberBelow, Texts}
-use Rattle.lw_scopes.proofs.SameTexts.{same_tables}
+use Rattle.lw_link_rules.specs.Links.{IsNumberBelow, Texts}
+use Rattle.lw_link_rules.proofs.SameTexts.{same_tables}
 use Rattle.lw_places.specs.Asked.{AreReferences, IsDefinition}
 use Rattle.lw_places.specs.Mentions.{Mention}
 use Rattle.lw_places.proofs.OneMeant.{one_definition, one_references}

@@ -8,7 +8,7 @@ use Rattle.lw_tree.specs.Parts.{Parts, SameTables}
 use Rattle.lw_scoping.specs.Alike.{AreAlike, both, neither, HaveSameTables}
 use Rattle.lw_scoping.specs.Links.{FitsThere, Link, LinksTo, Trees}
 use Rattle.lw_scoping.proofs.Tables.{same_exports, same_named, same_names, same_own, turned}
-use Rattle.lw_scopes.proofs.SameTables.{link_over}
+use Rattle.lw_link_rules.proofs.SameTables.{link_over}
 use Rattle.lw_places.specs.Mentions.{
   AreMentionsOf,
   AreReferencesAt,

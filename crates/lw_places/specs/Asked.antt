@@ -3,7 +3,7 @@
 use Rattle.std.specs.Prelude.{ℕ, List, Bool, Option}
 use Rattle.lw_grammar.specs.declared.grammar.Grammar.{Grammar}
 use Rattle.lw_scoping.specs.Links.{Trees}
-use Rattle.lw_scopes.specs.Links.{AreTreesOfTexts, IsNumberBelow, Texts}
+use Rattle.lw_link_rules.specs.Links.{AreTreesOfTexts, IsNumberBelow, Texts}
 use Rattle.lw_places.specs.Mentions.{AreReferencesAt, IsDefinitionAt, Mention}
 
 module _ (g : Grammar) (texts : Texts) (address : List ℕ) (offset : ℕ) where

@@ -1,3 +1,11 @@
 pub mod Places
 pub mod Mentions
 pub mod Asked
+pub mod Replacing
+pub mod Shapes
+pub mod Renamed
+pub mod Worked
+pub mod Targets
+pub mod Words
+pub mod Starting
+pub mod Offers

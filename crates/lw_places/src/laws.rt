@@ -2,7 +2,7 @@
 ghost use Rattle.std.specs.Prelude.{◌≡◌, ℕ, List, Bool, Option};
 ghost use Rattle.lw_grammar.specs.declared.grammar.Grammar.{Grammar};
 ghost use Rattle.lw_reading.specs.Laws.{IsReadOneWay};
-ghost use Rattle.lw_scopes.specs.Links.{IsNumberBelow, Texts};
+ghost use Rattle.lw_link_rules.specs.Links.{IsNumberBelow, Texts};
 ghost use Rattle.lw_scoping.specs.Links.{Link, Trees};
 ghost use Rattle.lw_tree.specs.Parts.{Parts};
 ghost use Rattle.lw_places.specs.Asked.{AreReferences, IsDefinition};

@@ -11,7 +11,9 @@
 #![tactic(auto)]
 
 mod laws;
+pub mod offers;
 mod place;
+pub mod renaming;
 
 pub use laws::{one_place, one_reply, only_texts_matter};
 pub use place::Place;

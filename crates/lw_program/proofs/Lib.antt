@@ -10,3 +10,11 @@ pub mod Rows
 pub mod Starting
 pub mod Building
 pub mod Reaching
+pub mod OnePlace
+pub mod Contents
+pub mod Flags
+pub mod Adding
+pub mod Assigned
+pub mod Listed
+pub mod NamedIn
+pub mod Drafting

@@ -13,14 +13,14 @@ use Rattle.lw_grammar.specs.declared.rule.Value0.TheOpen as value
 use Rattle.lw_grammar.specs.Kinds.{Kinds, AreKinds, IsKeywordKind, IsTerminalKind}
 use Rattle.lw_grammar.specs.Named.{IsRule}
 use Rattle.lw_grammar.specs.Size.{size, element_size}
-use Rattle.lw_sentences.specs.Marks.{Mark}
-use Rattle.lw_sentences.specs.Yields.{Calls}
-use Rattle.lw_sentences.specs.Yields as yield
+use Rattle.lw_grammar.specs.Marks.{Mark}
+use Rattle.lw_grammar.specs.Yields.{Calls}
+use Rattle.lw_grammar.specs.Yields as yield
 use Rattle.lw_look.specs.Sites.{◌▸◌, Part, Body, Value, element_parts, value_parts}
 use Rattle.lw_look.specs.Sites as site
 use Rattle.lw_look.specs.ReadBy.{PartKeyword, PartReadsBy}
 use Rattle.lw_look.specs.ReadBy as read
-use Rattle.lw_derivations.specs.Crossing.{IsReadBy}
+use Rattle.lw_kinds.specs.Crossing.{IsReadBy}
 use Rattle.lw_numbers.proofs.Sizes.{length-le-sum_by}
 use Rattle.lw_program.specs.Reach.{IsComplete, IsInReach, AreInReach}
 use Rattle.lw_program.proofs.Parts.{inner_elements}

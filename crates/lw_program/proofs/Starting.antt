@@ -6,7 +6,7 @@ use Rattle.std.proofs.lemmas.Bool.{cases_lt}
 use Rattle.lw_grammar.specs.declared.grammar.Grammar.{Grammar}
 use Rattle.lw_grammar.specs.declared.rule.Element.{Element}
 use Rattle.lw_grammar.specs.Kinds.{Kinds}
-use Rattle.lw_sentences.specs.Marks as mark
+use Rattle.lw_grammar.specs.Marks as mark
 use Rattle.lw_look.specs.Sites.{PartSite, Body, IsPartAt}
 use Rattle.lw_look.specs.Things.{Leave}
 use Rattle.lw_program.specs.declared.instr.Instr.TheVariants.{End, Shut}

@@ -8,7 +8,7 @@ use Rattle.lw_grammar.specs.declared.rule.Value0.TheOpen.{Value0-F}
 use Rattle.lw_grammar.specs.Kinds.{Kinds}
 use Rattle.lw_look.specs.Sites.{PartSite, ◌▸◌, Part, Body, Value, element_parts, value_parts, IsPartAt, ElementAt, ValueAt, RepeatedAt, ValueCallsAt}
 use Rattle.lw_look.specs.Sites as site
-use Rattle.lw_derivations.specs.Crossing.{IsReadBy}
+use Rattle.lw_kinds.specs.Crossing.{IsReadBy}
 use Rattle.lw_program.specs.declared.instr.Instr.{Instr}
 use Rattle.lw_program.specs.Says.{Task, Does, Reads, layer_thing, thing_of, NamesLater, CallsBy, SaysTask, SaidAt}
 use Rattle.lw_program.specs.Says as says

@@ -9,7 +9,7 @@ use Rattle.lw_grammar.specs.declared.rule.Value0.{Value0, out-Value0}
 use Rattle.lw_grammar.specs.declared.rule.Value0.TheOpen as value
 use Rattle.lw_grammar.specs.declared.rule.Value0.TheOpen.{Value0-F}
 use Rattle.lw_grammar.specs.Kinds.{Kinds}
-use Rattle.lw_sentences.specs.Marks as mark
+use Rattle.lw_grammar.specs.Marks as mark
 use Rattle.lw_look.specs.Sites.{PartSite, ◌▸◌, Part, Body, Value, element_parts, value_parts, IsPartAt, ElementAt, ValueAt, RepeatedAt, ValueCallsAt}
 use Rattle.lw_look.specs.Sites as site
 use Rattle.lw_look.specs.Things.{Assigned, Leave}

@@ -5,3 +5,6 @@ pub mod Counting
 pub mod Filled
 pub mod Reach
 pub mod Placed
+pub mod Meant
+pub mod Making
+pub mod Drafted

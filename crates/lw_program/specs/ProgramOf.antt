@@ -5,7 +5,7 @@ use Rattle.lw_grammar.specs.declared.rule.Rule.{Rule}
 use Rattle.lw_grammar.specs.Kinds.{Kinds}
 use Rattle.lw_grammar.specs.Nodes.{MakesNodes}
 use Rattle.lw_grammar.specs.Reached.{IsReached}
-use Rattle.lw_sentences.specs.Marks as mark
+use Rattle.lw_grammar.specs.Marks as mark
 use Rattle.lw_look.specs.Sites.{body}
 use Rattle.lw_look.specs.Things.{Leave}
 use Rattle.lw_program.specs.declared.instr.Instr.{Instr}

@@ -14,7 +14,7 @@ use Rattle.lw_grammar.specs.declared.rule.Op.{Op}
 use Rattle.lw_grammar.specs.declared.rule.Action.{Action}
 use Rattle.lw_grammar.specs.Named.{IsRule}
 use Rattle.lw_grammar.specs.Kinds.{Kinds, IsKeywordKind, IsTerminalKind}
-use Rattle.lw_sentences.specs.Marks as mark
+use Rattle.lw_grammar.specs.Marks as mark
 use Rattle.lw_look.specs.Sites.{PartSite, ◌▸◌, Value, IsPartAt, ElementAt, ValueAt, RowAt, OptionalAt, RepeatedAt, ValueCallsAt}
 use Rattle.lw_look.specs.Things.{Thing, Do, Assigned, Again, Leave}
 use Rattle.lw_look.specs.Choices.{choice_sites}

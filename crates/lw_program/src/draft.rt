@@ -3,7 +3,7 @@ ghost use Rattle.std.specs.Prelude.{ℕ, List, ◌≡◌, ◌+◌, ◌<◌, ◌�
 ghost use Rattle.lw_grammar.specs.declared.rule.Op.{Op};
 ghost use Rattle.lw_grammar.specs.Kinds.{Kinds, AreKinds};
 ghost use Rattle.lw_look.specs.Sites.{PartSite, Body, Value};
-ghost use Rattle.lw_lexicon.specs.Known.{IsKnownLexicon};
+ghost use Rattle.lw_kinds.specs.LexiconKnown.{IsKnownLexicon};
 ghost use Rattle.lw_program.specs.Reach.{IsComplete, IsInReach, AreInReach};
 ghost use Rattle.lw_program.specs.Filled.{Filled, listing, element_want, value_want, wants_from};
 
@@ -12,7 +12,7 @@ use crate::counts::Counts;
 use crate::reading::{call_of, cross_of, kind_of};
 use lw_base::NoMemory;
 use lw_grammar::{Element, Value0};
-use lw_lexicon::Lexicon;
+use lw_kinds::lexicon::Lexicon;
 
 /// Instructions so far, and how many choices, values and actions they and the rules that were left out have.
 #[derive(Drop)]

@@ -27,6 +27,7 @@ mod instr;
 mod places;
 mod program;
 mod reading;
+pub mod recipes;
 mod rules;
 
 pub use instr::Instr;

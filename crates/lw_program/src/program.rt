@@ -3,18 +3,18 @@ ghost use Rattle.std.specs.Prelude.{◌≡◌, ◌≤◌, ◌<◌, false, true, 
 ghost use Rattle.lw_grammar.specs.Kinds.{Kinds, AreKinds};
 ghost use Rattle.lw_grammar.specs.Size.{size};
 ghost use Rattle.lw_look.specs.Supplied.{IsSupplied};
-ghost use Rattle.lw_derivations.specs.Reading.{IsReadingOf};
-ghost use Rattle.lw_subtypes.specs.Kinship.{AreNodeRules};
-ghost use Rattle.lw_lexicon.specs.Known.{IsKnownLexicon};
+ghost use Rattle.lw_kinds.specs.Reading.{IsReadingOf};
+ghost use Rattle.lw_numbers.specs.Kinship.{AreNodeRules};
+ghost use Rattle.lw_kinds.specs.LexiconKnown.{IsKnownLexicon};
 ghost use Rattle.lw_program.specs.ProgramOf.{IsProgramOf};
 
 use crate::Instr;
 use crate::counts::Counts;
 use crate::draft::Draft;
 use lw_base::NoMemory;
-use lw_derivations::Reading;
 use lw_grammar::Rule;
-use lw_lexicon::Lexicon;
+use lw_kinds::derivations::Reading;
+use lw_kinds::lexicon::Lexicon;
 use std::alloc::Global;
 use std::marker::Model;
 

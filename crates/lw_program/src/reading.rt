@@ -1,16 +1,16 @@
 // What reads a keyword, a call or the text of a cross-reference.
 ghost use Rattle.std.specs.Prelude.{ℕ, List};
 ghost use Rattle.lw_grammar.specs.Kinds.{Kinds, AreKinds, IsKeywordKind};
-ghost use Rattle.lw_sentences.specs.Marks.{Mark};
-ghost use Rattle.lw_sentences.specs.Yields.{Calls};
-ghost use Rattle.lw_derivations.specs.Crossing.{IsReadBy};
-ghost use Rattle.lw_lexicon.specs.Known.{IsKnownLexicon};
+ghost use Rattle.lw_grammar.specs.Marks.{Mark};
+ghost use Rattle.lw_grammar.specs.Yields.{Calls};
+ghost use Rattle.lw_kinds.specs.Crossing.{IsReadBy};
+ghost use Rattle.lw_kinds.specs.LexiconKnown.{IsKnownLexicon};
 ghost use Rattle.lw_program.specs.Reach.{IsComplete};
 ghost use Rattle.lw_program.specs.Says.{CallsBy};
 
 use crate::Instr;
 use lw_base::{KindId, Name};
-use lw_lexicon::{Callee, Lexicon};
+use lw_kinds::lexicon::{Callee, Lexicon};
 
 /// The kind of a keyword.
 pub(crate) fn kind_of(lexicon: Lexicon<'_>, text: &Name) -> KindId

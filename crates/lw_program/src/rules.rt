@@ -2,7 +2,7 @@
 ghost use Rattle.std.specs.Prelude.{◌≡◌, ◌∷◌, ◌++◌, length, IsTrue, IfOk};
 ghost use Rattle.lw_grammar.specs.Kinds.{Kinds, AreKinds};
 ghost use Rattle.lw_look.specs.Sites.{PartSite, Body};
-ghost use Rattle.lw_lexicon.specs.Known.{IsKnownLexicon};
+ghost use Rattle.lw_kinds.specs.LexiconKnown.{IsKnownLexicon};
 ghost use Rattle.lw_program.specs.Reach.{IsComplete, IsInReach};
 ghost use Rattle.lw_program.specs.Filled.{listing};
 ghost use Rattle.lw_program.specs.Placed.{IsStarted, IsPlaced, ending};
@@ -12,7 +12,7 @@ use crate::draft::Draft;
 use crate::places::reserve;
 use lw_base::NoMemory;
 use lw_grammar::{Element, Rule};
-use lw_lexicon::Lexicon;
+use lw_kinds::lexicon::Lexicon;
 
 impl Draft {
     /// Where the rule starts, if it is reached. Else what is in it is counted.

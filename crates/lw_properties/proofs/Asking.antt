@@ -16,7 +16,7 @@ use Rattle.lw_faults.specs.Attributes.{Kind, Plain, IsKindOf, HasAttribute, HasN
 use Rattle.lw_faults.specs.Properties.{IsRefusedKind, MisfitsAttribute}
 use Rattle.lw_faults.specs.Properties as property
 use Rattle.lw_faults.proofs.LineageLemmas.{one_attribute}
-use Rattle.lw_ways.specs.declared.before.Before.{Before}
+use Rattle.lw_flow.specs.declared.before.Before.{Before}
 use Rattle.lw_properties.specs.Asked.{RefusesSome, SomeType, MisfitsProperty}
 use Rattle.lw_properties.specs.Told.{PutMisfits, IsPutRefused}
 

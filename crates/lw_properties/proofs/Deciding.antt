@@ -7,7 +7,7 @@ use Rattle.lw_grammar.specs.declared.grammar.Grammar.{Grammar}
 use Rattle.lw_grammar.specs.declared.declared_types.Interface.{Interface}
 use Rattle.lw_grammar.specs.Named.{Declaration, IsFirst, IsMeant, StandsBefore, IsInterface, declared_interface, declared_union}
 use Rattle.lw_grammar.proofs.FirstLemmas.{first_item}
-use Rattle.lw_sentences.proofs.Every.{first_here, first_later}
+use Rattle.lw_grammar.proofs.Every.{first_here, first_later}
 
 -- a fact or that it is none
 abbrev pub Either : Type 0 → Type 0

@@ -11,8 +11,8 @@ use Rattle.lw_base.specs.declared.memory.NoMemory.{NoMemory}
 use Rattle.lw_base.specs.declared.token.Span.{Span}
 use Rattle.lw_faults.specs.Faults.{fault}
 use Rattle.lw_grammar.specs.declared.fault.GrammarFault.{GrammarFault}
-use Rattle.lw_findings.specs.Finding.{Finds, OfSome, OneIf, IsFaultOf}
-use Rattle.lw_findings.proofs.Joining.{Finds-iff, Finds-one, Finds-push, Finds-told}
+use Rattle.lw_faults.specs.Finding.{Finds, OfSome, OneIf, IsFaultOf}
+use Rattle.lw_faults.proofs.Joining.{Finds-iff, Finds-one, Finds-push, Finds-told}
 
 pub read_more : {X Z : Type 0} (read : X → Z) (xs : List X) (i : ℕ) (x : X) → i < length xs → x ≡ get_or xs i x →
     map read (take (i + 1) xs) ≡ map read (take i xs) ++ read x ∷ []

@@ -11,15 +11,15 @@ use Rattle.lw_grammar.specs.declared.rule.RuleResult.TheVariants.{Own, Returns, 
 use Rattle.lw_grammar.specs.declared.rule.Action.{Action}
 use Rattle.lw_grammar.specs.Leaves.{Leaf, Keyword, Call, Assign, Act, leaves}
 use Rattle.lw_faults.specs.Steps.{Step, step}
-use Rattle.lw_faults.specs.Written.{InfersHere, IsInferredType}
-use Rattle.lw_faults.specs.Written as written
+use Rattle.lw_grammar.specs.Written.{InfersHere, IsInferredType}
+use Rattle.lw_grammar.specs.Written as written
 use Rattle.lw_faults.specs.Properties.{is_list, PutsInto, MixedProperty}
 use Rattle.lw_faults.specs.Properties as property
 use Rattle.lw_faults.specs.Faults.{fault}
-use Rattle.lw_findings.specs.Finding.{Finds, OfSome, IsFaultOf}
-use Rattle.lw_findings.proofs.Joining.{told_fault_of}
-use Rattle.lw_ways.specs.declared.before.Before.{Before}
-use Rattle.lw_ways.specs.Recorded.{AreWaysOf}
+use Rattle.lw_faults.specs.Finding.{Finds, OfSome, IsFaultOf}
+use Rattle.lw_faults.proofs.Joining.{told_fault_of}
+use Rattle.lw_flow.specs.declared.before.Before.{Before}
+use Rattle.lw_flow.specs.Recorded.{AreWaysOf}
 use Rattle.lw_properties.specs.Places.{Spot, StandsIn, StandsAt}
 use Rattle.lw_properties.specs.Mixing.{RuleInfers, InfersByResult, LeafInfers, InfersAt, Putting, putting, IsFree, PutBy, PutHere, PutAt, Key, key_of, other_key, at_of, IsMixedWith, MixedAt}
 use Rattle.lw_properties.proofs.Apart.{at_its_place}

@@ -15,7 +15,7 @@ use Rattle.lw_grammar.specs.declared.grammar.Grammar.{Grammar}
 use Rattle.lw_grammar.specs.declared.declared_types.Interface.{Interface}
 use Rattle.lw_grammar.specs.declared.declared_types.Attribute.{Attribute}
 use Rattle.lw_grammar.specs.Named.{IsFirst, IsInterface}
-use Rattle.lw_sentences.proofs.Every.{first_here, first_later}
+use Rattle.lw_grammar.proofs.Every.{first_here, first_later}
 use Rattle.lw_faults.specs.Attributes.{HasAttribute, HasNoAttribute}
 use Rattle.lw_faults.specs.Attributes as above
 use Rattle.lw_faults.proofs.LineageLemmas.{one_lineage}

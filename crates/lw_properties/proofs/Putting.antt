@@ -3,8 +3,8 @@ use Rattle.std.proofs.Common.{◌≡◌, ℕ, List, [], ◌∷◌, ◌++◌, Boo
 use Rattle.std.proofs.lemmas.Option.{same_Some}
 use Rattle.lw_base.specs.declared.token.Span.{Span}
 use Rattle.lw_grammar.specs.declared.grammar.Grammar.{Grammar}
-use Rattle.lw_findings.specs.Finding.{Finds, OfSome}
-use Rattle.lw_findings.proofs.Joining.{Finds-nothing, Finds-one, Finds-iff}
+use Rattle.lw_faults.specs.Finding.{Finds, OfSome}
+use Rattle.lw_faults.proofs.Joining.{Finds-nothing, Finds-one, Finds-iff}
 use Rattle.lw_numbers.specs.Numbering.{type_names}
 use Rattle.lw_properties.specs.Asked.{SomeType}
 use Rattle.lw_properties.specs.Mixing.{Putting, putting, IsFree, PutsIn}

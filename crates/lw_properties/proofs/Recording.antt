@@ -12,10 +12,10 @@ use Rattle.lw_faults.specs.Steps.{Step, step, IsBehind, IsCurrentType}
 use Rattle.lw_faults.specs.Properties.{UnknownProperty, WrongPropertyForm, NotASubtype}
 use Rattle.lw_faults.specs.Properties as property
 use Rattle.lw_faults.specs.Faults.{fault}
-use Rattle.lw_findings.specs.Finding.{OfSome, IsFaultOf}
-use Rattle.lw_findings.proofs.Joining.{told_fault_of}
-use Rattle.lw_ways.specs.declared.before.Before.{Before}
-use Rattle.lw_ways.specs.Recorded.{AreWaysOf, Somewhere, HasNumberOf}
+use Rattle.lw_faults.specs.Finding.{OfSome, IsFaultOf}
+use Rattle.lw_faults.proofs.Joining.{told_fault_of}
+use Rattle.lw_flow.specs.declared.before.Before.{Before}
+use Rattle.lw_flow.specs.Recorded.{AreWaysOf, Somewhere, HasNumberOf}
 use Rattle.lw_properties.specs.Places.{Spot, StandsIn, StandsAt, IsComeTo}
 use Rattle.lw_properties.specs.Told.{UnknownPut, UnknownHere, UnknownAt, IsPutRefused, MisformedPut, MisformedHere, MisformedAt, NotBelowHere, NotBelowAt}
 

@@ -6,9 +6,9 @@ use Rattle.std.proofs.lemmas.Option.{same_Some, slice_get_within}
 use Rattle.lw_grammar.specs.declared.grammar.Grammar.{Grammar}
 use Rattle.lw_grammar.specs.declared.rule.Rule.{Rule}
 use Rattle.lw_grammar.specs.Leaves.{Leaf, leaves}
-use Rattle.lw_findings.specs.Finding.{Finds}
-use Rattle.lw_findings.proofs.Joining.{Finds-nothing, Finds-one, Finds-then, Finds-iff}
-use Rattle.lw_ways.specs.declared.before.Before.{Before}
+use Rattle.lw_faults.specs.Finding.{Finds}
+use Rattle.lw_faults.proofs.Joining.{Finds-nothing, Finds-one, Finds-then, Finds-iff}
+use Rattle.lw_flow.specs.declared.before.Before.{Before}
 use Rattle.lw_properties.specs.Places.{Spot, StandsIn, StandsAt}
 
 -- ---- in the row of a rule

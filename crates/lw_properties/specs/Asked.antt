@@ -9,8 +9,8 @@ use Rattle.lw_grammar.specs.Subtypes.{IsDeclared, IsSubtype}
 use Rattle.lw_faults.specs.Attributes.{Kind, NodesOf, HasAttribute, HasNoAttribute, IsKindOf}
 use Rattle.lw_faults.specs.Properties.{IsRefusedKind, MisfitsAttribute}
 use Rattle.lw_numbers.specs.Tables.{AreNumbersOf}
-use Rattle.lw_subtypes.specs.Kinship.{AreNodeRules, AreSubtypesOf}
-use Rattle.lw_ways.specs.Recorded.{HasNumberOf}
+use Rattle.lw_numbers.specs.Kinship.{AreNodeRules, AreSubtypesOf}
+use Rattle.lw_flow.specs.Recorded.{HasNumberOf}
 use Rattle.lw_properties.specs.Known.{AreAttributesOf}
 use Rattle.lw_properties.specs.declared.known.Known.{Known}
 use Rattle.lw_properties.specs.declared.questions.Question.{Question}

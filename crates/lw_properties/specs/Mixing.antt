@@ -12,12 +12,12 @@ use Rattle.lw_grammar.specs.declared.rule.RuleResult.TheVariants.{Own, Infers}
 use Rattle.lw_grammar.specs.declared.rule.Action.{Action}
 use Rattle.lw_grammar.specs.Leaves.{Leaf, Assign, Act}
 use Rattle.lw_grammar.specs.Subtypes.{IsDeclared}
-use Rattle.lw_faults.specs.Written.{IsInferredType}
+use Rattle.lw_grammar.specs.Written.{IsInferredType}
 use Rattle.lw_faults.specs.Properties.{is_list}
 use Rattle.lw_faults.specs.Faults.{fault}
-use Rattle.lw_findings.specs.Finding.{OneIf}
+use Rattle.lw_faults.specs.Finding.{OneIf}
 use Rattle.lw_numbers.specs.Numbering.{type_names}
-use Rattle.lw_ways.specs.declared.before.Before.{Before}
+use Rattle.lw_flow.specs.declared.before.Before.{Before}
 use Rattle.lw_properties.specs.Asked.{SomeType}
 use Rattle.lw_properties.specs.Places.{Spot, IsComeTo}
 use Rattle.lw_properties.specs.declared.puts.Put.{Put}

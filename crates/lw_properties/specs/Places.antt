@@ -3,9 +3,9 @@ use Rattle.std.specs.Prelude.{ℕ, ◌≡◌, ◌<◌, ◌⊎◌, ◌↔◌, Lis
 use Rattle.lw_grammar.specs.declared.grammar.Grammar.{Grammar}
 use Rattle.lw_grammar.specs.declared.rule.Rule.{Rule}
 use Rattle.lw_grammar.specs.Leaves.{Leaf, leaves}
-use Rattle.lw_leaves.specs.Parts.{leaf_of}
-use Rattle.lw_ways.specs.declared.before.Before.{Before}
-use Rattle.lw_ways.specs.Recorded.{AreWaysOf}
+use Rattle.lw_numbers.specs.Parts.{leaf_of}
+use Rattle.lw_flow.specs.declared.before.Before.{Before}
+use Rattle.lw_flow.specs.Recorded.{AreWaysOf}
 use Rattle.lw_properties.specs.declared.places.Place.{Place}
 
 -- a leaf, the rule in whose body it is written, and what may come before it

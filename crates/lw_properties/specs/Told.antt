@@ -12,8 +12,8 @@ use Rattle.lw_faults.specs.Steps.{CallsNode}
 use Rattle.lw_faults.specs.Attributes.{NodesOf, HasAttribute}
 use Rattle.lw_faults.specs.Properties.{IsRefusedKind}
 use Rattle.lw_faults.specs.Faults.{fault}
-use Rattle.lw_findings.specs.Finding.{OneIf}
-use Rattle.lw_ways.specs.declared.before.Before.{Before}
+use Rattle.lw_faults.specs.Finding.{OneIf}
+use Rattle.lw_flow.specs.declared.before.Before.{Before}
 use Rattle.lw_properties.specs.Asked.{LacksProperty, MisfitsProperty, SomeType}
 use Rattle.lw_properties.specs.Places.{Spot, IsComeTo}
 

@@ -3,7 +3,7 @@ ghost use Rattle.std.specs.Prelude.{ℕ, ◌≡◌, ◌↔◌, List, Some, OnOk,
 ghost use Rattle.std.specs.Option.{option_copied};
 ghost use Rattle.lw_base.specs.declared.token.Span.{Span};
 ghost use Rattle.lw_faults.specs.Properties.{NotASubtype};
-ghost use Rattle.lw_findings.specs.Finding.{Finds, IsFaultOf};
+ghost use Rattle.lw_faults.specs.Finding.{Finds, IsFaultOf};
 ghost use Rattle.lw_properties.specs.Asked.{IsKnownIn};
 ghost use Rattle.lw_properties.specs.Places.{spot_of, ArePlacesOf};
 ghost use Rattle.lw_properties.specs.Told.{NotBelowAt, CallsNodeOf};
@@ -14,9 +14,9 @@ use crate::places::Place;
 use crate::questions::{Question, holds_of_some};
 use crate::telling::{Spoken, tell_if};
 use lw_base::{Name, NoMemory};
-use lw_findings::Findings;
-use lw_leaves::BodyLeaf;
+use lw_faults::findings::Findings;
 use lw_numbers::Called;
+use lw_numbers::leaves::BodyLeaf;
 use std::alloc::Global;
 
 /// Finds where a rule of a declared type makes a node of a type that is not below it.

@@ -2,10 +2,10 @@
 ghost use Rattle.std.specs.Prelude.{◌⊎◌, ◌≤◌, OnOk};
 ghost use Rattle.lw_grammar.specs.Size.{size};
 ghost use Rattle.lw_faults.specs.Properties.{UnknownProperty, WrongPropertyForm, MixedProperty, NotASubtype};
-ghost use Rattle.lw_findings.specs.Finding.{Finds, IsFaultOf};
+ghost use Rattle.lw_faults.specs.Finding.{Finds, IsFaultOf};
 ghost use Rattle.lw_numbers.specs.Tables.{AreNumbersOf};
-ghost use Rattle.lw_subtypes.specs.Kinship.{AreNodeRules, AreSubtypesOf};
-ghost use Rattle.lw_ways.specs.Recorded.{AreWaysOf};
+ghost use Rattle.lw_numbers.specs.Kinship.{AreNodeRules, AreSubtypesOf};
+ghost use Rattle.lw_flow.specs.Recorded.{AreWaysOf};
 
 use crate::Attributes;
 use crate::below::find_not_below;
@@ -15,11 +15,11 @@ use crate::mixed::find_mixed_properties;
 use crate::places::places;
 use crate::unknown::find_unknown_properties;
 use lw_base::NoMemory;
-use lw_findings::Findings;
+use lw_faults::findings::Findings;
+use lw_flow::Ways;
 use lw_grammar::Grammar;
 use lw_numbers::Numbers;
-use lw_subtypes::Subtypes;
-use lw_ways::Ways;
+use lw_numbers::subtypes::Subtypes;
 use std::alloc::Global;
 
 /// Finds the faults 14 to 17: unknown properties, wrong forms of properties, mixed properties, and

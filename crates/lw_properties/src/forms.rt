@@ -1,7 +1,7 @@
 // Properties that are put into in another form than they have.
 ghost use Rattle.std.specs.Prelude.{◌↔◌, IsTrue, IfOk, OnOk, map};
 ghost use Rattle.lw_faults.specs.Properties.{WrongPropertyForm};
-ghost use Rattle.lw_findings.specs.Finding.{Finds, IsFaultOf};
+ghost use Rattle.lw_faults.specs.Finding.{Finds, IsFaultOf};
 ghost use Rattle.lw_properties.specs.Asked.{IsKnownIn};
 ghost use Rattle.lw_properties.specs.Places.{spot_of, ArePlacesOf};
 ghost use Rattle.lw_properties.specs.Told.{MisformedAt, MisformedPut, PutMisfits, IsPutRefused};
@@ -12,10 +12,10 @@ use crate::places::{Place, is_come_to};
 use crate::questions::{Question, holds_of_some};
 use crate::telling::{Spoken, tell_if};
 use lw_base::{Name, NoMemory};
-use lw_findings::Findings;
+use lw_faults::findings::Findings;
+use lw_flow::Before;
 use lw_grammar::{Action, Attribute};
-use lw_leaves::BodyLeaf;
-use lw_ways::Before;
+use lw_numbers::leaves::BodyLeaf;
 use std::alloc::Global;
 
 /// Finds what is put in that has not the form of the declared property.

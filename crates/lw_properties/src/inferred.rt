@@ -1,8 +1,8 @@
 // The types that are inferred.
 ghost use Rattle.std.specs.Prelude.{◌≡◌, ◌↔◌, ℕ, List, IfOk, OnOk, Contains, map};
-ghost use Rattle.lw_faults.specs.Written.{IsInferredType};
-ghost use Rattle.lw_findings.specs.Finding.{Finds, OfSome};
-ghost use Rattle.lw_leaves.specs.Parts.{leaf_of};
+ghost use Rattle.lw_grammar.specs.Written.{IsInferredType};
+ghost use Rattle.lw_faults.specs.Finding.{Finds, OfSome};
+ghost use Rattle.lw_numbers.specs.Parts.{leaf_of};
 ghost use Rattle.lw_properties.specs.Places.{spot_of, ArePlacesOf};
 ghost use Rattle.lw_properties.specs.Mixing.{RuleInfers, LeafInfers, InfersAt};
 
@@ -10,7 +10,7 @@ use crate::places::Place;
 use indexmap::IndexSet;
 use lw_base::{Name, NoMemory};
 use lw_grammar::{Grammar, Rule, RuleResult};
-use lw_leaves::BodyLeaf;
+use lw_numbers::leaves::BodyLeaf;
 use std::alloc::Global;
 
 /// The names of the types that a grammar infers, of which these are the places of all leaves.

@@ -4,14 +4,14 @@ ghost use Rattle.std.specs.Option.{option_copied};
 ghost use Rattle.lw_base.specs.declared.token.Span.{Span};
 ghost use Rattle.lw_grammar.specs.Leaves.{Calls};
 ghost use Rattle.lw_faults.specs.Attributes.{Kind, IsKindOf};
-ghost use Rattle.lw_leaves.specs.Parts.{value_leaf_of};
+ghost use Rattle.lw_numbers.specs.Parts.{value_leaf_of};
 ghost use Rattle.lw_numbers.specs.Tables.{AreNumbersOf};
-ghost use Rattle.lw_subtypes.specs.Kinship.{AreNodeRules};
+ghost use Rattle.lw_numbers.specs.Kinship.{AreNodeRules};
 ghost use Rattle.lw_properties.specs.Kinds.{kind_of_value, rule_type, rule_kind, typed_kind};
 
 use lw_base::Name;
 use lw_grammar::{Grammar, Primitive, Rule, RuleResult};
-use lw_leaves::ValuePart;
+use lw_numbers::leaves::ValuePart;
 use lw_numbers::{Called, Numbers};
 
 /// What a part of a value is to an attribute.

@@ -2,7 +2,7 @@
 use crate::Attributes;
 use lw_grammar::Grammar;
 use lw_numbers::Numbers;
-use lw_subtypes::Subtypes;
+use lw_numbers::subtypes::Subtypes;
 
 /// What is known of a grammar's names, rules and types.
 #[derive(Drop)]

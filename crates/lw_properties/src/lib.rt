@@ -7,7 +7,7 @@
 //! properties that declared types have, with those of all that they extend.
 //!
 //! Its model: [`Attributes`] finds for a type and a name the attribute that the definition gives, or none.
-//! Everything is asked of the leaves of rules, each with what may come before it (`lw_ways`).
+//! Everything is asked of the leaves of rules, each with what may come before it (`lw_flow`).
 //!
 //! It promises that exactly the faults of the four definitions are found, whatever else is wrong with the grammar:
 //! interfaces that extend themselves and unions that are their own members are looked into once.

@@ -3,7 +3,7 @@ ghost use Rattle.std.specs.Prelude.{ℕ, ◌≡◌, ◌↔◌, ◌++◌, IsTrue,
 ghost use Rattle.lw_grammar.specs.declared.grammar.Grammar.{Grammar};
 ghost use Rattle.lw_grammar.specs.declared.declared_types.UnionDef.{UnionDef};
 ghost use Rattle.lw_numbers.specs.Tables.{AreNumbersOf};
-ghost use Rattle.lw_subtypes.specs.Kinship.{AreSubtypesOf};
+ghost use Rattle.lw_numbers.specs.Kinship.{AreSubtypesOf};
 ghost use Rattle.lw_properties.specs.Kinds.{kind_of_value, TakesDirectly, NamesUnion, SomeTakes};
 
 use crate::declarations::union_of;
@@ -12,7 +12,7 @@ use indexmap::IndexSet;
 use lw_base::NoMemory;
 use lw_grammar::{Grammar, Member, Primitive, UnionDef};
 use lw_numbers::Numbers;
-use lw_subtypes::Subtypes;
+use lw_numbers::subtypes::Subtypes;
 use std::alloc::Global;
 
 /// Whether one of the members takes the value. Each union is looked into once.

@@ -1,7 +1,7 @@
 // Properties of inferred types that are a list here and none there.
 ghost use Rattle.std.specs.Prelude.{List, OnOk, map};
 ghost use Rattle.lw_faults.specs.Properties.{MixedProperty};
-ghost use Rattle.lw_findings.specs.Finding.{Finds, OfSome, IsFaultOf};
+ghost use Rattle.lw_faults.specs.Finding.{Finds, OfSome, IsFaultOf};
 ghost use Rattle.lw_properties.specs.Asked.{IsKnownIn};
 ghost use Rattle.lw_properties.specs.Places.{spot_of, ArePlacesOf};
 ghost use Rattle.lw_properties.specs.Mixing.{Putting, putting_of, AreFirstPuts, MixedAt};
@@ -13,7 +13,7 @@ use crate::places::Place;
 use crate::puts::{Put, put_puts};
 use crate::telling::{Spoken, tell_if};
 use lw_base::NoMemory;
-use lw_findings::Findings;
+use lw_faults::findings::Findings;
 use std::alloc::Global;
 
 /// Finds properties of types that are inferred and not declared which are a list here, and none at a

@@ -1,15 +1,15 @@
 // The leaves of a grammar's rules, with what may come before them.
 ghost use Rattle.std.specs.Prelude.{ℕ, ◌≡◌, ◌<◌, ◌↔◌, List, Some, IsTrue, IfOk, OnOk, length, map, slice_get};
 ghost use Rattle.lw_grammar.specs.Leaves.{leaves};
-ghost use Rattle.lw_findings.specs.Finding.{Finds};
-ghost use Rattle.lw_ways.specs.declared.before.Before.{Before};
-ghost use Rattle.lw_ways.specs.Recorded.{AreWaysOf};
+ghost use Rattle.lw_faults.specs.Finding.{Finds};
+ghost use Rattle.lw_flow.specs.declared.before.Before.{Before};
+ghost use Rattle.lw_flow.specs.Recorded.{AreWaysOf};
 ghost use Rattle.lw_properties.specs.Places.{spot_of, StandsIn, ArePlacesOf, IsComeTo};
 
 use lw_base::NoMemory;
+use lw_flow::{Before, Ways};
 use lw_grammar::{Grammar, Rule};
-use lw_leaves::{BodyLeaf, body_leaves};
-use lw_ways::{Before, Ways};
+use lw_numbers::leaves::{BodyLeaf, body_leaves};
 use std::alloc::Global;
 
 /// A leaf of a rule's body, and what may come before it.

@@ -1,9 +1,9 @@
 // What is put into properties of types that are inferred.
 ghost use Rattle.std.specs.Prelude.{◌≡◌, ◌↔◌, List, ℕ, IsTrue, OnOk, Contains, map};
-ghost use Rattle.lw_findings.specs.Finding.{Finds, OfSome};
+ghost use Rattle.lw_faults.specs.Finding.{Finds, OfSome};
 ghost use Rattle.lw_faults.specs.Properties.{is_list};
-ghost use Rattle.lw_faults.specs.Written.{IsInferredType};
-ghost use Rattle.lw_leaves.specs.Parts.{leaf_of};
+ghost use Rattle.lw_grammar.specs.Written.{IsInferredType};
+ghost use Rattle.lw_numbers.specs.Parts.{leaf_of};
 ghost use Rattle.lw_properties.specs.Asked.{IsKnownIn};
 ghost use Rattle.lw_properties.specs.Places.{spot_of, IsComeTo};
 ghost use Rattle.lw_properties.specs.Mixing.{putting_of, IsFree, PutAt, PutBy, PutHere, PutsIn};
@@ -14,9 +14,9 @@ use crate::places::{Place, is_come_to};
 use crate::questions::type_named;
 use indexmap::IndexSet;
 use lw_base::{Name, NoMemory, Span};
+use lw_flow::Before;
 use lw_grammar::{Action, Op};
-use lw_leaves::BodyLeaf;
-use lw_ways::Before;
+use lw_numbers::leaves::BodyLeaf;
 
 /// Something is put into this property of the type here, at the end of a list or not.
 #[derive(Clone, Copy, Drop)]

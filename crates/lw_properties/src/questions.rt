@@ -15,8 +15,8 @@ use crate::known::Known;
 use crate::members::takes;
 use lw_base::{Name, NoMemory, TypeId};
 use lw_grammar::{Attribute, Op, Primitive, Value0};
-use lw_leaves::value_parts;
 use lw_numbers::Numbers;
+use lw_numbers::leaves::value_parts;
 use std::alloc::Global;
 
 /// What may be asked of a type.

@@ -1,10 +1,10 @@
 // How a fault is told where something holds.
 ghost use Rattle.std.specs.Prelude.{IsTrue, OnOk};
 ghost use Rattle.lw_faults.specs.Faults.{fault};
-ghost use Rattle.lw_findings.specs.Finding.{Finds, OneIf};
+ghost use Rattle.lw_faults.specs.Finding.{Finds, OneIf};
 
 use lw_base::{Name, NoMemory, Span};
-use lw_findings::Findings;
+use lw_faults::findings::Findings;
 use std::alloc::Global;
 
 /// A place in a grammar's files, and the name that is spoken of.

@@ -1,7 +1,7 @@
 // Properties that declared types do not have.
 ghost use Rattle.std.specs.Prelude.{◌↔◌, IsTrue, OnOk, map};
 ghost use Rattle.lw_faults.specs.Properties.{UnknownProperty};
-ghost use Rattle.lw_findings.specs.Finding.{Finds, IsFaultOf};
+ghost use Rattle.lw_faults.specs.Finding.{Finds, IsFaultOf};
 ghost use Rattle.lw_properties.specs.Asked.{IsKnownIn, LacksProperty};
 ghost use Rattle.lw_properties.specs.Places.{spot_of, ArePlacesOf, IsComeTo};
 ghost use Rattle.lw_properties.specs.Told.{UnknownAt, UnknownPut};
@@ -11,10 +11,10 @@ use crate::places::{Place, is_come_to};
 use crate::questions::{Question, holds_of_some, lacks};
 use crate::telling::{Spoken, tell_if};
 use lw_base::{Name, NoMemory};
-use lw_findings::Findings;
+use lw_faults::findings::Findings;
+use lw_flow::Before;
 use lw_grammar::Action;
-use lw_leaves::BodyLeaf;
-use lw_ways::Before;
+use lw_numbers::leaves::BodyLeaf;
 use std::alloc::Global;
 
 /// Finds what puts something into a property that the declared type does not have.

@@ -6,9 +6,9 @@ use Rattle.std.proofs.lemmas.Option.{same_Some}
 use Rattle.lw_index.specs.declared.parts.Answer.{Answer}
 use Rattle.lw_index.specs.declared.parts.Answer.TheVariants.{Found, Missing}
 use Rattle.lw_index.specs.declared.parts.Target.{Target}
-use Rattle.lw_refs.specs.Led.{Led, answers_in}
-use Rattle.lw_refs.specs.Users.{IsUser}
-use Rattle.lw_refs.specs.declared.slot.SlotId.{SlotId}
+use Rattle.lw_index.specs.Led.{Led, answers_in}
+use Rattle.lw_index.specs.Users.{IsUser}
+use Rattle.lw_index.specs.declared.refs.slot.SlotId.{SlotId}
 use Rattle.lw_scoping.specs.Links.{Link}
 use Rattle.lw_query.specs.Viewed.{LeadsAs, found, missing}
 use Rattle.lw_query.proofs.Rows.{differ}

@@ -41,9 +41,9 @@ use Rattle.lw_base.specs.declared.token.Span.{Span}
 use Rattle.lw_index.specs.declared.parts.Answer.{Answer}
 use Rattle.lw_index.specs.declared.parts.Answer.TheVariants.{Found}
 use Rattle.lw_index.specs.declared.parts.Target.{Target}
-use Rattle.lw_refs.specs.Led.{Led, answers_in}
-use Rattle.lw_refs.specs.Users.{IsUser}
-use Rattle.lw_refs.specs.declared.slot.SlotId.{SlotId}
+use Rattle.lw_index.specs.Led.{Led, answers_in}
+use Rattle.lw_index.specs.Users.{IsUser}
+use Rattle.lw_index.specs.declared.refs.slot.SlotId.{SlotId}
 use Rattle.lw_scoping.specs.Links.{LinksTo, Trees}
 use Rattle.lw_scoping.proofs.Once.{one_target}
 use Rattle.lw_tree.specs.declared.node.Reference.{Reference}

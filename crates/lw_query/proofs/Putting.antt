@@ -40,9 +40,9 @@ use Rattle.std.proofs.lemmas.List.{take_more}
 use Rattle.std.proofs.lemmas.List.Elements.{Contains-append_left, Contains-push, Contains-push_cases}
 use Rattle.std.proofs.lemmas.Option.{get_or_from_slice_get, same_Some}
 use Rattle.lw_index.specs.declared.parts.Target.{Target}
-use Rattle.lw_refs.specs.Led.{Led}
-use Rattle.lw_refs.specs.Users.{IsUser}
-use Rattle.lw_refs.specs.declared.slot.SlotId.{SlotId}
+use Rattle.lw_index.specs.Led.{Led}
+use Rattle.lw_index.specs.Users.{IsUser}
+use Rattle.lw_index.specs.declared.refs.slot.SlotId.{SlotId}
 use Rattle.lw_tree.specs.Parts.{Parts}
 use Rattle.lw_query.specs.Gathered.{KeepsSpot, PutsSpots, SpotKey, key_cmp, spot_of_key}
 use Rattle.lw_query.specs.Spots.{IsSpotOfMention, IsSpotOfSlot, slot_spot, target_spot, used, declared}

@@ -8,8 +8,8 @@ use Rattle.std.specs.Ordering.{nat_cmp}
 use Rattle.std.specs.Str.{bytes_eq}
 use Rattle.std.specs.declared.cmp.Ordering.TheVariants.{Less}
 use Rattle.lw_grammar.specs.declared.grammar.Grammar.{Grammar}
-use Rattle.lw_rooted.specs.Within.{StandsInText}
-use Rattle.lw_scopes.specs.Links.{IsNumberBelow, IsTreeOfText, Texts}
+use Rattle.lw_reading.specs.Within.{StandsInText}
+use Rattle.lw_link_rules.specs.Links.{IsNumberBelow, IsTreeOfText, Texts}
 use Rattle.lw_scoping.specs.Links.{Trees}
 use Rattle.lw_tree.specs.Parts.{Parts}
 use Rattle.lw_query.specs.Viewed.{IsLinkAnswer}

@@ -8,9 +8,9 @@ use Rattle.lw_index.specs.declared.parts.Answer.TheVariants.{Found, Missing}
 use Rattle.lw_index.specs.declared.parts.Target.{Target}
 use Rattle.lw_places.specs.declared.place.Place.{Place}
 use Rattle.lw_places.specs.declared.place.Place.TheVariants.{Named, Refers}
-use Rattle.lw_refs.specs.Led.{Led}
-use Rattle.lw_refs.specs.Users.{IsUser}
-use Rattle.lw_refs.specs.declared.slot.SlotId.{SlotId}
+use Rattle.lw_index.specs.Led.{Led}
+use Rattle.lw_index.specs.Users.{IsUser}
+use Rattle.lw_index.specs.declared.refs.slot.SlotId.{SlotId}
 use Rattle.lw_tree.specs.Parts.{Parts, name_of}
 use Rattle.lw_query.specs.declared.spot.Spot.{Spot}
 

@@ -3,8 +3,8 @@ ghost use Rattle.std.specs.Prelude.{◌≡◌, ℕ, List, Bool, None, Some, IfOk
 ghost use Rattle.std.specs.List.{AllZip};
 ghost use Rattle.lw_grammar.specs.declared.grammar.Grammar.{Grammar};
 ghost use Rattle.lw_places.specs.Mentions.{AreReferencesAt, IsDefinitionAt, IsMeantAt, Mention};
-ghost use Rattle.lw_refs.specs.Led.{answers_in};
-ghost use Rattle.lw_scopes.specs.Links.{IsNumberBelow};
+ghost use Rattle.lw_index.specs.Led.{answers_in};
+ghost use Rattle.lw_link_rules.specs.Links.{IsNumberBelow};
 ghost use Rattle.lw_scoping.specs.Links.{Link, Trees};
 ghost use Rattle.lw_query.specs.Spots.{place_answer};
 ghost use Rattle.lw_query.specs.Viewed.{AreViewsOf, IsMentionAt, LeadsAs};
@@ -14,9 +14,9 @@ use crate::places::place_at;
 use crate::spots::name_spot;
 use crate::{Spot, Views};
 use lw_base::{DocId, Items, NoMemory};
+use lw_index::refs::RefIndex;
 use lw_index::{Answer, Target};
 use lw_places::Place;
-use lw_refs::RefIndex;
 use std::alloc::Global;
 
 /// Where a place of a document leads.

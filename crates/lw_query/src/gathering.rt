@@ -8,7 +8,7 @@ use crate::spots::{declared_spot, use_spot};
 use crate::{Spot, Views};
 use lw_base::{DocId, Items, Name, NoMemory, Span};
 use lw_index::Target;
-use lw_refs::{RefIndex, SlotId};
+use lw_index::refs::{RefIndex, SlotId};
 use std::alloc::Global;
 use std::collections::BTreeSet;
 

@@ -13,7 +13,7 @@
 //! bytes, and none of anything that is not meant.
 //!
 //! A place is found by going over the names and the references of one tree, so [`definition`] takes no memory and time that grows with that
-//! tree alone. [`references`] asks the index of references (`lw_refs`), which looks at no document but those that lead into the document of
+//! tree alone. [`references`] asks the index of references (`lw_index::refs`), which looks at no document but those that lead into the document of
 //! the node; for n places it compares n log n addresses and copies none. Its only error is want of memory.
 #![tactic(auto)]
 
@@ -31,6 +31,3 @@ pub use places::place_at;
 pub use spot::Spot;
 pub use view::View;
 pub use views::Views;
-
-#[cfg(test)]
-mod tests;

@@ -4,7 +4,7 @@ ghost use Rattle.lw_query.specs.Spots.{slot_spot, target_spot};
 
 use crate::{Spot, Views};
 use lw_index::Target;
-use lw_refs::SlotId;
+use lw_index::refs::SlotId;
 
 /// Where the name of a node stands, if it has one.
 pub(crate) fn name_spot<V: Views>(v: &V, target: Target) -> Option<Spot>

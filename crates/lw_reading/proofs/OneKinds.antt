@@ -11,7 +11,8 @@ use Rattle.lw_grammar.specs.Leaves.{keywords_in}
 use Rattle.lw_grammar.specs.Reached.{IsReached}
 use Rattle.lw_grammar.specs.Kinds.{Kinds, AreKinds, first_uses}
 use Rattle.lw_grammar.proofs.FirstUses.{stands_in, Contains-from_first_uses}
-use Rattle.lw_grammar.proofs.KeptLemmas.{there, kept_from}
+use Rattle.lw_base.proofs.Lists.{there}
+use Rattle.lw_grammar.proofs.KeptLemmas.{kept_from}
 use Rattle.lw_tokens.specs.Keywords.{AreKeywords}
 pub use Rattle.lw_grammar.proofs.KindLemmas.{one_kind_text}
 use Rattle.lw_reading.specs.Laws.{HasNoEmptyKeyword, WritesNoEmptyKeyword}

@@ -7,15 +7,15 @@ use Rattle.lw_base.specs.declared.token.Token.{Token}
 use Rattle.lw_grammar.specs.declared.grammar.Grammar.{Grammar}
 use Rattle.lw_grammar.specs.Kinds.{Kinds}
 use Rattle.lw_base.specs.declared.numbers.PropId.{PropId}
-use Rattle.lw_sentences.specs.Marks.{Mark, kinds_of}
-use Rattle.lw_sentences.specs.Sentences.{IsSentence, IsWhole, Starts}
+use Rattle.lw_grammar.specs.Marks.{Mark, kinds_of}
+use Rattle.lw_grammar.specs.Sentences.{IsSentence, IsWhole, Starts}
 use Rattle.lw_tree.specs.Parts.{Parts, SameTables, values_at}
-use Rattle.lw_marks.specs.Brackets.{Bracket, Root}
-use Rattle.lw_marks.specs.Grown.{Grown}
-use Rattle.lw_marks.specs.Numbers.{IsNamingProperty}
-use Rattle.lw_marks.specs.Trees.{IsTree, parts_of_tree}
-use Rattle.lw_rooted.proofs.OneTree.{one_follows}
-use Rattle.lw_rooted.proofs.OneValue.{one_number_of_property}
+use Rattle.lw_reading.specs.Brackets.{Bracket, Root}
+use Rattle.lw_reading.specs.Grown.{Grown}
+use Rattle.lw_reading.specs.Numbers.{IsNamingProperty}
+use Rattle.lw_reading.specs.Trees.{IsTree, parts_of_tree}
+use Rattle.lw_reading.proofs.OneTree.{one_follows}
+use Rattle.lw_reading.proofs.OneValue.{one_number_of_property}
 use Rattle.lw_tokens.specs.Keywords.{AreKeywords}
 use Rattle.lw_tokens.specs.Lexicon.{Lexicon, IsLexicon}
 use Rattle.lw_tokens.specs.Cut.{IsCut, HasNoTokenAt, IsCharacterAt, visible, kinds}

@@ -1,3 +1,13 @@
 pub mod Reading
 pub mod Laws
 pub mod Issues
+pub mod Grown
+pub mod Numbers
+pub mod Values
+pub mod Brackets
+pub mod Follows
+pub mod Trees
+pub mod Worked
+pub mod Growing
+pub mod Within
+pub mod Known

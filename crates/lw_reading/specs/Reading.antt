@@ -7,13 +7,13 @@ use Rattle.lw_base.specs.declared.token.Span.{Span}
 use Rattle.lw_base.specs.declared.token.Token.{Token}
 use Rattle.lw_grammar.specs.declared.grammar.Grammar.{Grammar}
 use Rattle.lw_grammar.specs.Kinds.{Kinds, AreKinds}
-use Rattle.lw_sentences.specs.Marks.{Mark, kinds_of}
-use Rattle.lw_sentences.specs.Sentences.{IsSentence, IsWhole, Starts}
+use Rattle.lw_grammar.specs.Marks.{Mark, kinds_of}
+use Rattle.lw_grammar.specs.Sentences.{IsSentence, IsWhole, Starts}
 use Rattle.lw_tokens.specs.Lexicon.{Lexicon, IsLexicon}
 use Rattle.lw_tokens.specs.Cut.{IsCut, HasNoTokenAt, IsCharacterAt, visible, kinds}
 use Rattle.lw_tree.specs.declared.issue.Issue.TheVariants.{Lexical, Syntax, End, TooLarge}
 use Rattle.lw_tree.specs.Parts.{Parts}
-use Rattle.lw_marks.specs.Trees.{IsTree}
+use Rattle.lw_reading.specs.Trees.{IsTree}
 use Rattle.lw_reading.specs.declared.parsed.Parsed.{Parsed}
 use Rattle.lw_reading.specs.declared.parsed.Parsed.TheVariants.{Whole, Broken}
 

@@ -7,7 +7,10 @@
 #![tactic(auto)]
 
 mod laws;
+pub mod marks;
+pub mod outwards;
 mod parsed;
+pub mod rooted;
 
 pub use laws::{filled_rules, one_kind_text, one_reading};
 pub use lw_tree::Issue;

@@ -10,8 +10,8 @@ use Rattle.lw_query.specs.Viewed.{IsLinkAnswer, LeadsAs, found, missing}
 use Rattle.lw_query.specs.declared.view.View.{View}
 use Rattle.lw_reading.specs.Reading.{Reads}
 use Rattle.lw_reading.specs.declared.parsed.Parsed.TheVariants.{Whole}
-use Rattle.lw_scopes.specs.Links as scope
-use Rattle.lw_scopes.specs.Links.{AreTreesOfTexts, IsNumberBelow, IsTreeOfText}
+use Rattle.lw_link_rules.specs.Links as scope
+use Rattle.lw_link_rules.specs.Links.{AreTreesOfTexts, IsNumberBelow, IsTreeOfText}
 use Rattle.lw_scoping.specs.Links.{Link, LinksTo, own, out, nowhere}
 use Rattle.lw_scoping.specs.Firsts as first
 use Rattle.lw_scoping.specs.Symbols.{IsNamedOf}

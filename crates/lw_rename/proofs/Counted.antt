@@ -4,17 +4,17 @@ use Rattle.std.proofs.lemmas.Bool.{cases_lt}
 use Rattle.std.proofs.lemmas.Option.{same_Some, none-some, slice_get_past, slice_get_within}
 use Rattle.lw_grammar.specs.declared.grammar.Grammar.{Grammar}
 use Rattle.lw_index.specs.declared.parts.Target.{Target}
-use Rattle.lw_outwards.proofs.Enclosed.{tree_encloses}
-use Rattle.lw_outwards.proofs.OfTexts.{of_text}
-use Rattle.lw_outwards.proofs.OneRoot.{one_root}
-use Rattle.lw_outwards.proofs.Typed.{tree_known}
-use Rattle.lw_outwards.specs.Known.{HasKnownTypes, HasOneRoot}
+use Rattle.lw_reading.proofs.Enclosed.{tree_encloses}
+use Rattle.lw_reading.proofs.OfTexts.{of_text}
+use Rattle.lw_reading.proofs.OneRoot.{one_root}
+use Rattle.lw_reading.proofs.Typed.{tree_known}
+use Rattle.lw_reading.specs.Known.{HasKnownTypes, HasOneRoot}
 use Rattle.lw_query.specs.Built.{AreBuiltViews, tree_seen}
 use Rattle.lw_query.specs.declared.view.View.{View}
 use Rattle.lw_reading.specs.Reading.{Reads}
 use Rattle.lw_reading.specs.declared.parsed.Parsed.TheVariants.{Whole}
-use Rattle.lw_renaming.specs.Shapes.{HaveSameShape, refers_as}
-use Rattle.lw_rooted.proofs.InText.{tree_owns}
+use Rattle.lw_places.specs.Shapes.{HaveSameShape, refers_as}
+use Rattle.lw_reading.proofs.InText.{tree_owns}
 use Rattle.lw_scoping.specs.Outward.{ContainersComeFirst}
 use Rattle.lw_tree.specs.declared.node.Reference.{Reference}
 use Rattle.lw_tree.specs.Parts.{Parts}

@@ -10,7 +10,7 @@ use Rattle.lw_base.specs.declared.numbers.PropId.{PropId}
 use Rattle.lw_base.specs.declared.numbers.TypeId.{TypeId}
 use Rattle.lw_grammar.specs.declared.grammar.Grammar.{Grammar}
 use Rattle.lw_numbers.specs.Numbering.{property_names}
-use Rattle.lw_renaming.specs.Shapes.{HaveSameShape, IsAlikeAt, IsFirstUnlike, stands_as}
+use Rattle.lw_places.specs.Shapes.{HaveSameShape, IsAlikeAt, IsFirstUnlike, stands_as}
 use Rattle.lw_tree.specs.declared.node.Node.{Node}
 use Rattle.lw_tree.specs.declared.node.Reference.{Reference}
 use Rattle.lw_tree.specs.Parts.{Parts}

@@ -11,11 +11,11 @@ use Rattle.lw_index.specs.declared.parts.Target.{Target}
 use Rattle.lw_places.specs.Mentions.{Mention}
 use Rattle.lw_query.specs.Built.{AreBuiltViews, texts_seen, tree_seen}
 use Rattle.lw_query.specs.declared.view.View.{View}
-use Rattle.lw_renaming.specs.Renamed.{IsKeptAt, IsSpoiledAt, Refusal}
-use Rattle.lw_renaming.specs.Renamed as rename
-use Rattle.lw_renaming.specs.Replacing.{renamed_texts}
-use Rattle.lw_scopes.specs.Links as scope
-use Rattle.lw_scopes.specs.Links.{AreTreesOfTexts, IsTreeOfText, Texts}
+use Rattle.lw_places.specs.Renamed.{IsKeptAt, IsSpoiledAt, Refusal}
+use Rattle.lw_places.specs.Renamed as rename
+use Rattle.lw_places.specs.Replacing.{renamed_texts}
+use Rattle.lw_link_rules.specs.Links as scope
+use Rattle.lw_link_rules.specs.Links.{AreTreesOfTexts, IsTreeOfText, Texts}
 use Rattle.lw_tree.specs.Parts.{Parts}
 use Rattle.lw_rename.specs.Afterwards.{later, trees_after}
 use Rattle.lw_rename.specs.Grouped.{TellsRefusal, not_parsed, shape}

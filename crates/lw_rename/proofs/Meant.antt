@@ -18,7 +18,7 @@ use Rattle.lw_places.specs.declared.place.Place.TheVariants.{Named, Refers}
 use Rattle.lw_query.specs.Built.{AreBuiltViews, StandsAmong, trees_seen, tree_seen}
 use Rattle.lw_query.specs.Viewed.{IsLinkAnswer}
 use Rattle.lw_query.specs.declared.view.View.{View}
-use Rattle.lw_scopes.specs.Links.{IsNumberBelow}
+use Rattle.lw_link_rules.specs.Links.{IsNumberBelow}
 use Rattle.lw_scoping.specs.Links.{LinksTo}
 use Rattle.lw_tree.specs.declared.node.Reference.{Reference}
 use Rattle.lw_tree.specs.Parts.{Parts}

@@ -6,8 +6,8 @@ use Rattle.lw_grammar.specs.declared.grammar.Grammar.{Grammar}
 use Rattle.lw_index.specs.declared.parts.Target.{Target}
 use Rattle.lw_query.specs.Built.{AreBuiltViews, texts_seen, trees_seen}
 use Rattle.lw_query.specs.declared.view.View.{View}
-use Rattle.lw_renaming.specs.Renamed.{AreRenamed, IsRenamed, Refusal}
-use Rattle.lw_renaming.specs.Renamed as rename
+use Rattle.lw_places.specs.Renamed.{AreRenamed, IsRenamed, Refusal}
+use Rattle.lw_places.specs.Renamed as rename
 use Rattle.lw_rename.specs.Grouped.{TellsRefusal, no_name}
 use Rattle.lw_rename.specs.Afterwards.{trees_after}
 use Rattle.lw_rename.specs.Outcomes.{StandsAgainst, StandsNothingAgainst, rebound, spoiled}

@@ -6,8 +6,8 @@ use Rattle.std.proofs.lemmas.List.{drop-drop}
 use Rattle.std.proofs.lemmas.Option.{slice_get-get_or}
 use Rattle.lw_base.specs.declared.limits.TheConstants.{LONGEST_DOCUMENT}
 use Rattle.lw_base.specs.declared.token.Span.{Span}
-use Rattle.lw_renaming.specs.Replacing.{replaced, replaced_from}
-use Rattle.lw_rooted.specs.Within.{IsInText}
+use Rattle.lw_places.specs.Replacing.{replaced, replaced_from}
+use Rattle.lw_reading.specs.Within.{IsInText}
 use Rattle.lw_rename.specs.Adding.{IsAdded, added, too_long}
 use Rattle.lw_rename.proofs.Listing.{drop_at, drop_past, take_past}
 

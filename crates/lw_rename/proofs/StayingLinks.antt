@@ -14,10 +14,10 @@ use Rattle.lw_index.specs.declared.parts.Target.{Target}
 use Rattle.lw_query.specs.Built.{AreBuiltViews, StandsAmong, texts_seen, trees_seen, tree_seen}
 use Rattle.lw_query.specs.Viewed.{IsLinkAnswer}
 use Rattle.lw_query.specs.declared.view.View.{View}
-use Rattle.lw_renaming.specs.Renamed.{IsRebound, LinksStay, Refusal}
-use Rattle.lw_renaming.specs.Renamed as rename
-use Rattle.lw_renaming.specs.Replacing.{renamed_texts}
-use Rattle.lw_scopes.specs.Links.{AreLinks, IsNumberBelow, Texts}
+use Rattle.lw_places.specs.Renamed.{IsRebound, LinksStay, Refusal}
+use Rattle.lw_places.specs.Renamed as rename
+use Rattle.lw_places.specs.Replacing.{renamed_texts}
+use Rattle.lw_link_rules.specs.Links.{AreLinks, IsNumberBelow, Texts}
 use Rattle.lw_scoping.specs.Links.{Link, LinksTo, treeless, whole}
 use Rattle.lw_tree.specs.declared.node.Reference.{Reference}
 use Rattle.lw_tree.specs.Parts.{Parts}

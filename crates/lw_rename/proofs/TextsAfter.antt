@@ -9,7 +9,7 @@ use Rattle.lw_base.specs.declared.token.Span.{Span}
 use Rattle.lw_places.specs.Mentions.{Mention}
 use Rattle.lw_query.specs.Built.{texts_seen}
 use Rattle.lw_query.specs.declared.view.View.{View}
-use Rattle.lw_renaming.specs.Replacing.{renamed_texts, replaced, spans_at}
+use Rattle.lw_places.specs.Replacing.{renamed_texts, replaced, spans_at}
 use Rattle.lw_rename.specs.Grouped.{mention_at, mentions_at}
 use Rattle.lw_rename.specs.SpansOf.{mentions_over}
 use Rattle.lw_rename.specs.Rereading.{text_after}

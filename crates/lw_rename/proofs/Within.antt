@@ -10,7 +10,7 @@ use Rattle.lw_grammar.specs.declared.grammar.Grammar.{Grammar}
 use Rattle.lw_index.specs.declared.parts.Target.{Target}
 use Rattle.lw_query.specs.Built.{AreBuiltViews, tree_seen}
 use Rattle.lw_query.specs.declared.view.View.{View}
-use Rattle.lw_rooted.specs.Within.{IsInText, StandsInText, value_place}
+use Rattle.lw_reading.specs.Within.{IsInText, StandsInText, value_place}
 use Rattle.lw_tree.specs.declared.node.Reference.{Reference}
 use Rattle.lw_tree.specs.declared.node.Value.{Value}
 use Rattle.lw_tree.specs.declared.node.Value.TheVariants.{Text, Number, Huge, Raw, Truth, Child, Refers}

@@ -6,7 +6,7 @@ use Rattle.lw_base.specs.declared.numbers.PropId.{PropId}
 use Rattle.lw_base.specs.declared.numbers.TypeId.{TypeId}
 use Rattle.lw_tree.specs.declared.node.Reference.{Reference}
 use Rattle.lw_tree.specs.Parts.{Parts, children_of, values_at}
-use Rattle.lw_renaming.specs.Shapes.{shape_of_value, stands_as}
+use Rattle.lw_places.specs.Shapes.{shape_of_value, stands_as}
 
 -- the values under each property below a number
 abbrev pub HaveSameValues : Parts → Parts → ℕ → ℕ → Type 0

@@ -9,8 +9,8 @@ use Rattle.lw_base.specs.declared.numbers.NodeId.{NodeId}
 use Rattle.lw_base.specs.declared.numbers.RefId.{RefId}
 use Rattle.lw_base.specs.declared.token.Span.{Span}
 use Rattle.lw_places.specs.Mentions.{Mention}
-use Rattle.lw_renaming.specs.Renamed.{Refusal}
-use Rattle.lw_renaming.specs.Renamed as refusal
+use Rattle.lw_places.specs.Renamed.{Refusal}
+use Rattle.lw_places.specs.Renamed as refusal
 use Rattle.lw_scoping.specs.Links.{Link}
 use Rattle.lw_rename.specs.declared.fault.RenameFault.{RenameFault}
 use Rattle.lw_rename.specs.declared.fault.RenameFault.TheVariants.{NoName, NotParsed, Shape, Rebound}

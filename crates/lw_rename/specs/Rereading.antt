@@ -8,10 +8,10 @@ use Rattle.lw_query.specs.Built.{tree_seen}
 use Rattle.lw_query.specs.declared.view.View.{View}
 use Rattle.lw_reading.specs.Reading.{Reads}
 use Rattle.lw_reading.specs.declared.parsed.Parsed.TheVariants.{Whole}
-use Rattle.lw_renaming.specs.Renamed.{CannotBeRead}
-use Rattle.lw_renaming.specs.Replacing.{replaced}
-use Rattle.lw_renaming.specs.Shapes.{HaveSameShape, IsFirstUnlike}
-use Rattle.lw_rooted.specs.Within.{IsInText}
+use Rattle.lw_places.specs.Renamed.{CannotBeRead}
+use Rattle.lw_places.specs.Replacing.{replaced}
+use Rattle.lw_places.specs.Shapes.{HaveSameShape, IsFirstUnlike}
+use Rattle.lw_reading.specs.Within.{IsInText}
 use Rattle.lw_tree.specs.Parts.{Parts}
 use Rattle.lw_rename.specs.declared.fault.RenameFault.{RenameFault}
 use Rattle.lw_rename.specs.declared.fault.RenameFault.TheVariants.{NotParsed, Shape}

@@ -4,7 +4,7 @@ use Rattle.std.specs.Prelude.{ℕ, ◌≡◌, List, All, Contains}
 use Rattle.lw_base.specs.declared.numbers.RefId.{RefId}
 use Rattle.lw_base.specs.declared.token.Span.{Span}
 use Rattle.lw_query.specs.declared.view.View.{View}
-use Rattle.lw_rooted.specs.Within.{IsInText}
+use Rattle.lw_reading.specs.Within.{IsInText}
 use Rattle.lw_rename.specs.Staying.{IsReferenceIn}
 use Rattle.lw_rename.specs.declared.fault.RenameFault.{RenameFault}
 use Rattle.lw_rename.specs.declared.fault.RenameFault.TheVariants.{NoName, NotParsed, Shape, Rebound, NoMemory}

@@ -1,6 +1,6 @@
 -- What a shape in memory tells.
-use Rattle.lw_renaming.specs.Shapes.{ValueShape}
-use Rattle.lw_renaming.specs.Shapes as shape
+use Rattle.lw_places.specs.Shapes.{ValueShape}
+use Rattle.lw_places.specs.Shapes as shape
 use Rattle.lw_rename.specs.declared.shape.Shape.{Shape}
 use Rattle.lw_rename.specs.declared.shape.Shape.TheVariants.{Text, Number, Huge, Raw, Truth, Child, Refers}
 

@@ -1,8 +1,8 @@
 // Edited documents, read again.
 ghost use Rattle.std.specs.Prelude.{◌≡◌, ◌⊎◌, All, IfOk, IfErr, length};
 ghost use Rattle.lw_numbers.specs.Numbering.{property_names};
-ghost use Rattle.lw_rooted.specs.Within.{IsInText};
-ghost use Rattle.lw_renaming.specs.Replacing.{replaced as replaced_text};
+ghost use Rattle.lw_reading.specs.Within.{IsInText};
+ghost use Rattle.lw_places.specs.Replacing.{replaced as replaced_text};
 ghost use Rattle.lw_rename.specs.Rereading.{AreAllAgain, AreAllIn, IsAgain, IsFirstSpoiled, IsKeptAs, IsSpoiled, ReadsWholeAs, Spoils};
 
 use crate::RenameFault;

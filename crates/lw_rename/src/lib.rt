@@ -4,10 +4,10 @@
 //! spans of which documents are to be replaced ([`FileSpans`]), or why the rename is refused ([`RenameFault`]): nothing is meant there, an
 //! edited document could not be read any more or would have another shape, or a reference, anywhere, would lead to another node.
 //!
-//! Its model: texts, trees and links stand by address, as `lw_places` and `lw_renaming` say what is mentioned and what a rename comes to;
+//! Its model: texts, trees and links stand by address, as `lw_places` and `lw_places::renaming` say what is mentioned and what a rename comes to;
 //! views stand for them (`lw_query`). What is replaced stands for mentions (`specs/Grouped.antt`), and a fault for a refusal.
 //!
-//! It promises exactly what `lw_renaming` defines: the spans are all mentions of what is meant, in order, and where it is refused the
+//! It promises exactly what `lw_places::renaming` defines: the spans are all mentions of what is meant, in order, and where it is refused the
 //! refusal is the first that stands against it. Want of memory may take the place of any answer.
 //!
 //! Edited documents are read again and no others. Then all documents are linked anew over a new index, and each reference is compared

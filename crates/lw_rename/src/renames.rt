@@ -3,7 +3,7 @@ ghost use Rattle.std.specs.Prelude.{◌≡◌, ◌⊎◌, ◌<◌, All, List, Ok
 ghost use Rattle.lw_index.specs.declared.parts.Target.{Target as ATarget};
 ghost use Rattle.lw_places.specs.Mentions.{Mention};
 ghost use Rattle.lw_query.specs.Built.{AreBuiltViews, texts_seen};
-ghost use Rattle.lw_renaming.specs.Renamed.{IsRenamed, Refusal};
+ghost use Rattle.lw_places.specs.Renamed.{IsRenamed, Refusal};
 ghost use Rattle.lw_rename.specs.Grouped.{AreGrouped, TellsRefusal};
 ghost use Rattle.lw_rename.specs.Outcomes.{StandsAgainst, StandsNothingAgainst};
 ghost use Rattle.lw_rename.specs.SpansOf.{AreAllSpans};

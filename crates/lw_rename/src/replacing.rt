@@ -1,8 +1,8 @@
 // Texts in which spans are replaced.
 ghost use Rattle.std.specs.Prelude.{◌≡◌, ◌≤◌, ◌<◌, ◌+◌, ◌++◌, All, IfOk, MatchBool, MatchOption, length};
 ghost use Rattle.lw_base.specs.declared.limits.TheConstants.{LONGEST_DOCUMENT};
-ghost use Rattle.lw_rooted.specs.Within.{IsInText};
-ghost use Rattle.lw_renaming.specs.Replacing.{replaced as replaced_text};
+ghost use Rattle.lw_reading.specs.Within.{IsInText};
+ghost use Rattle.lw_places.specs.Replacing.{replaced as replaced_text};
 ghost use Rattle.lw_rename.specs.Adding.{IsAdded};
 
 use lw_base::{LONGEST_DOCUMENT, NoMemory, Span};

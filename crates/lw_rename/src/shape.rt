@@ -1,6 +1,6 @@
 // The shapes of values.
 ghost use Rattle.std.specs.Prelude.{◌≡◌, ◌↔◌, IsTrue, map};
-ghost use Rattle.lw_renaming.specs.Shapes.{shape_of_value};
+ghost use Rattle.lw_places.specs.Shapes.{shape_of_value};
 ghost use Rattle.lw_tree.specs.Keyed.{values_of};
 ghost use Rattle.lw_rename.specs.Told.{told_shape};
 

@@ -3,7 +3,7 @@ ghost use Rattle.std.specs.Prelude.{◌≡◌, ◌<◌, ◌↔◌, ℕ, Some, Is
 ghost use Rattle.std.specs.Option.{option_map};
 ghost use Rattle.lw_grammar.specs.declared.grammar.Grammar.{Grammar};
 ghost use Rattle.lw_numbers.specs.Numbering.{property_names};
-ghost use Rattle.lw_renaming.specs.Shapes.{HaveSameShape, IsFirstUnlike, stands_as as as_it_stands};
+ghost use Rattle.lw_places.specs.Shapes.{HaveSameShape, IsFirstUnlike, stands_as as as_it_stands};
 ghost use Rattle.lw_rename.specs.Alike.{AreAlikeBut, HaveSameValues, IsFirstApart, IsFirstApartAmong, IsLesserNode, refers_alike};
 
 use crate::shape::have_shapes_of;

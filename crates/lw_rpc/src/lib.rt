@@ -50,6 +50,3 @@ pub use message::{Id, Message};
 pub use reading::read_message;
 pub use reply::{CompletionItem, FileEdits, Location, Outcome, Reply, TextEdit};
 pub use writing::reply_text;
-
-#[cfg(test)]
-mod tests;

@@ -19,7 +19,7 @@ use Rattle.lw_query.specs.declared.spot.Spot.{Spot}
 use Rattle.lw_rpc.specs.declared.reply.Location.{Location}
 use Rattle.lw_rpc.specs.declared.reply.Outcome.TheVariants.{Nothing}
 use Rattle.lw_rpc.specs.declared.reply.Outcome.TheVariants as outcome
-use Rattle.lw_scopes.specs.Links.{AreTreesOfTexts, IsNumberBelow}
+use Rattle.lw_link_rules.specs.Links.{AreTreesOfTexts, IsNumberBelow}
 use Rattle.lw_scoping.specs.Links.{Trees}
 use Rattle.lw_text.specs.Offset.{IsOffset}
 use Rattle.lw_text.specs.Position.{IsPosition}

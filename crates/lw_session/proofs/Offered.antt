@@ -12,8 +12,8 @@ use Rattle.lw_conversation.specs.Asking.{IsItemOf, TellsCompletion}
 use Rattle.lw_docs.specs.Documents.{Numbered}
 use Rattle.lw_grammar.specs.declared.grammar.Grammar.{Grammar}
 use Rattle.lw_machine.specs.Documents.{present_texts}
-use Rattle.lw_offers.specs.Offers.{AreOffers}
-use Rattle.lw_offers.specs.Words.{IsTypedAt}
+use Rattle.lw_places.specs.Offers.{AreOffers}
+use Rattle.lw_places.specs.Words.{IsTypedAt}
 use Rattle.lw_rpc.specs.declared.reply.CompletionItem.{CompletionItem}
 use Rattle.lw_rpc.specs.declared.reply.Outcome.TheVariants as outcome
 use Rattle.lw_text.specs.declared.place.Pos.{Pos}

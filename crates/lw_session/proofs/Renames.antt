@@ -27,8 +27,8 @@ use Rattle.lw_rename.specs.Standing.{IsFileIn, IsFaultIn, IsReferenceAt}
 use Rattle.lw_rename.specs.declared.fault.RenameFault.{RenameFault}
 use Rattle.lw_rename.specs.declared.fault.RenameFault.TheVariants.{NoName, NotParsed, Shape, Rebound, NoMemory}
 use Rattle.lw_rename.specs.declared.files.FileSpans.{FileSpans}
-use Rattle.lw_scopes.specs.Links as tree_of
-use Rattle.lw_scopes.specs.Links.{IsTreeOfText}
+use Rattle.lw_link_rules.specs.Links as tree_of
+use Rattle.lw_link_rules.specs.Links.{IsTreeOfText}
 use Rattle.lw_text.specs.Position.{IsPosition}
 use Rattle.lw_tree.specs.Parts.{Parts}
 use Rattle.lw_base.specs.declared.numbers.NodeId.{NodeId}
@@ -37,13 +37,13 @@ use Rattle.lw_conversation.specs.declared.error_code.TheConstants.{REQUEST_FAILE
 use Rattle.lw_text.specs.declared.place.Pos.{Pos}
 use Rattle.lw_session.specs.Locating.{IsAskedPlace}
 use Rattle.lw_session.specs.declared.locating.PlaceAsked.{PlaceAsked}
-use Rattle.lw_renaming.specs.Renamed as refusal
-use Rattle.lw_renaming.specs.Renamed.{IsRenamed, Refusal}
+use Rattle.lw_places.specs.Renamed as refusal
+use Rattle.lw_places.specs.Renamed.{IsRenamed, Refusal}
 use Rattle.lw_rpc.specs.declared.message.Id.{Id}
 use Rattle.lw_rpc.specs.declared.reply.FileEdits.{FileEdits}
 use Rattle.lw_rpc.specs.declared.reply.Outcome.TheVariants as outcome
 use Rattle.lw_rpc.specs.declared.reply.Reply.TheVariants.{Done, Error}
-use Rattle.lw_scopes.specs.Links.{Texts}
+use Rattle.lw_link_rules.specs.Links.{Texts}
 use Rattle.lw_session.specs.Editing.{AreFileEdits, IsPlacedFault, IsReferenceOf, StandsInFile, IsReboundTold}
 use Rattle.lw_session.proofs.Asked.{is_asked, same_present}
 

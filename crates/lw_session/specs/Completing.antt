@@ -4,7 +4,7 @@ use Rattle.std.specs.Prelude.{ℕ, ◌≡◌, List, length}
 use Rattle.lw_complete.specs.Items.{offer_of}
 use Rattle.lw_complete.specs.declared.item.Item.{Item}
 use Rattle.lw_conversation.specs.Asking.{IsItemOf}
-use Rattle.lw_offers.specs.Words.{IsTypedAt}
+use Rattle.lw_places.specs.Words.{IsTypedAt}
 use Rattle.lw_rpc.specs.declared.reply.CompletionItem.{CompletionItem}
 
 -- the item takes the place of the word that ends where it ends

@@ -10,9 +10,9 @@ use Rattle.lw_reading.specs.declared.parsed.Parsed.TheVariants.{Whole}
 use Rattle.lw_rename.specs.declared.fault.RenameFault.{RenameFault}
 use Rattle.lw_rename.specs.declared.fault.RenameFault.TheVariants.{NoName, NotParsed, Shape, Rebound, NoMemory}
 use Rattle.lw_rename.specs.declared.files.FileSpans.{FileSpans}
-use Rattle.lw_rooted.specs.Within.{IsInText}
+use Rattle.lw_reading.specs.Within.{IsInText}
 use Rattle.lw_rpc.specs.declared.reply.FileEdits.{FileEdits}
-use Rattle.lw_scopes.specs.Links.{Texts}
+use Rattle.lw_link_rules.specs.Links.{Texts}
 use Rattle.lw_text.specs.Position.{IsPosition}
 use Rattle.lw_text.specs.declared.place.Pos.{Pos}
 use Rattle.lw_tree.specs.declared.node.Reference.{Reference}

@@ -9,9 +9,9 @@ ghost use Rattle.lw_session.specs.Moving.{IsFoundInStore, MayMove, Moves, PutsFi
 use crate::lifecycle::logs;
 use lw_base::{Items, Name, NoMemory};
 use lw_build::{WorkFault, Workspace};
+use lw_io::paths::path_of;
 use lw_io::{Found, Store};
 use lw_machine::Published;
-use lw_paths::path_of;
 use lw_rpc::Reply;
 use std::alloc::Global;
 

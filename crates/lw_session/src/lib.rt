@@ -39,10 +39,3 @@ mod watching;
 pub use lw_build::{WorkFault, Workspace};
 pub use lw_conversation::{Ended, Phase};
 pub use session::{Handled, Mode, Session};
-
-#[cfg(test)]
-mod completion_tests;
-#[cfg(test)]
-mod file_tests;
-#[cfg(test)]
-mod tests;

@@ -5,8 +5,8 @@ ghost use Rattle.lw_build.specs.Readings.{present_texts_of};
 ghost use Rattle.lw_build.specs.View.{documents};
 ghost use Rattle.lw_conversation.specs.Asking.{IsEditOf, IsRefusalText, TellsRename};
 ghost use Rattle.lw_rename.specs.Grouped.{TellsRefusal};
-ghost use Rattle.lw_renaming.specs.Renamed.{Refusal};
-ghost use Rattle.lw_rooted.specs.Within.{IsInText};
+ghost use Rattle.lw_places.specs.Renamed.{Refusal};
+ghost use Rattle.lw_reading.specs.Within.{IsInText};
 ghost use Rattle.lw_rpc.specs.declared.reply.Reply.TheVariants as reply_;
 ghost use Rattle.lw_session.specs.Editing.{AreFileEdits, IsPlacedFault, IsSpanIn, StandsInFile, IsReboundTold};
 

@@ -1,6 +1,6 @@
 -- What stands in a filtered list, and in a mapped one.
 use Rattle.std.proofs.Common.{ℕ, zero, suc, ◌≡◌, ◌≤◌, Bool, true, false, cond, List, [], ◌∷◌, Contains, map, filter, length, refl, sym, ap, ◌∙◌, true≢false, arith}
-use Rattle.lw_grammar.proofs.KeptLemmas.{there}
+use Rattle.lw_base.proofs.Lists.{there}
 use Rattle.lw_base.specs.declared.numbers.NodeId.{NodeId}
 
 module _ {X : Type 0} (p : X → Bool) where

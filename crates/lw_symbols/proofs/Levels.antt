@@ -6,7 +6,7 @@ use Rattle.std.specs.Option.{is_some, option_map}
 use Rattle.std.specs.Ordering.{nat_cmp}
 use Rattle.std.proofs.lemmas.List.{append-nil}
 use Rattle.std.proofs.lemmas.Option.{same_Some, slice_get_within}
-use Rattle.lw_grammar.proofs.KeptLemmas.{there}
+use Rattle.lw_base.proofs.Lists.{there}
 use Rattle.lw_grammar.specs.Named.{IsFirst}
 use Rattle.lw_base.specs.declared.numbers.NodeId.{NodeId}
 use Rattle.lw_tree.specs.declared.node.Node.{Node}

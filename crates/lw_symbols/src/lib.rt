@@ -11,7 +11,7 @@
 //! for names are not kept twice.
 //!
 //! It promises that each answer is exactly what the definitions say, for every tree. [`own_answer`] asks that containers have smaller
-//! numbers than what stands in them, which is so in the trees of sentences (`lw_outwards`).
+//! numbers than what stands in them, which is so in the trees of sentences (`lw_reading::outwards`).
 //!
 //! Only [`Locals::of_tree`], [`Locals::crowded`] and [`exports`] take memory, and want of memory is their only error. Locals take, for n
 //! nodes, n log n steps, and 4 bytes a node and at most 24 bytes a named one. A look takes constant time in a node without symbols, else
@@ -31,6 +31,3 @@ mod symbol;
 pub use locals::Locals;
 pub use named::exports;
 pub use own::own_answer;
-
-#[cfg(test)]
-mod tests;

@@ -1,4 +1,11 @@
-pub mod Compiled
-pub mod TokenKinds
-pub mod Made
-pub mod Starting
+pub mod KindFaults
+pub mod Limits
+pub mod Numbered
+pub mod Sources
+pub mod Taken
+pub mod TokenSets
+pub mod Drafts
+pub mod Readiness
+pub mod Rounds
+pub mod Writing
+pub mod WrittenPatterns

@@ -1,30 +1,28 @@
-//! The kinds of tokens of a language: its keywords and its terminals, whose patterns are compiled once.
+//! The set of tokens of a grammar: by what its texts are cut, or why there is no such set.
 //!
-//! Its model: a [`TokenSet`] is what texts are cut by, the keywords and the terminals' patterns in the
-//! order of kinds, and the text by which each kind is told. A [`Terminal`] and a [`TerminalMatcher`] are
-//! a pattern and whether its tokens are hidden.
+//! [`NumberedKinds::of`] finds which kinds of tokens a grammar has. [`token_set`] writes the pattern of each terminal that is a kind
+//! and has all of them compiled.
 //!
-//! It promises that a pattern matches exactly what the library `regex` defines for it at the start of
-//! a text, that no terminal of a made set matches the empty text, and that no keyword is empty or stands
-//! twice.
+//! Its model: a [`NumberedKinds`] is the numbers of a grammar's names beside its kinds in their order. A
+//! [`TokenSet`](lw_matchers::TokenSet) is what texts are cut by.
 //!
-//! What begins with a byte with which no match of a pattern begins is not tried: each terminal has a table of these bytes, and each
-//! keyword is found by its first byte.
+//! It promises that a set holds exactly the grammar's keywords and the patterns of its terminals, in the order of kinds, and
+//! that each [`TermFault`] comes exactly where it should. Numbers are looked at first: there are at most [`MOST_KINDS`] kinds,
+//! [`MOST_TERMINALS`] of them terminals. Then keywords are, none of which may be empty or begin with white space. Then
+//! terminals are, and the first whose pattern is long, refused, or matches the empty text decides.
+//!
+//! A pattern that is long is measured and not built, so that time does not grow with its length.
 #![tactic(auto)]
 
 mod fault;
-mod make;
-mod matcher;
-mod source;
-mod starting;
-mod terminal;
-mod token_set;
+mod laws;
+mod limits;
+mod making;
+mod numbered;
+pub mod patterns;
+mod sources;
 
-pub use fault::MakeTokensFault;
-pub use matcher::TerminalMatcher;
-pub use source::TerminalSource;
-pub use terminal::Terminal;
-pub use token_set::TokenSet;
-
-#[cfg(test)]
-mod tests;
+pub use fault::{MOST_KINDS, MOST_TERMINALS, TermFault};
+pub use laws::{listed_or_not, one_answer};
+pub use making::token_set;
+pub use numbered::NumberedKinds;

@@ -29,6 +29,3 @@ pub use laws::{
 pub use place::{Pos, position};
 pub use shown::Shown;
 pub use units::Encoding;
-
-#[cfg(test)]
-mod tests;

@@ -1,2 +1,30 @@
 pub mod TypePhase
 pub mod SetLemmas
+mod Reading
+mod Gathering
+mod Deciding
+mod Membership
+mod Said
+mod Edges
+mod Leading
+mod RoundTypes
+mod NameFaults
+pub mod Firsts
+pub mod InSets
+pub mod Putting
+pub mod Declaring
+pub mod Adding
+pub mod Giving
+pub mod TypeFlags
+pub mod Meeting
+pub mod Telling
+pub mod Settled
+pub mod ShapesWorked
+pub mod Comings
+pub mod Currents
+pub mod Alike
+pub mod TwoWaysSeen
+pub mod StatesSeen
+pub mod PairsTypes
+pub mod PairsWays
+pub mod PairsSeen

@@ -11,8 +11,8 @@ use Rattle.std.proofs.lemmas.Option.{same_Some, none-some, slice_get_within, sli
 use Rattle.lw_grammar.specs.declared.grammar.Grammar.{Grammar}
 use Rattle.lw_grammar.specs.Subtypes.{IsSubtype}
 use Rattle.lw_numbers.specs.Numbering.{type_names}
-use Rattle.lw_subtypes.specs.Kinship.{TypeTable, StandsBelow, AreSubtypesOf}
-use Rattle.lw_subtypes.specs.Kinship as kinship
+use Rattle.lw_numbers.specs.Kinship.{TypeTable, StandsBelow, AreSubtypesOf}
+use Rattle.lw_numbers.specs.Kinship as kinship
 use Rattle.lw_types.specs.Sets.{Sets, InSet, AreEmptySets, WidensSets, IsOrBelow, IsOnlyAt, PutsType, AreSetsOf, AreNumbersBelow}
 
 -- ---- one set of a list is replaced

@@ -8,8 +8,8 @@ use Rattle.lw_faults.specs.Properties.{UnknownProperty, WrongPropertyForm, Mixed
 use Rattle.lw_faults.specs.Circles.{CircularType}
 use Rattle.lw_faults.specs.Faults.{fault, IsTypeFault, AreFaults, AreTypeFaults}
 use Rattle.lw_faults.specs.Faults as is
-use Rattle.lw_findings.specs.Finding.{Finds, IsFaultOf}
-use Rattle.lw_findings.proofs.Joining.{Finds-then}
+use Rattle.lw_faults.specs.Finding.{Finds, IsFaultOf}
+use Rattle.lw_faults.proofs.Joining.{Finds-then}
 
 module _ (g : Grammar) where
   abbrev pub IsNameFault : GrammarFault → Type 0

@@ -2,9 +2,9 @@
 use Rattle.std.specs.Prelude.{ℕ}
 use Rattle.lw_grammar.specs.declared.grammar.Grammar.{Grammar}
 use Rattle.lw_numbers.specs.Tables.{AreNumbersOf}
-use Rattle.lw_subtypes.specs.Kinship.{AreNodeRules, AreSubtypesOf}
-use Rattle.lw_name_rules.specs.NameTable.{AreNameRulesOf}
-use Rattle.lw_ways.specs.Recorded.{AreWaysOf}
+use Rattle.lw_numbers.specs.Kinship.{AreNodeRules, AreSubtypesOf}
+use Rattle.lw_numbers.specs.NameTable.{AreNameRulesOf}
+use Rattle.lw_flow.specs.Recorded.{AreWaysOf}
 use Rattle.lw_types.specs.Sets.{AreSetsOf}
 use Rattle.lw_types.specs.declared.types.RuleFacts.{RuleFacts}
 use Rattle.lw_types.specs.declared.types.TypeFacts.{TypeFacts}

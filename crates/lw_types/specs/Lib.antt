@@ -1,3 +1,14 @@
 pub mod Inferred
 pub mod Sets
 pub mod Facts
+pub mod NameUses
+pub mod Wrong
+pub mod Attributes
+pub mod Rounds
+pub mod FirstSeen
+pub mod Values
+pub mod Sightings
+pub mod Having
+pub mod Gathered
+pub mod Seeing
+pub mod Worked

@@ -5,7 +5,7 @@ use Rattle.std.specs.Ordering.{nat_cmp}
 use Rattle.lw_grammar.specs.declared.grammar.Grammar.{Grammar}
 use Rattle.lw_grammar.specs.Subtypes.{IsSubtype}
 use Rattle.lw_numbers.specs.Numbering.{type_names}
-use Rattle.lw_subtypes.specs.Kinship.{TypeTable}
+use Rattle.lw_numbers.specs.Kinship.{TypeTable}
 
 abbrev pub Sets : Type 0
 Sets = List (FinSet nat_cmp)

@@ -4,11 +4,11 @@ ghost use Rattle.lw_grammar.specs.Size.{size};
 ghost use Rattle.lw_faults.specs.Faults.{AreTypeFaults};
 ghost use Rattle.lw_types.specs.Inferred.{AreTypesOf, CausesNoTypes, HasNoTypeFault};
 
+use crate::naming::find_name_faults;
 use crate::{TypeFaults, Types};
 use lw_base::{Items, NoMemory};
-use lw_findings::Findings;
+use lw_faults::findings::Findings;
 use lw_grammar::{Grammar, GrammarFault};
-use lw_naming::find_name_faults;
 use lw_properties::find_property_faults;
 use std::alloc::Global;
 

@@ -15,6 +15,8 @@
 
 mod fault;
 mod inferring;
+pub mod naming;
+pub mod property_table;
 mod sets;
 mod types;
 

@@ -2,12 +2,12 @@
 ghost use Rattle.std.specs.Prelude.{ℕ, ◌≡◌, ◌<◌, ◌⊎◌, Contains, IfOk, OnOk, length};
 ghost use Rattle.lw_grammar.specs.declared.grammar.Grammar.{Grammar};
 ghost use Rattle.lw_numbers.specs.Tables.{AreNumbersOf};
-ghost use Rattle.lw_subtypes.specs.Kinship.{AreSubtypesOf};
+ghost use Rattle.lw_numbers.specs.Kinship.{AreSubtypesOf};
 ghost use Rattle.lw_types.specs.Sets.{AreEmptySets, AreSetsOf, PutsType, WidensSets};
 
 use lw_base::{NoMemory, TypeId, TypeSet};
 use lw_numbers::Numbers;
-use lw_subtypes::Subtypes;
+use lw_numbers::subtypes::Subtypes;
 use std::alloc::Global;
 
 /// For each type by its number the set of those that are it or below it, in the time of one look at each pair of types of which

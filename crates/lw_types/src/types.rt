@@ -11,11 +11,11 @@ ghost use Rattle.lw_types.specs.Sets.{AreNumbersBelow};
 
 use crate::sets::subtype_sets;
 use lw_base::{Name, NoMemory, TypeId, TypeSet};
+use lw_flow::Ways;
 use lw_grammar::Grammar;
-use lw_name_rules::NameRules;
 use lw_numbers::Numbers;
-use lw_subtypes::{Subtypes, node_rules};
-use lw_ways::Ways;
+use lw_numbers::name_rules::NameRules;
+use lw_numbers::subtypes::{Subtypes, node_rules};
 use std::alloc::Global;
 
 /// What is known of the rules of a grammar.

@@ -4,7 +4,7 @@ use Rattle.lw_base.specs.declared.numbers.KindId.{KindId}
 use Rattle.lw_program.specs.declared.instr.Instr.{Instr}
 use Rattle.lw_program.specs.declared.instr.Instr.TheVariants.{Token}
 use Rattle.lw_program.specs.ProgramOf.{ProgramParts}
-use Rattle.lw_begins.specs.Told.{BeginsParts}
+use Rattle.lw_viable.specs.Told.{BeginsParts}
 use Rattle.lw_viable.specs.Growing.{Change, GrowsLists, ArePut}
 use Rattle.lw_viable.specs.Turning.{AreQuiet, AreRead, ReadsToken, IsMovedAt}
 use Rattle.lw_viable.specs.declared.front.Front.{Front}

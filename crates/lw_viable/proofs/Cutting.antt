@@ -3,14 +3,14 @@ use Rattle.std.proofs.Common.{◌≡◌, ◌⊎◌, inl, inr, ℕ, List, [], ◌
 use Rattle.std.proofs.lemmas.List.{append_cancel_left}
 use Rattle.lw_grammar.specs.declared.grammar.Grammar.{Grammar}
 use Rattle.lw_grammar.specs.Kinds.{Kinds}
-use Rattle.lw_sentences.specs.Marks.{Mark, kinds_of}
-use Rattle.lw_sentences.specs.Marks as mark
-use Rattle.lw_sentences.proofs.Joined.{kinds_join}
+use Rattle.lw_grammar.specs.Marks.{Mark, kinds_of}
+use Rattle.lw_grammar.specs.Marks as mark
+use Rattle.lw_grammar.proofs.Joined.{kinds_join}
 use Rattle.lw_program.specs.Says.{Task}
-use Rattle.lw_recipes.specs.declared.mark.TreeMark.{TreeMark}
-use Rattle.lw_recipes.specs.declared.mark.TreeMark.TheVariants as numbered
-use Rattle.lw_recipes.specs.Meant.{AreMeant}
-use Rattle.lw_recipes.specs.Meant as meant
+use Rattle.lw_program.specs.declared.recipes.mark.TreeMark.{TreeMark}
+use Rattle.lw_program.specs.declared.recipes.mark.TreeMark.TheVariants as numbered
+use Rattle.lw_program.specs.Meant.{AreMeant}
+use Rattle.lw_program.specs.Meant as meant
 use Rattle.lw_viable.specs.Readings.{IsCutReading}
 use Rattle.lw_viable.specs.Readings as keep
 use Rattle.lw_viable.specs.Visiting.{BeginsDue}

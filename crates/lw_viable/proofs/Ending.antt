@@ -5,13 +5,13 @@ use Rattle.std.proofs.lemmas.List.Elements.{All-head, All-tail, All-contains}
 use Rattle.std.specs.List.{AllByRecursion}
 use Rattle.lw_grammar.specs.declared.grammar.Grammar.{Grammar}
 use Rattle.lw_grammar.specs.Kinds.{Kinds}
-use Rattle.lw_sentences.specs.Marks.{Mark, kinds_of}
-use Rattle.lw_sentences.proofs.Joined.{kinds_join}
+use Rattle.lw_grammar.specs.Marks.{Mark, kinds_of}
+use Rattle.lw_grammar.proofs.Joined.{kinds_join}
 use Rattle.lw_look.specs.Supplied.{IsSupplied}
 use Rattle.lw_program.specs.ProgramOf.{ProgramParts}
-use Rattle.lw_begins.specs.Gives.{PlacesGive}
-use Rattle.lw_begins.specs.Gives as gives
-use Rattle.lw_begins.specs.Told.{BeginsParts}
+use Rattle.lw_viable.specs.Gives.{PlacesGive}
+use Rattle.lw_viable.specs.Gives as gives
+use Rattle.lw_viable.specs.Told.{BeginsParts}
 use Rattle.lw_viable.specs.Readings.{KeptReading, GoesOnFrom, HasTask, IsAhead, IsKeptReading, Keeps}
 use Rattle.lw_viable.specs.Aims.{EndsSome, BeginsSome}
 use Rattle.lw_viable.specs.Fronts.{IsKnownProgram}

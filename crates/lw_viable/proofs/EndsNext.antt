@@ -1,8 +1,8 @@
 -- The ends that stand behind a token, of one reading more.
 use Rattle.std.proofs.Common.{◌≡◌, inl, inr, List, [], ◌∷◌, ◌++◌, Any, Contains, sym, ◌∙◌, subst}
 use Rattle.std.proofs.lemmas.List.Elements.{Contains-append_left, Contains-push, Contains-push_cases}
-use Rattle.lw_recipes.specs.declared.mark.TreeMark.{TreeMark}
-use Rattle.lw_recipes.specs.declared.mark.TreeMark.TheVariants as numbered
+use Rattle.lw_program.specs.declared.recipes.mark.TreeMark.{TreeMark}
+use Rattle.lw_program.specs.declared.recipes.mark.TreeMark.TheVariants as numbered
 use Rattle.lw_viable.specs.Visiting.{AreEnded, EndsWithToken, IsEnded}
 use Rattle.lw_viable.proofs.Exploring.{any_cases, any_left, any_of, any_right, the_one}
 

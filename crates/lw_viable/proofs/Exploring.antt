@@ -6,17 +6,17 @@ use Rattle.std.proofs.lemmas.List.Elements.{All-nil, All-head, All-tail, All-app
 use Rattle.lw_base.specs.declared.numbers.KindId.{KindId}
 use Rattle.lw_grammar.specs.declared.grammar.Grammar.{Grammar}
 use Rattle.lw_grammar.specs.Kinds.{Kinds, kind_count}
-use Rattle.lw_sentences.specs.Marks.{Mark, kinds_of}
-use Rattle.lw_sentences.specs.Marks as mark
-use Rattle.lw_sentences.proofs.Joined.{kinds_join}
+use Rattle.lw_grammar.specs.Marks.{Mark, kinds_of}
+use Rattle.lw_grammar.specs.Marks as mark
+use Rattle.lw_grammar.proofs.Joined.{kinds_join}
 use Rattle.lw_program.specs.declared.instr.Instr.TheVariants.{Token, Call}
 use Rattle.lw_program.specs.ProgramOf.{ProgramParts}
-use Rattle.lw_recipes.specs.declared.mark.TreeMark.{TreeMark}
-use Rattle.lw_recipes.specs.declared.mark.TreeMark.TheVariants as numbered
-use Rattle.lw_recipes.specs.Meant.{AreMeant}
-use Rattle.lw_recipes.specs.Meant as meant
-use Rattle.lw_begins.specs.Gives.{PlacesGive}
-use Rattle.lw_begins.specs.Told.{BeginsParts, IsMet}
+use Rattle.lw_program.specs.declared.recipes.mark.TreeMark.{TreeMark}
+use Rattle.lw_program.specs.declared.recipes.mark.TreeMark.TheVariants as numbered
+use Rattle.lw_program.specs.Meant.{AreMeant}
+use Rattle.lw_program.specs.Meant as meant
+use Rattle.lw_viable.specs.Gives.{PlacesGive}
+use Rattle.lw_viable.specs.Told.{BeginsParts, IsMet}
 use Rattle.lw_viable.specs.Readings.{KeptReading, GoesOnFrom, IsCutReading, HasTask, IsAhead, IsKeptReading, Keeps}
 use Rattle.lw_viable.specs.Readings as keep
 use Rattle.lw_viable.specs.Moves.{left, MovesBy}

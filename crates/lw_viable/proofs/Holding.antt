@@ -6,7 +6,7 @@ use Rattle.lw_grammar.specs.Kinds.{Kinds}
 use Rattle.lw_look.specs.Supplied.{IsSupplied}
 use Rattle.lw_program.specs.ProgramOf.{ProgramParts}
 use Rattle.lw_program.specs.Says.{Task}
-use Rattle.lw_begins.specs.Told.{BeginsParts}
+use Rattle.lw_viable.specs.Told.{BeginsParts}
 use Rattle.lw_viable.specs.Aims.{Aim, Fulfils, BeginsSome, EndsSome}
 use Rattle.lw_viable.specs.Fronts.{FrontsParts, IsKnownProgram, HoldReadings}
 use Rattle.lw_viable.specs.Growing.{AreHeldIn, HasLists, read, GrowsLists}

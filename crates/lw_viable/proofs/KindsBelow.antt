@@ -9,18 +9,18 @@ use Rattle.lw_grammar.specs.declared.rule.Rule.{Rule}
 use Rattle.lw_grammar.specs.declared.rule.Value0.{Value0}
 use Rattle.lw_grammar.specs.declared.rule.Value0.TheOpen.{Value0-F}
 use Rattle.lw_grammar.specs.Kinds.{Kinds, IsKeywordKind, IsTerminalKind, kind_count}
-use Rattle.lw_sentences.specs.Marks.{Mark, Token, End, Shut, kinds_of}
-use Rattle.lw_sentences.specs.Yields.{Yields, Gives, YieldsAll, Repeats, Calls, RuleGives, ValueYields, ValueGives}
-use Rattle.lw_sentences.specs.Yields as y
-use Rattle.lw_sentences.proofs.Joined.{kinds_join}
+use Rattle.lw_grammar.specs.Marks.{Mark, Token, End, Shut, kinds_of}
+use Rattle.lw_grammar.specs.Yields.{Yields, Gives, YieldsAll, Repeats, Calls, RuleGives, ValueYields, ValueGives}
+use Rattle.lw_grammar.specs.Yields as y
+use Rattle.lw_grammar.proofs.Joined.{kinds_join}
 use Rattle.lw_look.specs.Things.{Leave}
 use Rattle.lw_look.specs.Things as t
 use Rattle.lw_program.specs.declared.instr.Instr.{Instr}
 use Rattle.lw_program.specs.ProgramOf.{ProgramParts, IsProgramOf}
 use Rattle.lw_program.specs.Says.{Task, Does, SaysTask}
 use Rattle.lw_program.specs.Says as say
-use Rattle.lw_begins.specs.Gives.{TaskGives, PlacesGive}
-use Rattle.lw_begins.specs.Gives as gives
+use Rattle.lw_viable.specs.Gives.{TaskGives, PlacesGive}
+use Rattle.lw_viable.specs.Gives as gives
 use Rattle.lw_viable.specs.Aims.{Aim, Sentence, Places, Fulfils, BeginsSome}
 use Rattle.lw_viable.proofs.Moves.Saying.{instr_at}
 

@@ -19,3 +19,12 @@ pub mod ReadSoFar
 pub mod EndsNext
 pub mod KindsBelow
 pub mod ComingNext
+pub mod ByHeads
+pub mod Exact
+pub mod Later
+pub mod BeginsMade
+pub mod Meeting
+pub mod NoToken
+pub mod Tasks
+pub mod Telling
+mod Reading

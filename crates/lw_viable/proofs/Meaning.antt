@@ -1,11 +1,11 @@
 -- Marks with numbers behind each other, and the kinds of what they mean.
 use Rattle.std.proofs.Common.{◌≡◌, List, [], ◌∷◌, ◌++◌, refl, sym, ap, ◌∙◌}
-use Rattle.lw_sentences.proofs.Joined.{kinds_join}
+use Rattle.lw_grammar.proofs.Joined.{kinds_join}
 use Rattle.lw_grammar.specs.declared.grammar.Grammar.{Grammar}
-use Rattle.lw_sentences.specs.Marks.{Mark, kinds_of}
-use Rattle.lw_recipes.specs.declared.mark.TreeMark.{TreeMark}
-use Rattle.lw_recipes.specs.Meant.{MeansMark, AreMeant}
-use Rattle.lw_recipes.specs.Meant as meant
+use Rattle.lw_grammar.specs.Marks.{Mark, kinds_of}
+use Rattle.lw_program.specs.declared.recipes.mark.TreeMark.{TreeMark}
+use Rattle.lw_program.specs.Meant.{MeansMark, AreMeant}
+use Rattle.lw_program.specs.Meant as meant
 
 pub none_left : {X : Type 0} (xs ys : List X) → xs ++ ys ≡ [] → (xs ≡ []) × (ys ≡ [])
 none_left [] ys is = (refl, is)

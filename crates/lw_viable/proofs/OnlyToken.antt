@@ -1,14 +1,14 @@
 -- What a place gives at which a token stands.
 use Rattle.std.proofs.Common.{◌≡◌, ◌↔◌, ℕ, List, [], ◌∷◌, Some, slice_get, refl, sym, ap, ◌∙◌, subst}
 use Rattle.lw_base.specs.declared.numbers.KindId.{KindId}
-use Rattle.lw_begins.specs.Gives.{PlacesGive}
-use Rattle.lw_begins.specs.Told.{BeginsParts}
+use Rattle.lw_viable.specs.Gives.{PlacesGive}
+use Rattle.lw_viable.specs.Told.{BeginsParts}
 use Rattle.lw_grammar.specs.declared.grammar.Grammar.{Grammar}
 use Rattle.lw_grammar.specs.Kinds.{Kinds}
 use Rattle.lw_program.specs.declared.instr.Instr.TheVariants.{Token}
 use Rattle.lw_program.specs.ProgramOf.{ProgramParts}
 use Rattle.lw_program.specs.Says.{Task, SaysTask}
-use Rattle.lw_sentences.specs.Marks.{kinds_of}
+use Rattle.lw_grammar.specs.Marks.{kinds_of}
 use Rattle.lw_viable.specs.Aims.{EndsSome}
 use Rattle.lw_viable.specs.Fronts.{IsProgramWith}
 use Rattle.lw_viable.specs.Readings.{HasTask}

@@ -5,8 +5,8 @@ use Rattle.lw_grammar.specs.declared.rule.Op.{Op}
 use Rattle.lw_grammar.specs.declared.rule.Value0.{Value0}
 use Rattle.lw_grammar.specs.Kinds.{Kinds, AreKinds}
 use Rattle.lw_grammar.specs.Reached.{IsReached}
-use Rattle.lw_sentences.specs.Marks.{Mark}
-use Rattle.lw_sentences.specs.Marks as mark
+use Rattle.lw_grammar.specs.Marks.{Mark}
+use Rattle.lw_grammar.specs.Marks as mark
 use Rattle.lw_look.specs.Sites.{PartSite, rule_of, Value, IsPartAt}
 use Rattle.lw_look.specs.Things.{Assigned, Leave}
 use Rattle.lw_look.specs.Things as t
@@ -16,11 +16,11 @@ use Rattle.lw_program.specs.Numbered.{put_sites}
 use Rattle.lw_program.specs.ProgramOf.{ProgramParts, IsProgramOf}
 use Rattle.lw_program.specs.Says.{Task, Does, Reads, SaysTask}
 use Rattle.lw_program.specs.Says as say
-use Rattle.lw_recipes.specs.declared.mark.TreeMark.TheVariants as numbered
-use Rattle.lw_recipes.specs.Meant.{AssignedAt, MeansMark}
-use Rattle.lw_recipes.specs.Meant as meant
-use Rattle.lw_begins.specs.Gives.{PlacesGive}
-use Rattle.lw_begins.specs.Gives as gives
+use Rattle.lw_program.specs.declared.recipes.mark.TreeMark.TheVariants as numbered
+use Rattle.lw_program.specs.Meant.{AssignedAt, MeansMark}
+use Rattle.lw_program.specs.Meant as meant
+use Rattle.lw_viable.specs.Gives.{PlacesGive}
+use Rattle.lw_viable.specs.Gives as gives
 use Rattle.lw_viable.specs.Readings.{IsPlacedTask, HasTask}
 use Rattle.lw_viable.specs.Readings as place
 use Rattle.lw_viable.proofs.Moves.Calling.{read_itself}

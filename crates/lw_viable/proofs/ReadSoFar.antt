@@ -3,18 +3,18 @@ use Rattle.std.proofs.Common.{◌≡◌, ◌≢◌, ◌↔◌, ◌⊎◌, inl, i
 use Rattle.std.proofs.lemmas.List.Elements.{All-head, All-tail, All-append, All-weaker, All-contains, All-contains_itself}
 use Rattle.lw_grammar.specs.declared.grammar.Grammar.{Grammar}
 use Rattle.lw_grammar.specs.Kinds.{Kinds}
-use Rattle.lw_sentences.specs.Marks.{Mark, kinds_of}
-use Rattle.lw_sentences.specs.Marks as mark
-use Rattle.lw_sentences.proofs.Joined.{kinds_join}
+use Rattle.lw_grammar.specs.Marks.{Mark, kinds_of}
+use Rattle.lw_grammar.specs.Marks as mark
+use Rattle.lw_grammar.proofs.Joined.{kinds_join}
 use Rattle.lw_look.specs.Supplied.{IsSupplied}
 use Rattle.lw_program.specs.ProgramOf.{ProgramParts}
 use Rattle.lw_program.specs.Says.{Task}
-use Rattle.lw_recipes.specs.declared.mark.TreeMark.{TreeMark}
-use Rattle.lw_recipes.specs.declared.mark.TreeMark.TheVariants as numbered
-use Rattle.lw_recipes.specs.Meant.{AreMeant}
-use Rattle.lw_recipes.specs.Meant as meant
-use Rattle.lw_begins.specs.Gives.{PlacesGive}
-use Rattle.lw_begins.specs.Told.{BeginsParts}
+use Rattle.lw_program.specs.declared.recipes.mark.TreeMark.{TreeMark}
+use Rattle.lw_program.specs.declared.recipes.mark.TreeMark.TheVariants as numbered
+use Rattle.lw_program.specs.Meant.{AreMeant}
+use Rattle.lw_program.specs.Meant as meant
+use Rattle.lw_viable.specs.Gives.{PlacesGive}
+use Rattle.lw_viable.specs.Told.{BeginsParts}
 use Rattle.lw_viable.specs.Fronts.{IsKnownProgram}
 use Rattle.lw_viable.specs.Growing.{HasLists, GrowsLists, marks_of_each}
 use Rattle.lw_viable.specs.Growing.{read as front_read}

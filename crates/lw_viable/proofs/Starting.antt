@@ -1,7 +1,7 @@
 -- The reading of no tokens, at the start of the entry rule or of some places.
 use Rattle.std.proofs.Common.{◌≡◌, ℕ, ◌+◌, List, [], ◌∷◌, ◌++◌, Some, None, All, map, reverse, slice_get, refl, sym, ap, ◌∙◌, subst, subst₂, append-nil, arith}
 use Rattle.std.proofs.lemmas.List.Elements.{All-nil, All-cons}
-use Rattle.lw_chains.specs.Chains.{chain}
+use Rattle.lw_viable.specs.Chains.{chain}
 use Rattle.lw_grammar.specs.declared.grammar.Grammar.{Grammar}
 use Rattle.lw_grammar.specs.declared.rule.Rule.{Rule}
 use Rattle.lw_grammar.specs.Kinds.{Kinds}
@@ -9,16 +9,16 @@ use Rattle.lw_grammar.specs.Named.{IsEntry}
 use Rattle.lw_grammar.specs.Reached.{IsReached}
 use Rattle.lw_grammar.specs.Reached as reached
 use Rattle.lw_grammar.proofs.FirstLemmas.{first_place, first_item}
-use Rattle.lw_sentences.specs.Marks.{Mark}
-use Rattle.lw_sentences.specs.Marks as mark
-use Rattle.lw_sentences.specs.Sentences.{IsSentence}
-use Rattle.lw_sentences.specs.Yields.{RuleGives}
+use Rattle.lw_grammar.specs.Marks.{Mark}
+use Rattle.lw_grammar.specs.Marks as mark
+use Rattle.lw_grammar.specs.Sentences.{IsSentence}
+use Rattle.lw_grammar.specs.Yields.{RuleGives}
 use Rattle.lw_program.specs.ProgramOf.{ProgramParts}
-use Rattle.lw_recipes.specs.declared.mark.TreeMark.TheVariants as numbered
-use Rattle.lw_recipes.specs.Meant as meant
+use Rattle.lw_program.specs.declared.recipes.mark.TreeMark.TheVariants as numbered
+use Rattle.lw_program.specs.Meant as meant
 use Rattle.lw_program.specs.Says.{Task}
-use Rattle.lw_begins.specs.Gives.{OpensNode, PlacesGive}
-use Rattle.lw_begins.specs.Told.{BeginsParts}
+use Rattle.lw_viable.specs.Gives.{OpensNode, PlacesGive}
+use Rattle.lw_viable.specs.Told.{BeginsParts}
 use Rattle.lw_viable.specs.Readings.{KeptReading, GoesOnFrom, HasTask, IsKeptReading, Keeps}
 use Rattle.lw_viable.specs.Readings as keep
 use Rattle.lw_viable.specs.Fronts.{IsKnownProgram}

@@ -7,8 +7,8 @@ use Rattle.lw_base.specs.declared.numbers.KindId.{KindId}
 use Rattle.lw_program.specs.declared.instr.Instr.{Instr}
 use Rattle.lw_program.specs.declared.instr.Instr.TheVariants.{Token, End, Shut, Act, Row, Choice, Maybe, Loop, Once, Put, Call}
 use Rattle.lw_program.specs.ProgramOf.{ProgramParts}
-use Rattle.lw_recipes.specs.declared.mark.TreeMark.{TreeMark}
-use Rattle.lw_begins.specs.Told.{BeginsParts}
+use Rattle.lw_program.specs.declared.recipes.mark.TreeMark.{TreeMark}
+use Rattle.lw_viable.specs.Told.{BeginsParts}
 use Rattle.lw_viable.specs.Moves.{side_by_side}
 use Rattle.lw_viable.specs.Growing.{HasLists, read, GrowsLists, Change, changed, weight_of, fronts_weight, kept, ArePut}
 use Rattle.lw_viable.specs.Turning.{way_change, Enters, LoopsOnce, IsCalled, AreQuiet, IsMovedAt, IsTurned}

@@ -8,20 +8,20 @@ use Rattle.lw_grammar.specs.declared.grammar.Grammar.{Grammar}
 use Rattle.lw_grammar.specs.declared.rule.Op.{Op}
 use Rattle.lw_grammar.specs.declared.rule.Value0.{Value0}
 use Rattle.lw_grammar.specs.Kinds.{Kinds}
-use Rattle.lw_sentences.specs.Marks.{Mark, kinds_of}
-use Rattle.lw_sentences.specs.Marks as mark
-use Rattle.lw_sentences.proofs.Joined.{kinds_join}
-use Rattle.lw_marks.specs.Follows.{MakesReference}
+use Rattle.lw_grammar.specs.Marks.{Mark, kinds_of}
+use Rattle.lw_grammar.specs.Marks as mark
+use Rattle.lw_grammar.proofs.Joined.{kinds_join}
+use Rattle.lw_reading.specs.Follows.{MakesReference}
 use Rattle.lw_program.specs.declared.instr.Instr.TheVariants.{Put}
 use Rattle.lw_program.specs.declared.instr.Instr.TheVariants as instr
 use Rattle.lw_program.specs.ProgramOf.{ProgramParts}
-use Rattle.lw_recipes.specs.declared.mark.TreeMark.{TreeMark}
-use Rattle.lw_recipes.specs.declared.mark.TreeMark.TheVariants as numbered
-use Rattle.lw_recipes.specs.Making.{RecipeLists, AreRecipesOf}
-use Rattle.lw_recipes.specs.Meant.{MeansMark, AreMeant}
-use Rattle.lw_recipes.specs.Meant as meant
-use Rattle.lw_begins.specs.Gives.{PlacesGive}
-use Rattle.lw_begins.specs.Told.{BeginsParts}
+use Rattle.lw_program.specs.declared.recipes.mark.TreeMark.{TreeMark}
+use Rattle.lw_program.specs.declared.recipes.mark.TreeMark.TheVariants as numbered
+use Rattle.lw_program.specs.Making.{RecipeLists, AreRecipesOf}
+use Rattle.lw_program.specs.Meant.{MeansMark, AreMeant}
+use Rattle.lw_program.specs.Meant as meant
+use Rattle.lw_viable.specs.Gives.{PlacesGive}
+use Rattle.lw_viable.specs.Told.{BeginsParts}
 use Rattle.lw_viable.specs.Readings.{KeptReading, GoesOnFrom, HasTask, IsAhead, IsKeptReading, Keeps}
 use Rattle.lw_viable.specs.Moves.{left, MovesBy}
 use Rattle.lw_viable.specs.Moves as move

@@ -2,10 +2,10 @@
 use Rattle.std.specs.Prelude.{ℕ, ◌≡◌, List, ◌++◌}
 use Rattle.lw_grammar.specs.declared.grammar.Grammar.{Grammar}
 use Rattle.lw_grammar.specs.Kinds.{Kinds}
-use Rattle.lw_sentences.specs.Marks.{Mark, kinds_of}
-use Rattle.lw_sentences.specs.Sentences.{IsSentence}
+use Rattle.lw_grammar.specs.Marks.{Mark, kinds_of}
+use Rattle.lw_grammar.specs.Sentences.{IsSentence}
 use Rattle.lw_program.specs.Says.{Task}
-use Rattle.lw_begins.specs.Gives.{PlacesGive}
+use Rattle.lw_viable.specs.Gives.{PlacesGive}
 
 -- a sentence, or what these places give, one after another
 pub data Aim : Type 0 where

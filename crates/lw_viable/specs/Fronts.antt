@@ -3,11 +3,11 @@ use Rattle.std.specs.Prelude.{ℕ, ◌≡◌, List, [], ◌∷◌, ◌++◌, if�
 use Rattle.lw_base.specs.declared.token.Token.{Token}
 use Rattle.lw_grammar.specs.declared.grammar.Grammar.{Grammar}
 use Rattle.lw_grammar.specs.Kinds.{Kinds, AreKinds}
-use Rattle.lw_chains.specs.Chains.{chain}
+use Rattle.lw_viable.specs.Chains.{chain}
 use Rattle.lw_program.specs.ProgramOf.{ProgramParts, IsProgramOf}
 use Rattle.lw_program.specs.Says.{Task}
-use Rattle.lw_recipes.specs.declared.mark.TreeMark.{TreeMark}
-use Rattle.lw_begins.specs.Told.{BeginsParts, TellsBegins}
+use Rattle.lw_program.specs.declared.recipes.mark.TreeMark.{TreeMark}
+use Rattle.lw_viable.specs.Told.{BeginsParts, TellsBegins}
 use Rattle.lw_viable.specs.Readings.{KeptReading, Keeps}
 use Rattle.lw_viable.specs.Aims.{Aim, Fulfils}
 use Rattle.lw_viable.specs.declared.front.Front.{Front}

@@ -1,10 +1,10 @@
 -- How the lists of readings grow, in words of the code: a front is made of another by putting cells before its lists, and all lists of before stay.
 use Rattle.std.specs.Prelude.{ℕ, ◌≡◌, ◌+◌, ◌-◌, ◌*◌, ◌^◌, ◌<◌, ◌≤◌, List, [], ◌∷◌, ◌++◌, Option, Some, None, All, length, map, sum_by}
-use Rattle.lw_chains.specs.Chains.{chain}
+use Rattle.lw_viable.specs.Chains.{chain}
 use Rattle.lw_grammar.specs.declared.grammar.Grammar.{Grammar}
 use Rattle.lw_grammar.specs.Kinds.{Kinds}
 use Rattle.lw_program.specs.Says.{Task}
-use Rattle.lw_recipes.specs.declared.mark.TreeMark.{TreeMark}
+use Rattle.lw_program.specs.declared.recipes.mark.TreeMark.{TreeMark}
 use Rattle.lw_viable.specs.Aims.{Aim, Fulfils}
 use Rattle.lw_viable.specs.Readings.{KeptReading, Keeps}
 use Rattle.lw_viable.specs.Moves.{left}

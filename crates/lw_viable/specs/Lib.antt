@@ -9,3 +9,8 @@ pub mod Visiting
 pub mod ReferenceStarts
 pub mod Marked
 pub mod Worked
+pub mod Gives
+pub mod Told
+pub mod EmptyBy
+pub mod BeginsWith
+pub mod Chains

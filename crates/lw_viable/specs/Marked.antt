@@ -1,9 +1,9 @@
 -- What lists of marks by their numbers mean.
 use Rattle.std.specs.Prelude.{◌↔◌, List, All, Any}
 use Rattle.lw_grammar.specs.declared.grammar.Grammar.{Grammar}
-use Rattle.lw_recipes.specs.declared.mark.TreeMark.{TreeMark}
-use Rattle.lw_recipes.specs.Meant.{AreMeant}
-use Rattle.lw_sentences.specs.Marks.{Mark}
+use Rattle.lw_program.specs.declared.recipes.mark.TreeMark.{TreeMark}
+use Rattle.lw_program.specs.Meant.{AreMeant}
+use Rattle.lw_grammar.specs.Marks.{Mark}
 
 -- each of them means some marks
 abbrev pub MeanSome : Grammar → List (List TreeMark) → Type 0

@@ -5,8 +5,8 @@ use Rattle.lw_base.specs.declared.numbers.KindId.{KindId}
 use Rattle.lw_base.specs.declared.numbers.PointId.{PointId}
 use Rattle.lw_program.specs.declared.instr.Instr.TheVariants.{Token, End, Shut, Act, Row, Choice, Maybe, Loop, Once, Put, Call}
 use Rattle.lw_program.specs.ProgramOf.{ProgramParts}
-use Rattle.lw_recipes.specs.declared.mark.TreeMark.{TreeMark}
-use Rattle.lw_recipes.specs.declared.mark.TreeMark.TheVariants as mark
+use Rattle.lw_program.specs.declared.recipes.mark.TreeMark.{TreeMark}
+use Rattle.lw_program.specs.declared.recipes.mark.TreeMark.TheVariants as mark
 
 -- so many places, side by side from the first on
 abbrev pub side_by_side : ℕ → ℕ → List ℕ

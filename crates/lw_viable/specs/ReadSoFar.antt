@@ -2,7 +2,7 @@
 -- stands directly behind that one. Where no token was read, nothing is said.
 -- Held against the textbooks' viable prefixes.
 use Rattle.std.specs.Prelude.{ℕ, ◌≡◌, List, [], ◌∷◌, ◌++◌}
-use Rattle.lw_sentences.specs.Marks.{Mark, kinds_of, Token, End}
+use Rattle.lw_grammar.specs.Marks.{Mark, kinds_of, Token, End}
 
 -- the last of the marks is a token, or the end of a value directly behind a token
 pub data EndsRead : List Mark → Type 0 where

@@ -9,14 +9,14 @@ use Rattle.lw_grammar.specs.Kinds.{Kinds}
 use Rattle.lw_grammar.specs.Reached.{IsReached}
 use Rattle.lw_base.specs.declared.numbers.KindId.{KindId}
 use Rattle.lw_base.specs.declared.numbers.RuleId.{RuleId}
-use Rattle.lw_sentences.specs.Marks.{Mark, kinds_of}
+use Rattle.lw_grammar.specs.Marks.{Mark, kinds_of}
 use Rattle.lw_look.specs.Sites.{PartSite, rule_of, Body, Value, IsPartAt, RepeatedAt}
 use Rattle.lw_look.specs.Things.{Do, Assigned, Again, Leave}
 use Rattle.lw_program.specs.Says.{Task, Does, Reads}
-use Rattle.lw_recipes.specs.declared.mark.TreeMark.{TreeMark}
-use Rattle.lw_recipes.specs.declared.mark.TreeMark.TheVariants as numbered
-use Rattle.lw_recipes.specs.Meant.{AssignedAt, AreMeant}
-use Rattle.lw_begins.specs.Gives.{PlacesGive}
+use Rattle.lw_program.specs.declared.recipes.mark.TreeMark.{TreeMark}
+use Rattle.lw_program.specs.declared.recipes.mark.TreeMark.TheVariants as numbered
+use Rattle.lw_program.specs.Meant.{AssignedAt, AreMeant}
+use Rattle.lw_viable.specs.Gives.{PlacesGive}
 
 -- the marks that were left, and the places that are still to be done, one after another
 pub record KeptReading : Type 0 where

@@ -5,16 +5,16 @@ use Rattle.lw_grammar.specs.declared.grammar.Grammar.{Grammar}
 use Rattle.lw_grammar.specs.declared.rule.Op.{Op}
 use Rattle.lw_grammar.specs.declared.rule.Value0.{Value0}
 use Rattle.lw_grammar.specs.Kinds.{Kinds}
-use Rattle.lw_sentences.specs.Marks.{Mark, Put, End, kinds_of}
-use Rattle.lw_marks.specs.Follows.{MakesReference}
+use Rattle.lw_grammar.specs.Marks.{Mark, Put, End, kinds_of}
+use Rattle.lw_reading.specs.Follows.{MakesReference}
 use Rattle.lw_look.specs.Sites.{PartSite}
 use Rattle.lw_program.specs.Numbered.{put_sites}
 use Rattle.lw_program.specs.ProgramOf.{ProgramParts}
 use Rattle.lw_program.specs.Says.{Task, Reads}
-use Rattle.lw_recipes.specs.Making.{RecipeLists}
-use Rattle.lw_recipes.specs.Meant.{MeansMark, AreMeant}
-use Rattle.lw_recipes.specs.declared.mark.TreeMark.TheVariants as numbered
-use Rattle.lw_begins.specs.Gives.{PlacesGive}
+use Rattle.lw_program.specs.Making.{RecipeLists}
+use Rattle.lw_program.specs.Meant.{MeansMark, AreMeant}
+use Rattle.lw_program.specs.declared.recipes.mark.TreeMark.TheVariants as numbered
+use Rattle.lw_viable.specs.Gives.{PlacesGive}
 use Rattle.lw_viable.specs.Readings.{KeptReading, HasTask}
 use Rattle.lw_viable.specs.Visiting.{IsReferencePut, PutsFirst}
 use Rattle.lw_viable.specs.declared.reference_start.ReferenceStart.{ReferenceStart}

@@ -5,8 +5,8 @@ use Rattle.lw_base.specs.declared.numbers.PointId.{PointId}
 use Rattle.lw_program.specs.declared.instr.Instr.{Instr}
 use Rattle.lw_program.specs.declared.instr.Instr.TheVariants.{Token, End, Shut, Act, Row, Choice, Maybe, Loop, Once, Put, Call}
 use Rattle.lw_program.specs.ProgramOf.{ProgramParts}
-use Rattle.lw_recipes.specs.declared.mark.TreeMark.TheVariants as mark
-use Rattle.lw_begins.specs.Told.{BeginsParts, IsMet}
+use Rattle.lw_program.specs.declared.recipes.mark.TreeMark.TheVariants as mark
+use Rattle.lw_viable.specs.Told.{BeginsParts, IsMet}
 use Rattle.lw_viable.specs.Moves.{side_by_side}
 use Rattle.lw_viable.specs.Growing.{Change, HasLists, read, ArePut}
 use Rattle.lw_viable.specs.declared.front.Front.{Front}

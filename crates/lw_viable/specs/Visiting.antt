@@ -5,19 +5,19 @@ use Rattle.lw_grammar.specs.declared.grammar.Grammar.{Grammar}
 use Rattle.lw_grammar.specs.declared.rule.Op.{Op}
 use Rattle.lw_grammar.specs.declared.rule.Value0.{Value0}
 use Rattle.lw_grammar.specs.Kinds.{Kinds}
-use Rattle.lw_sentences.specs.Marks.{Mark, kinds_of}
-use Rattle.lw_sentences.specs.Marks as mark
-use Rattle.lw_marks.specs.Follows.{MakesReference}
+use Rattle.lw_grammar.specs.Marks.{Mark, kinds_of}
+use Rattle.lw_grammar.specs.Marks as mark
+use Rattle.lw_reading.specs.Follows.{MakesReference}
 use Rattle.lw_program.specs.declared.instr.Instr.TheVariants.{Put}
 use Rattle.lw_program.specs.declared.instr.Instr.TheVariants as instr
 use Rattle.lw_program.specs.ProgramOf.{ProgramParts}
 use Rattle.lw_program.specs.Says.{Task}
-use Rattle.lw_recipes.specs.Making.{RecipeLists, IsReference, AreRecipesOf}
-use Rattle.lw_recipes.specs.Meant.{AreMeant}
-use Rattle.lw_recipes.specs.declared.mark.TreeMark.{TreeMark}
-use Rattle.lw_recipes.specs.declared.mark.TreeMark.TheVariants as numbered
-use Rattle.lw_recipes.specs.declared.recipe.ValueRecipe.{ValueRecipe}
-use Rattle.lw_begins.specs.Gives.{PlacesGive}
+use Rattle.lw_program.specs.Making.{RecipeLists, IsReference, AreRecipesOf}
+use Rattle.lw_program.specs.Meant.{AreMeant}
+use Rattle.lw_program.specs.declared.recipes.mark.TreeMark.{TreeMark}
+use Rattle.lw_program.specs.declared.recipes.mark.TreeMark.TheVariants as numbered
+use Rattle.lw_program.specs.declared.recipes.recipe.ValueRecipe.{ValueRecipe}
+use Rattle.lw_viable.specs.Gives.{PlacesGive}
 use Rattle.lw_viable.specs.Readings.{KeptReading, IsAhead}
 use Rattle.lw_viable.specs.Growing.{read}
 use Rattle.lw_viable.specs.declared.front.Front.{Front}

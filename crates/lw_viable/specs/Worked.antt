@@ -6,7 +6,7 @@ use Rattle.lw_grammar.specs.declared.rule.Element.TheVariants.{Assign, Group, Ma
 use Rattle.lw_grammar.specs.declared.rule.Op.TheVariants.{Add}
 use Rattle.lw_grammar.specs.declared.rule.Value0.{Value0}
 use Rattle.lw_grammar.specs.declared.rule.Value0.TheVariants as value
-use Rattle.lw_sentences.specs.Worked.{nowhere, word}
+use Rattle.lw_grammar.specs.Worked.{nowhere, word}
 use Rattle.lw_look.specs.Worked.{id_into}
 
 -- `[A:ID]`

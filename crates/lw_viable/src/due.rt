@@ -6,8 +6,8 @@ ghost use Rattle.lw_viable.specs.Visiting.{AreNumbered, EndsFirst, IsReferencePu
 use crate::front::Front;
 use crate::lists::Lists;
 use crate::places::instr_at;
+use lw_program::recipes::{Content, Recipes};
 use lw_program::{Instr, Program};
-use lw_recipes::{Content, Recipes};
 
 /// What is to stand first in what a reading still has to do.
 #[derive(Clone, Copy, Drop)]

@@ -1,5 +1,5 @@
 // One reading by its lists.
-use lw_chains::Link;
+use crate::chains::Link;
 
 /// One reading: the list of its marks, the latest first, and that of the places that are still to be done.
 #[derive(Clone, Copy, Debug)]

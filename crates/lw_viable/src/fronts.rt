@@ -6,10 +6,10 @@ ghost use Rattle.lw_grammar.specs.declared.grammar.Grammar.{Grammar};
 ghost use Rattle.lw_grammar.specs.declared.rule.Rule.{Rule};
 ghost use Rattle.lw_grammar.specs.Kinds.{Kinds, kind_count};
 ghost use Rattle.lw_grammar.specs.Named.{IsEntry};
-ghost use Rattle.lw_sentences.specs.Marks.{kinds_of};
+ghost use Rattle.lw_grammar.specs.Marks.{kinds_of};
 ghost use Rattle.lw_look.specs.Supplied.{IsSupplied};
 ghost use Rattle.lw_program.specs.Says.{Task};
-ghost use Rattle.lw_recipes.specs.Making.{AreRecipesOf};
+ghost use Rattle.lw_program.specs.Making.{AreRecipesOf};
 ghost use Rattle.lw_viable.specs.Aims.{Aim, BeginsSome, EndsSome, Fulfils};
 ghost use Rattle.lw_viable.specs.Aims.{Sentence, Places};
 ghost use Rattle.lw_viable.specs.Fronts.{HoldReadings, IsProgramWith, seen};
@@ -18,6 +18,7 @@ ghost use Rattle.lw_viable.specs.Readings.{HasTask};
 ghost use Rattle.lw_viable.specs.ReadSoFar.{IsReadSoFar};
 ghost use Rattle.lw_viable.specs.ReferenceStarts.{AreReferenceStarts};
 
+use crate::begins::Begins;
 use crate::due::Due;
 use crate::front::Front;
 use crate::lists::Lists;
@@ -25,9 +26,8 @@ use crate::places::start_of;
 use crate::reference_start::{ReferenceStart, reference_starts};
 use crate::sought::{Sought, enter};
 use lw_base::{Items, KindId, NoMemory, RuleId, Token};
-use lw_begins::Begins;
 use lw_program::Program;
-use lw_recipes::{Recipes, TreeMark};
+use lw_program::recipes::{Recipes, TreeMark};
 use std::alloc::Global;
 use std::marker::Model;
 
@@ -237,6 +237,3 @@ impl<'p> Fronts<'p> {
             .marks_with_ends(alloc, self.kept.as_slice(), ends.as_slice())
     }
 }
-
-#[cfg(test)]
-mod tests;

@@ -35,6 +35,8 @@
 //! at one place ask each once.
 #![tactic(auto)]
 
+pub mod begins;
+pub mod chains;
 mod due;
 mod front;
 mod fronts;

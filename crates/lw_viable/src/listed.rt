@@ -1,9 +1,9 @@
 // The items of a list that shares its end with others.
 ghost use Rattle.std.specs.Prelude.{◌≡◌, IfOk};
-ghost use Rattle.lw_chains.specs.Chains.{chain};
+ghost use Rattle.lw_viable.specs.Chains.{chain};
 
+use crate::chains::{Chains, Link};
 use lw_base::NoMemory;
-use lw_chains::{Chains, Link};
 use std::alloc::Global;
 
 /// The items of a list, the first first.

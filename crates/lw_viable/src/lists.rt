@@ -6,12 +6,12 @@ ghost use Rattle.lw_viable.specs.Moves.{left, side_by_side};
 ghost use Rattle.lw_viable.specs.Turning.{MayBePassed, way_change};
 ghost use Rattle.lw_viable.specs.Visiting.{AreEnded, AreWithEnded, EndsWithToken};
 
+use crate::begins::Begins;
+use crate::chains::Chains;
 use crate::front::Front;
 use crate::listed::listed;
 use lw_base::{Items, NoMemory};
-use lw_begins::Begins;
-use lw_chains::Chains;
-use lw_recipes::TreeMark;
+use lw_program::recipes::TreeMark;
 use std::alloc::Global;
 
 /// The lists of readings: those of their marks, the latest first, and those of the places that are still to be done.

@@ -1,8 +1,8 @@
 // Places that read one token.
 ghost use Rattle.std.specs.Prelude.{ℕ, ◌≡◌, ◌≢◌, ◌↔◌, List, [], ◌∷◌, IfSome, MatchOption, Some, slice_get};
 ghost use Rattle.lw_base.specs.declared.numbers.KindId.{KindId as Kind};
-ghost use Rattle.lw_begins.specs.Gives.{PlacesGive};
-ghost use Rattle.lw_begins.specs.Told.{BeginsParts};
+ghost use Rattle.lw_viable.specs.Gives.{PlacesGive};
+ghost use Rattle.lw_viable.specs.Told.{BeginsParts};
 ghost use Rattle.lw_grammar.specs.declared.grammar.Grammar.{Grammar};
 ghost use Rattle.lw_grammar.specs.Kinds.{Kinds};
 ghost use Rattle.lw_program.specs.Says.{Task};

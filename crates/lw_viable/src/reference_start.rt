@@ -10,7 +10,7 @@ use crate::front::Front;
 use crate::lists::Lists;
 use lw_base::{Items, NoMemory};
 use lw_program::Program;
-use lw_recipes::TreeMark;
+use lw_program::recipes::TreeMark;
 use std::alloc::Global;
 
 /// A cross-reference that may come next.

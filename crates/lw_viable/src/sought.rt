@@ -9,14 +9,14 @@ ghost use Rattle.lw_viable.specs.Growing.{AreHeldIn, ArePut, Change, GrowsLists,
 ghost use Rattle.lw_viable.specs.Turning.{IsCalled, Enters, IsMovedAt, IsTurned, LoopsOnce, Misses, ReadsToken};
 ghost use Rattle.lw_viable.specs.Visiting.{AreNumbered, FindsDue, IsNoted, IsToldDue};
 
+use crate::begins::Begins;
 use crate::due::Due;
 use crate::front::Front;
 use crate::lists::Lists;
 use crate::places::{behind, body_of, instr_at, start_of};
 use lw_base::{KindId, NoMemory, RuleId};
-use lw_begins::Begins;
+use lw_program::recipes::TreeMark;
 use lw_program::{Instr, Program};
-use lw_recipes::TreeMark;
 use std::alloc::Global;
 
 /// The kind of the next token, if one is sought, and what is known of the places at which it may be read.

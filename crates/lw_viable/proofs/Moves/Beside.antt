@@ -5,13 +5,13 @@ use Rattle.std.proofs.lemmas.Option.{slice_get_within, slice_get_cases}
 use Rattle.lw_grammar.specs.declared.grammar.Grammar.{Grammar}
 use Rattle.lw_grammar.specs.declared.rule.Element.{Element}
 use Rattle.lw_grammar.specs.Kinds.{Kinds}
-use Rattle.lw_sentences.specs.Marks.{Mark}
-use Rattle.lw_sentences.specs.Yields.{YieldsAll}
-use Rattle.lw_sentences.specs.Yields as y
+use Rattle.lw_grammar.specs.Marks.{Mark}
+use Rattle.lw_grammar.specs.Yields.{YieldsAll}
+use Rattle.lw_grammar.specs.Yields as y
 use Rattle.lw_look.specs.Sites.{PartSite, ◌▸◌, Body, IsPartAt}
 use Rattle.lw_program.specs.Says.{Task, thing_of, StandFrom}
-use Rattle.lw_begins.specs.Gives.{PlacesGive}
-use Rattle.lw_begins.specs.Gives as gives
+use Rattle.lw_viable.specs.Gives.{PlacesGive}
+use Rattle.lw_viable.specs.Gives as gives
 use Rattle.lw_viable.specs.Moves.{side_by_side}
 use Rattle.lw_viable.proofs.Moves.Giving.{nothing_given, first_given}
 use Rattle.lw_viable.proofs.Moves.Doing.{thing_yields, thing_given}

@@ -13,22 +13,22 @@ use Rattle.lw_grammar.specs.NameRules.{IsNameRule}
 use Rattle.lw_grammar.specs.Named.{IsRule}
 use Rattle.lw_grammar.specs.Reached.{IsReached}
 use Rattle.lw_grammar.proofs.FirstLemmas.{first_place, first_item, one_terminal_kind}
-use Rattle.lw_sentences.specs.Marks.{Mark}
-use Rattle.lw_sentences.specs.Marks as mark
-use Rattle.lw_sentences.specs.Yields.{Yields, Gives, Calls, RuleGives, ValueYields, ValueGives}
-use Rattle.lw_sentences.specs.Yields as y
+use Rattle.lw_grammar.specs.Marks.{Mark}
+use Rattle.lw_grammar.specs.Marks as mark
+use Rattle.lw_grammar.specs.Yields.{Yields, Gives, Calls, RuleGives, ValueYields, ValueGives}
+use Rattle.lw_grammar.specs.Yields as y
 use Rattle.lw_look.specs.Sites.{PartSite, rule_of, body, ◌▸◌, Body, Value, IsPartAt, ElementAt, ValueAt, ValueCallsAt}
 use Rattle.lw_look.specs.Sites as site
 use Rattle.lw_look.proofs.Apart.{are_apart, no_terminal_is_rule}
-use Rattle.lw_look.proofs.Naming.{one_name_rule}
+use Rattle.lw_grammar.proofs.Naming.{one_name_rule}
 use Rattle.lw_look.proofs.Standing.{same_value, one_stands}
 use Rattle.lw_look.proofs.Reaching.{calls_reach}
 use Rattle.lw_program.specs.declared.instr.Instr.{Instr}
 use Rattle.lw_program.specs.declared.instr.Instr.TheVariants.{Token, Call}
 use Rattle.lw_program.specs.Says.{Task, Does, Reads, thing_of, CallsBy, SaysTask}
 use Rattle.lw_program.specs.Says as say
-use Rattle.lw_begins.specs.Gives.{OpensNode, TaskGives, PlacesGive}
-use Rattle.lw_begins.specs.Gives as gives
+use Rattle.lw_viable.specs.Gives.{OpensNode, TaskGives, PlacesGive}
+use Rattle.lw_viable.specs.Gives as gives
 use Rattle.lw_viable.specs.Readings.{IsPlacedTask, HasTask}
 use Rattle.lw_viable.specs.Readings as place
 use Rattle.lw_viable.proofs.Moves.Doing.{value_form, reads_gives, form_given, form_gives, unlayered_value}

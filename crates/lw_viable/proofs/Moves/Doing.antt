@@ -10,9 +10,9 @@ use Rattle.lw_grammar.specs.declared.rule.Value0.{Value0, out-Value0}
 use Rattle.lw_grammar.specs.declared.rule.Value0.TheOpen.{Value0-F}
 use Rattle.lw_grammar.specs.Kinds.{Kinds}
 use Rattle.lw_grammar.specs.Reached.{IsReached}
-use Rattle.lw_sentences.specs.Marks.{Mark}
-use Rattle.lw_sentences.specs.Yields.{Yields, Gives, Repeats, ValueYields, ValueGives}
-use Rattle.lw_sentences.specs.Yields as y
+use Rattle.lw_grammar.specs.Marks.{Mark}
+use Rattle.lw_grammar.specs.Yields.{Yields, Gives, Repeats, ValueYields, ValueGives}
+use Rattle.lw_grammar.specs.Yields as y
 use Rattle.lw_look.specs.Sites.{PartSite, rule_of, ◌▸◌, Body, Value, element_parts, IsPartAt, ElementAt, ValueAt}
 use Rattle.lw_look.specs.Sites as site
 use Rattle.lw_look.specs.Things.{Thing, Do, Assigned, Again, Leave, ThingGives}
@@ -20,9 +20,9 @@ use Rattle.lw_look.specs.Things as t
 use Rattle.lw_look.proofs.Standing.{same_value, one_stands}
 use Rattle.lw_look.proofs.OneStep.{part_yields, again_gives, part_reads, ReadAs}
 use Rattle.lw_program.specs.Says.{Does, Reads, layer_thing, thing_of}
-use Rattle.lw_recipes.specs.Meant as meant
-use Rattle.lw_begins.specs.Gives.{TaskGives}
-use Rattle.lw_begins.specs.Gives as gives
+use Rattle.lw_program.specs.Meant as meant
+use Rattle.lw_viable.specs.Gives.{TaskGives}
+use Rattle.lw_viable.specs.Gives as gives
 use Rattle.lw_viable.specs.Readings.{IsPlacedTask}
 use Rattle.lw_viable.specs.Readings as place
 

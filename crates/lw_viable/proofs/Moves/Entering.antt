@@ -6,18 +6,18 @@ use Rattle.lw_grammar.specs.declared.grammar.Grammar.{Grammar}
 use Rattle.lw_grammar.specs.declared.rule.Rule.{Rule}
 use Rattle.lw_grammar.specs.Kinds.{Kinds}
 use Rattle.lw_grammar.specs.Reached.{IsReached}
-use Rattle.lw_sentences.specs.Marks.{Mark}
-use Rattle.lw_sentences.specs.Marks as mark
-use Rattle.lw_sentences.specs.Yields.{Yields, RuleGives}
-use Rattle.lw_sentences.specs.Yields as y
+use Rattle.lw_grammar.specs.Marks.{Mark}
+use Rattle.lw_grammar.specs.Marks as mark
+use Rattle.lw_grammar.specs.Yields.{Yields, RuleGives}
+use Rattle.lw_grammar.specs.Yields as y
 use Rattle.lw_look.specs.Sites.{body, Body, IsPartAt}
 use Rattle.lw_look.specs.Sites as site
 use Rattle.lw_look.specs.Things as t
 use Rattle.lw_look.proofs.OneStep.{leave_gives}
 use Rattle.lw_program.specs.ProgramOf.{ProgramParts, IsProgramOf, StartsRuleAt}
 use Rattle.lw_program.specs.Says.{thing_of}
-use Rattle.lw_begins.specs.Gives.{OpensNode, PlacesGive}
-use Rattle.lw_begins.specs.Gives as gives
+use Rattle.lw_viable.specs.Gives.{OpensNode, PlacesGive}
+use Rattle.lw_viable.specs.Gives as gives
 use Rattle.lw_viable.specs.Readings.{HasTask}
 use Rattle.lw_viable.specs.Readings as place
 use Rattle.lw_viable.proofs.Moves.Doing.{thing_placed, does_gives, thing_yields, thing_given}

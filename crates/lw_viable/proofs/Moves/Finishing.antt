@@ -5,9 +5,9 @@ use Rattle.lw_grammar.specs.declared.grammar.Grammar.{Grammar}
 use Rattle.lw_grammar.specs.declared.rule.Element.{Element}
 use Rattle.lw_grammar.specs.declared.rule.Value0.{Value0}
 use Rattle.lw_grammar.specs.Kinds.{Kinds}
-use Rattle.lw_sentences.specs.Marks.{Mark}
-use Rattle.lw_sentences.specs.Yields.{Yields, ValueYields}
-use Rattle.lw_sentences.specs.Yields as y
+use Rattle.lw_grammar.specs.Marks.{Mark}
+use Rattle.lw_grammar.specs.Yields.{Yields, ValueYields}
+use Rattle.lw_grammar.specs.Yields as y
 use Rattle.lw_look.specs.Sites.{Body, Value}
 use Rattle.lw_look.specs.Looks.{PartYields}
 use Rattle.lw_look.specs.Looks as look
@@ -15,8 +15,8 @@ use Rattle.lw_look.specs.Supplied.{IsSupplied}
 use Rattle.lw_look.specs.Things as t
 use Rattle.lw_look.proofs.Productive.{productive}
 use Rattle.lw_program.specs.Says.{Task}
-use Rattle.lw_begins.specs.Gives.{TaskGives, PlacesGive}
-use Rattle.lw_begins.specs.Gives as gives
+use Rattle.lw_viable.specs.Gives.{TaskGives, PlacesGive}
+use Rattle.lw_viable.specs.Gives as gives
 use Rattle.lw_viable.specs.Readings.{IsPlacedTask, HasTask}
 use Rattle.lw_viable.specs.Readings as place
 

@@ -3,10 +3,10 @@ use Rattle.std.proofs.Common.{◌≡◌, ℕ, List, [], ◌∷◌, ◌++◌, Som
 use Rattle.std.proofs.lemmas.Option.{same_Some}
 use Rattle.lw_grammar.specs.declared.grammar.Grammar.{Grammar}
 use Rattle.lw_grammar.specs.Kinds.{Kinds}
-use Rattle.lw_sentences.specs.Marks.{Mark}
+use Rattle.lw_grammar.specs.Marks.{Mark}
 use Rattle.lw_program.specs.Says.{Task}
-use Rattle.lw_begins.specs.Gives.{TaskGives, PlacesGive}
-use Rattle.lw_begins.specs.Gives as gives
+use Rattle.lw_viable.specs.Gives.{TaskGives, PlacesGive}
+use Rattle.lw_viable.specs.Gives as gives
 
 module _ (g : Grammar) (kinds : Kinds) (tasks : List Task) where
   pub nothing_given : {n : List Mark} → PlacesGive g kinds tasks [] n → n ≡ []

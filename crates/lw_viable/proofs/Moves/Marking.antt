@@ -11,14 +11,14 @@ use Rattle.lw_grammar.specs.declared.rule.Element.TheOpen.{Element-F}
 use Rattle.lw_grammar.specs.declared.rule.Op.{Op}
 use Rattle.lw_grammar.specs.declared.rule.Value0.{Value0}
 use Rattle.lw_grammar.specs.declared.rule.Value0.TheOpen.{Value0-F}
-use Rattle.lw_sentences.specs.Marks.{Mark}
-use Rattle.lw_sentences.specs.Marks as mark
+use Rattle.lw_grammar.specs.Marks.{Mark}
+use Rattle.lw_grammar.specs.Marks as mark
 use Rattle.lw_look.specs.Sites.{PartSite, ◌▸◌, Value, IsPartAt, ElementAt, ValueAt}
 use Rattle.lw_look.proofs.Standing.{same_body, same_value, no_body_is_value, one_stands}
 use Rattle.lw_program.specs.Numbered.{put_sites, act_sites}
-use Rattle.lw_recipes.specs.declared.mark.TreeMark.TheVariants as numbered
-use Rattle.lw_recipes.specs.Meant.{AssignedAt, AreMeant}
-use Rattle.lw_recipes.specs.Meant as meant
+use Rattle.lw_program.specs.declared.recipes.mark.TreeMark.TheVariants as numbered
+use Rattle.lw_program.specs.Meant.{AssignedAt, AreMeant}
+use Rattle.lw_program.specs.Meant as meant
 use Rattle.lw_viable.proofs.Moves.Doing.{element_form, value_form}
 
 same_outer : {s t : PartSite} {i j : ℕ} → s ▸ i ≡ t ▸ j → s ≡ t

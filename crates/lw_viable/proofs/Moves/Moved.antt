@@ -13,25 +13,26 @@ use Rattle.lw_grammar.specs.declared.rule.Value0.{Value0}
 use Rattle.lw_grammar.specs.declared.rule.Value0.TheOpen as value
 use Rattle.lw_grammar.specs.Kinds.{Kinds, AreKinds}
 use Rattle.lw_grammar.specs.Reached.{IsReached}
-use Rattle.lw_sentences.specs.Marks.{Mark}
-use Rattle.lw_sentences.specs.Marks as mark
-use Rattle.lw_sentences.specs.Yields.{Yields, Gives, YieldsAll, Repeats, RuleGives, ValueYields, ValueGives}
-use Rattle.lw_sentences.specs.Yields as y
+use Rattle.lw_grammar.specs.Marks.{Mark}
+use Rattle.lw_grammar.specs.Marks as mark
+use Rattle.lw_grammar.specs.Yields.{Yields, Gives, YieldsAll, Repeats, RuleGives, ValueYields, ValueGives}
+use Rattle.lw_grammar.specs.Yields as y
 use Rattle.lw_look.specs.Sites.{PartSite, ◌▸◌, ElementAt, ValueAt, RepeatedAt}
 use Rattle.lw_look.specs.Sites as site
 use Rattle.lw_look.specs.Things as t
-use Rattle.lw_look.proofs.Standing.{place_of, row_part_stands, way_stands, option_stands, repeated_stands}
+use Rattle.lw_base.proofs.Lists.{place_of}
+use Rattle.lw_look.proofs.Standing.{row_part_stands, way_stands, option_stands, repeated_stands}
 use Rattle.lw_look.proofs.OneStep.{again_gives, part_reads, ReadAs, leave_gives}
 use Rattle.lw_program.specs.declared.instr.Instr.{Instr}
 use Rattle.lw_program.specs.declared.instr.Instr.TheVariants.{Token, Choice, Maybe, Loop, Once, Call}
 use Rattle.lw_program.specs.ProgramOf.{ProgramParts, IsProgramOf}
 use Rattle.lw_program.specs.Says.{Task, Does, thing_of, StandFrom, SaysTask}
 use Rattle.lw_program.specs.Says as say
-use Rattle.lw_recipes.specs.declared.mark.TreeMark.{TreeMark}
-use Rattle.lw_recipes.specs.Meant.{AreMeant}
-use Rattle.lw_recipes.specs.Meant as meant
-use Rattle.lw_begins.specs.Gives.{OpensNode, TaskGives, PlacesGive}
-use Rattle.lw_begins.specs.Gives as gives
+use Rattle.lw_program.specs.declared.recipes.mark.TreeMark.{TreeMark}
+use Rattle.lw_program.specs.Meant.{AreMeant}
+use Rattle.lw_program.specs.Meant as meant
+use Rattle.lw_viable.specs.Gives.{OpensNode, TaskGives, PlacesGive}
+use Rattle.lw_viable.specs.Gives as gives
 use Rattle.lw_viable.specs.Readings.{IsPlacedTask, HasTask}
 use Rattle.lw_viable.specs.Readings as place
 use Rattle.lw_viable.specs.Moves.{left, MovesBy}

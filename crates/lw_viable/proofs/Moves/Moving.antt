@@ -3,12 +3,12 @@ use Rattle.std.proofs.Common.{◌≡◌, ◌↔◌, ℕ, List, ◌∷◌, ◌++�
 use Rattle.lw_grammar.specs.declared.grammar.Grammar.{Grammar}
 use Rattle.lw_grammar.specs.declared.rule.Rule.{Rule}
 use Rattle.lw_grammar.specs.Kinds.{Kinds, AreKinds}
-use Rattle.lw_sentences.specs.Marks.{Mark}
+use Rattle.lw_grammar.specs.Marks.{Mark}
 use Rattle.lw_program.specs.ProgramOf.{ProgramParts, IsProgramOf}
-use Rattle.lw_recipes.specs.declared.mark.TreeMark.{TreeMark}
-use Rattle.lw_recipes.specs.Meant.{AreMeant}
-use Rattle.lw_begins.specs.Gives.{OpensNode, PlacesGive}
-use Rattle.lw_begins.specs.Gives as gives
+use Rattle.lw_program.specs.declared.recipes.mark.TreeMark.{TreeMark}
+use Rattle.lw_program.specs.Meant.{AreMeant}
+use Rattle.lw_viable.specs.Gives.{OpensNode, PlacesGive}
+use Rattle.lw_viable.specs.Gives as gives
 use Rattle.lw_viable.specs.Readings.{HasTask}
 use Rattle.lw_viable.specs.Moves.{left, MovesBy}
 use Rattle.lw_viable.proofs.Moves.Exact.{moves_exact}

@@ -1,7 +1,7 @@
 use Rattle.std.proofs.Common.{[], ◌∷◌, ◌++◌, List, sym, ap, subst, ◌∙◌}
 use Rattle.lw_reading.specs.Reading.{Reads}
 use Rattle.lw_reading.specs.declared.parsed.Parsed.TheVariants.{Broken}
-use Rattle.lw_scopes.specs.Diagnostics.{IsListAlone}
+use Rattle.lw_link_rules.specs.Diagnostics.{IsListAlone}
 use Rattle.lw_text.specs.declared.shown.Shown.{Shown}
 use Rattle.lw_alone.proofs.Alone.{broken_alone}
 use Rattle.lw_alone.proofs.document.diagnostics.Goals as goal

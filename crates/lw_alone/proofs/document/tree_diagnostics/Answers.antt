@@ -1,8 +1,8 @@
 use Rattle.std.proofs.Common.{ap, length, sym, map, subst, ◌∙◌}
 use Rattle.std.specs.List.{AllZip}
 use Rattle.lw_link.specs.Alone.{link_at}
-use Rattle.lw_scopes.specs.Diagnostics.{alone_at}
-use Rattle.lw_scopes.specs.Links.{IsNumberBelow}
+use Rattle.lw_link_rules.specs.Diagnostics.{alone_at}
+use Rattle.lw_link_rules.specs.Links.{IsNumberBelow}
 use Rattle.lw_scoping.specs.Links.{LinksTo}
 use Rattle.lw_alone.proofs.Alone.{listed, text_outwards, text_owners, text_root, text_types}
 use Rattle.lw_alone.proofs.document.tree_diagnostics.Goals as goal

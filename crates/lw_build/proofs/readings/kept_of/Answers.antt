@@ -2,7 +2,7 @@ use Rattle.std.proofs.Common.{None, ap, length, subst, sym, arith}
 use Rattle.lw_link.specs.Indexed.{AreEntriesAt, treeless, whole}
 use Rattle.lw_reading.specs.Issues.{IfBroken, IfWhole, IsIssueWithin, IsNamed}
 use Rattle.lw_reading.specs.Reading.{Reads}
-use Rattle.lw_rooted.specs.Within.{StandsInText}
+use Rattle.lw_reading.specs.Within.{StandsInText}
 use Rattle.lw_build.proofs.Texts.{text_root}
 use Rattle.lw_build.proofs.readings.kept_of.Goals as goal
 

@@ -3,10 +3,10 @@ use Rattle.lw_grammar.specs.declared.grammar.Grammar.{Grammar}
 use Rattle.lw_index.specs.declared.parts.Answer.{Answer}
 use Rattle.lw_reading.specs.Reading.{Reads}
 use Rattle.lw_reading.specs.declared.parsed.Parsed.TheVariants.{Broken}
-use Rattle.lw_scopes.specs.Diagnostics as diagnostic
-use Rattle.lw_scopes.specs.Diagnostics.{AreDiagnostics}
-use Rattle.lw_scopes.specs.Faults.{IsFaultShown}
-use Rattle.lw_scopes.specs.Links.{IsNumberBelow, Texts}
+use Rattle.lw_link_rules.specs.Diagnostics as diagnostic
+use Rattle.lw_link_rules.specs.Diagnostics.{AreDiagnostics}
+use Rattle.lw_link_rules.specs.Faults.{IsFaultShown}
+use Rattle.lw_link_rules.specs.Links.{IsNumberBelow, Texts}
 use Rattle.lw_text.specs.declared.shown.Shown.{Shown}
 use Rattle.lw_tree.specs.declared.issue.Issue.{Issue}
 use Rattle.lw_tree.specs.Parts.{Parts}

@@ -4,9 +4,9 @@ use Rattle.lw_check.specs.Sorting.{AreShown}
 use Rattle.lw_grammar.specs.declared.grammar.Grammar.{Grammar}
 use Rattle.lw_index.specs.declared.parts.Answer.{Answer}
 use Rattle.lw_link.specs.Indexed.{link_of}
-use Rattle.lw_scopes.specs.Diagnostics as diagnostic
-use Rattle.lw_scopes.specs.Diagnostics.{AreDiagnostics}
-use Rattle.lw_scopes.specs.Links.{AreTreesOfTexts, IsNumberBelow, Texts}
+use Rattle.lw_link_rules.specs.Diagnostics as diagnostic
+use Rattle.lw_link_rules.specs.Diagnostics.{AreDiagnostics}
+use Rattle.lw_link_rules.specs.Links.{AreTreesOfTexts, IsNumberBelow, Texts}
 use Rattle.lw_scoping.specs.Links.{LinksTo, Trees}
 use Rattle.lw_text.specs.declared.shown.Shown.{Shown}
 use Rattle.lw_tree.specs.Parts.{Parts}

@@ -2,7 +2,7 @@ use Rattle.std.proofs.Common.{◌≡◌, ◌⊎◌, ℕ, List, map}
 use Rattle.std.specs.Map.Iter.{deref_pair}
 use Rattle.lw_base.specs.declared.numbers.DocId.{DocId}
 use Rattle.lw_machine.proofs.Places.{Among}
-use Rattle.lw_refs.specs.Led.{answers_in}
+use Rattle.lw_index.specs.Led.{answers_in}
 use Rattle.lw_build.specs.Linked.{OnlyReadLead}
 use Rattle.lw_build.specs.Standing.{IsLinkedHere}
 use Rattle.lw_build.specs.Telling.{AreListsTold}

@@ -1,7 +1,7 @@
 use Rattle.std.proofs.Common.{◌≡◌, List, [], ◌∷◌, ◌++◌, length, Contains, append_assoc, refl, rules, sym, ap, subst, ◌∙◌, arith}
 use Rattle.std.specs.FinMap.{get}
 use Rattle.lw_base.specs.declared.numbers.DocId.{DocId}
-use Rattle.lw_outcomes.proofs.Finite.{behind, here}
+use Rattle.lw_machine.proofs.Finite.{behind, here}
 use Rattle.lw_text.specs.declared.shown.Shown.{Shown}
 use Rattle.lw_build.specs.Telling.{IsListTaken}
 use Rattle.lw_build.proofs.Places.{with_nothing}

@@ -1,5 +1,5 @@
 use Rattle.std.proofs.Common.{ap, sym, ◌∙◌}
-use Rattle.lw_preorder.specs.Finishing.{adopts}
+use Rattle.lw_builder.specs.Finishing.{adopts}
 use Rattle.lw_builder.specs.Owners.{claims}
 use Rattle.lw_builder.proofs.Adopting.{adopts-more}
 use Rattle.lw_builder.proofs.Claiming.{claims-more}

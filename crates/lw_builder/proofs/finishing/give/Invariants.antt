@@ -1,7 +1,7 @@
 use Rattle.std.proofs.Common.{◌≡◌, ◌++◌}
 use Rattle.std.specs.Vec.Iter.{into_iter_items}
-use Rattle.lw_preorder.specs.Finishing.{adopts_all}
-use Rattle.lw_preorder.specs.Tables.{owned}
+use Rattle.lw_builder.specs.Finishing.{adopts_all}
+use Rattle.lw_builder.specs.Tables.{owned}
 use Rattle.lw_builder.specs.Owners.{claims_all}
 use Rattle.lw_builder.proofs.finishing.give.Given as goal
 

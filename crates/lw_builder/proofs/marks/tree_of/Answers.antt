@@ -1,6 +1,6 @@
 use Rattle.std.proofs.Common.{◌≡◌, ◌+◌, ◌∙◌, drop, refl, sym, subst, ap}
 use Rattle.std.proofs.lemmas.List.{drop_more, drop_all}
-use Rattle.lw_recipes.specs.Making.{AreRecipesOf}
+use Rattle.lw_program.specs.Making.{AreRecipesOf}
 use Rattle.lw_builder.specs.Built.{ArePartsOf, visible_of}
 use Rattle.lw_builder.proofs.AllMarks.{IsUnderway, underway, started, next_mark, closes_at_end, opened, visible_parts}
 use Rattle.lw_builder.proofs.Results.{if_ok}

@@ -1,10 +1,10 @@
 use Rattle.std.proofs.Common.{drop, List}
 use Rattle.lw_grammar.specs.declared.grammar.Grammar.{Grammar}
-use Rattle.lw_sentences.specs.Marks.{Mark}
-use Rattle.lw_marks.specs.Brackets.{Bracket}
-use Rattle.lw_marks.specs.Follows.{FollowsMarks}
-use Rattle.lw_recipes.specs.Making.{AreRecipesOf}
-use Rattle.lw_recipes.specs.Meant.{AreMeant}
+use Rattle.lw_grammar.specs.Marks.{Mark}
+use Rattle.lw_reading.specs.Brackets.{Bracket}
+use Rattle.lw_reading.specs.Follows.{FollowsMarks}
+use Rattle.lw_program.specs.Making.{AreRecipesOf}
+use Rattle.lw_program.specs.Meant.{AreMeant}
 use Rattle.lw_builder.specs.Built.{IsOverSame}
 use Rattle.lw_builder.proofs.AllMarks.{IsUnderway}
 use Rattle.lw_builder.proofs.marks.tree_of.Given as goal

@@ -1,8 +1,8 @@
 use Rattle.std.proofs.Common.{◌≡◌, ℕ, List, subst, ◌∙◌}
 use Rattle.std.proofs.lemmas.Result.{IfOk-weaker}
 use Rattle.lw_text.specs.declared.shown.Shown.{Shown}
-use Rattle.lw_scopes.specs.Faults as fault
-use Rattle.lw_scopes.specs.Faults.{IsShownAt}
+use Rattle.lw_link_rules.specs.Faults as fault
+use Rattle.lw_link_rules.specs.Faults.{IsShownAt}
 use Rattle.lw_check.proofs.document.issue_diagnostic.Goals as goal
 
 -- what is shown with a message is shown with an equal one

@@ -1,7 +1,7 @@
 use Rattle.std.proofs.Common.{◌≡◌, ◌++◌}
 use Rattle.std.specs.List.{AllZip}
 use Rattle.std.specs.Vec.Iter.{into_iter_items}
-use Rattle.lw_scopes.specs.Diagnostics.{IsDiagnosticShown}
+use Rattle.lw_link_rules.specs.Diagnostics.{IsDiagnosticShown}
 use Rattle.lw_check.specs.Sorting.{diagnostics_of}
 use Rattle.lw_check.proofs.document.told_shown.Given as goal
 

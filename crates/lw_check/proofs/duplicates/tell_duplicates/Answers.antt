@@ -1,7 +1,7 @@
 use Rattle.std.proofs.Common.{◌≡◌, ◌<◌, List, Some, Contains, length, slice_get, slice_index_or, sym, subst}
 use Rattle.std.proofs.lemmas.Option.{get_or_from_slice_get, slice_get-get_or}
 use Rattle.lw_base.specs.declared.numbers.NodeId.{NodeId}
-use Rattle.lw_findings.proofs.Joining.{Finds-all, Finds-more}
+use Rattle.lw_faults.proofs.Joining.{Finds-all, Finds-more}
 use Rattle.lw_scoping.proofs.Places.{among}
 use Rattle.lw_check.specs.Telling.{TellsDouble}
 use Rattle.lw_check.proofs.Once.{all_doubles}

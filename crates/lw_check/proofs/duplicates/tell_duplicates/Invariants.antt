@@ -1,6 +1,6 @@
 use Rattle.std.proofs.Common.{take}
 use Rattle.lw_base.specs.declared.numbers.NodeId.{NodeId}
-use Rattle.lw_findings.specs.Finding.{Finds, OfSome}
+use Rattle.lw_faults.specs.Finding.{Finds, OfSome}
 use Rattle.lw_grammar.specs.declared.grammar.Grammar.{Grammar}
 use Rattle.lw_types.specs.Inferred.{AreTypesOf}
 use Rattle.lw_check.specs.Sorting.{diagnostics_of}

@@ -1,5 +1,5 @@
 use Rattle.std.proofs.Common.{take}
-use Rattle.lw_findings.specs.Finding.{Finds, OfSome}
+use Rattle.lw_faults.specs.Finding.{Finds, OfSome}
 use Rattle.lw_check.specs.Sorting.{diagnostics_of}
 use Rattle.lw_check.specs.Telling.{TellsValue}
 use Rattle.lw_check.proofs.numbers.tell_numbers.Given as goal

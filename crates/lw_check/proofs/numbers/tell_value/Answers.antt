@@ -1,7 +1,7 @@
 use Rattle.std.proofs.Common.{◌≡◌, List, sym, subst}
-use Rattle.lw_findings.specs.Finding.{Finds}
-use Rattle.lw_findings.proofs.Joining.{Finds-pushed}
-use Rattle.lw_scopes.specs.TreeDiagnostics.{Diagnostic}
+use Rattle.lw_faults.specs.Finding.{Finds}
+use Rattle.lw_faults.proofs.Joining.{Finds-pushed}
+use Rattle.lw_link_rules.specs.TreeDiagnostics.{Diagnostic}
 use Rattle.lw_tree.specs.declared.node.Value.{Value}
 use Rattle.lw_check.specs.Sorting.{diagnostic_of, diagnostics_of}
 use Rattle.lw_check.specs.Telling.{TellsValue}

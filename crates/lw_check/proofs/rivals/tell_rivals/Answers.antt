@@ -1,9 +1,9 @@
 use Rattle.std.proofs.Common.{◌≡◌, ℕ, List, Some, Contains, slice_get, slice_index_or, sym, ap, subst, ◌∙◌}
 use Rattle.std.proofs.lemmas.Option.{get_or_from_slice_get, slice_get-get_or}
 use Rattle.lw_base.specs.declared.numbers.NodeId.{NodeId}
-use Rattle.lw_findings.proofs.Joining.{Finds-all, Finds-more, Finds-read}
+use Rattle.lw_faults.proofs.Joining.{Finds-all, Finds-more, Finds-read}
 use Rattle.lw_scoping.specs.Symbols.{exports}
-use Rattle.lw_scopes.specs.TreeDiagnostics.{Diagnostic}
+use Rattle.lw_link_rules.specs.TreeDiagnostics.{Diagnostic}
 use Rattle.lw_scoping.proofs.Places.{among}
 use Rattle.lw_symbols.proofs.Filtered.{numbered, numbers}
 use Rattle.lw_check.specs.Sorting.{diagnostics_of}

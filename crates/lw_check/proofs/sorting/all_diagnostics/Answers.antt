@@ -1,6 +1,6 @@
 use Rattle.std.proofs.Common.{List, subst}
-use Rattle.lw_findings.specs.Finding.{Finds}
-use Rattle.lw_findings.proofs.Joining.{Finds-then}
+use Rattle.lw_faults.specs.Finding.{Finds}
+use Rattle.lw_faults.proofs.Joining.{Finds-then}
 use Rattle.lw_check.specs.declared.sorting.KeyedDiagnostic.{KeyedDiagnostic}
 use Rattle.lw_check.specs.Sorting.{diagnostics_of}
 use Rattle.lw_check.specs.Telling.{TellsSomeAnswer}

@@ -1,6 +1,6 @@
 use Rattle.std.proofs.Common.{List, ℕ, refl, sym, ap, ◌∙◌}
 use Rattle.std.proofs.lemmas.Option.{same_Some}
-use Rattle.lw_scopes.specs.TreeDiagnostics.{unresolved_at}
+use Rattle.lw_link_rules.specs.TreeDiagnostics.{unresolved_at}
 use Rattle.lw_check.specs.Telling.{TellsAnswer}
 use Rattle.lw_check.proofs.Once.{told_once}
 use Rattle.lw_check.proofs.unresolved.tell_answer.Goals as goal

@@ -1,6 +1,6 @@
 use Rattle.std.proofs.Common.{◌≡◌, ◌<◌, ◌≤◌, List, Some, length, slice_get, sym, ap, subst, ◌∙◌, arith}
 use Rattle.std.proofs.lemmas.Option.{slice_get-get_or}
-use Rattle.lw_findings.proofs.Joining.{Finds-at-more, Finds-at-all}
+use Rattle.lw_faults.proofs.Joining.{Finds-at-more, Finds-at-all}
 use Rattle.lw_tree.specs.declared.node.Reference.{Reference}
 use Rattle.lw_check.specs.Telling.{TellsAnswerAt}
 use Rattle.lw_check.proofs.Answered.{told_at}

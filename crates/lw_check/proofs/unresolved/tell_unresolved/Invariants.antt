@@ -1,4 +1,4 @@
-use Rattle.lw_findings.specs.Finding.{Finds, AtSomeBelow}
+use Rattle.lw_faults.specs.Finding.{Finds, AtSomeBelow}
 use Rattle.lw_grammar.specs.declared.grammar.Grammar.{Grammar}
 use Rattle.lw_types.specs.Inferred.{AreTypesOf}
 use Rattle.lw_check.specs.Sorting.{diagnostics_of}

@@ -1,6 +1,6 @@
 use Rattle.std.proofs.Common.{◌++◌, ℕ, List, length, map, ap, ◌∙◌}
 use Rattle.lw_base.specs.declared.token.Token.{Token}
-use Rattle.lw_offers.specs.Starting.{moved_by}
+use Rattle.lw_places.specs.Starting.{moved_by}
 use Rattle.lw_complete.proofs.JoinedTokens.{is_blank}
 use Rattle.lw_complete.proofs.blanks.blank.Goals as goal
 

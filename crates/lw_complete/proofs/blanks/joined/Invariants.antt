@@ -1,5 +1,5 @@
 use Rattle.std.proofs.Common.{◌≡◌, ◌++◌, length, map, take}
-use Rattle.lw_offers.specs.Starting.{moved_by}
+use Rattle.lw_places.specs.Starting.{moved_by}
 use Rattle.lw_complete.proofs.blanks.joined.Given as goal
 
 -- those so far stand behind the tokens before the word

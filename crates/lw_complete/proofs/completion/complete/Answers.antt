@@ -1,8 +1,8 @@
 use Rattle.std.proofs.Common.{◌≡◌, ◌≤◌, ◌<◌, ℕ, List, length, map, take, drop, slice_range, Err, refl, ap, sym, ◌∙◌, subst, arith}
 use Rattle.lw_base.specs.declared.limits.TheConstants.{LONGEST_DOCUMENT}
 use Rattle.lw_base.specs.declared.token.Token.{Token}
-use Rattle.lw_offers.specs.Offers.{AreOffers}
-use Rattle.lw_offers.specs.Words.{IsTypedAt}
+use Rattle.lw_places.specs.Offers.{AreOffers}
+use Rattle.lw_places.specs.Words.{IsTypedAt}
 use Rattle.lw_builder.specs.Built.{ArePartsOf}
 use Rattle.lw_parse.specs.Parsers.{AreOfKinds}
 use Rattle.lw_tokens.specs.Cut.{IsCut}

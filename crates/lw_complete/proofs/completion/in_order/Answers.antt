@@ -1,7 +1,7 @@
 use Rattle.std.proofs.Common.{◌↔◌, ◌⊎◌, List, All, AllPairs, Contains, map, subst, sym}
 use Rattle.std.specs.List.Sorted.{IsPermutation}
 use Rattle.std.proofs.lemmas.List.Filters.{dedup_is}
-use Rattle.lw_offers.specs.Offers.{OfferPrecedes, keyword_offer, name_offer}
+use Rattle.lw_places.specs.Offers.{OfferPrecedes, keyword_offer, name_offer}
 use Rattle.lw_complete.specs.declared.item.Item.{Item}
 use Rattle.lw_complete.specs.Items.{TakesThePlace, offer_of}
 use Rattle.lw_complete.proofs.ItemsOrdered.{both_exact, both_here, both_in_order, item_eq}

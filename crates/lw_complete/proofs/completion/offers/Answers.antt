@@ -1,6 +1,6 @@
 use Rattle.std.proofs.Common.{◌↔◌, ◌⊎◌, Contains, map, sym, subst}
 use Rattle.std.proofs.lemmas.Result.{IfOk-weaker}
-use Rattle.lw_offers.specs.Offers.{IsOffered, Offer, keyword_offer, name_offer}
+use Rattle.lw_places.specs.Offers.{IsOffered, Offer, keyword_offer, name_offer}
 use Rattle.lw_complete.specs.Items.{offer_of}
 use Rattle.lw_complete.specs.Typing.{AreReadings, CutsBehind, grammar_of}
 use Rattle.lw_complete.proofs.Completed.{among, cut_there, cuts_made, offered, places_there}

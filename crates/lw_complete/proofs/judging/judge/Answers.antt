@@ -1,6 +1,6 @@
 use Rattle.std.proofs.Common.{◌∙◌, ◌+◌, ◌≤◌, ◌++◌, ℕ, List, Ok, length, sym, ap, subst, length-append, arith}
 use Rattle.lw_base.specs.declared.limits.TheConstants.{LONGEST_DOCUMENT}
-use Rattle.lw_recut.specs.Recut.{IsCrossed, added_behind}
+use Rattle.lw_lexer.specs.Recut.{IsCrossed, added_behind}
 use Rattle.lw_base.proofs.Bytes.{utf8_small}
 use Rattle.lw_tokens.specs.Cut.{IsCutTo}
 use Rattle.lw_tokens.specs.Lexicon.{Lexicon}

@@ -1,6 +1,6 @@
 use Rattle.std.proofs.Common.{◌↔◌, ◌≡◌, ◌∙◌, ◌-◌, IfOk, IsTrue, List, Some, length, slice_get, sym, ap, subst, arith}
 use Rattle.lw_base.specs.declared.token.Token.{Token}
-use Rattle.lw_recut.specs.Recut.{added}
+use Rattle.lw_lexer.specs.Recut.{added}
 use Rattle.lw_tokens.specs.Cut.{visible}
 use Rattle.lw_complete.specs.Starts.{TakesAll}
 use Rattle.lw_complete.proofs.WrittenThere.{takes_name, takes_never}

@@ -1,8 +1,8 @@
 use Rattle.std.proofs.Common.{◌≡◌, ◌↔◌, ◌∷◌, [], ℕ, List, IsTrue, length, subst}
 use Rattle.std.proofs.lemmas.Str.Pattern.{starts_text}
 use Rattle.lw_base.specs.declared.token.Token.{Token}
-use Rattle.lw_offers.specs.Offers.{visible_token}
-use Rattle.lw_recut.specs.Recut.{IsRecut, added}
+use Rattle.lw_places.specs.Offers.{visible_token}
+use Rattle.lw_lexer.specs.Recut.{IsRecut, added}
 use Rattle.lw_complete.proofs.KeywordsCut.{cuts_for, fits, next_alone, tail_within}
 use Rattle.lw_complete.proofs.NamedWritten.{begun, begun_not, cut_as_named, never, uncut_as_named}
 use Rattle.lw_complete.proofs.keywords.is_next.Goals as goal

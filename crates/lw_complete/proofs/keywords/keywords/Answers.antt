@@ -4,7 +4,7 @@ use Rattle.std.proofs.lemmas.Option.{slice_get-get_or}
 use Rattle.lw_base.specs.declared.numbers.KindId.{KindId}
 use Rattle.lw_complete.proofs.KindNumbers.{counted, keywords_are}
 use Rattle.lw_complete.specs.Typing.{CutsBehind, grammar_of}
-use Rattle.lw_sentences.specs.Sentences.{Starts}
+use Rattle.lw_grammar.specs.Sentences.{Starts}
 use Rattle.lw_viable.specs.Aims.{Sentence}
 use Rattle.lw_complete.specs.Typing.{kinds_before}
 use Rattle.lw_complete.proofs.KeywordsNext.{AreSoFar, all_next, looked_up, none_next, not_next, so_far_start, so_far_pass, so_far_push}

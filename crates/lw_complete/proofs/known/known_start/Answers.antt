@@ -1,5 +1,5 @@
 use Rattle.std.proofs.Common.{subst}
-use Rattle.lw_offers.specs.Starting.{ReferenceNext}
+use Rattle.lw_places.specs.Starting.{ReferenceNext}
 use Rattle.lw_complete.specs.Starts.{AreBlankNames}
 use Rattle.lw_complete.specs.Typing.{grammar_of}
 use Rattle.lw_complete.proofs.NamedOnce.{one_start}

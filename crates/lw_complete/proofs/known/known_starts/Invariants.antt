@@ -1,5 +1,5 @@
 use Rattle.std.proofs.Common.{◌≡◌, ℕ, List, All, map, take}
-use Rattle.lw_findings.specs.Finding.{Finds, OfSome}
+use Rattle.lw_faults.specs.Finding.{Finds, OfSome}
 use Rattle.lw_grammar.specs.Kinds.{Kinds}
 use Rattle.lw_program.specs.Says.{Task}
 use Rattle.lw_scoping.specs.Links.{Trees}

@@ -1,4 +1,4 @@
-use Rattle.lw_recut.specs.Recut.{added_behind}
+use Rattle.lw_lexer.specs.Recut.{added_behind}
 use Rattle.lw_complete.proofs.NamedTried.{led_front, led_nowhere, led_whole}
 use Rattle.lw_complete.proofs.NamedWritten.{never}
 use Rattle.lw_complete.proofs.names.is_led.Goals as goal

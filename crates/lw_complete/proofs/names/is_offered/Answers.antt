@@ -1,7 +1,7 @@
 use Rattle.std.proofs.Common.{◌↔◌, ℕ, List, IsTrue, sym, subst}
 use Rattle.std.proofs.lemmas.Result.{IfOk-weaker}
 use Rattle.std.proofs.lemmas.Str.Pattern.{starts_text}
-use Rattle.lw_recut.specs.Recut.{IsRecut, RecutterParts, added_behind}
+use Rattle.lw_lexer.specs.Recut.{IsRecut, RecutterParts, added_behind}
 use Rattle.lw_complete.specs.Starts.{IsLedBy, IsOfferedBy}
 use Rattle.lw_complete.specs.Tried.{IsTypedWith}
 use Rattle.lw_complete.proofs.NamedTried.{offered_by}

@@ -5,11 +5,11 @@ use Rattle.std.specs.Ordering.{nat_cmp}
 use Rattle.std.specs.declared.cmp.Ordering.TheVariants.{Less}
 use Rattle.std.proofs.lemmas.List.Filters.{dedup_is}
 use Rattle.std.proofs.lemmas.Result.{IfOk-weaker}
-use Rattle.lw_findings.specs.Finding.{Finds, OfSome}
+use Rattle.lw_faults.specs.Finding.{Finds, OfSome}
 use Rattle.lw_link.proofs.NamesSorted.{names_ordered, same_names}
-use Rattle.lw_offers.specs.Offers.{IsNameNext}
-use Rattle.lw_offers.specs.Words.{BeginsBy}
-use Rattle.lw_recipes.specs.Making.{AreRecipesOf}
+use Rattle.lw_places.specs.Offers.{IsNameNext}
+use Rattle.lw_places.specs.Words.{BeginsBy}
+use Rattle.lw_program.specs.Making.{AreRecipesOf}
 use Rattle.lw_viable.specs.Aims.{Sentence}
 use Rattle.lw_complete.specs.declared.known.Known.{Known}
 use Rattle.lw_complete.specs.Starts.{AllComeNext, AreTried, IsBlankKnown, IsKnownStart, IsNameFoundAt, IsOfferedBy, IsStartNext}

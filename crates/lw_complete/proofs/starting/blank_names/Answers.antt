@@ -1,7 +1,7 @@
 use Rattle.std.proofs.Common.{◌≡◌, ◌≢◌, List, length, sym, subst, ◌∙◌}
 use Rattle.std.proofs.lemmas.Bool.{true≢false}
 use Rattle.std.proofs.lemmas.Bool.Decides.{Decides-eqb}
-use Rattle.lw_recipes.specs.declared.mark.TreeMark.{TreeMark}
+use Rattle.lw_program.specs.declared.recipes.mark.TreeMark.{TreeMark}
 use Rattle.lw_complete.specs.Starts.{AreMarksBehind}
 use Rattle.lw_complete.proofs.BlankFound.{goes_on_none, has_blank_tree}
 use Rattle.lw_complete.proofs.starting.blank_names.Goals as goal

@@ -1,11 +1,11 @@
 use Rattle.std.proofs.Common.{◌≡◌, List, [], ◌∷◌, sym, subst, ◌∙◌}
 use Rattle.std.proofs.lemmas.Result.{IfOk-weaker}
 use Rattle.lw_base.specs.declared.token.Token.{Token}
-use Rattle.lw_marks.specs.Brackets.{Root}
-use Rattle.lw_marks.specs.Follows.{FollowsMarks}
-use Rattle.lw_marks.specs.Follows as f
-use Rattle.lw_marks.specs.Trees.{IsOpenedTree}
-use Rattle.lw_recipes.specs.Making.{AreRecipesOf}
+use Rattle.lw_reading.specs.Brackets.{Root}
+use Rattle.lw_reading.specs.Follows.{FollowsMarks}
+use Rattle.lw_reading.specs.Follows as f
+use Rattle.lw_reading.specs.Trees.{IsOpenedTree}
+use Rattle.lw_program.specs.Making.{AreRecipesOf}
 use Rattle.lw_tokens.specs.Cut.{visible}
 use Rattle.lw_complete.specs.Starts.{IsTreeOfBlank}
 use Rattle.lw_complete.specs.Typing.{grammar_of}

@@ -1,8 +1,8 @@
 use Rattle.std.proofs.Common.{◌≤◌, ◌++◌, ◌∷◌, [], List, take, length, sym, ap, subst, ◌∙◌, arith}
-use Rattle.lw_findings.specs.Finding.{Finds, OfSome}
-use Rattle.lw_findings.proofs.Joining.{Finds-all, Finds-begin, Finds-iff, Finds-more}
-use Rattle.lw_recipes.specs.declared.mark.TreeMark.{TreeMark}
-use Rattle.lw_recipes.specs.declared.mark.TreeMark.TheVariants as mark
+use Rattle.lw_faults.specs.Finding.{Finds, OfSome}
+use Rattle.lw_faults.proofs.Joining.{Finds-all, Finds-begin, Finds-iff, Finds-more}
+use Rattle.lw_program.specs.declared.recipes.mark.TreeMark.{TreeMark}
+use Rattle.lw_program.specs.declared.recipes.mark.TreeMark.TheVariants as mark
 use Rattle.lw_complete.proofs.BlankFound.{IsFoundBy, IsName, found_more, names_of_sentences, one_grows, only_found}
 use Rattle.lw_complete.proofs.starting.names_behind.Goals as goal
 

@@ -1,5 +1,5 @@
 use Rattle.std.proofs.Common.{[], ℕ, List, take}
-use Rattle.lw_findings.specs.Finding.{Finds, OfSome}
+use Rattle.lw_faults.specs.Finding.{Finds, OfSome}
 use Rattle.lw_parse.specs.Parsers.{ParserParts}
 use Rattle.lw_scoping.specs.Links.{Trees}
 use Rattle.lw_complete.specs.Starts.{AreMarksBehind, IsBlankReady}

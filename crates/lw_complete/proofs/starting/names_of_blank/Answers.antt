@@ -1,7 +1,7 @@
 use Rattle.std.proofs.Common.{ℕ, ◌↔◌, List, Contains}
 use Rattle.std.proofs.lemmas.Result.{IfOk-weaker}
-use Rattle.lw_offers.specs.Targets.{HasTarget, renamed_to}
-use Rattle.lw_scopes.specs.Links.{IsNumberBelow}
+use Rattle.lw_places.specs.Targets.{HasTarget, renamed_to}
+use Rattle.lw_link_rules.specs.Links.{IsNumberBelow}
 use Rattle.lw_complete.specs.Starts.{LeadsInBlank}
 use Rattle.lw_complete.specs.Typing.{grammar_of}
 use Rattle.lw_complete.proofs.BlankNamed.{known, leads_there, outwards, root, there_leads}

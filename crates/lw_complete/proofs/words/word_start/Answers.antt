@@ -1,7 +1,7 @@
 -- One byte more of the word, and where there is none.
 use Rattle.std.proofs.Common.{◌≡◌, ◌-◌, true, false, All, slice_index_or, sym, ap, ◌∙◌, subst, arith}
 use Rattle.std.proofs.lemmas.List.Elements.{All-cons}
-use Rattle.lw_gramread.specs.FileTokens.{is_word_part}
+use Rattle.lw_gramlex.specs.FileTokens.{is_word_part}
 use Rattle.lw_complete.proofs.TypedWords.{is_ascii, one_more, typed_at}
 use Rattle.lw_complete.proofs.words.word_start.Goals as goal
 

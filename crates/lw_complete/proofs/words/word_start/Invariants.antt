@@ -1,6 +1,6 @@
 -- All bytes from here on to the offset are of the word, and a character begins here.
 use Rattle.std.proofs.Common.{◌≡◌, ◌≤◌, true, All, slice_range, IsCharBoundary}
-use Rattle.lw_gramread.specs.FileTokens.{is_word_part}
+use Rattle.lw_gramlex.specs.FileTokens.{is_word_part}
 use Rattle.lw_complete.proofs.words.word_start.Given as goal
 
 abbrev pub invariant-word : goal.invariant-word

@@ -1,5 +1,5 @@
 use Rattle.std.proofs.Common.{◌<◌, ◌≤◌, true≢false, length, refl, sym, ◌∙◌, arith}
-use Rattle.lw_recut.specs.Recut.{added_behind}
+use Rattle.lw_lexer.specs.Recut.{added_behind}
 use Rattle.lw_complete.specs.Starts.{IsReadAt}
 use Rattle.lw_complete.proofs.KnownNext.{next_at}
 use Rattle.lw_complete.proofs.NoneSoFar.{none_all, none_first, none_more}

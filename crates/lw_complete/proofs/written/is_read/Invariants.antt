@@ -2,7 +2,7 @@ use Rattle.std.proofs.Common.{List, Contains, take}
 use Rattle.lw_grammar.specs.Kinds.{Kinds}
 use Rattle.lw_program.specs.Says.{Task}
 use Rattle.lw_tokens.specs.Lexicon.{Lexicon}
-use Rattle.lw_recut.specs.Recut.{added_behind}
+use Rattle.lw_lexer.specs.Recut.{added_behind}
 use Rattle.lw_complete.specs.declared.known.Known.{Known}
 use Rattle.lw_complete.specs.Starts.{AllComeNext, IsReadAt}
 use Rattle.lw_complete.specs.Tried.{IsWrittenFor}

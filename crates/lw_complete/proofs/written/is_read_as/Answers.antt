@@ -1,12 +1,12 @@
 use Rattle.std.proofs.Common.{◌≡◌, ◌≢◌, ◌↔◌, ◌∷◌, [], List, IsTrue, sym, ◌∙◌, subst}
 use Rattle.std.proofs.lemmas.Result.{IfOk-weaker}
 use Rattle.lw_base.specs.declared.token.Token.{Token}
-use Rattle.lw_begins.specs.Gives.{PlacesGive}
-use Rattle.lw_offers.specs.Starting.{ReferenceNext}
+use Rattle.lw_viable.specs.Gives.{PlacesGive}
+use Rattle.lw_places.specs.Starting.{ReferenceNext}
 use Rattle.lw_parse.specs.Parsers.{AreOfKinds}
 use Rattle.lw_tokens.specs.Cut.{kinds, visible}
 use Rattle.lw_viable.specs.Aims.{EndsSome}
-use Rattle.lw_recut.specs.Recut.{added, added_behind}
+use Rattle.lw_lexer.specs.Recut.{added, added_behind}
 use Rattle.lw_complete.specs.Starts.{ComesAt, IsReadAsStart}
 use Rattle.lw_complete.specs.Typing.{grammar_of}
 use Rattle.lw_complete.proofs.NamedWritten.{given, is_empty_there, never, none_read, not_empty_there, reference_put, unsaid}

@@ -1,7 +1,7 @@
 use Rattle.std.proofs.Common.{◌∙◌, ◌↔◌, IsTrue, true≢false, sym}
 use Rattle.std.proofs.lemmas.Result.{IfOk-weaker}
-use Rattle.lw_offers.specs.Starting.{ReferenceNext}
-use Rattle.lw_recut.specs.Recut.{added_behind}
+use Rattle.lw_places.specs.Starting.{ReferenceNext}
+use Rattle.lw_lexer.specs.Recut.{added_behind}
 use Rattle.lw_complete.specs.Starts.{ComesAt, IsReadAt, IsReadAsStart}
 use Rattle.lw_complete.proofs.NamedTried.{not_led, read_at}
 use Rattle.lw_complete.proofs.NamedWritten.{never}

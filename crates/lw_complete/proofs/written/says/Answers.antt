@@ -1,7 +1,7 @@
 use Rattle.std.proofs.Common.{sym, ap, ◌∙◌, subst}
 use Rattle.lw_builder.specs.Built.{ArePartsOf}
 use Rattle.lw_builder.proofs.AllMarks.{visible_parts}
-use Rattle.lw_recut.specs.Recut.{added}
+use Rattle.lw_lexer.specs.Recut.{added}
 use Rattle.lw_tokens.specs.Cut.{visible}
 use Rattle.lw_complete.proofs.written.says.Goals as goal
 

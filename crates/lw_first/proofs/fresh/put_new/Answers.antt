@@ -1,7 +1,7 @@
 use Rattle.std.proofs.Common.{◌≡◌, ◌+◌, if◌then◌else◌, length, ap, ◌∙◌, subst}
 use Rattle.std.proofs.lemmas.List.{take_all}
-use Rattle.lw_heads.specs.Sets.{AddsHeads, IsAmongHeads}
-use Rattle.lw_heads.proofs.HeadLemmas.{adds_next}
+use Rattle.lw_first.specs.Sets.{AddsHeads, IsAmongHeads}
+use Rattle.lw_first.proofs.HeadLemmas.{adds_next}
 use Rattle.lw_first.proofs.NewHeads.{new_more, new_same}
 use Rattle.lw_first.proofs.fresh.put_new.Goals as goal
 use Rattle.lw_first.proofs.fresh.put_new.Goals.{then-branch+in_ok-push, else-branch}

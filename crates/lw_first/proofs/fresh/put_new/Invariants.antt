@@ -1,5 +1,5 @@
 use Rattle.std.proofs.Common.{take}
-use Rattle.lw_heads.specs.Sets.{AddsHeads, IsAmongHeads}
+use Rattle.lw_first.specs.Sets.{AddsHeads, IsAmongHeads}
 use Rattle.lw_first.specs.New.{AreNew}
 use Rattle.lw_first.proofs.fresh.put_new.Given as goal
 

@@ -1,6 +1,6 @@
 use Rattle.std.proofs.Common.{true≢false, sym, ◌∙◌}
 use Rattle.std.proofs.lemmas.Result.{on_ok_weaker}
-use Rattle.lw_findings.proofs.Joining.{Finds-iff, Finds-nothing}
+use Rattle.lw_faults.proofs.Joining.{Finds-iff, Finds-nothing}
 use Rattle.lw_gramcheck.proofs.checking.find_where_calls_end.Goals as goal
 
 pub returns-then-not-has_no_circle : goal.returns-then-not-has_no_circle

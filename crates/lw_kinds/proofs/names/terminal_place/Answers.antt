@@ -1,5 +1,5 @@
 use Rattle.lw_numbers.specs.Numbering as numbering
-use Rattle.lw_sentences.proofs.Meaning.{one_of_two}
+use Rattle.lw_grammar.proofs.Meaning.{one_of_two}
 use Rattle.lw_kinds.proofs.names.terminal_place.Goals as goal
 
 pub returns-in-Rule : goal.returns-in-Rule

@@ -1,6 +1,6 @@
 use Rattle.std.proofs.lemmas.Result.{err_from_is_err_and}
-use Rattle.lw_patterns.proofs.EachPattern.{each_pattern}
-use Rattle.lw_terminals.specs.TokenKinds.{TokenKinds}
+use Rattle.lw_terminals.proofs.EachPattern.{each_pattern}
+use Rattle.lw_matchers.specs.TokenKinds.{TokenKinds}
 use Rattle.lw_lang.specs.Language.{LanguageView}
 use Rattle.lw_lang.proofs.BuildLemmas.{has_tokens, built_tokens, set_unlisted, few, want_causes, want_counts}
 use Rattle.lw_lang.proofs.FirstPlaces.{can_be_told}

@@ -1,7 +1,7 @@
 use Rattle.std.proofs.Common.{◌≡◌, ◌<◌, ℕ, List, length, get_or, slice_get, slice_set, Some, refl, sym, subst, ap, ◌∙◌, arith}
 use Rattle.std.proofs.lemmas.List.{set-get_or, length-map}
 use Rattle.std.proofs.lemmas.Option.{slice_get_read, slice_get_within}
-use Rattle.lw_lengths.specs.Known.{Tried}
+use Rattle.lw_matching.specs.Known.{Tried}
 use Rattle.lw_tokens.specs.Lexicon.{TerminalForm}
 use Rattle.lw_tokens.specs.Matching.{match_length}
 use Rattle.lw_tokens.specs.NextToken.{lengths}

@@ -1,12 +1,12 @@
 use Rattle.std.proofs.Common.{◌≤◌, ◌<◌, List, length, map, subst, ◌∙◌, arith}
 use Rattle.std.specs.List.{AllZip}
 use Rattle.std.proofs.lemmas.List.{take_all}
-use Rattle.lw_scopes.specs.Diagnostics.{alone_at}
-use Rattle.lw_scopes.specs.Links.{IsNumberBelow}
+use Rattle.lw_link_rules.specs.Diagnostics.{alone_at}
+use Rattle.lw_link_rules.specs.Links.{IsNumberBelow}
 use Rattle.lw_scoping.specs.Links.{Link, LinksTo}
 use Rattle.lw_tree.specs.declared.node.Reference.{Reference}
 use Rattle.lw_link.specs.Alone.{link_at}
-use Rattle.lw_link.proofs.Rows.{mapped_more}
+use Rattle.lw_base.proofs.Rows.{mapped_more}
 use Rattle.lw_link.proofs.alone.answers_alone.Goals as goal
 
 pub loop-reference-preserved : goal.loop-reference-preserved

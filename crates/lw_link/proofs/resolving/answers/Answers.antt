@@ -2,11 +2,11 @@ use Rattle.std.proofs.Common.{◌≤◌, ◌<◌, List, [], ◌∷◌, ◌++◌,
 use Rattle.std.specs.List.{AllZip}
 use Rattle.std.proofs.lemmas.List.{take_all}
 use Rattle.std.proofs.lemmas.List.Elements.{All-push, All-same}
-use Rattle.lw_scopes.specs.Links.{IsNumberBelow}
+use Rattle.lw_link_rules.specs.Links.{IsNumberBelow}
 use Rattle.lw_scoping.specs.Links.{Link, LinksTo}
 use Rattle.lw_tree.specs.declared.node.Reference.{Reference}
 use Rattle.lw_link.specs.Indexed.{LeadsIntoHeld, link_of}
-use Rattle.lw_link.proofs.Rows.{mapped_more}
+use Rattle.lw_base.proofs.Rows.{mapped_more}
 use Rattle.lw_link.proofs.resolving.answers.Goals as goal
 
 pub loop-reference-preserved : goal.loop-reference-preserved

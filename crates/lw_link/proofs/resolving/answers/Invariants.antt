@@ -1,7 +1,7 @@
 use Rattle.std.proofs.Common.{ℕ, ◌≡◌, ◌≤◌, ◌+◌, List, All, length, map, take}
 use Rattle.std.specs.List.{AllZip}
 use Rattle.lw_grammar.specs.declared.grammar.Grammar.{Grammar}
-use Rattle.lw_scopes.specs.Links.{IsNumberBelow}
+use Rattle.lw_link_rules.specs.Links.{IsNumberBelow}
 use Rattle.lw_scoping.specs.Links.{LinksTo, Trees}
 use Rattle.lw_types.specs.Inferred.{AreTypesOf}
 use Rattle.lw_link.specs.Indexed.{IsDocumentOf, IsIndexOf, LeadsIntoHeld, link_of}

@@ -2,7 +2,7 @@ use Rattle.std.proofs.Common.{◌<◌, ◌≤◌, length, get_or, arith}
 use Rattle.std.proofs.lemmas.List.{get_or_default}
 use Rattle.std.proofs.lemmas.List.Elements.{Contains-get_or}
 use Rattle.lw_base.specs.declared.numbers.NodeId.{NodeId}
-use Rattle.lw_findings.proofs.Joining.{Finds-all, Finds-begin, Finds-more}
+use Rattle.lw_faults.proofs.Joining.{Finds-all, Finds-begin, Finds-more}
 use Rattle.lw_link.specs.Visible.{IsNameOf}
 use Rattle.lw_link.proofs.targets.put_names.Goals as goal
 

@@ -1,6 +1,6 @@
 use Rattle.std.proofs.Common.{[], get_or}
 use Rattle.lw_numbers.specs.Numbering.{type_names}
-use Rattle.lw_outcomes.proofs.Types.{tells_types}
+use Rattle.lw_machine.proofs.Types.{tells_types}
 use Rattle.lw_link.proofs.Known.{want_named}
 use Rattle.lw_link.proofs.Reached.{are_visible}
 use Rattle.lw_link.proofs.targets.visible.Goals as goal

@@ -1,5 +1,5 @@
 use Rattle.std.proofs.Common.{◌≢◌, refl, subst, rules}
-use Rattle.lw_syntax.specs.declared.reader.ReadFault.TheVariants.{NoMemory}
+use Rattle.lw_gramread.specs.declared.reader.ReadFault.TheVariants.{NoMemory}
 use Rattle.lw_text.specs.Position.{IsPosition}
 use Rattle.lw_load.proofs.opening.refusal.Goals as goal
 

@@ -1,8 +1,8 @@
 use Rattle.std.proofs.Common.{get_or, sym, ap, ◌∙◌, subst, arith, rules, true≢false}
 use Rattle.std.proofs.lemmas.List.{take_all}
 use Rattle.lw_grammar.specs.KindTexts.{texts_of}
-use Rattle.lw_heads.specs.declared.head.Head.TheVariants.{Nothing}
-use Rattle.lw_heads.specs.Heads.{seen_in}
+use Rattle.lw_first.specs.declared.heads.head.Head.TheVariants.{Nothing}
+use Rattle.lw_first.specs.Heads.{seen_in}
 use Rattle.lw_lookahead.specs.Printed.{window_text}
 use Rattle.lw_lookahead.specs.Shared.{IsFirstPrintedOf}
 use Rattle.lw_lookahead.proofs.FirstPrinted.{IsOne, kept_next, passed_next}

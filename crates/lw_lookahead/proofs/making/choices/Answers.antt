@@ -1,6 +1,6 @@
 use Rattle.std.proofs.Common.{length, sym, ap, subst, ◌∙◌}
 use Rattle.lw_look.specs.Heads.{AreClosedAfters, AreClosedHeads, AreTrueAfters, AreTrueHeads}
-use Rattle.lw_heads.specs.Sets.{IsInSet}
+use Rattle.lw_first.specs.Sets.{IsInSet}
 use Rattle.lw_lookahead.specs.Faults.{look_fault}
 use Rattle.lw_lookahead.specs.Seen.{CausesNoChoices}
 use Rattle.lw_lookahead.proofs.FoundChoices.{choices_few, choices_seen, err_causes, fault_causes, strings_few}

@@ -2,7 +2,7 @@ use Rattle.std.proofs.Common.{◌++◌, sym, ap, ◌∙◌}
 use Rattle.std.specs.Option.{option_map}
 use Rattle.lw_base.specs.declared.numbers.KindId.{KindId}
 use Rattle.lw_grammar.specs.KindTexts.{texts_of}
-use Rattle.lw_heads.specs.Heads.{seen_in}
+use Rattle.lw_first.specs.Heads.{seen_in}
 use Rattle.lw_lookahead.specs.Printed.{window_text, shown, spaced}
 use Rattle.lw_lookahead.proofs.PrintSteps.{printed_spaced}
 use Rattle.lw_lookahead.proofs.printed.print.Goals as goal

@@ -2,7 +2,7 @@ use Rattle.std.proofs.Common.{◌≡◌, ◌++◌, sym, subst, append-nil}
 use Rattle.std.specs.Prelude.{string_bytes}
 use Rattle.std.proofs.lemmas.List.{take_all}
 use Rattle.lw_grammar.specs.KindTexts.{texts_of}
-use Rattle.lw_heads.specs.Heads.{seen_in}
+use Rattle.lw_first.specs.Heads.{seen_in}
 use Rattle.lw_lookahead.specs.Printed.{spaced}
 use Rattle.lw_lookahead.proofs.PrintSteps.{pushes_more}
 use Rattle.lw_lookahead.proofs.printed.push_others.Goals as goal

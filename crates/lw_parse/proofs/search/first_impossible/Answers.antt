@@ -4,9 +4,9 @@ use Rattle.std.proofs.lemmas.List.{take_all}
 use Rattle.lw_grammar.specs.declared.grammar.Grammar.{Grammar}
 use Rattle.lw_grammar.specs.Kinds.{Kinds, kind_count}
 use Rattle.lw_grammar.specs.Named.{IsEntry}
-use Rattle.lw_sentences.specs.Sentences.{Starts}
+use Rattle.lw_grammar.specs.Sentences.{Starts}
 use Rattle.lw_program.specs.ProgramOf.{ProgramParts}
-use Rattle.lw_begins.specs.Told.{BeginsParts}
+use Rattle.lw_viable.specs.Told.{BeginsParts}
 use Rattle.lw_viable.specs.Aims.{Sentence}
 use Rattle.lw_viable.specs.Fronts.{HoldReadings, IsKnownProgram, IsProgramWith}
 use Rattle.lw_parse.specs.Outcomes.{CanStand, kinds_seen}

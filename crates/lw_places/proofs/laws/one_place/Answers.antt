@@ -1,5 +1,5 @@
 -- The orders are strict, and a reference has one link.
-use Rattle.lw_scopes.specs.Links.{IsNumberBelow}
+use Rattle.lw_link_rules.specs.Links.{IsNumberBelow}
 use Rattle.lw_places.proofs.OneMeant.{one_list, one_meant}
 use Rattle.lw_places.proofs.OnePlace.{one_place}
 use Rattle.lw_places.proofs.laws.one_place.Goals as goal

@@ -1,8 +1,8 @@
 use Rattle.std.proofs.Common.{map, subst, arith}
 use Rattle.std.proofs.lemmas.List.{take_all}
 use Rattle.lw_faults.specs.Properties.{NotASubtype}
-use Rattle.lw_findings.specs.Finding.{Finds, OfSome}
-use Rattle.lw_findings.proofs.Joining.{Finds-told}
+use Rattle.lw_faults.specs.Finding.{Finds, OfSome}
+use Rattle.lw_faults.proofs.Joining.{Finds-told}
 use Rattle.lw_properties.proofs.Recording.{told_not_below, not_below_there}
 use Rattle.lw_properties.specs.Told.{NotBelowAt}
 use Rattle.lw_properties.specs.Places.{spot_of}

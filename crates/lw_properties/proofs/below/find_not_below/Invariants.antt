@@ -1,5 +1,5 @@
 use Rattle.std.proofs.Common.{map, take}
-use Rattle.lw_findings.specs.Finding.{Finds, OfSome}
+use Rattle.lw_faults.specs.Finding.{Finds, OfSome}
 use Rattle.lw_properties.specs.Places.{spot_of}
 use Rattle.lw_properties.specs.Told.{NotBelowAt}
 use Rattle.lw_properties.proofs.below.find_not_below.Given as goal

@@ -1,9 +1,9 @@
 use Rattle.std.proofs.Common.{◌≡◌, ◌↔◌, true, OnOk, refl, sym, subst}
 use Rattle.std.proofs.lemmas.Option.{none-some, same_Some}
 use Rattle.lw_faults.specs.Faults.{fault}
-use Rattle.lw_findings.specs.Finding.{Finds}
-use Rattle.lw_findings.proofs.Joining.{Finds-nothing}
-use Rattle.lw_leaves.specs.Parts.{leaf_of}
+use Rattle.lw_faults.specs.Finding.{Finds}
+use Rattle.lw_faults.proofs.Joining.{Finds-nothing}
+use Rattle.lw_numbers.specs.Parts.{leaf_of}
 use Rattle.lw_properties.specs.Told.{NotBelowHere, FallsOut}
 use Rattle.lw_properties.proofs.Found.{found_if}
 use Rattle.lw_properties.proofs.below.not_below_at.Goals as goal

@@ -2,8 +2,8 @@ use Rattle.std.proofs.Common.{◌⊎◌, List, Result, Ok, Err, OnOk, map, sym, 
 use Rattle.lw_base.specs.declared.memory.NoMemory.{NoMemory}
 use Rattle.lw_faults.specs.Properties.{NotASubtype}
 use Rattle.lw_grammar.specs.declared.fault.GrammarFault.{GrammarFault}
-use Rattle.lw_findings.specs.Finding.{Finds, IsFaultOf}
-use Rattle.lw_findings.proofs.Joining.{Finds-then}
+use Rattle.lw_faults.specs.Finding.{Finds, IsFaultOf}
+use Rattle.lw_faults.proofs.Joining.{Finds-then}
 use Rattle.lw_properties.proofs.find.find_property_faults.Goals as goal
 
 one_by_one : {A B C : GrammarFault → Type 0} (D : GrammarFault → Type 0) {a b c d : List GrammarFault} (e : List GrammarFault) → Finds A a b → Finds B b c → Finds C c d →

@@ -1,7 +1,7 @@
 use Rattle.std.proofs.Common.{◌≡◌, ◌↔◌, true, OnOk, sym, subst}
 use Rattle.lw_faults.specs.Faults.{fault}
-use Rattle.lw_findings.specs.Finding.{Finds}
-use Rattle.lw_leaves.specs.Parts.{leaf_of}
+use Rattle.lw_faults.specs.Finding.{Finds}
+use Rattle.lw_numbers.specs.Parts.{leaf_of}
 use Rattle.lw_properties.specs.Asked.{MisfitsProperty, SomeType}
 use Rattle.lw_properties.specs.Told.{MisformedHere}
 use Rattle.lw_properties.proofs.Found.{found_if}

@@ -1,6 +1,6 @@
 use Rattle.std.proofs.Common.{OnOk, sym, subst}
 use Rattle.lw_faults.specs.Faults.{fault}
-use Rattle.lw_findings.specs.Finding.{Finds}
+use Rattle.lw_faults.specs.Finding.{Finds}
 use Rattle.lw_properties.specs.Told.{MisformedPut}
 use Rattle.lw_properties.proofs.Found.{found_if}
 use Rattle.lw_properties.proofs.forms.wrong_put.Goals as goal

@@ -1,5 +1,5 @@
 use Rattle.std.proofs.Common.{[], map, subst}
-use Rattle.lw_findings.specs.Finding.{Finds, OfSome}
+use Rattle.lw_faults.specs.Finding.{Finds, OfSome}
 use Rattle.lw_properties.specs.Places.{spot_of}
 use Rattle.lw_properties.specs.Mixing.{RuleInfers}
 use Rattle.lw_properties.proofs.Freeing.{inferred_known}

@@ -1,7 +1,7 @@
 use Rattle.std.proofs.Common.{sym, subst}
-use Rattle.lw_findings.specs.Finding.{Finds}
-use Rattle.lw_findings.proofs.Joining.{Finds-where}
-use Rattle.lw_leaves.specs.Parts.{leaf_of}
+use Rattle.lw_faults.specs.Finding.{Finds}
+use Rattle.lw_faults.proofs.Joining.{Finds-where}
+use Rattle.lw_numbers.specs.Parts.{leaf_of}
 use Rattle.lw_properties.specs.Mixing.{LeafInfers}
 use Rattle.lw_properties.proofs.inferred.put_action.Goals as goal
 

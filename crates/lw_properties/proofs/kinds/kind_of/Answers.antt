@@ -4,7 +4,7 @@ use Rattle.std.proofs.lemmas.Option.{same_Some}
 use Rattle.lw_grammar.specs.Leaves.{Literal, Cross}
 use Rattle.lw_faults.specs.Attributes.{IsKindOf}
 use Rattle.lw_faults.specs.Attributes as known
-use Rattle.lw_leaves.specs.Parts.{value_leaf_of}
+use Rattle.lw_numbers.specs.Parts.{value_leaf_of}
 use Rattle.lw_properties.proofs.ValueKinds.{literal_kind, cross_kind, kind_of_cross}
 use Rattle.lw_properties.proofs.kinds.kind_of.Goals as goal
 

@@ -1,6 +1,6 @@
 use Rattle.std.proofs.Common.{[], map, sym, subst}
 use Rattle.lw_faults.specs.Properties.{MixedProperty}
-use Rattle.lw_findings.specs.Finding.{Finds, OfSome}
+use Rattle.lw_faults.specs.Finding.{Finds, OfSome}
 use Rattle.lw_properties.specs.Places.{spot_of}
 use Rattle.lw_properties.specs.Mixing.{putting_of, PutAt}
 use Rattle.lw_properties.proofs.Found.{found_told}

@@ -1,5 +1,5 @@
 use Rattle.std.proofs.Common.{[], map}
-use Rattle.lw_findings.specs.Finding.{Finds}
+use Rattle.lw_faults.specs.Finding.{Finds}
 use Rattle.lw_properties.specs.Places.{spot_of}
 use Rattle.lw_properties.proofs.Standing.{ComesBefore}
 use Rattle.lw_properties.proofs.places.places.Given as goal

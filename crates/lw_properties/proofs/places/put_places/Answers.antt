@@ -3,8 +3,8 @@ use Rattle.std.proofs.lemmas.List.{map-append, length-map}
 use Rattle.std.proofs.lemmas.Option.{slice_get-map, slice_get-get_or}
 use Rattle.std.specs.Option.{option_map}
 use Rattle.lw_grammar.specs.Leaves.{leaves}
-use Rattle.lw_findings.specs.Finding.{Finds}
-use Rattle.lw_leaves.specs.Parts.{leaf_of}
+use Rattle.lw_faults.specs.Finding.{Finds}
+use Rattle.lw_numbers.specs.Parts.{leaf_of}
 use Rattle.lw_properties.specs.Places.{spot_of}
 use Rattle.lw_properties.proofs.Standing.{StandsBefore, none_stands, one_stands, all_stand}
 use Rattle.lw_properties.proofs.places.put_places.Goals as goal

@@ -1,7 +1,7 @@
 use Rattle.std.proofs.Common.{◌≡◌, List, Some, slice_get, map}
 use Rattle.lw_grammar.specs.Leaves.{leaves}
-use Rattle.lw_findings.specs.Finding.{Finds}
-use Rattle.lw_ways.specs.declared.before.Before.{Before}
+use Rattle.lw_faults.specs.Finding.{Finds}
+use Rattle.lw_flow.specs.declared.before.Before.{Before}
 use Rattle.lw_properties.specs.Places.{spot_of}
 use Rattle.lw_properties.proofs.Standing.{StandsBefore}
 use Rattle.lw_properties.proofs.places.put_places.Given as goal

@@ -1,7 +1,7 @@
 use Rattle.std.proofs.Common.{◌∷◌, ◌++◌, [], map, sym, ap, ◌∙◌, subst}
 use Rattle.std.proofs.lemmas.List.{map-append}
-use Rattle.lw_findings.specs.Finding.{Finds}
-use Rattle.lw_findings.proofs.Joining.{Finds-one, Finds-where, Finds-unless}
+use Rattle.lw_faults.specs.Finding.{Finds}
+use Rattle.lw_faults.proofs.Joining.{Finds-one, Finds-where, Finds-unless}
 use Rattle.lw_properties.specs.Mixing.{putting_of, PutBy}
 use Rattle.lw_properties.proofs.Asking.{ruled_out}
 use Rattle.lw_properties.proofs.puts.put_action.Goals as goal

@@ -1,8 +1,8 @@
 use Rattle.std.proofs.Common.{OnOk, map, sym, subst}
 use Rattle.lw_faults.specs.Properties.{is_list}
-use Rattle.lw_findings.specs.Finding.{Finds, OfSome}
+use Rattle.lw_faults.specs.Finding.{Finds, OfSome}
 use Rattle.lw_grammar.specs.Leaves.{Assign}
-use Rattle.lw_leaves.specs.Parts.{leaf_of}
+use Rattle.lw_numbers.specs.Parts.{leaf_of}
 use Rattle.lw_properties.specs.Mixing.{putting_of, PutHere, PutsIn}
 use Rattle.lw_properties.proofs.Found.{found_as}
 use Rattle.lw_properties.proofs.Putting.{puts_current}

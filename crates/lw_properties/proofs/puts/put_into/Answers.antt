@@ -1,6 +1,6 @@
 use Rattle.std.proofs.Common.{◌∷◌, ◌++◌, [], map, sym, ap, ◌∙◌, subst}
 use Rattle.std.proofs.lemmas.List.{map-append}
-use Rattle.lw_findings.specs.Finding.{Finds}
+use Rattle.lw_faults.specs.Finding.{Finds}
 use Rattle.lw_properties.specs.Mixing.{putting_of, PutsIn}
 use Rattle.lw_properties.proofs.Asking.{ruled_out}
 use Rattle.lw_properties.proofs.Putting.{puts_one, puts_none}

@@ -1,5 +1,5 @@
 use Rattle.lw_properties.proofs.Found.{get_or_same}
-use Rattle.lw_findings.proofs.Joining.{Finds-more}
+use Rattle.lw_faults.proofs.Joining.{Finds-more}
 use Rattle.lw_properties.specs.Mixing.{PutsIn}
 use Rattle.lw_properties.proofs.puts.put_into_all.Goals as goal
 

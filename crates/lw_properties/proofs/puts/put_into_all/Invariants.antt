@@ -1,5 +1,5 @@
 use Rattle.std.proofs.Common.{map, take}
-use Rattle.lw_findings.specs.Finding.{Finds, OfSome}
+use Rattle.lw_faults.specs.Finding.{Finds, OfSome}
 use Rattle.lw_properties.specs.Mixing.{PutsIn, putting_of}
 use Rattle.lw_properties.proofs.puts.put_into_all.Given as goal
 

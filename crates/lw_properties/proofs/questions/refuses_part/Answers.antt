@@ -4,7 +4,7 @@ use Rattle.std.proofs.lemmas.Bool.{false≢true}
 use Rattle.std.proofs.lemmas.List.{map-append, take_more, take_all}
 use Rattle.std.proofs.lemmas.Option.{none-some, same_Some, slice_get-map, slice_get-get_or}
 use Rattle.lw_faults.specs.Properties.{IsRefusedKind}
-use Rattle.lw_leaves.specs.Parts.{value_leaf_of}
+use Rattle.lw_numbers.specs.Parts.{value_leaf_of}
 use Rattle.lw_properties.specs.Asked.{RefusesSome}
 use Rattle.lw_properties.specs.Kinds.{kind_of_value}
 use Rattle.lw_properties.proofs.Apart.{at_its_place}

@@ -1,5 +1,5 @@
 use Rattle.std.proofs.Common.{map, take}
-use Rattle.lw_leaves.specs.Parts.{value_leaf_of}
+use Rattle.lw_numbers.specs.Parts.{value_leaf_of}
 use Rattle.lw_properties.specs.Asked.{RefusesSome}
 use Rattle.lw_properties.proofs.questions.refuses_part.Given as goal
 

@@ -1,4 +1,4 @@
-use Rattle.lw_findings.proofs.Joining.{Finds-where}
+use Rattle.lw_faults.proofs.Joining.{Finds-where}
 use Rattle.lw_properties.proofs.telling.tell_if.Goals as goal
 
 pub returns-in_ok-add : goal.returns-in_ok-add

@@ -1,6 +1,6 @@
 -- What is meant has a name, and its spot is that of the name.
 use Rattle.std.proofs.Common.{sym, subst}
-use Rattle.lw_scopes.specs.Links.{IsNumberBelow}
+use Rattle.lw_link_rules.specs.Links.{IsNumberBelow}
 use Rattle.lw_query.proofs.Meant.{IsDefinedBy, node_defined, nothing_defined}
 use Rattle.lw_query.proofs.asking.definition.Goals as goal
 

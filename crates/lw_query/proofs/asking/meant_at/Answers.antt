@@ -1,6 +1,6 @@
 -- A place leads where its answer does.
 use Rattle.std.proofs.Common.{sym, subst}
-use Rattle.lw_scopes.specs.Links.{IsNumberBelow}
+use Rattle.lw_link_rules.specs.Links.{IsNumberBelow}
 use Rattle.lw_query.proofs.Meant.{IsMeantBy, meant_by_place, missing_without_tree}
 use Rattle.lw_query.proofs.asking.meant_at.Goals as goal
 

@@ -1,5 +1,5 @@
 -- What is gathered are the mentions of what is meant.
-use Rattle.lw_scopes.specs.Links.{IsNumberBelow}
+use Rattle.lw_link_rules.specs.Links.{IsNumberBelow}
 use Rattle.lw_places.specs.Mentions.{mentioned, nothing_meant}
 use Rattle.lw_query.proofs.Meant.{found_there, nothing_meant_by}
 use Rattle.lw_query.proofs.Mentioned.{are_mentions}

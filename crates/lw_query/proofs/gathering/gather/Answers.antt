@@ -1,7 +1,7 @@
 -- The name is put in and then the references, beside nothing.
 use Rattle.std.proofs.Common.{List, Contains, ◌↔◌, sym, subst, ◌∙◌}
-use Rattle.lw_refs.specs.Users.{IsUser}
-use Rattle.lw_refs.specs.declared.slot.SlotId.{SlotId}
+use Rattle.lw_index.specs.Users.{IsUser}
+use Rattle.lw_index.specs.declared.refs.slot.SlotId.{SlotId}
 use Rattle.lw_query.specs.Gathered.{PutsSpots, SpotKey}
 use Rattle.lw_query.specs.Spots.{IsSpotOfMention}
 use Rattle.lw_query.proofs.Putting.{gathered}

@@ -3,7 +3,7 @@ use Rattle.std.specs.Prelude.{if◌then◌else◌}
 use Rattle.std.specs.Result.{is_err, is_ok}
 use Rattle.std.proofs.lemmas.Option.{slice_get_read}
 use Rattle.lw_base.specs.declared.token.Span.{Span}
-use Rattle.lw_rooted.specs.Within.{IsInText}
+use Rattle.lw_reading.specs.Within.{IsInText}
 use Rattle.lw_rename.specs.Rereading.{AreAgain, IsAgain, IsSpoiled}
 use Rattle.lw_rename.proofs.Rounds.{again_more, or_so, spoiled_first}
 use Rattle.lw_rename.proofs.again.all_again.Goals as goal

@@ -1,6 +1,6 @@
 use Rattle.lw_rename.specs.Rereading.{Spoils, reshaped, unreadable}
 use Rattle.lw_rename.specs.declared.fault.RenameFault.TheVariants.{NotParsed, Shape}
-use Rattle.lw_renaming.specs.Replacing.{replaced}
+use Rattle.lw_places.specs.Replacing.{replaced}
 use Rattle.lw_rename.proofs.Rounds.{told_or}
 use Rattle.lw_rename.proofs.again.edited.Goals as goal
 

@@ -1,8 +1,8 @@
 use Rattle.std.proofs.Common.{ℕ, ◌<◌, List, length, subst₂}
 use Rattle.lw_base.specs.declared.limits.TheConstants.{LONGEST_DOCUMENT}
 use Rattle.lw_reading.specs.Reading.{too_large}
-use Rattle.lw_renaming.specs.Renamed.{broken}
-use Rattle.lw_renaming.specs.Replacing.{replaced}
+use Rattle.lw_places.specs.Renamed.{broken}
+use Rattle.lw_places.specs.Replacing.{replaced}
 use Rattle.lw_rename.proofs.again.read_replaced.Goals as goal
 
 pub returns-in-Ok-None : goal.returns-in-Ok-None

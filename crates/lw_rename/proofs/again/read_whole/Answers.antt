@@ -1,5 +1,5 @@
 use Rattle.std.proofs.Common.{subst}
-use Rattle.lw_renaming.specs.Renamed.{CannotBeRead, broken}
+use Rattle.lw_places.specs.Renamed.{CannotBeRead, broken}
 use Rattle.lw_rename.proofs.again.read_whole.Goals as goal
 
 pub returns-in-Ok-Broken : goal.returns-in-Ok-Broken

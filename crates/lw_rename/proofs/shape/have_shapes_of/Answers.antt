@@ -5,7 +5,7 @@ use Rattle.lw_base.specs.declared.numbers.NodeId.{NodeId}
 use Rattle.lw_base.specs.declared.numbers.PropId.{PropId}
 use Rattle.lw_tree.specs.declared.node.Value.{Value}
 use Rattle.lw_tree.specs.Keyed.{Entries, values_of}
-use Rattle.lw_renaming.specs.Shapes.{ValueShape, shape_of_value}
+use Rattle.lw_places.specs.Shapes.{ValueShape, shape_of_value}
 use Rattle.lw_rename.proofs.Listing.{mapped_at, not_both, one_below_more, same_by_places}
 use Rattle.lw_rename.proofs.shape.have_shapes_of.Goals as goal
 

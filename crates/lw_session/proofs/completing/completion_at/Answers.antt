@@ -9,7 +9,7 @@ use Rattle.lw_grammar.specs.declared.grammar.Grammar.{Grammar}
 use Rattle.lw_link.specs.Visible.{IsNumberAt}
 use Rattle.lw_machine.specs.Documents.{present_texts}
 use Rattle.lw_rpc.specs.declared.reply.Outcome.TheVariants.{Offers}
-use Rattle.lw_scopes.specs.Links.{AreTreesOfTexts}
+use Rattle.lw_link_rules.specs.Links.{AreTreesOfTexts}
 use Rattle.lw_session.specs.Completing.{IsItemTold, TakesWord}
 use Rattle.lw_session.proofs.Asked.{none_held}
 use Rattle.lw_session.proofs.Offered.{same_text, take_words, tells_offers}

@@ -1,6 +1,6 @@
 use Rattle.std.proofs.Common.{subst, sym, arith}
 use Rattle.std.specs.List.{AllZip}
-use Rattle.lw_link.proofs.Rows.{zip_more}
+use Rattle.lw_base.proofs.Rows.{zip_more}
 use Rattle.lw_session.specs.Completing.{IsItemTold}
 use Rattle.lw_session.proofs.completing.told_items.Goals as goal
 

@@ -1,5 +1,5 @@
 use Rattle.std.proofs.Common.{ℕ, List, Option, MatchOption, refl, subst}
-use Rattle.lw_paths.specs.Paths.{HasNoPath, IsPathOf}
+use Rattle.lw_io.specs.Paths.{HasNoPath, IsPathOf}
 use Rattle.lw_session.proofs.Moved.{asked_once, not_asked}
 use Rattle.lw_session.proofs.files.find_file.Goals as goal
 

@@ -1,7 +1,7 @@
 use Rattle.std.proofs.Common.{subst, sym, arith}
 use Rattle.std.specs.List.{AllZip}
 use Rattle.std.proofs.lemmas.List.{get_or_default}
-use Rattle.lw_link.proofs.Rows.{zip_more}
+use Rattle.lw_base.proofs.Rows.{zip_more}
 use Rattle.lw_session.specs.Locating.{IsLocated}
 use Rattle.lw_session.proofs.locating.locations_of.Goals as goal
 

@@ -1,7 +1,7 @@
 use Rattle.std.proofs.Common.{subst, sym, arith}
 use Rattle.std.specs.List.{AllZip}
 use Rattle.lw_build.specs.Readings.{present_texts_of}
-use Rattle.lw_link.proofs.Rows.{zip_more}
+use Rattle.lw_base.proofs.Rows.{zip_more}
 use Rattle.lw_session.specs.Editing.{AreFileEdits}
 use Rattle.lw_session.proofs.renaming.all_edits.Goals as goal
 

@@ -4,7 +4,7 @@ use Rattle.lw_build.specs.Readings.{present_texts_of}
 use Rattle.lw_conversation.specs.Asking as tell
 use Rattle.lw_conversation.specs.Asking.{IsRefusalText}
 use Rattle.lw_rename.specs.Grouped.{link_told}
-use Rattle.lw_renaming.specs.Renamed as refusal
+use Rattle.lw_places.specs.Renamed as refusal
 use Rattle.lw_session.specs.Editing.{IsPlacedFault}
 use Rattle.lw_session.proofs.Renames.{tells_no_name, tells_not_parsed, tells_rebound, tells_shape, told_rebound}
 use Rattle.lw_session.proofs.renaming.refusal_text.Goals as goal

@@ -2,7 +2,7 @@ use Rattle.std.proofs.Common.{subst, sym, arith}
 use Rattle.std.specs.List.{AllZip}
 use Rattle.std.proofs.lemmas.List.{get_or_default}
 use Rattle.lw_conversation.specs.Asking.{IsEditOf}
-use Rattle.lw_link.proofs.Rows.{zip_more}
+use Rattle.lw_base.proofs.Rows.{zip_more}
 use Rattle.lw_session.proofs.renaming.span_edits.Goals as goal
 
 pub spans-preserved : goal.spans-preserved

@@ -1,5 +1,5 @@
 use Rattle.std.proofs.Common.{ℕ, get_or, length, ◌<◌, arith}
-use Rattle.lw_subtypes.proofs.Lists.{get_or_any}
+use Rattle.lw_base.proofs.Lists.{get_or_any}
 use Rattle.lw_types.proofs.SetLemmas.{widens_none, widens_more}
 use Rattle.lw_types.proofs.sets.put_above.Goals as goal
 

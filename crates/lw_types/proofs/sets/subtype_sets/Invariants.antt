@@ -1,7 +1,7 @@
 use Rattle.std.proofs.Common.{◌≡◌, length}
 use Rattle.lw_grammar.specs.declared.grammar.Grammar.{Grammar}
 use Rattle.lw_numbers.specs.Tables.{AreNumbersOf}
-use Rattle.lw_subtypes.specs.Kinship.{AreSubtypesOf}
+use Rattle.lw_numbers.specs.Kinship.{AreSubtypesOf}
 use Rattle.lw_types.specs.Sets.{AreSetsOf}
 use Rattle.lw_types.proofs.sets.subtype_sets.Given as goal
 

@@ -1,6 +1,6 @@
 -- What was listed, and what is left of the list.
 use Rattle.std.proofs.Common.{◌≡◌, ◌++◌}
-use Rattle.lw_chains.specs.Chains.{chain}
+use Rattle.lw_viable.specs.Chains.{chain}
 use Rattle.lw_viable.proofs.listed.listed.Given as goal
 
 abbrev pub invariant-cells : goal.invariant-cells

@@ -1,7 +1,7 @@
 -- A node opens, or there is the body alone.
 use Rattle.std.proofs.Common.{[], ◌∷◌, None, Some, sym, ◌∙◌, subst, true≢false}
 use Rattle.std.proofs.lemmas.Result.{on_ok_weaker}
-use Rattle.lw_recipes.specs.declared.mark.TreeMark.TheVariants as mark
+use Rattle.lw_program.specs.declared.recipes.mark.TreeMark.TheVariants as mark
 use Rattle.lw_viable.specs.Growing.{Change}
 use Rattle.lw_viable.specs.Turning.{Enters}
 use Rattle.lw_viable.specs.Turning as turn

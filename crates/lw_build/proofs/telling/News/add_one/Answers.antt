@@ -2,7 +2,7 @@ use Rattle.std.proofs.Common.{List, Option, option_and_then, option_map, Result,
 use Rattle.std.proofs.lemmas.Result.{on_ok_weaker}
 use Rattle.lw_docs.specs.Documents.{Numbered, numbered}
 use Rattle.lw_index.specs.declared.parts.Answer.{Answer}
-use Rattle.lw_scopes.specs.Links.{IsNumberBelow}
+use Rattle.lw_link_rules.specs.Links.{IsNumberBelow}
 use Rattle.lw_tree.specs.Parts.{Parts}
 use Rattle.lw_build.specs.Linked.{AreLinkAnswers, AreLinksKept, IsIndexedAt, StandsNumbered}
 use Rattle.lw_build.specs.Readings.{present_texts_of, tree_numbered, tree_of, trees_of}

@@ -4,7 +4,7 @@ use Rattle.lw_docs.specs.Documents.{Numbered}
 use Rattle.lw_link.specs.Indexed.{IsIndexOf}
 use Rattle.lw_link.specs.Visible.{IsNumberAt}
 use Rattle.lw_machine.specs.Documents.{present_texts}
-use Rattle.lw_scopes.specs.Links.{AreTreesOfTexts}
+use Rattle.lw_link_rules.specs.Links.{AreTreesOfTexts}
 use Rattle.lw_scoping.specs.Links.{Trees}
 use Rattle.lw_build.specs.Readings.{trees_of}
 use Rattle.lw_build.specs.View.{WorkspaceView, documents}

@@ -5,7 +5,7 @@ use Rattle.std.proofs.lemmas.Bool.{false≢true}
 use Rattle.lw_docs.specs.Documents.{ByAddress, numbered}
 use Rattle.lw_machine.specs.Documents.{Documents, shown_texts}
 use Rattle.lw_machine.specs.Settling.{IsSettled}
-use Rattle.lw_outcomes.proofs.Types.{tells_types}
+use Rattle.lw_machine.proofs.Types.{tells_types}
 use Rattle.lw_build.specs.Agreeing.{Agrees}
 use Rattle.lw_build.specs.Faults as faults
 use Rattle.lw_build.specs.Faults.{IsRemovalFault}

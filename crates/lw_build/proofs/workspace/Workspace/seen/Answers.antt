@@ -1,8 +1,8 @@
 use Rattle.std.proofs.Common.{ℕ, Option, ap, sym, subst, ◌∙◌}
 use Rattle.lw_machine.specs.Documents.{present_texts}
 use Rattle.lw_query.specs.Viewed.{AreViewsOf}
-use Rattle.lw_refs.specs.Led.{answers_in}
-use Rattle.lw_scopes.specs.Links.{AreTreesOfTexts, IsNumberBelow}
+use Rattle.lw_index.specs.Led.{answers_in}
+use Rattle.lw_link_rules.specs.Links.{AreTreesOfTexts, IsNumberBelow}
 use Rattle.lw_scoping.specs.Links.{Trees}
 use Rattle.lw_build.specs.Linked.{StandsNumbered}
 use Rattle.lw_tree.specs.Parts.{Parts}

@@ -1,5 +1,5 @@
 use Rattle.lw_grammar.specs.declared.grammar.Grammar.{Grammar}
-use Rattle.lw_marks.specs.Grown.{Grown}
+use Rattle.lw_reading.specs.Grown.{Grown}
 use Rattle.lw_builder.specs.Steps.{IsClosing, IsSameReading, count_open}
 use Rattle.lw_builder.proofs.builder.Builder.close.Given as goal
 

@@ -1,5 +1,5 @@
 use Rattle.std.proofs.Common.{◌++◌, ◌∷◌, [], ap, ◌∙◌}
-use Rattle.lw_marks.specs.Follows.{shuts}
+use Rattle.lw_reading.specs.Follows.{shuts}
 use Rattle.lw_builder.proofs.Results.{on_ok}
 use Rattle.lw_builder.proofs.ClosingSteps.{node_innermost, node_closed, something_open}
 use Rattle.lw_builder.proofs.builder.Builder.close_innermost.Goals as goal

@@ -1,5 +1,5 @@
 use Rattle.std.proofs.Common.{refl, sym, subst, ◌<◌, length}
-use Rattle.lw_recipes.specs.Making.{RecipeLists}
+use Rattle.lw_program.specs.Making.{RecipeLists}
 use Rattle.lw_builder.proofs.Ending.{ended, value_ends, recipe_of_ended}
 use Rattle.lw_builder.proofs.builder.Builder.end.Goals as goal
 

@@ -1,5 +1,5 @@
 use Rattle.std.proofs.Common.{ap, ◌∙◌, arith}
-use Rattle.lw_marks.specs.Brackets.{span_of_tokens}
+use Rattle.lw_reading.specs.Brackets.{span_of_tokens}
 use Rattle.lw_builder.specs.Steps.{read_tokens}
 use Rattle.lw_builder.proofs.Readying.{ready_within, ready_claimable, finish_all}
 use Rattle.lw_builder.proofs.builder.Builder.finish.Goals as goal

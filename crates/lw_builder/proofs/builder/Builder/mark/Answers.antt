@@ -1,6 +1,6 @@
 use Rattle.std.proofs.Common.{refl, subst}
-use Rattle.lw_recipes.specs.declared.mark.TreeMark.TheVariants as numbered
-use Rattle.lw_recipes.specs.Meant.{MeansMark}
+use Rattle.lw_program.specs.declared.recipes.mark.TreeMark.TheVariants as numbered
+use Rattle.lw_program.specs.Meant.{MeansMark}
 use Rattle.lw_builder.proofs.Following.{means_token, means_open, means_shut, means_end, means_put, means_act, token_followed, can_do, followed, open_apart, shut_apart, put_apart, end_apart, act_apart}
 use Rattle.lw_builder.proofs.builder.Builder.mark.Goals as goal
 

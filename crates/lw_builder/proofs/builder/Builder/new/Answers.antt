@@ -1,5 +1,5 @@
 use Rattle.std.proofs.Common.{[], sym, subst, arith}
-use Rattle.lw_marks.specs.Follows.{nothing}
+use Rattle.lw_reading.specs.Follows.{nothing}
 use Rattle.lw_builder.specs.Standing.{AreOpen, none}
 use Rattle.lw_builder.proofs.builder.Builder.new.Goals as goal
 

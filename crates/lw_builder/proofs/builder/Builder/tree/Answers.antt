@@ -2,8 +2,8 @@ use Rattle.std.proofs.Common.{Option, ◌∙◌, subst, ap}
 use Rattle.std.specs.Prelude.{IfOk}
 use Rattle.lw_base.specs.declared.numbers.PropId.{PropId}
 use Rattle.lw_tree.specs.Parts.{SameTables}
-use Rattle.lw_marks.specs.Trees.{parts_of_tree}
-use Rattle.lw_recipes.specs.Making.{RecipeLists}
+use Rattle.lw_reading.specs.Trees.{parts_of_tree}
+use Rattle.lw_program.specs.Making.{RecipeLists}
 use Rattle.lw_builder.specs.Steps.{IsClosing}
 use Rattle.lw_builder.proofs.builder.Builder.tree.Goals as goal
 

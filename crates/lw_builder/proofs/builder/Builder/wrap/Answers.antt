@@ -1,5 +1,5 @@
 use Rattle.std.proofs.Common.{refl, subst}
-use Rattle.lw_marks.specs.Brackets.{grown}
+use Rattle.lw_reading.specs.Brackets.{grown}
 use Rattle.lw_builder.specs.Steps.{IsFinished}
 use Rattle.lw_builder.proofs.SameReading.{same_tokens}
 use Rattle.lw_builder.proofs.Taking.{has_node}

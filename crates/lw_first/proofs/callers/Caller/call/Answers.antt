@@ -2,7 +2,7 @@ use Rattle.std.proofs.lemmas.Result.{on_ok_weaker}
 use Rattle.lw_grammar.specs.declared.rule.Rule.{Rule}
 use Rattle.lw_grammar.specs.Named.{IsRule}
 use Rattle.lw_numbers.specs.Numbering as numbering
-use Rattle.lw_sentences.proofs.Meaning.{one_of_two}
+use Rattle.lw_grammar.proofs.Meaning.{one_of_two}
 use Rattle.lw_first.proofs.CallingForms.{calls_none, calls_one}
 use Rattle.lw_first.proofs.callers.Caller.call.Goals as goal
 

@@ -2,7 +2,7 @@ use Rattle.std.proofs.Common.{subst}
 use Rattle.std.proofs.lemmas.Result.{on_ok_weaker}
 use Rattle.lw_grammar.specs.declared.rule.Rule.{Rule}
 use Rattle.lw_grammar.specs.Named.{IsRule}
-use Rattle.lw_derivations.proofs.OneName.{one_reads}
+use Rattle.lw_kinds.proofs.OneName.{one_reads}
 use Rattle.lw_first.proofs.CallingForms.{calls_as}
 use Rattle.lw_first.proofs.callers.Caller.cross.Goals as goal
 

@@ -2,8 +2,8 @@ use Rattle.std.proofs.Common.{◌≡◌, ◌+◌, ◌-◌, drop, length, OnOk, s
 use Rattle.std.proofs.lemmas.List.{take_all, nil_from_length}
 use Rattle.std.proofs.lemmas.Result.{on_ok_weaker}
 use Rattle.lw_grammar.specs.declared.rule.Element.TheVariants.{outs-Keyword, outs-Call, outs-Assign, outs-Act, outs-Group, outs-Choice, outs-Maybe, outs-Many, outs-Some1}
-use Rattle.lw_heads.specs.Sets.{AddsHeads, IsAmongHeads}
-use Rattle.lw_heads.proofs.HeadLemmas.{adds_as, adds_then, adds_to_none}
+use Rattle.lw_first.specs.Sets.{AddsHeads, IsAmongHeads}
+use Rattle.lw_first.proofs.HeadLemmas.{adds_as, adds_then, adds_to_none}
 use Rattle.lw_look.specs.Sites.{Body}
 use Rattle.lw_first.specs.Before.{CanBefore, RowCanBefore, ManyCanBefore}
 use Rattle.lw_first.specs.Forms.{ChosenBefore, MaybeBefore, OnceBefore}

@@ -1,6 +1,6 @@
 use Rattle.std.proofs.Common.{◌≡◌, ◌+◌, ◌-◌, ◌≤◌, length, take, drop}
 use Rattle.lw_grammar.specs.Kinds.{Kinds, AreKinds}
-use Rattle.lw_heads.specs.Sets.{AddsHeads, most_heads}
+use Rattle.lw_first.specs.Sets.{AddsHeads, most_heads}
 use Rattle.lw_first.specs.Forms.{ChosenBefore}
 use Rattle.lw_first.proofs.RowForms.{IsRowSet}
 use Rattle.lw_first.proofs.Turns.{IsMet}

@@ -1,7 +1,7 @@
 use Rattle.std.proofs.Common.{OnOk, subst}
 use Rattle.std.proofs.lemmas.List.{take_all}
 use Rattle.lw_grammar.specs.declared.rule.Value0.TheVariants.{outs-Keyword, outs-Call, outs-Cross, outs-Choice}
-use Rattle.lw_heads.specs.Sets.{AddsHeads}
+use Rattle.lw_first.specs.Sets.{AddsHeads}
 use Rattle.lw_look.specs.Sites.{Value}
 use Rattle.lw_first.specs.Before.{CanBefore}
 use Rattle.lw_first.specs.Forms.{ValuesBefore}

@@ -1,6 +1,6 @@
 use Rattle.std.proofs.Common.{take}
 use Rattle.lw_grammar.specs.Kinds.{Kinds, AreKinds}
-use Rattle.lw_heads.specs.Sets.{AddsHeads}
+use Rattle.lw_first.specs.Sets.{AddsHeads}
 use Rattle.lw_first.specs.Forms.{ValuesBefore}
 use Rattle.lw_first.proofs.first.First.+values.Given as goal
 

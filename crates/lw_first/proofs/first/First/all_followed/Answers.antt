@@ -1,6 +1,6 @@
 use Rattle.std.proofs.Common.{subst}
 use Rattle.std.proofs.lemmas.List.{take_all}
-use Rattle.lw_heads.specs.Sets.{AddsHeads}
+use Rattle.lw_first.specs.Sets.{AddsHeads}
 use Rattle.lw_first.specs.Forms.{FollowedBefore, HeadBefore}
 use Rattle.lw_first.proofs.Adding.{head_next}
 use Rattle.lw_first.proofs.first.First.all_followed.Goals as goal

@@ -1,5 +1,5 @@
 use Rattle.std.proofs.Common.{take}
-use Rattle.lw_heads.specs.Sets.{AddsHeads}
+use Rattle.lw_first.specs.Sets.{AddsHeads}
 use Rattle.lw_first.specs.Forms.{FollowedBefore}
 use Rattle.lw_first.proofs.first.First.all_followed.Given as goal
 

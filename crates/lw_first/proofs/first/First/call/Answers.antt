@@ -1,5 +1,5 @@
 use Rattle.std.proofs.lemmas.Result.{on_ok_weaker}
-use Rattle.lw_heads.proofs.HeadLemmas.{adds_as, adds_none}
+use Rattle.lw_first.proofs.HeadLemmas.{adds_as, adds_none}
 use Rattle.lw_first.proofs.CallForms.{token_before, called_before, nothing_before}
 use Rattle.lw_first.proofs.first.First.call.Goals as goal
 

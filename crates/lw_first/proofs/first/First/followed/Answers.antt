@@ -1,7 +1,7 @@
 use Rattle.std.proofs.Common.{◌≡◌, ◌++◌, take, subst}
 use Rattle.std.proofs.lemmas.List.{take_all}
-use Rattle.lw_heads.specs.Heads.{kinds_in}
-use Rattle.lw_heads.specs.Sets.{AddsHeads}
+use Rattle.lw_first.specs.Heads.{kinds_in}
+use Rattle.lw_first.specs.Sets.{AddsHeads}
 use Rattle.lw_first.specs.Forms.{HeadBefore}
 use Rattle.lw_first.proofs.Adding.{head_next}
 use Rattle.lw_first.proofs.first.First.followed.Goals as goal

@@ -1,6 +1,6 @@
 use Rattle.std.proofs.Common.{take}
-use Rattle.lw_heads.specs.Heads.{kinds_in}
-use Rattle.lw_heads.specs.Sets.{AddsHeads}
+use Rattle.lw_first.specs.Heads.{kinds_in}
+use Rattle.lw_first.specs.Sets.{AddsHeads}
 use Rattle.lw_first.specs.Forms.{HeadBefore}
 use Rattle.lw_first.proofs.first.First.followed.Given as goal
 

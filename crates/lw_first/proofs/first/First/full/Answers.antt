@@ -1,7 +1,7 @@
 use Rattle.std.proofs.Common.{◌≡◌, sym, refl, subst}
-use Rattle.lw_heads.specs.Heads.{kinds_in}
-use Rattle.lw_heads.specs.Sets.{AddsHeads}
-use Rattle.lw_heads.proofs.HeadLemmas.{adds_as}
+use Rattle.lw_first.specs.Heads.{kinds_in}
+use Rattle.lw_first.specs.Sets.{AddsHeads}
+use Rattle.lw_first.proofs.HeadLemmas.{adds_as}
 use Rattle.lw_first.proofs.CallForms.{full_before}
 use Rattle.lw_first.proofs.first.First.full.Goals as goal
 

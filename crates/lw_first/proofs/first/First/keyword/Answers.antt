@@ -1,5 +1,5 @@
 use Rattle.std.proofs.lemmas.Result.{on_ok_weaker}
-use Rattle.lw_heads.proofs.HeadLemmas.{adds_as}
+use Rattle.lw_first.proofs.HeadLemmas.{adds_as}
 use Rattle.lw_first.proofs.CallForms.{keyword_before}
 use Rattle.lw_first.proofs.first.First.keyword.Goals as goal
 

@@ -1,8 +1,8 @@
 use Rattle.std.proofs.Common.{OnOk, length, refl, subst}
 use Rattle.std.proofs.lemmas.Option.{slice_get_past, slice_get_read}
 use Rattle.std.proofs.lemmas.Result.{on_ok_weaker}
-use Rattle.lw_heads.specs.Sets.{AddsHeads}
-use Rattle.lw_heads.proofs.HeadLemmas.{adds_as, adds_none}
+use Rattle.lw_first.specs.Sets.{AddsHeads}
+use Rattle.lw_first.proofs.HeadLemmas.{adds_as, adds_none}
 use Rattle.lw_first.specs.Forms.{FollowedBefore}
 use Rattle.lw_first.proofs.CallForms.{rule_before, no_rule_before}
 use Rattle.lw_first.proofs.first.First.rule.Goals as goal

@@ -1,8 +1,8 @@
 use Rattle.std.proofs.Common.{◌≡◌, ◌<◌, ◌∷◌, [], ltb, length, Some, slice_get, get_or, refl, sym, ap, ◌∙◌, subst, arith}
 use Rattle.std.proofs.lemmas.List.{get_or_default}
 use Rattle.std.proofs.lemmas.Option.{slice_get_read}
-use Rattle.lw_heads.specs.declared.head.Head.TheVariants.{Nothing}
-use Rattle.lw_heads.specs.Sets.{AddsHeads, IsAmongHeads}
+use Rattle.lw_first.specs.declared.heads.head.Head.TheVariants.{Nothing}
+use Rattle.lw_first.specs.Sets.{AddsHeads, IsAmongHeads}
 use Rattle.lw_look.specs.Sites.{Body}
 use Rattle.lw_first.specs.Before.{CanBefore}
 use Rattle.lw_first.specs.Rounds.{GrewOrSame}

@@ -1,6 +1,6 @@
 use Rattle.std.proofs.Common.{◌++◌, length, take, drop, sym, ap, ◌∙◌, subst, arith}
 use Rattle.lw_look.specs.Heads.{AreClosedHeads, AreTrueHeads}
-use Rattle.lw_heads.specs.Sets.{IsInSet}
+use Rattle.lw_first.specs.Sets.{IsInSet}
 use Rattle.lw_first.specs.Rounds.{AreRulesSettled}
 use Rattle.lw_first.proofs.RoundSteps.{all_settled, written_back}
 use Rattle.lw_first.proofs.rounds.Work.sets.Goals as goal

@@ -1,7 +1,7 @@
 use Rattle.std.proofs.Common.{◌≡◌, length}
 use Rattle.lw_grammar.specs.Kinds.{Kinds, AreKinds}
 use Rattle.lw_look.specs.Heads.{AreTrueHeads}
-use Rattle.lw_heads.specs.Sets.{IsInSet}
+use Rattle.lw_first.specs.Sets.{IsInSet}
 use Rattle.lw_first.specs.Rounds.{AreRulesSettled, rounds_left}
 use Rattle.lw_first.proofs.rounds.Work.sets.Given as goal
 

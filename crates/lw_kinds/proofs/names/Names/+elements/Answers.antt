@@ -4,7 +4,7 @@ use Rattle.std.proofs.lemmas.Result.{on_ok_weaker}
 use Rattle.lw_grammar.specs.declared.rule.Element.TheVariants as element
 use Rattle.lw_grammar.specs.Leaves.{leaves}
 use Rattle.lw_grammar.proofs.LeafLemmas.{leaves-Call, leaves-Assign}
-use Rattle.lw_leaves.proofs.Equations.{leaves_of-Group, leaves_of-Choice}
+use Rattle.lw_numbers.proofs.Equations.{leaves_of-Group, leaves_of-Choice}
 use Rattle.lw_kinds.specs.declared.gathering.Gathered.{Gathered}
 use Rattle.lw_kinds.specs.Gathering.{GathersLeaves}
 use Rattle.lw_kinds.proofs.GatherForms.{element_gathers, call_marked, assigned, elements_more}

@@ -4,7 +4,7 @@ use Rattle.std.proofs.lemmas.Result.{on_ok_weaker}
 use Rattle.lw_grammar.specs.declared.rule.Value0.TheVariants as value
 use Rattle.lw_grammar.specs.Leaves.{value_leaves}
 use Rattle.lw_grammar.proofs.LeafLemmas.{values-Call, values-Cross}
-use Rattle.lw_leaves.proofs.Equations.{values_of-Choice}
+use Rattle.lw_numbers.proofs.Equations.{values_of-Choice}
 use Rattle.lw_kinds.specs.declared.gathering.Gathered.{Gathered}
 use Rattle.lw_kinds.specs.Gathering.{GathersParts}
 use Rattle.lw_kinds.proofs.GatherForms.{value_gathers, value_call_marked, cross_marked, values_more}

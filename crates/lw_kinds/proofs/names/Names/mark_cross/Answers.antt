@@ -1,6 +1,6 @@
 use Rattle.std.proofs.Common.{subst}
-use Rattle.lw_derivations.specs.Crossing.{IsReadBy}
-use Rattle.lw_derivations.proofs.OneName.{one_reads}
+use Rattle.lw_kinds.specs.Crossing.{IsReadBy}
+use Rattle.lw_kinds.proofs.OneName.{one_reads}
 use Rattle.lw_kinds.proofs.MarkLemmas.{Marks-none, Marks-same}
 use Rattle.lw_kinds.proofs.names.Names.mark_cross.Goals as goal
 

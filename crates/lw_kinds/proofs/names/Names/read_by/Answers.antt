@@ -1,5 +1,5 @@
 use Rattle.std.proofs.Common.{ℕ, List, MatchOption, sym, subst}
-use Rattle.lw_derivations.specs.Crossing.{IsReadBy}
+use Rattle.lw_kinds.specs.Crossing.{IsReadBy}
 use Rattle.lw_kinds.proofs.names.Names.read_by.Goals as goal
 
 pub returns-in-None : goal.returns-in-None

@@ -1,6 +1,6 @@
 use Rattle.std.proofs.Common.{All, IfSome, Option, ap, subst, sym, ◌∙◌}
 use Rattle.std.proofs.lemmas.List.Elements.{All-push}
-use Rattle.lw_terminals.specs.TokenKinds.{TokenKinds}
+use Rattle.lw_matchers.specs.TokenKinds.{TokenKinds}
 use Rattle.lw_lexer.specs.Fronts.{IsFront}
 use Rattle.lw_lexer.specs.declared.front.Front.{Front}
 use Rattle.lw_lexer.proofs.fronts.Finder.starting_with.Goals as goal

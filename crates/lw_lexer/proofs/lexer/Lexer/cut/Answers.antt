@@ -3,7 +3,7 @@ use Rattle.std.proofs.lemmas.List.Elements.{All-nil, All-push}
 use Rattle.std.proofs.lemmas.Str.{IsCharBoundary-start, IsCharBoundary-from_rest}
 use Rattle.lw_base.specs.declared.token.Span.{Span}
 use Rattle.lw_base.specs.declared.token.Token.{Token}
-use Rattle.lw_terminals.specs.TokenKinds.{TokenKinds}
+use Rattle.lw_matchers.specs.TokenKinds.{TokenKinds}
 use Rattle.lw_tokens.specs.Cut as cut
 use Rattle.lw_tokens.specs.Cut.{IsCut, IsCutTo, HasNoTokenAt}
 use Rattle.lw_tokens.specs.Keywords.{AreKeywords}

@@ -1,7 +1,7 @@
 use Rattle.std.proofs.Common.{◌≡◌, ◌-◌, length, All, IsCharBoundary}
 use Rattle.lw_tokens.specs.Cut.{IsCutTo}
 use Rattle.lw_tokens.specs.Keywords.{AreKeywords}
-use Rattle.lw_terminals.specs.TokenKinds.{AreTokenKinds}
+use Rattle.lw_matchers.specs.TokenKinds.{AreTokenKinds}
 use Rattle.lw_lexer.specs.Fronts.{AreFronts}
 use Rattle.lw_lexer.specs.Known.{AreInTurn, AreKnownIn}
 use Rattle.lw_lexer.specs.TokenPlaces.{IsTokenPlace}

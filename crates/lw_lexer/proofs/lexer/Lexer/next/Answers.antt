@@ -1,5 +1,5 @@
 use Rattle.std.proofs.Common.{option_map, subst}
-use Rattle.lw_terminals.specs.TokenKinds.{TokenKinds}
+use Rattle.lw_matchers.specs.TokenKinds.{TokenKinds}
 use Rattle.lw_tokens.specs.Keywords.{AreKeywords}
 use Rattle.lw_tokens.specs.NextToken.{IsNextToken}
 use Rattle.lw_tokens.proofs.OneCut.{one_next}

@@ -1,6 +1,6 @@
 use Rattle.std.proofs.Common.{◌≡◌, ℕ, ◌++◌, [], ◌∷◌, List, Some, None, sym, ◌∙◌, subst}
 use Rattle.indexmap.proofs.CallerLemmas.{insert_entry-new}
-use Rattle.lw_heads.specs.contracts.head.HeadPartialEq.TheImpl.{eq-value}
+use Rattle.lw_first.specs.contracts.heads.head.HeadPartialEq.TheImpl.{eq-value}
 use Rattle.lw_lookahead.specs.Entries.{AreFirstWays}
 use Rattle.lw_lookahead.proofs.HeadKeys.{found, found_entry, none_found}
 use Rattle.lw_lookahead.proofs.FirstWays.{pair_of_known, pair_of_new, pair_of_same, ways_of_known, ways_of_new}

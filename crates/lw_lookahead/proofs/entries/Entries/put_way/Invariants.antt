@@ -1,5 +1,5 @@
 use Rattle.std.proofs.Common.{ℕ, List}
-use Rattle.lw_heads.specs.declared.head.Head.{Head}
+use Rattle.lw_first.specs.declared.heads.head.Head.{Head}
 use Rattle.lw_lookahead.specs.Entries.{AreUpTo}
 use Rattle.lw_lookahead.specs.Gathered.{AreGatheredWays}
 use Rattle.lw_lookahead.proofs.GatherSteps.{GathersFirst}

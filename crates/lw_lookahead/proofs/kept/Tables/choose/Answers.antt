@@ -1,6 +1,6 @@
 use Rattle.std.proofs.Common.{◌≤◌, length, ap, sym, ◌∙◌, subst}
 use Rattle.lw_look.specs.Looks.{window}
-use Rattle.lw_heads.specs.Heads.{kinds_in, seen_in}
+use Rattle.lw_first.specs.Heads.{kinds_in, seen_in}
 use Rattle.lw_lookahead.proofs.FoundHeads.{chooses_found, chooses_none, entries_here, entries_known}
 use Rattle.lw_lookahead.proofs.kept.Tables.choose.Goals as goal
 

@@ -3,7 +3,7 @@ use Rattle.std.proofs.Common.{◌≡◌, IfOk, MatchOption, map, ap, ◌∙◌, 
 use Rattle.std.proofs.lemmas.Simd.{map-map}
 use Rattle.lw_base.specs.declared.numbers.KindId.{KindId}
 use Rattle.lw_base.specs.declared.token.Token.{Token}
-use Rattle.lw_sentences.specs.Sentences.{IsWhole}
+use Rattle.lw_grammar.specs.Sentences.{IsWhole}
 use Rattle.lw_builder.specs.Built.{visible_of}
 use Rattle.lw_parse.specs.Marked.{MeanOnlySentence}
 use Rattle.lw_parse.proofs.parser.Parser.marks.Goals as goal

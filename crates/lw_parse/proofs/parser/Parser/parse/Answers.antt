@@ -1,10 +1,10 @@
 -- The tree of the marks, and where there are none the fault.
 use Rattle.std.proofs.Common.{[], ◌∷◌, MatchOption, sym, subst}
-use Rattle.lw_sentences.specs.Sentences.{IsWhole}
-use Rattle.lw_marks.specs.Brackets.{Root}
-use Rattle.lw_marks.specs.Follows as follows
-use Rattle.lw_recipes.specs.Making.{AreRecipesOf}
-use Rattle.lw_recipes.specs.Meant.{AreMeant}
+use Rattle.lw_grammar.specs.Sentences.{IsWhole}
+use Rattle.lw_reading.specs.Brackets.{Root}
+use Rattle.lw_reading.specs.Follows as follows
+use Rattle.lw_program.specs.Making.{AreRecipesOf}
+use Rattle.lw_program.specs.Meant.{AreMeant}
 use Rattle.lw_parse.specs.Marked.{MeanOnlySentence}
 use Rattle.lw_parse.specs.Outcomes.{IsParseFault, kinds_seen}
 use Rattle.lw_parse.specs.Parsers.{AreOfKinds}

@@ -1,7 +1,7 @@
 -- A body alone, and a node.
 use Rattle.std.proofs.Common.{◌+◌, [], ◌∷◌, None, Some, sym, ◌∙◌, subst, true≢false}
 use Rattle.lw_program.specs.declared.instr.Instr.TheVariants.{Call}
-use Rattle.lw_recipes.specs.declared.mark.TreeMark.TheVariants as numbered
+use Rattle.lw_program.specs.declared.recipes.mark.TreeMark.TheVariants as numbered
 use Rattle.lw_viable.specs.Turning as turn
 use Rattle.lw_parse.specs.Running.{state_of, Entered}
 use Rattle.lw_parse.specs.Running as run

@@ -1,6 +1,6 @@
 -- By the front of the three kinds, of as many as the tables look at.
 use Rattle.std.proofs.Common.{◌≡◌, ◌↔◌, ◌≤◌, Some, take, ap, ◌∙◌, subst}
-use Rattle.lw_heads.specs.Heads.{seen_in}
+use Rattle.lw_first.specs.Heads.{seen_in}
 use Rattle.lw_look.specs.Looks.{Look, window}
 use Rattle.lw_parse.specs.Running.{state_of}
 use Rattle.lw_parse.proofs.Windows.{seen_front}

@@ -1,6 +1,6 @@
 -- The places alone are the one reading.
 use Rattle.std.proofs.Common.{[], None, sym, subst}
-use Rattle.lw_begins.specs.Gives.{PlacesGive}
+use Rattle.lw_viable.specs.Gives.{PlacesGive}
 use Rattle.lw_viable.specs.Readings.{Keeps}
 use Rattle.lw_viable.proofs.Starting.{first_read, places_keep}
 use Rattle.lw_viable.proofs.fronts.Fronts.over.Goals as goal

@@ -2,7 +2,7 @@
 use Rattle.std.proofs.Common.{List, map, sym, ◌∙◌, subst}
 use Rattle.std.proofs.lemmas.Result.{IfOk-weaker}
 use Rattle.lw_program.specs.Says.{Task}
-use Rattle.lw_recipes.specs.declared.mark.TreeMark.{TreeMark}
+use Rattle.lw_program.specs.declared.recipes.mark.TreeMark.{TreeMark}
 use Rattle.lw_viable.specs.Aims.{Fulfils}
 use Rattle.lw_viable.specs.Growing.{marks_of_each, read}
 use Rattle.lw_viable.specs.Marked.{MeanExactly, MeanSome}

@@ -1,8 +1,8 @@
 -- The readings stay, and those that are done give the wholes.
 use Rattle.std.proofs.Common.{◌≡◌, List, map, ◌∙◌}
 use Rattle.std.proofs.lemmas.Result.{IfOk-weaker}
-use Rattle.lw_sentences.specs.Marks.{kinds_of}
-use Rattle.lw_recipes.specs.declared.mark.TreeMark.{TreeMark}
+use Rattle.lw_grammar.specs.Marks.{kinds_of}
+use Rattle.lw_program.specs.declared.recipes.mark.TreeMark.{TreeMark}
 use Rattle.lw_program.specs.Says.{Task}
 use Rattle.lw_viable.specs.Aims.{Fulfils}
 use Rattle.lw_viable.specs.Growing.{marks_of_each, read}

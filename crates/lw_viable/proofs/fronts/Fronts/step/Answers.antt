@@ -7,7 +7,7 @@ use Rattle.lw_grammar.specs.declared.grammar.Grammar.{Grammar}
 use Rattle.lw_grammar.specs.Kinds.{Kinds}
 use Rattle.lw_program.specs.ProgramOf.{ProgramParts}
 use Rattle.lw_program.specs.Says.{Task}
-use Rattle.lw_begins.specs.Told.{BeginsParts}
+use Rattle.lw_viable.specs.Told.{BeginsParts}
 use Rattle.lw_viable.specs.Aims.{Aim, Fulfils, BeginsSome}
 use Rattle.lw_viable.specs.Fronts.{IsKnownProgram, HoldReadings, seen}
 use Rattle.lw_viable.specs.Growing.{AreHeldIn, read}

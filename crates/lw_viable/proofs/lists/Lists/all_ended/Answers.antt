@@ -1,7 +1,7 @@
 -- One that ends with a token, and one that does not.
 use Rattle.std.proofs.Common.{List, [], ◌∷◌, get_or, map, take, sym, ap, ◌∙◌, subst, subst₂, true≢false}
 use Rattle.std.proofs.lemmas.List.{map-append, take_all, take_more}
-use Rattle.lw_recipes.specs.declared.mark.TreeMark.{TreeMark}
+use Rattle.lw_program.specs.declared.recipes.mark.TreeMark.{TreeMark}
 use Rattle.lw_viable.specs.Growing.{marks_of_each, read}
 use Rattle.lw_viable.specs.Visiting.{AreEnded}
 use Rattle.lw_viable.specs.declared.front.Front.{Front}

@@ -1,8 +1,8 @@
 -- The latest mark is a token.
 use Rattle.std.proofs.Common.{List, [], ◌∷◌, ◌++◌, reverse, refl, ap, ◌∙◌}
 use Rattle.std.proofs.lemmas.Grind.{reverse_onto}
-use Rattle.lw_chains.specs.Chains.{chain}
-use Rattle.lw_recipes.specs.declared.mark.TreeMark.{TreeMark}
+use Rattle.lw_viable.specs.Chains.{chain}
+use Rattle.lw_program.specs.declared.recipes.mark.TreeMark.{TreeMark}
 use Rattle.lw_viable.proofs.lists.Lists.ends_with_token.Goals as goal
 
 pub returns-in-Some-Token-default : goal.returns-in-Some-Token-default

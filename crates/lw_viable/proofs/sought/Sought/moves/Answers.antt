@@ -2,7 +2,7 @@
 use Rattle.std.proofs.Common.{◌-◌, [], ◌∷◌, None, Some, map, refl, sym, ap, ◌∙◌}
 use Rattle.std.proofs.lemmas.Result.{on_ok_weaker}
 use Rattle.lw_program.specs.declared.instr.Instr.TheVariants.{Row, Choice, Maybe, Loop, Once, Put, Call}
-use Rattle.lw_recipes.specs.declared.mark.TreeMark.TheVariants as mark
+use Rattle.lw_program.specs.declared.recipes.mark.TreeMark.TheVariants as mark
 use Rattle.lw_viable.specs.Moves.{side_by_side}
 use Rattle.lw_viable.specs.Turning.{way_change}
 use Rattle.lw_viable.proofs.Made.{grows_none}

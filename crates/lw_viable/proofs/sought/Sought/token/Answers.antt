@@ -1,7 +1,7 @@
 -- It is this token, or another.
 use Rattle.std.proofs.Common.{[], ◌∷◌, Some, sym, ◌∙◌, true≢false}
 use Rattle.std.proofs.lemmas.Result.{on_ok_weaker}
-use Rattle.lw_recipes.specs.declared.mark.TreeMark.TheVariants as mark
+use Rattle.lw_program.specs.declared.recipes.mark.TreeMark.TheVariants as mark
 use Rattle.lw_viable.specs.Turning as turn
 use Rattle.lw_viable.proofs.Made.{grows_none}
 use Rattle.lw_viable.proofs.Putting.{put_none}

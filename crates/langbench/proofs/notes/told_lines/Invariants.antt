@@ -1,7 +1,0 @@
-use Rattle.std.proofs.Common.{◌≡◌, take, string_bytes}
-use Rattle.std.specs.List.{flat_map}
-use Rattle.langbench.specs.Notes.{told_line}
-use Rattle.langbench.proofs.notes.told_lines.Given as goal
-
-abbrev pub invariant-telling : goal.invariant-telling
-invariant-telling l = string_bytes l.lines ≡ flat_map told_line (take l.fault-index l.told)

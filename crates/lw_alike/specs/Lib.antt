@@ -1,5 +1,0 @@
-pub mod Tokens
-pub mod Growth
-pub mod OneName
-pub mod Places
-pub mod Worked

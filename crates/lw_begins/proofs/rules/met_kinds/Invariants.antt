@@ -1,7 +1,0 @@
-use Rattle.std.proofs.Common.{map}
-use Rattle.lw_begins.proofs.Made.{MadeUpTo}
-use Rattle.lw_begins.proofs.Meeting.{TellsRow}
-use Rattle.lw_begins.proofs.rules.met_kinds.Given as goal
-
-abbrev pub invariant-loop-heads : goal.invariant-loop-heads
-invariant-loop-heads l = MadeUpTo (TellsRow l.fn.kinds) l.sets (map (λ row. row.items) l.rows.items) l.heads-index

@@ -1,4 +1,0 @@
-pub mod Gives
-pub mod Told
-pub mod EmptyBy
-pub mod BeginsWith

@@ -1,0 +1,16 @@
+//! The words of the command line, as a command.
+//!
+//! Its model: words are lists of bytes, in their order behind the program's name. What they say, operands and an
+//! option among them, is in `specs/Said.antt`, and which of them are a command in `specs/Words.antt`: `check GRAMMAR`,
+//! `serve GRAMMAR FILE ..` and `make GRAMMAR N`, among which `--lookahead K` may stand.
+//!
+//! It promises that [`command_of`] gives the command that words are, and none exactly where they are none, and that words
+//! are one command at most.
+#![tactic(auto)]
+
+mod root;
+mod said;
+mod words;
+
+pub use root::Root;
+pub use words::{Command, command_of};

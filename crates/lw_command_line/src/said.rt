@@ -1,0 +1,89 @@
+// What the words behind a command's name say.
+ghost use Rattle.std.specs.Prelude.{◌≡◌, ◌++◌, ◌<◌, ◌↔◌, IfOk, IfSome, IsTrue, List, MatchOption, OnOk, Option, length, map, ℕ};
+ghost use Rattle.lw_command_line.specs.Said.{IsDepth, IsOperand, SaysDepth, SaysOperands};
+
+use lw_base::{Name, NoMemory};
+use std::alloc::Global;
+
+/// The operands among words, and how many kinds a reader may look ahead, where the words say it.
+#[derive(Drop)]
+pub(crate) struct Said<'a> {
+    pub operands: Vec<&'a Name>,
+    pub depth: Option<u8>,
+}
+
+/// What the words say, or None where one of them begins with `-` and is not of the option, or the option stands
+/// twice. It is linear in their number.
+pub(crate) fn said_by<'a>(alloc: Global, words: &'a [Name]) -> Result<Option<Said<'a>>, NoMemory>
+    ensures { IfOk result (λ found. MatchOption found
+        ((operands : List (List ℕ)) (depth : Option ℕ) → ¬ SaysOperands words.now operands depth)
+        (λ said. SaysOperands words.now (map (λ word. word.now) said.operands.items) said.depth)) }
+{
+    let mut operands = Vec::new(alloc);
+    let mut depth = None;
+    let mut rest = words;
+    'reading: while let Some((word, behind)) = rest.split_first() {
+        if is_operand(word.text()) {
+            operands.push(word)?;
+            rest = behind;
+            continue;
+        }
+        if word.text() == "--" {
+            put_all(&mut operands, behind)?;
+            return Ok(Some(Said { operands, depth }));
+        }
+        if depth.is_some() {
+            return Ok(None);
+        }
+        let Some((k, others)) = depth_in(rest) else {
+            return Ok(None);
+        };
+        depth = Some(k);
+        rest = others;
+    }
+    Ok(Some(Said { operands, depth }))
+}
+
+// Puts words behind the operands.
+fn put_all<'a>(operands: &mut Vec<&'a Name>, words: &'a [Name]) -> Result<(), NoMemory>
+    ensures { OnOk result (map (λ word. word.now) operands.new.items ≡ map (λ word. word.now) operands.old.items ++ words.now) }
+{
+    for word in words {
+        operands.push(word)?;
+    }
+    Ok(())
+}
+
+// How many kinds the option says that these words begin with, and the words behind it.
+fn depth_in(words: &[Name]) -> Option<(u8, &[Name])>
+    ensures depth { MatchOption result ((k : ℕ) (others : List (List ℕ)) → ¬ SaysDepth words.now k others)
+        (λ found. SaysDepth words.now found.0 found.1.now) }
+    ensures fewer { IfSome result (λ found. length found.1.now < length words.now) }
+{
+    let (option, behind) = words.split_first()?;
+    if option.text() == "--lookahead" {
+        let (word, others) = behind.split_first()?;
+        return Some((depth_named(word.text())?, others));
+    }
+    let word = option.text().strip_prefix("--lookahead=")?;
+    Some((depth_named(word)?, behind))
+}
+
+// The number from 1 to 3 that a word is.
+fn depth_named(word: &str) -> Option<u8>
+    ensures { MatchOption result ((k : ℕ) → ¬ IsDepth word.now k) (IsDepth word.now) }
+{
+    if word == "1" {
+        return Some(1);
+    }
+    if word == "2" {
+        return Some(2);
+    }
+    if word == "3" { Some(3) } else { None }
+}
+
+fn is_operand(word: &str) -> bool
+    ensures { IsTrue result ↔ IsOperand word.now }
+{
+    !word.starts_with('-')
+}

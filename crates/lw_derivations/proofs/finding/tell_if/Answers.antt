@@ -1,9 +1,0 @@
-use Rattle.std.specs.Prelude.{IsTrue}
-use Rattle.lw_derivations.specs.Telling.{SpeaksOf}
-use Rattle.lw_derivations.proofs.FindsLemmas.{Finds-same}
-use Rattle.lw_derivations.proofs.finding.tell_if.Goals as goal
-
-pub returns-in_ok-add : goal.returns-in_ok-add
-returns-in_ok-add c =
-    Finds-same (SpeaksOf c.args.number c.args.rule.now) (λ f. IsTrue c.args.is_so × SpeaksOf c.args.number c.args.rule.now f) (λ f. (λ of. (c.if-is_so.true, of), λ both. both.1))
-    c.args.found.now c.add.new.self c.in_ok-add.ensures

@@ -1,6 +1,0 @@
-use Rattle.lw_faults.specs.Reads.{Leads}
-use Rattle.lw_derivations.specs.Edges.{AreEdgesBelow}
-use Rattle.lw_derivations.proofs.names.Names.leads.Given as goal
-
-abbrev pub invariant-loop-from : goal.invariant-loop-from
-invariant-loop-from l = AreEdgesBelow l.self.g.now (λ caller. Leads l.self.g.now caller.body) l.from l.graph

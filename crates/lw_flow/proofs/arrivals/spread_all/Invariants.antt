@@ -1,0 +1,10 @@
+use Rattle.std.proofs.Common.{◌≡◌, length}
+use Rattle.lw_flow.specs.Arrivals.{SpreadsBelow}
+use Rattle.lw_flow.specs.Rows.{InTable}
+use Rattle.lw_flow.proofs.arrivals.spread_all.Given as goal
+
+abbrev pub invariant-loop-number : goal.invariant-loop-number
+invariant-loop-number l = record {
+  same_length : length l.marks.items ≡ length l.initial.marks.items;
+  spreads : SpreadsBelow l.source.grammar.now (InTable l.table) l.number l.grown (InTable l.initial.marks.items) (InTable l.marks.items);
+}

@@ -1,9 +1,0 @@
-use Rattle.lw_grammar.specs.Kinds.{Kinds, AreKinds}
-use Rattle.lw_look.specs.Sites.{Value}
-use Rattle.lw_follow.specs.Calls.{BehindCalls}
-use Rattle.lw_follow.proofs.Putting.{PutsBelow}
-use Rattle.lw_follow.proofs.following.+values.Given as goal
-
-abbrev pub invariant-follow_values-loop-value : goal.invariant-follow_values-loop-value
-invariant-follow_values-loop-value l = (kinds : Kinds) → AreKinds l.first.lexicon.g.now kinds →
-    PutsBelow (λ k v. BehindCalls l.first.lexicon.g.now kinds l.first.k l.first.heads.now (Value v) l.after) l.values l.value-index l.fn.sets l.sets

@@ -1,4 +1,0 @@
-pub mod Followed
-pub mod Rows
-pub mod Calls
-pub mod Rounds

@@ -1,4 +1,0 @@
-pub mod Nfas
-pub mod Steps
-pub mod Walk
-pub mod FirstBytes

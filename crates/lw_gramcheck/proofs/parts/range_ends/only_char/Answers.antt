@@ -1,0 +1,17 @@
+use Rattle.std.proofs.Common.{◌≡◌, ◌++◌, ℕ, List, None, encode_utf8, slice_get, sym, subst, ◌∙◌}
+use Rattle.std.specs.Str.{chars}
+use Rattle.lw_gramcheck.proofs.CharLemmas.{not_none, not_two}
+use Rattle.lw_gramcheck.proofs.parts.range_ends.only_char.Goals as goal
+
+pub returns-in_err-first : goal.returns-in_err-first
+returns-in_err-first c =
+    let text : c.chars-chars.result.rest.now ≡ c.args.text.now = c.chars-chars.ensures.rest ∙ c.text.ensures.text in
+    let P : List ℕ → Type 0 = λ bytes. None ≡ slice_get (chars bytes) 0 in
+    let none : None ≡ slice_get (chars c.args.text.now) 0 = subst P text c.in_err-first.ensures.steps.2 in
+    rw c.from_residual.ensures (λ d scalar is. not_none c.args.text.now d c.text.ensures.utf8 none is)
+
+pub returns-in-Some : goal.returns-in-Some
+returns-in-Some c = λ d scalar is.
+    let text : c.chars-chars.result.rest.now ≡ c.args.text.now = c.chars-chars.ensures.rest ∙ c.text.ensures.text in
+    let begins : c.args.text.now ≡ encode_utf8 c.in_ok-first.first ++ c.next.new.self.rest.now = sym text ∙ c.in_ok-first.ensures.steps.0 in
+    not_two c.args.text.now c.next.new.self.rest.now c.in_ok-first.first c.in-Some.field-0 d c.text.ensures.utf8 begins c.in-Some.ensures.steps.2 is

@@ -1,0 +1,5 @@
+pub mod Symbols
+pub mod FileTokens
+pub mod FileCut
+pub mod Values
+pub mod Places

@@ -1,0 +1,21 @@
+//! TODO
+#![tactic(auto)]
+
+#[cfg(test)]
+mod builder;
+#[cfg(test)]
+mod chains;
+#[cfg(test)]
+mod gramlex;
+#[cfg(test)]
+mod graph;
+#[cfg(test)]
+mod load;
+#[cfg(test)]
+mod preorder;
+#[cfg(test)]
+mod property_table;
+#[cfg(test)]
+mod recipes;
+#[cfg(test)]
+mod viable;

@@ -1,9 +1,0 @@
-use Rattle.std.proofs.Common.{◌-◌, length, IsCharBoundary}
-use Rattle.lw_gramread.specs.FileCut.{IsFileCutTo}
-use Rattle.lw_gramread.proofs.cut.front_tokens.Given as goal
-
-abbrev pub invariant-front : goal.invariant-front
-invariant-front l = record { cut : IsFileCutTo l.text l.at l.tokens.items; ends : IsCharBoundary l.text l.at }
-
-abbrev pub decreases-front : goal.decreases-front
-decreases-front l = length l.text - l.at

@@ -1,7 +1,0 @@
--- By induction on what is left of the text, and on its cuts.
-use Rattle.lw_gramread.proofs.CutLemmas.{cut_same}
-use Rattle.lw_gramread.proofs.EveryText.{whole_cut}
-use Rattle.lw_gramread.proofs.laws.every_text_has_one_cut.Goals as goal
-
-pub returns : goal.returns
-returns c = record { one = whole_cut; only = λ text a b cut other. cut_same text b a other cut }

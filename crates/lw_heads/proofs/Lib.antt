@@ -1,3 +1,0 @@
-pub mod HeadLemmas
-pub mod Distinct
-pub mod Windows

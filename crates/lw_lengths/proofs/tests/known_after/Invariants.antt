@@ -1,5 +1,0 @@
-use Rattle.std.proofs.Common.{◌≡◌}
-use Rattle.lw_lengths.proofs.tests.known_after.Given as goal
-
-abbrev pub invariant-loop : goal.invariant-loop
-invariant-loop l = l.known.text ≡ l.text

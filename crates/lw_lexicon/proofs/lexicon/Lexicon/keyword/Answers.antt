@@ -1,4 +1,0 @@
-use Rattle.lw_lexicon.proofs.lexicon.Lexicon.keyword.Goals as goal
-
-pub returns : goal.returns
-returns c kinds are = c.keyword.ensures c.args.self.now.g.now kinds c.requires.kinds are

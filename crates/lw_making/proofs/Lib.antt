@@ -1,5 +1,0 @@
-pub mod Putting
-pub mod Editing
-pub mod OneSummary
-pub mod Counting
-pub mod Standing

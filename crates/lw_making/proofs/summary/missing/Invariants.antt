@@ -1,9 +1,0 @@
-use Rattle.std.proofs.Common.{◌≡◌, ◌+◌, ◌≤◌, drop}
-use Rattle.lw_making.specs.Counting.{missing_in}
-use Rattle.lw_making.proofs.summary.missing.Given as goal
-
-abbrev pub invariant-answers : goal.invariant-answers
-invariant-answers l = record {
-  counted : l.count + missing_in (drop l.answer-index l.answers) ≡ missing_in l.answers;
-  few : l.count ≤ l.answer-index;
-}

@@ -1,4 +1,0 @@
-use Rattle.lw_making.proofs.tests.lines.Given as goal
-
-abbrev pub ghosts-made : goal.ghosts-made
-ghosts-made g a = record { name = a.blank.name; parts = a.blank.parts }

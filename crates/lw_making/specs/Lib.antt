@@ -1,4 +1,0 @@
-pub mod Making
-pub mod Summaries
-pub mod Unedited
-pub mod Counting

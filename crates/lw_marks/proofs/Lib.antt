@@ -1,2 +1,0 @@
-pub mod StateTree
-pub mod MoreTrees

@@ -1,5 +1,0 @@
-use Rattle.lw_marks.proofs.MoreTrees.{tree_of_marked}
-use Rattle.lw_marks.proofs.laws.a_call_replaces_the_node.Goals as goal
-
-pub returns : goal.returns
-returns c = tree_of_marked

@@ -1,5 +1,0 @@
-use Rattle.lw_marks.proofs.StateTree.{begun_state, states_tree}
-use Rattle.lw_marks.proofs.laws.states_and_references.Goals as goal
-
-pub returns : goal.returns
-returns c = record { whole = states_tree; begun = begun_state }

@@ -1,0 +1,4 @@
+pub mod CompiledLemmas
+pub mod MadeLemmas
+pub mod StartingLemmas
+pub mod FirstByteLemmas

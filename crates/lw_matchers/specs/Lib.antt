@@ -1,0 +1,4 @@
+pub mod Compiled
+pub mod TokenKinds
+pub mod Made
+pub mod Starting

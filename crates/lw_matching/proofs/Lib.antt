@@ -1,0 +1,14 @@
+pub mod TextLemmas
+pub mod StartLemmas
+pub mod StepLemmas
+pub mod WalkLemmas
+pub mod SourceLemmas
+pub mod NfaLemmas
+pub mod FirstByteLemmas
+pub mod StaysLemmas
+pub mod PartedLemmas
+pub mod FrontLemmas
+pub mod NextLemmas
+pub mod OrderLemmas
+pub mod RowLemmas
+pub mod LengthLemmas

@@ -1,0 +1,13 @@
+pub mod Nfas
+pub mod Steps
+pub mod Walk
+pub mod FirstBytes
+pub mod Stays
+pub mod Parted
+pub mod Front
+pub mod Next
+pub mod Lengths
+pub mod Order
+pub mod Rows
+pub mod Starts
+pub mod Known

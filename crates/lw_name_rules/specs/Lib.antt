@@ -1,2 +1,0 @@
-pub mod NameTable
-pub mod Searching

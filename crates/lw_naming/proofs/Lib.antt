@@ -1,9 +1,0 @@
-mod Reading
-mod Gathering
-mod Deciding
-mod Membership
-mod Said
-mod Edges
-mod Leading
-mod RoundTypes
-mod NameFaults

@@ -1,7 +1,0 @@
-use Rattle.std.proofs.Common.{take}
-use Rattle.lw_findings.specs.Finding.{Finds, OfSome}
-use Rattle.lw_naming.specs.Attributes.{RepeatsAttribute}
-use Rattle.lw_naming.proofs.attributes.find_second_attributes.Given as goal
-
-abbrev pub invariant-loop-interface : goal.invariant-loop-interface
-invariant-loop-interface l = Finds (OfSome RepeatsAttribute (take l.interface-index l.interfaces)) l.fn.found l.found

@@ -1,7 +1,0 @@
-use Rattle.std.proofs.Common.{ℕ, List, Contains, take}
-use Rattle.lw_base.specs.declared.token.Span.{Span}
-use Rattle.lw_naming.specs.Rounds.{IsNoInterface}
-use Rattle.lw_naming.proofs.names.KnownNames.extends_other.Given as goal
-
-abbrev pub invariant-loop-name : goal.invariant-loop-name
-invariant-loop-name l = (n : List ℕ × Span) → Contains (take l.name-index l.interface.above) n → ¬ IsNoInterface l.self.g.now n.0

@@ -1,6 +1,0 @@
-use Rattle.lw_findings.specs.Finding.{Finds, AtSomeBelow}
-use Rattle.lw_naming.specs.Rounds.{TellsInterface}
-use Rattle.lw_naming.proofs.names.KnownNames.find_round_interfaces.Given as goal
-
-abbrev pub invariant-loop-i : goal.invariant-loop-i
-invariant-loop-i l = Finds (AtSomeBelow (TellsInterface l.self.g.now l.round) l.i l.self.g.now.interfaces) l.fn.found l.found

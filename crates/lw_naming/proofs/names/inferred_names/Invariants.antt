@@ -1,8 +1,0 @@
-use Rattle.std.proofs.Common.{[], take}
-use Rattle.lw_findings.specs.Finding.{Finds, OfSome}
-use Rattle.lw_naming.specs.NameUses.{use_of}
-use Rattle.lw_naming.specs.Wrong.{InfersName}
-use Rattle.lw_naming.proofs.names.inferred_names.Given as goal
-
-abbrev pub invariant-loop-mention : goal.invariant-loop-mention
-invariant-loop-mention l = Finds (OfSome (λ m. InfersName (use_of m)) (take l.mention-index l.mentions)) [] l.names.keys

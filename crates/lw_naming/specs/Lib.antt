@@ -1,4 +1,0 @@
-pub mod NameUses
-pub mod Wrong
-pub mod Attributes
-pub mod Rounds

@@ -1,2 +1,0 @@
-mod OneList
-pub mod OneWord

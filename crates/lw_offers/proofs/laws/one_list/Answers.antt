@@ -1,7 +1,0 @@
--- Lists in strict orders.
-use Rattle.lw_scoping.specs.Links.{ByTest}
-use Rattle.lw_offers.proofs.OneList.{one_list_of_names, one_list_of_offers}
-use Rattle.lw_offers.proofs.laws.one_list.Goals as goal
-
-pub returns : goal.returns
-returns c = record { offers = λ g one_way texts address text offset. one_list_of_offers g one_way texts address text offset; visible = λ is_below. one_list_of_names (ByTest is_below) }

@@ -1,4 +1,0 @@
-pub mod Targets
-pub mod Words
-pub mod Starting
-pub mod Offers

@@ -1,5 +1,0 @@
-mod CallLemmas
-mod Counting
-mod OrderLemmas
-mod RuleLemmas
-mod TellingLemmas

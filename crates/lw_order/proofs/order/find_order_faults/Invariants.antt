@@ -1,6 +1,0 @@
-use Rattle.lw_findings.specs.Finding.{Finds}
-use Rattle.lw_order.specs.Found.{ByOneOf, ToldByRule}
-use Rattle.lw_order.proofs.order.find_order_faults.Given as goal
-
-abbrev pub invariant-loop-number : goal.invariant-loop-number
-invariant-loop-number l = Finds (ByOneOf (ToldByRule l.fn.g l.fn.ways) l.number) l.fn.found l.found

@@ -1,6 +1,0 @@
--- One name stands below another where they are one, or where a row of the table holds the other.
-use Rattle.lw_outcomes.proofs.Types.{tells_types}
-use Rattle.lw_outcomes.proofs.laws.tables_tell_subtypes.Goals as goal
-
-pub returns : goal.returns
-returns c = tells_types

@@ -1,7 +1,0 @@
--- No event shows another text than one that was there.
-use Rattle.lw_outcomes.proofs.OfDocuments.{clean_texts, none_held}
-use Rattle.lw_outcomes.proofs.Staying.{stay_readable}
-use Rattle.lw_outcomes.proofs.laws.texts_stay_readable.Goals as goal
-
-pub returns : goal.returns
-returns c = record { begins = none_held; stay = stay_readable; clean = clean_texts }

@@ -1,4 +1,0 @@
-pub mod Clean
-pub mod Readable
-pub mod Telling
-pub mod Linked

@@ -1,4 +1,0 @@
-pub mod Enclosed
-pub mod Typed
-pub mod OfTexts
-pub mod OneRoot

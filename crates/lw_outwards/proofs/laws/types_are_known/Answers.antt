@@ -1,8 +1,0 @@
-use Rattle.lw_outwards.proofs.Typed.{tree_known, opened_tree_known}
-use Rattle.lw_outwards.proofs.laws.types_are_known.Goals as goal
-
-pub returns : goal.returns
-returns c = record {
-  whole = λ g text m seen tokens tree is. tree_known g text m seen tokens tree is;
-  begun = λ g text m seen tokens tree is. opened_tree_known g text m seen tokens tree is;
-}

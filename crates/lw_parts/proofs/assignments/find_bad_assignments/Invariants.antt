@@ -1,7 +1,0 @@
-use Rattle.std.proofs.Common.{take}
-use Rattle.lw_findings.specs.Finding.{Finds, OfSome}
-use Rattle.lw_parts.specs.BadSites.{HasBadPut}
-use Rattle.lw_parts.proofs.assignments.find_bad_assignments.Given as goal
-
-abbrev pub invariant-loop-rule : goal.invariant-loop-rule
-invariant-loop-rule l = Finds (OfSome (HasBadPut l.fn.checker.g.now) (take l.rule-index l.rule-items)) l.fn.found l.found

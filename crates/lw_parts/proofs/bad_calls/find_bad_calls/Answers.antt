@@ -1,5 +1,0 @@
-use Rattle.lw_parts.proofs.BadCallLemmas.{found_bad_calls}
-use Rattle.lw_parts.proofs.bad_calls.find_bad_calls.Goals as goal
-
-pub returns : goal.returns
-returns c = found_bad_calls c.args.checker.now.g.now c.in_ok-find_in_rules.ensures c.in_ok-find_in_terminals.ensures

@@ -1,8 +1,0 @@
-use Rattle.std.proofs.Common.{take}
-use Rattle.lw_leaves.specs.Parts.{term_call_of}
-use Rattle.lw_findings.specs.Finding.{Finds, OfSome}
-use Rattle.lw_parts.specs.BadSites.{CallsRule}
-use Rattle.lw_parts.proofs.bad_calls.find_called_rules.Given as goal
-
-abbrev pub invariant-loop-call : goal.invariant-loop-call
-invariant-loop-call l = Finds (OfSome (λ call. CallsRule l.fn.checker.g.now l.fn.terminal (term_call_of call)) (take l.call-index l.call-items)) l.fn.found l.found

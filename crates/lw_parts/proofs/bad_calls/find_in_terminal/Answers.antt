@@ -1,5 +1,0 @@
-use Rattle.lw_findings.proofs.Joining.{Finds-then}
-use Rattle.lw_parts.proofs.bad_calls.find_in_terminal.Goals as goal
-
-pub returns : goal.returns
-returns c = Finds-then c.in_ok-find_called_rules.ensures c.in_ok-find_bad_ranges.ensures

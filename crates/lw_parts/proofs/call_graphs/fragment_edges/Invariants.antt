@@ -1,7 +1,0 @@
-use Rattle.std.proofs.Common.{[]}
-use Rattle.lw_findings.specs.Finding.{Finds, AtSomeBelow}
-use Rattle.lw_parts.specs.Edges.{CallsFragments}
-use Rattle.lw_parts.proofs.call_graphs.fragment_edges.Given as goal
-
-abbrev pub invariant-loop-q : goal.invariant-loop-q
-invariant-loop-q l = Finds (AtSomeBelow (CallsFragments l.fn.checker.g.now) l.q l.fn.checker.g.now.rules) [] l.edges.items

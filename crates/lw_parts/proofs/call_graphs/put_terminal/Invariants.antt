@@ -1,8 +1,0 @@
-use Rattle.std.proofs.Common.{take}
-use Rattle.lw_leaves.specs.Parts.{term_call_of}
-use Rattle.lw_findings.specs.Finding.{Finds, OfSome}
-use Rattle.lw_parts.specs.Edges.{CallsTerminal}
-use Rattle.lw_parts.proofs.call_graphs.put_terminal.Given as goal
-
-abbrev pub invariant-loop-call : goal.invariant-loop-call
-invariant-loop-call l = Finds (OfSome (λ call. CallsTerminal l.fn.checker.g.now l.fn.t (term_call_of call)) (take l.call-index l.call-items)) l.fn.edges.items l.edges.items

@@ -1,7 +1,0 @@
-use Rattle.lw_graph.specs.Walks.{HasNode}
-use Rattle.lw_findings.proofs.Joining.{Finds-where}
-use Rattle.lw_parts.specs.Parts.{at_terminal}
-use Rattle.lw_parts.proofs.circles.find_terminal_in.Goals as goal
-
-pub returns : goal.returns
-returns c = Finds-where (HasNode c.args.round.now c.args.t) (at_terminal 20 c.args.terminal.now) (c.holds.ensures.0 c.if-not-holds.false) c.in_ok-add.ensures

@@ -1,7 +1,0 @@
-use Rattle.std.proofs.Common.{arith}
-use Rattle.lw_findings.proofs.Joining.{Finds-more}
-use Rattle.lw_parts.specs.Parts.{MarkedAgain}
-use Rattle.lw_parts.proofs.entries.find_marked.Goals as goal
-
-pub loop-rule-preserved : goal.loop-rule-preserved
-loop-rule-preserved c = Finds-more MarkedAgain c.args.rules.now c.loop-rule.rule-index c.rule-item.result (omega arith) c.rule-item.is c.loop-rule.invariant c.in_ok-find_mark.ensures

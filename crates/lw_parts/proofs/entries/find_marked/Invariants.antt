@@ -1,7 +1,0 @@
-use Rattle.std.proofs.Common.{take}
-use Rattle.lw_findings.specs.Finding.{Finds, OfSome}
-use Rattle.lw_parts.specs.Parts.{MarkedAgain}
-use Rattle.lw_parts.proofs.entries.find_marked.Given as goal
-
-abbrev pub invariant-loop-rule : goal.invariant-loop-rule
-invariant-loop-rule l = Finds (OfSome MarkedAgain (take l.rule-index l.rules)) l.fn.found l.found

@@ -1,3 +1,0 @@
-mod Escaped
-mod RoundTrip
-mod WrittenPaths

@@ -1,5 +1,0 @@
-use Rattle.lw_patterns.proofs.EachPattern.{each_pattern}
-use Rattle.lw_patterns.proofs.laws.each_has_a_pattern.Goals as goal
-
-pub returns : goal.returns
-returns c = each_pattern

@@ -1,9 +1,0 @@
-use Rattle.lw_patterns.specs.Rounds.{missing}
-use Rattle.lw_patterns.specs.Writing.{ArePatternsKnown}
-use Rattle.lw_patterns.proofs.rounds.patterns.Given as goal
-
-abbrev pub invariant-rounds : goal.invariant-rounds
-invariant-rounds l = ArePatternsKnown l.g l.numbers l.written.items
-
-abbrev pub decreases-rounds : goal.decreases-rounds
-decreases-rounds l = missing l.written.items

@@ -1,8 +1,0 @@
-use Rattle.std.proofs.Common.{drop}
-use Rattle.lw_patterns.specs.Readiness.{AreReady}
-use Rattle.lw_patterns.specs.Writing.{IsFoundAt}
-use Rattle.lw_patterns.proofs.scribe.Scribe.+readiness.Given as goal
-
-abbrev pub invariant-are_ready-loop-part : goal.invariant-are_ready-loop-part
-invariant-are_ready-loop-part l =
-    AreReady l.self.g.now (IsFoundAt l.self.written.now) (drop l.part-index l.parts) → AreReady l.self.g.now (IsFoundAt l.self.written.now) l.parts

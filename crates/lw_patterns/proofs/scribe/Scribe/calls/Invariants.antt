@@ -1,5 +1,0 @@
-use Rattle.std.proofs.Common.{◌≡◌, length}
-use Rattle.lw_patterns.proofs.scribe.Scribe.calls.Given as goal
-
-abbrev pub invariant-loop-place : goal.invariant-loop-place
-invariant-loop-place l = l.calls.nodes ≡ length l.self.g.now.terminals

@@ -1,0 +1,160 @@
+-- The orders of offers and of names are strict, so a list in order is settled by what it has; and what it has is settled by texts that are read in one way.
+use Rattle.std.proofs.Common.{◌≡◌, ◌⊎◌, inl, inr, ◌++◌, ℕ, List, Bool, true, false, Option, Some, None, Contains, if◌then◌else◌, take, refl, sym, ap, ◌∙◌, subst, subst₂, arith}
+use Rattle.std.specs.Cmp.Lexicographic.{slice_cmp}
+use Rattle.std.specs.Ordering.{nat_cmp, ordering_reverse}
+use Rattle.std.specs.Str.{bytes_eq}
+use Rattle.std.specs.declared.cmp.Ordering.TheVariants.{Less, Greater}
+use Rattle.std.proofs.lemmas.Cmp.{nat_list_cmp_total}
+use Rattle.std.proofs.lemmas.Option.{same_Some}
+use Rattle.lw_base.specs.declared.token.Token.{Token}
+use Rattle.lw_base.proofs.Sorted.{same_list}
+use Rattle.lw_grammar.specs.declared.grammar.Grammar.{Grammar}
+use Rattle.lw_grammar.specs.Kinds.{Kinds}
+use Rattle.lw_grammar.proofs.KindLemmas.{one_kinds}
+use Rattle.lw_reading.specs.Laws.{IsReadOneWay}
+use Rattle.lw_link_rules.specs.Links.{IsNumberBelow, Texts}
+use Rattle.lw_link_rules.proofs.SameTables.{link_over}
+use Rattle.lw_link_rules.proofs.SameTexts.{same_tables}
+use Rattle.lw_scoping.specs.Alike.{AreAlike, HaveSameTables, both, neither}
+use Rattle.lw_scoping.specs.Links.{FitsThere, Trees}
+use Rattle.lw_scoping.proofs.Tables.{same_exports, same_named, turned}
+use Rattle.lw_tokens.specs.Lexicon.{IsLexicon, Lexicon}
+use Rattle.lw_tokens.proofs.OnePattern.{one_lexicon}
+use Rattle.lw_tree.specs.declared.node.Reference.{Reference}
+use Rattle.lw_tree.specs.Parts.{Parts, SameTables}
+use Rattle.lw_places.specs.Offers.{AreOffers, IsOffer, IsOffered, LeadsSomewhere, Offer, OfferPrecedes, by_kind, by_label}
+use Rattle.lw_places.specs.Offers as offer
+use Rattle.lw_places.specs.Starting.{IsFindable, ReferenceNext}
+use Rattle.lw_places.specs.Starting as start
+use Rattle.lw_places.specs.Targets.{AreVisible, HasTarget, having_tree, renamed_to}
+use Rattle.lw_places.specs.Words.{BeginsBy}
+
+names_strict : (a b : List ℕ) → slice_cmp nat_cmp a b ≡ Less → slice_cmp nat_cmp b a ≡ Less → ⊥
+names_strict a b one other = by (sym one ∙ nat_list_cmp_total.antisymm a b ∙ ap ordering_reverse other)
+  where
+    by : Less ≡ Greater → ⊥
+    by same = cc
+
+not_before_itself : (a b : List ℕ) → a ≡ b → slice_cmp nat_cmp a b ≡ Less → ⊥
+not_before_itself a b same less =
+    let itself : slice_cmp nat_cmp b b ≡ Less = subst (λ c. slice_cmp nat_cmp c b ≡ Less) same less in names_strict b b itself itself
+
+offers_strict : (one other : Offer) → OfferPrecedes one other → OfferPrecedes other one → ⊥
+offers_strict one other (by_label a) (by_label b) = names_strict one.label other.label a b
+offers_strict one other (by_label a) (by_kind same _) = not_before_itself one.label other.label (sym same) a
+offers_strict one other (by_kind same _) (by_label b) = not_before_itself other.label one.label (sym same) b
+offers_strict one other (by_kind _ a) (by_kind _ b) = omega (arith, a, b)
+
+-- ---- trees with the same tables
+
+-- the document at an address has this tree in both
+having_alike : {trees others : Trees} (address : List ℕ) (tree : Parts) → HaveSameTables trees others →
+    HaveSameTables (having_tree address tree trees) (having_tree address tree others)
+having_alike {trees} {others} address tree all other = by (bytes_eq other address) refl
+  where
+    itself : SameTables tree tree
+    itself = record { nodes = refl; values = λ n p. refl; refs = refl; tokens = refl; name = refl }
+
+    by : (is : Bool) → bytes_eq other address ≡ is → AreAlike (having_tree address tree trees other) (having_tree address tree others other)
+    by true same = subst (λ b. AreAlike (if b then Some tree else trees other) (if b then Some tree else others other)) (sym same) (both itself)
+    by false same = subst (λ b. AreAlike (if b then Some tree else trees other) (if b then Some tree else others other)) (sym same) (all other)
+
+-- a document that has a tree has one with the same tables in the other
+alike_in : {a b : Option Parts} {tree : Parts} → AreAlike a b → a ≡ Some tree → (other : Parts) × (b ≡ Some other) × SameTables tree other
+alike_in {tree} (both {one = one} {other = other} same) is = (other, refl, subst (λ (x : Parts). SameTables x other) (same_Some one tree is) same)
+alike_in neither is = absurd (differ is)
+  where
+    differ : {tree : Parts} → None ≡ Some tree → ⊥
+    differ e = cc
+
+alike_back : {a b : Option Parts} → AreAlike a b → AreAlike b a
+alike_back (both same) = both (turned same)
+alike_back neither = neither
+
+fits_over : {trees others : Trees} → HaveSameTables trees others → (below : ℕ → ℕ → Type 0) (r : Reference) (place : List ℕ × ℕ) → FitsThere below trees r place →
+    FitsThere below others r place
+fits_over all below r place (tree, is, has, (type, named, under)) =
+    let (other, there, same) = alike_in (all place.0) is in
+    (other, there, subst (λ (xs : List ℕ). Contains xs place.1) (same_exports same) has, (type, same_named same named, under))
+
+target_too : (g : Grammar) {trees others : Trees} (address : List ℕ) (tree : Parts) (r : Reference) → HaveSameTables trees others →
+    HasTarget (IsNumberBelow g) trees address tree r → HasTarget (IsNumberBelow g) others address tree r
+target_too g address tree r all (target, leads) =
+    let alike = having_alike address tree all in (
+      target,
+      link_over (IsNumberBelow g) _ _ address tree tree r (λ n own. own) (fits_over alike (IsNumberBelow g) r)
+          (fits_over (λ a. alike_back (alike a)) (IsNumberBelow g) r) (Some target) leads,
+    )
+
+module _ (g : Grammar) (of : Kinds) (lexicon : Lexicon) {trees others : Trees} (address front rest : List ℕ) (tokens : List Token) (all : HaveSameTables trees others) where
+  findable_too : (next : ReferenceNext) (name : List ℕ) → IsFindable g of lexicon trees address front rest tokens next name →
+      IsFindable g of lexicon others address front rest tokens next name
+  findable_too next name (start.in_front {tree} {r} is target) = start.in_front is (target_too g address tree (renamed_to name r) all target)
+  findable_too next name (start.in_whole {tree} {r} front_is is target) = start.in_whole front_is is (target_too g address tree (renamed_to name r) all target)
+
+  leads_too : (next : ReferenceNext) (name : List ℕ) → LeadsSomewhere g of lexicon trees address front rest tokens next name →
+      LeadsSomewhere g of lexicon others address front rest tokens next name
+  leads_too next name (offer.in_whole {tree} {r} has target) = offer.in_whole has (target_too g address tree r all target)
+  leads_too next name (offer.in_front {tree} {r} none is target) = offer.in_front none is (target_too g address tree (renamed_to name r) all target)
+
+  offered_too : (word : List ℕ) (x : Offer) → IsOffered g of lexicon trees address front rest tokens word x →
+      IsOffered g of lexicon others address front rest tokens word x
+  offered_too word x (offer.keyword begins is) = offer.keyword begins is
+  offered_too word x (offer.name {n} begins is) =
+      offer.name begins (record {
+        found = record { next = is.found.next; comes = is.found.comes; findable = findable_too is.found.next n is.found.findable };
+        next = is.next;
+        comes = is.comes;
+        read = is.read;
+        leads = leads_too is.next n is.leads;
+      })
+
+-- ---- one list
+
+module _ (g : Grammar) (one_way : IsReadOneWay g) (texts : Texts) (address text : List ℕ) (offset : ℕ) where
+  offer_too : {of kinds : Kinds} {one other : Lexicon} {trees others : Trees} → of ≡ kinds → one ≡ other → HaveSameTables trees others → (x : Offer) →
+      IsOffer g of one trees address text offset x → IsOffer g kinds other others address text offset x
+  offer_too {kinds} {other} {others} same_kinds same_lexicon all x is =
+      subst₂ (λ kinds lexicon. IsOffer g kinds lexicon others address text offset x) same_kinds same_lexicon
+      (record {
+        short = is.short;
+        front = is.front;
+        word = is.word;
+        rest = is.rest;
+        typed = is.typed;
+        tokens = is.tokens;
+        cut = is.cut;
+        offered = offered_too g _ _ address is.front is.rest is.tokens all is.word x is.offered;
+      })
+
+  held_too : (offers others : List Offer) → AreOffers g texts address text offset offers → AreOffers g texts address text offset others → (x : Offer) →
+      Contains offers x → Contains others x
+  held_too offers others are were x has =
+      let same_kinds : are.of ≡ were.of = one_kinds g are.of were.of are.are_kinds were.are_kinds in
+      let same_lexicon : are.lexicon ≡ were.lexicon =
+      one_lexicon g were.of are.lexicon were.lexicon (subst (λ of. IsLexicon g of are.lexicon) same_kinds are.is_lexicon) were.is_lexicon in
+      (were.exact x).1 (offer_too same_kinds same_lexicon (same_tables g one_way texts are.trees were.trees are.are_trees were.are_trees) x ((are.exact x).0 has))
+
+  pub one_list_of_offers : (offers others : List Offer) → AreOffers g texts address text offset offers → AreOffers g texts address text offset others →
+      offers ≡ others
+  one_list_of_offers offers others are were =
+      same_list OfferPrecedes offers_strict offers others are.ordered were.ordered (held_too offers others are were) (held_too others offers were are)
+
+pub one_list_of_names : (below : ℕ → ℕ → Type 0) (trees : Trees) (address : List ℕ) (tree : Parts) (r : Reference) (names others : List (List ℕ)) →
+    AreVisible below trees address tree r names → AreVisible below trees address tree r others → names ≡ others
+one_list_of_names below trees address tree r names others are were =
+    same_list (λ one other. slice_cmp nat_cmp one other ≡ Less) names_strict names others are.ordered were.ordered (λ x has. (were.exact x).1 ((are.exact x).0 has))
+    (λ x has. (are.exact x).1 ((were.exact x).0 has))
+
+pub goes_on : (g : Grammar) (texts : Texts) (address text : List ℕ) (offset : ℕ) (offers : List Offer) (x : Offer) →
+    AreOffers g texts address text offset offers → Contains offers x →
+    (front : List ℕ) × (word : List ℕ) × (take offset text ≡ front ++ word) × BeginsBy word x.label × ((x.kind ≡ 14) ⊎ (x.kind ≡ 18))
+goes_on g texts address text offset offers x are has = let (begins, kind) = told x is.offered in (is.front, is.word, is.typed.before, begins, kind)
+  where
+    is : IsOffer g are.of are.lexicon are.trees address text offset x
+    is = (are.exact x).0 has
+
+    told : (x : Offer) → IsOffered g are.of are.lexicon are.trees address is.front is.rest is.tokens is.word x →
+        BeginsBy is.word x.label × ((x.kind ≡ 14) ⊎ (x.kind ≡ 18))
+    told x (offer.keyword begins _) = (begins, inl refl)
+    told x (offer.name begins _) = (begins, inr refl)

@@ -1,0 +1,7 @@
+-- Lists in strict orders.
+use Rattle.lw_scoping.specs.Links.{ByTest}
+use Rattle.lw_places.proofs.OneList.{one_list_of_names, one_list_of_offers}
+use Rattle.lw_places.proofs.offers.laws.one_list.Goals as goal
+
+pub returns : goal.returns
+returns c = record { offers = λ g one_way texts address text offset. one_list_of_offers g one_way texts address text offset; visible = λ is_below. one_list_of_names (ByTest is_below) }

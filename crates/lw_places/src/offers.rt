@@ -1,0 +1,14 @@
+//! What is offered at a place of a document, to be written there: definitions.
+//!
+//! `specs/Words.antt` says which word is being typed at an offset. `specs/Targets.antt` says by which names a reference would lead somewhere.
+//! `specs/Starting.antt` says which cross-references may come next, and what the trees are in which their names are looked for: that of the
+//! text before the word, and that of the whole text with the reference left blank. `specs/Offers.antt` says what is offered: a keyword that
+//! is one token there and with which some sentence goes on, and a name that is read there as a cross-reference and leads somewhere once it
+//! is written. Places are byte offsets, counted from zero.
+//!
+//! There is no code here. Each function has an empty body, and its contract is a law that a reader would expect: there is one list of offers
+//! and one list of names ([`one_list`]), one word is being typed at an offset ([`one_word`]), and what is offered goes on with it
+//! ([`words_go_on`]).
+mod laws;
+
+pub use laws::{one_list, one_word, words_go_on};

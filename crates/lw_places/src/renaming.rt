@@ -1,0 +1,17 @@
+//! What a rename makes of the texts of all documents, and when it is refused: definitions.
+//!
+//! `specs/Replacing.antt` says which texts result where the mentions of a node (`lw_places`) are replaced by a new name.
+//! `specs/Shapes.antt` says when two trees differ in places and texts alone. `specs/Renamed.antt` says what a rename comes to: the mentions
+//! that are replaced, or the first thing that it would change beside the name. Places are byte offsets, counted from zero.
+//!
+//! There is no code here. Each function has an empty body, and its contract is a law that a reader would expect: a rename has one outcome
+//! ([`one_rename`]), by the texts alone ([`only_texts_are_renamed`]); one that is accepted leaves every reference of every document leading
+//! where it led, and every text without a mention as it was ([`renames_rebind_nothing`]). What texts and shapes come to is shown over small
+//! ones that `specs/Worked.antt` writes out ([`texts_are_replaced`], [`texts_and_places_make_no_shape`]), and shapes are compared as what is
+//! equal is ([`shapes_are_settled`]).
+mod laws;
+
+pub use laws::{
+    one_rename, only_texts_are_renamed, renames_rebind_nothing, shapes_are_settled,
+    texts_and_places_make_no_shape, texts_are_replaced,
+};

@@ -1,9 +1,0 @@
-pub mod ChoiceForms
-pub mod SiteForms
-pub mod FollowForms
-pub mod PutSteps
-pub mod WayLemmas
-pub mod PointForms
-pub mod GatherSteps
-pub mod LeadForms
-pub mod RuleSteps

@@ -1,9 +1,0 @@
-use Rattle.lw_points.specs.Counted.{AreCountedPoints}
-use Rattle.lw_points.proofs.RuleSteps.{IsLeftFrom}
-use Rattle.lw_points.proofs.gathering.points.Given as goal
-
-abbrev pub invariant-loop-number : goal.invariant-loop-number
-invariant-loop-number l = record {
-  left : IsLeftFrom l.first l.followers l.number l.gathered.points.items;
-  counted : AreCountedPoints l.gathered;
-}

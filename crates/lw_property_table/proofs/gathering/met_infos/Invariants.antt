@@ -1,6 +1,0 @@
-use Rattle.std.proofs.Common.{◌≡◌, map, take}
-use Rattle.lw_property_table.specs.Gathered.{info_of}
-use Rattle.lw_property_table.proofs.gathering.met_infos.Given as goal
-
-abbrev pub invariant-loop-at : goal.invariant-loop-at
-invariant-loop-at l = l.infos.items ≡ map info_of (take l.at l.props.entries)

@@ -1,7 +1,0 @@
--- Before the action the type of the rule is current, in the fragment too, and behind it that of the action.
-use Rattle.lw_property_table.proofs.PairsWays.{type_numbers, property_numbers}
-use Rattle.lw_property_table.proofs.PairsSeen.{leaf_has, pair_has}
-use Rattle.lw_property_table.proofs.laws.properties_around_an_action.Goals as goal
-
-pub returns : goal.returns
-returns c = record { types = type_numbers; properties = property_numbers; before = λ rows are. leaf_has are; behind = λ rows are. pair_has are }

@@ -1,6 +1,0 @@
--- What the entry calls, and the action's type below it.
-use Rattle.lw_property_table.proofs.PairsTypes.{types_below_root}
-use Rattle.lw_property_table.proofs.laws.types_below_a_rule.Goals as goal
-
-pub returns : goal.returns
-returns c = record { below = types_below_root }

@@ -1,5 +1,0 @@
-use Rattle.lw_property_table.proofs.Adding.{AreEmpty}
-use Rattle.lw_property_table.proofs.seeing.gatherings.Given as goal
-
-abbrev pub invariant-loop-number : goal.invariant-loop-number
-invariant-loop-number l = AreEmpty l._number l.list.items

@@ -1,5 +1,0 @@
-use Rattle.lw_property_table.specs.Seeing.{AreTypesOfRules}
-use Rattle.lw_property_table.proofs.texts.rule_types.Given as goal
-
-abbrev pub invariant-loop-number : goal.invariant-loop-number
-invariant-loop-number l = AreTypesOfRules l.g l.nodes l.makes l.number l.types.items

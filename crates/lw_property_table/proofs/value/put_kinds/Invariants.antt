@@ -1,6 +1,0 @@
-use Rattle.std.proofs.Common.{take}
-use Rattle.lw_property_table.specs.Gathered.{value_kinds, JoinsValues}
-use Rattle.lw_property_table.proofs.value.put_kinds.Given as goal
-
-abbrev pub invariant-loop-kind : goal.invariant-loop-kind
-invariant-loop-kind l = JoinsValues (value_kinds l.initial.set.keys) (take l.kind-index l.kinds) (value_kinds l.set.keys)

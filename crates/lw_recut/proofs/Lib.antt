@@ -1,5 +1,0 @@
-mod Automata
-pub mod Behind
-mod FrontEnds
-mod SameTokens
-mod Seaming

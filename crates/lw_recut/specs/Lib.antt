@@ -1,2 +1,0 @@
-pub mod Recut
-pub mod Seams

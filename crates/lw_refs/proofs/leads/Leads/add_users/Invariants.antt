@@ -1,6 +1,0 @@
-use Rattle.std.proofs.Common.{◌≡◌, ◌++◌, map, take}
-use Rattle.lw_refs.proofs.Gathering.{slot_of}
-use Rattle.lw_refs.proofs.leads.Leads.add_users.Given as goal
-
-abbrev pub invariant-loop-found : goal.invariant-loop-found
-invariant-loop-found l = l.slots.items ≡ l.initial.slots.items ++ map (slot_of l.user) (take l.found-index l.found-items)

@@ -1,5 +1,0 @@
-use Rattle.lw_refs.proofs.Pairing.{SomeStay}
-use Rattle.lw_refs.proofs.leads.Leads.leave.Given as goal
-
-abbrev pub invariant-loop-found : goal.invariant-loop-found
-invariant-loop-found l = SomeStay l.user.0 l.kept l.initial.pairs l.pairs

@@ -1,5 +1,0 @@
-use Rattle.lw_refs.proofs.Turns.{AreUsesUpTo}
-use Rattle.lw_refs.proofs.uses.uses_in_turn.Given as goal
-
-abbrev pub invariant-loop-place : goal.invariant-loop-place
-invariant-loop-place l = AreUsesUpTo l.answers l.place l.uses.items

@@ -1,4 +1,0 @@
-pub mod Led
-pub mod Users
-pub mod Uses
-pub mod Pairs

@@ -1,4 +1,0 @@
-pub mod Replacing
-pub mod Shapes
-pub mod Renamed
-pub mod Worked

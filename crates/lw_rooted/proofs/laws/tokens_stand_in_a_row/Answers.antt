@@ -1,5 +1,0 @@
-use Rattle.lw_rooted.proofs.Standing.{states_row, states_stand, none_in_nothing, not_behind, not_in_text}
-use Rattle.lw_rooted.proofs.laws.tokens_stand_in_a_row.Goals as goal
-
-pub returns : goal.returns
-returns c = record { row = states_row; tree = states_stand; nothing = none_in_nothing; overlap = not_behind; outside = not_in_text }

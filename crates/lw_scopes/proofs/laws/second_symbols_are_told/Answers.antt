@@ -1,6 +1,0 @@
--- A part that has an earlier one of its name is the second.
-use Rattle.lw_scopes.proofs.Twins.{second_is_told}
-use Rattle.lw_scopes.proofs.laws.second_symbols_are_told.Goals as goal
-
-pub returns : goal.returns
-returns c = λ g trees address part. second_is_told g part trees address

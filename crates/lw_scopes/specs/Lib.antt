@@ -1,6 +1,0 @@
-pub mod Faults
-pub mod Links
-pub mod TreeDiagnostics
-pub mod Diagnostics
-pub mod Laws
-pub mod Worked

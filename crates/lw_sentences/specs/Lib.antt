@@ -1,4 +1,0 @@
-pub mod Marks
-pub mod Yields
-pub mod Sentences
-pub mod Worked

@@ -1,5 +1,0 @@
-use Rattle.lw_lang.proofs.OneWay.{one_way}
-use Rattle.lw_session.proofs.tests.language.Goals as goal
-
-pub returns : goal.returns
-returns g c = one_way c.in-Ok.language.grammar 2 c.in-Ok.ensures.clear

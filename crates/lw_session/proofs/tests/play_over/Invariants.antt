@@ -1,4 +1,0 @@
-use Rattle.lw_session.proofs.tests.play_over.Given as goal
-
-abbrev pub ghosts-played : goal.ghosts-played
-ghosts-played g a = record { name = a.blank.name; parts = a.blank.parts }

@@ -1,0 +1,6 @@
+pub mod Tokens
+pub mod Growth
+pub mod OneName
+pub mod Places
+pub mod Worked
+pub mod Around

@@ -1,6 +1,0 @@
-use Rattle.lw_subtypes.specs.Lists.{SomeBefore}
-use Rattle.lw_subtypes.specs.Spoken.{ExtendsBy, InterfaceSpeaks}
-use Rattle.lw_subtypes.proofs.names.put_interfaces.Given as goal
-
-abbrev pub invariant-loop-interface : goal.invariant-loop-interface
-invariant-loop-interface l = ExtendsBy (λ name. SomeBefore l.interfaces l.interface-index (λ k interface. InterfaceSpeaks interface name)) l.initial.names.keys l.names.keys

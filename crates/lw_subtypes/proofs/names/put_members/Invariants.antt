@@ -1,6 +1,0 @@
-use Rattle.lw_subtypes.specs.Lists.{SomeBefore}
-use Rattle.lw_subtypes.specs.Spoken.{ExtendsBy, NamesMember}
-use Rattle.lw_subtypes.proofs.names.put_members.Given as goal
-
-abbrev pub invariant-loop-member : goal.invariant-loop-member
-invariant-loop-member l = ExtendsBy (λ name. SomeBefore l.member-items l.member-index (λ k member. NamesMember member name)) l.initial.names.keys l.names.keys

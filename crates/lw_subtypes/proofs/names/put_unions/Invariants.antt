@@ -1,6 +1,0 @@
-use Rattle.lw_subtypes.specs.Lists.{SomeBefore}
-use Rattle.lw_subtypes.specs.Spoken.{ExtendsBy, UnionSpeaks}
-use Rattle.lw_subtypes.proofs.names.put_unions.Given as goal
-
-abbrev pub invariant-loop-union : goal.invariant-loop-union
-invariant-loop-union l = ExtendsBy (λ name. SomeBefore l.unions l.union-index (λ k union. UnionSpeaks union name)) l.initial.names.keys l.names.keys

@@ -1,5 +1,0 @@
-use Rattle.lw_subtypes.specs.Above.{AreRows}
-use Rattle.lw_subtypes.proofs.subtypes.rows.Given as goal
-
-abbrev pub invariant-loop-number : goal.invariant-loop-number
-invariant-loop-number l = AreRows l.graph l.count l.number l.rows.items

@@ -1,8 +1,0 @@
--- The nodes that the code names by what it holds.
-use Rattle.lw_subtypes.specs.declared.kin.Kin.{Kin}
-use Rattle.lw_subtypes.specs.declared.kin.Kin.TheVariants as of
-use Rattle.lw_subtypes.specs.Kin as node
-
-abbrev pub kin_of : Kin → node.Kin
-kin_of (of.Type name) = node.OfType name.now
-kin_of (of.Body rule) = node.OfBody rule

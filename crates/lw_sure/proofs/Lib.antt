@@ -1,4 +1,0 @@
-pub mod StaysLemmas
-pub mod PartedLemmas
-pub mod FrontLemmas
-pub mod NextLemmas

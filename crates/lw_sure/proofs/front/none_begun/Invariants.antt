@@ -1,8 +1,0 @@
-use Rattle.std.proofs.Common.{◌≡◌, ℕ, ◌<◌, List, Some, slice_get, false}
-use Rattle.lw_sure.specs.Stays.{is_begun}
-use Rattle.lw_sure.proofs.front.none_begun.Given as goal
-
-abbrev pub invariant-loop-keyword : goal.invariant-loop-keyword
-invariant-loop-keyword l = record {
-  below : (j : ℕ) (keyword : List ℕ) → j < l.keyword-index → slice_get l.keywords j ≡ Some keyword → is_begun keyword l.text ≡ false;
-}

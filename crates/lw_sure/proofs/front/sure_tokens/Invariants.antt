@@ -1,9 +1,0 @@
-use Rattle.std.proofs.Common.{◌≤◌}
-use Rattle.lw_sure.specs.Front.{FrontStays}
-use Rattle.lw_sure.proofs.front.sure_tokens.Given as goal
-
-abbrev pub invariant-loop-i : goal.invariant-loop-i
-invariant-loop-i l = record {
-  stays : FrontStays l.keywords l.nfas l.text l.tokens l.i;
-  left : l.walker ≤ l.initial.walker;
-}

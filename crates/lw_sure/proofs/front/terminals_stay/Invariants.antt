@@ -1,9 +1,0 @@
-use Rattle.std.proofs.Common.{◌≤◌}
-use Rattle.lw_sure.specs.Front.{TerminalsStay}
-use Rattle.lw_sure.proofs.front.terminals_stay.Given as goal
-
-abbrev pub invariant-loop-j : goal.invariant-loop-j
-invariant-loop-j l = record {
-  stay : TerminalsStay l.nfas l.text l.j;
-  left : l.walker ≤ l.initial.walker;
-}

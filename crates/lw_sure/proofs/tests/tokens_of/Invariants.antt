@@ -1,6 +1,0 @@
-use Rattle.std.proofs.Common.{All}
-use Rattle.std.specs.Str.{IsCharBoundary}
-use Rattle.lw_sure.proofs.tests.tokens_of.Given as goal
-
-abbrev pub invariant-loop-digit : goal.invariant-loop-digit
-invariant-loop-digit l = record { starts : All (λ t. IsCharBoundary l.front t.span.start) l.tokens.items }

@@ -1,4 +1,0 @@
-pub mod Stays
-pub mod Parted
-pub mod Front
-pub mod Next

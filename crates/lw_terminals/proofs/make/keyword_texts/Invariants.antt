@@ -1,6 +1,0 @@
-use Rattle.std.proofs.Common.{◌≡◌, map, take}
-use Rattle.lw_grammar.specs.KindTexts.{quoted}
-use Rattle.lw_terminals.proofs.make.keyword_texts.Given as goal
-
-abbrev pub invariant-loop-keyword : goal.invariant-loop-keyword
-invariant-loop-keyword l = l.texts.items ≡ map quoted (take l.keyword-index l.keywords)

@@ -1,5 +1,0 @@
-use Rattle.lw_terminals.proofs.CompiledLemmas.{readable}
-use Rattle.lw_terminals.proofs.terminal.Terminal.new.Goals as goal
-
-pub returns-clause-readable : goal.returns-clause-readable
-returns-clause-readable c = readable c.args.pattern c.args.regex c.requires.compiled

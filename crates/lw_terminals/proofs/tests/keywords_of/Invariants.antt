@@ -1,5 +1,0 @@
-use Rattle.lw_tokens.specs.Keywords.{AreKeywords}
-use Rattle.lw_terminals.proofs.tests.keywords_of.Given as goal
-
-abbrev pub invariant-loop-word : goal.invariant-loop-word
-invariant-loop-word l = AreKeywords l.keywords.items

@@ -1,0 +1,19 @@
+// What a reader may expect of sets of tokens, whatever the grammar.
+ghost use Rattle.std.specs.Prelude.{List, [], Option, ℕ};
+ghost use Rattle.lw_grammar.specs.declared.grammar.Grammar.{Grammar};
+ghost use Rattle.lw_kinds.specs.Rows.{KindRow, AreKindRowOf};
+ghost use Rattle.lw_terminals.specs.declared.fault.TermFault.{TermFault};
+ghost use Rattle.lw_terminals.specs.TokenSets.{HasTokens, IsOfKindsAndPatterns, CausesNoTokens};
+
+/// A grammar that has a set of tokens has none of the faults that its kinds and patterns decide.
+pub fn one_answer()
+    ensures { (g : Grammar) (listed : List (List ℕ)) (row : KindRow) (refused : Option (List ℕ)) (fault : TermFault) →
+        HasTokens g [] → AreKindRowOf g row → IsOfKindsAndPatterns fault → ¬ CausesNoTokens g listed row refused fault }
+{}
+
+/// What a maker takes that lists some patterns, one takes that lists none.
+pub fn listed_or_not()
+    ensures tokens { (g : Grammar) (listed : List (List ℕ)) → HasTokens g listed → HasTokens g [] }
+    ensures faults { (g : Grammar) (listed : List (List ℕ)) (row : KindRow) (refused : Option (List ℕ)) (fault : TermFault) →
+        CausesNoTokens g listed row refused fault → CausesNoTokens g [] row refused fault }
+{}

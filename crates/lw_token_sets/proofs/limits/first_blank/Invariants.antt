@@ -1,5 +1,0 @@
-use Rattle.lw_token_sets.proofs.KeywordSteps.{NoneBlankBelow}
-use Rattle.lw_token_sets.proofs.limits.first_blank.Given as goal
-
-abbrev pub invariant-loop-k : goal.invariant-loop-k
-invariant-loop-k l = NoneBlankBelow l.kinds.keywords l.k

@@ -1,3 +1,0 @@
-pub mod Placed
-pub mod Telling
-pub mod Texts

@@ -1,9 +1,0 @@
-pub mod Rows
-pub mod Cuts
-pub mod OneBefore
-pub mod OneLook
-pub mod ReadSo
-pub mod Around
-pub mod NoReference
-pub mod Crossing
-pub mod Judged

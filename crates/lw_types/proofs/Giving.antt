@@ -1,0 +1,110 @@
+-- The values of parts and of members, one after the other.
+use Rattle.std.proofs.Common.{◌≡◌, ℕ, List, [], ◌∷◌, ◌++◌, Some, None, map, Contains, inl, inr, refl, sym, ap, ◌∙◌, subst}
+use Rattle.std.proofs.lemmas.List.{append_assoc, append-nil}
+use Rattle.std.proofs.lemmas.List.Elements.{Contains-push, Contains-push_cases, Contains-append_left}
+use Rattle.std.proofs.lemmas.Option.{none-some}
+use Rattle.lw_base.specs.declared.token.Span.{Span}
+use Rattle.lw_grammar.specs.declared.grammar.Grammar.{Grammar}
+use Rattle.lw_grammar.specs.declared.declared_types.Member.{Member}
+use Rattle.lw_grammar.specs.declared.declared_types.Member.TheVariants as member
+use Rattle.lw_grammar.specs.declared.declared_types.UnionDef.{UnionDef}
+use Rattle.lw_grammar.specs.declared.declared_types.ValueKind.{ValueKind}
+use Rattle.lw_grammar.specs.Leaves.{ValueLeaf}
+use Rattle.lw_grammar.specs.Named.{IsUnion}
+use Rattle.lw_numbers.specs.Numbering.{type_names}
+use Rattle.lw_flow.specs.Effects.{type_number}
+use Rattle.lw_flow.proofs.NumberLemmas.{has_place, of_type}
+use Rattle.lw_properties.specs.Kinds.{NamesUnion}
+use Rattle.lw_types.specs.Values.{PartGives, PartsGive, MemberGives, MembersGive, IsTextType, numbered, nodes_of}
+use Rattle.lw_types.specs.Values as give
+use Rattle.lw_types.proofs.Firsts.{front_cases, at_front, behind_front}
+
+module _ (g : Grammar) where
+  -- ---- parts
+  pub parts_more : {parts : List ValueLeaf} {values more : List ValueKind} (part : ValueLeaf) → PartsGive g parts values → PartGives g part more →
+      PartsGive g (parts ++ part ∷ []) (values ++ more)
+  parts_more {more} part give.none gives = subst (PartsGive g (part ∷ [])) (append-nil more) (give.more gives give.none)
+  parts_more {more} part (give.more {parts} {first} {others} gave rest) gives =
+      subst (PartsGive g _) (sym (append_assoc first others more)) (give.more gave (parts_more part rest gives))
+
+  -- ---- a name
+  pub text_numbered : {name : List ℕ} → IsTextType g name → (n : ℕ) × (type_number g name ≡ Some n)
+  text_numbered {name} is = has_place name (type_names g) (of_type g is.rule name is.among is.of_type)
+
+  module _ (name : List ℕ) (s : Span) (none : (u : ℕ) (union : UnionDef) → ¬ IsUnion g name u union) where
+    pub unnumbered : None ≡ type_number g name → MemberGives g (member.Named name s) []
+    unnumbered is =
+        subst (MemberGives g (member.Named name s)) (ap (numbered nodes_of) (sym is))
+        (give.nodes none (λ text. none-some (text_numbered text).0 (is ∙ (text_numbered text).1)))
+
+    pub of_nodes : (n : ℕ) → Some n ≡ type_number g name → ¬ IsTextType g name → MemberGives g (member.Named name s) (nodes_of n ∷ [])
+    of_nodes n is no_text = subst (MemberGives g (member.Named name s)) (ap (numbered nodes_of) (sym is)) (give.nodes none no_text)
+
+  -- ---- members
+  pub same_looked : {had now : List ℕ} {members : List Member} {values : List ValueKind} → ((u : ℕ) → Contains had u → Contains now u) →
+      ((u : ℕ) → Contains now u → Contains had u) → MembersGive g had members values → MembersGive g now members values
+  same_looked to from give.none = give.none
+  same_looked to from (give.value gives rest) = give.value gives (same_looked to from rest)
+  same_looked to from (give.again u union is was rest) = give.again u union is (to u was) (same_looked to from rest)
+  same_looked {had} {now} to from (give.union u union is fresh rest) =
+      give.union u union is (λ was. fresh (from u was))
+      (same_looked (λ v has. elim (front_cases u had v has) [
+        | inl this ↦ subst (Contains (u ∷ now)) this (at_front u now)
+        | inr was ↦ behind_front u now v (to v was)
+      ])
+      (λ v has. elim (front_cases u now v has) [
+        | inl this ↦ subst (Contains (u ∷ had)) this (at_front u had)
+        | inr was ↦ behind_front u had v (from v was)
+      ]) rest)
+
+  -- ---- a walk along members that wait
+  module _ (members : List Member) where
+    -- what those that wait give comes behind the values
+    pub record IsGiving (waiting : List Member) (looked : List ℕ) (values : List ValueKind) : Type 0 where
+      pub all : (rest : List ValueKind) → MembersGive g looked waiting rest → MembersGive g [] members (values ++ rest)
+
+    pub giving_as : {waiting then_waiting : List Member} {looked then_looked : List ℕ} {values then_values : List ValueKind} → waiting ≡ then_waiting →
+        looked ≡ then_looked → values ≡ then_values → IsGiving waiting looked values → IsGiving then_waiting then_looked then_values
+    giving_as {waiting} {then_waiting} {looked} {then_looked} {values} {then_values} waits looks gives is =
+        subst (IsGiving then_waiting then_looked) gives (subst (λ ls. IsGiving then_waiting ls values) looks (subst (λ ms. IsGiving ms looked values) waits is))
+
+    pub giving_value : (waiting : List Member) (looked : List ℕ) (values more : List ValueKind) (m : Member) → IsGiving (m ∷ waiting) looked values → MemberGives g m more →
+        IsGiving waiting looked (values ++ more)
+    giving_value waiting looked values more m is gives = record {
+      all = λ rest others. subst (MembersGive g [] members) (sym (append_assoc values more rest)) (is.all (more ++ rest) (give.value gives others));
+    }
+
+    enters : (waiting : List Member) (looked : List ℕ) (m : Member) (u : ℕ) (union : UnionDef) (rest : List ValueKind) → NamesUnion g m u union → ¬ Contains looked u →
+        MembersGive g (u ∷ looked) (union.members ++ waiting) rest → MembersGive g looked (m ∷ waiting) rest
+    enters waiting looked (member.Named name s) u union rest is fresh gives = give.union u union is fresh gives
+    enters waiting looked _ u union rest is fresh gives = absurd is
+
+    passes : (waiting : List Member) (looked : List ℕ) (m : Member) (u : ℕ) (union : UnionDef) (rest : List ValueKind) → NamesUnion g m u union → Contains looked u →
+        MembersGive g looked waiting rest → MembersGive g looked (m ∷ waiting) rest
+    passes waiting looked (member.Named name s) u union rest is was gives = give.again u union is was gives
+    passes waiting looked _ u union rest is was gives = absurd is
+
+    pub giving_enters : (waiting : List Member) (looked : List ℕ) (values : List ValueKind) (m : Member) (u : ℕ) (union : UnionDef) → IsGiving (m ∷ waiting) looked values →
+        NamesUnion g m u union → ¬ Contains looked u → IsGiving (union.members ++ waiting) (looked ++ u ∷ []) values
+    giving_enters waiting looked values m u union is names fresh = record {
+      all = λ rest gives. is.all rest (enters waiting looked m u union rest names fresh
+          (same_looked (λ v has. elim (Contains-push_cases looked u v has) [
+            | inl was ↦ behind_front u looked v was
+            | inr this ↦ subst (Contains (u ∷ looked)) this (at_front u looked)
+          ])
+          (λ v has. elim (front_cases u looked v has) [
+            | inl this ↦ subst (Contains (looked ++ u ∷ [])) this (Contains-push looked u)
+            | inr was ↦ Contains-append_left looked (u ∷ []) v was
+          ]) gives));
+    }
+
+    pub giving_passes : (waiting : List Member) (looked : List ℕ) (values : List ValueKind) (m : Member) (u : ℕ) (union : UnionDef) → IsGiving (m ∷ waiting) looked values →
+        NamesUnion g m u union → Contains looked u → IsGiving waiting looked values
+    giving_passes waiting looked values m u union is names was = record { all = λ rest gives. is.all rest (passes waiting looked m u union rest names was gives) }
+
+    pub giving_ends : (looked : List ℕ) (values : List ValueKind) → IsGiving [] looked values → MembersGive g [] members values
+    giving_ends looked values is = subst (MembersGive g [] members) (append-nil values) (is.all [] give.none)
+
+pub all_itself : {A : Type 0} (xs : List A) → map (λ x. x) xs ≡ xs
+all_itself [] = refl
+all_itself (x ∷ xs) = ap (λ ys. x ∷ ys) (all_itself xs)

@@ -1,0 +1,8 @@
+use Rattle.std.proofs.Common.{take}
+use Rattle.lw_faults.specs.Finding.{Finds, OfSome}
+use Rattle.lw_types.specs.NameUses.{use_of}
+use Rattle.lw_types.specs.Wrong.{TellsWrong}
+use Rattle.lw_types.proofs.naming.names.KnownNames.find_among.Given as goal
+
+abbrev pub invariant-loop-mention : goal.invariant-loop-mention
+invariant-loop-mention l = Finds (OfSome (λ m. TellsWrong l.self.g.now (use_of m)) (take l.mention-index l.mentions)) l.fn.found l.found

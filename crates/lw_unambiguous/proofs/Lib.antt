@@ -1,3 +1,0 @@
-pub mod Stepwise
-pub mod Asking
-pub mod Parsed

@@ -1,0 +1,6 @@
+use Rattle.std.proofs.Common.{◌<◌, ◌≤◌, ℕ}
+use Rattle.lw_viable.specs.EmptyBy.{IsFlagged}
+use Rattle.lw_viable.proofs.begins.empty_places.is_one_set.Given as goal
+
+abbrev pub invariant-loop-number : goal.invariant-loop-number
+invariant-loop-number l = (q : ℕ) → l.first ≤ q → q < l.number → ¬ IsFlagged l.flags q

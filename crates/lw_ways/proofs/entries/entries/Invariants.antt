@@ -1,6 +1,0 @@
-use Rattle.std.proofs.Common.{take}
-use Rattle.lw_ways.specs.Entries.{AreEntriesOf}
-use Rattle.lw_ways.proofs.entries.entries.Given as goal
-
-abbrev pub invariant-loop-visit : goal.invariant-loop-visit
-invariant-loop-visit l = AreEntriesOf (take l.visit-index l.visits) l.list.items

@@ -1,8 +1,0 @@
-use Rattle.std.proofs.Common.{◌≡◌, ◌≤◌, take}
-use Rattle.lw_ways.specs.declared.effect.Mark.TheVariants.{Done}
-use Rattle.lw_ways.specs.Effects.{weight}
-use Rattle.lw_ways.specs.Sets.{AddsFrom}
-use Rattle.lw_ways.proofs.sets.put_done.Given as goal
-
-abbrev pub invariant-loop-effect : goal.invariant-loop-effect
-invariant-loop-effect l = AddsFrom (λ y m. (m ≡ Done y) × (l.least ≤ weight y)) l.initial.set.keys (take l.effect-index l.effects) l.set.keys

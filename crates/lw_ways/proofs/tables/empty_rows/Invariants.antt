@@ -1,9 +1,0 @@
-use Rattle.std.proofs.Common.{◌≡◌, length}
-use Rattle.lw_ways.specs.Rows.{AreEmptyRows}
-use Rattle.lw_ways.proofs.tables.empty_rows.Given as goal
-
-abbrev pub invariant-loop-row : goal.invariant-loop-row
-invariant-loop-row g l = record {
-  count : length l.table.items ≡ l._row;
-  none : AreEmptyRows l.table.items;
-}

@@ -1,5 +1,0 @@
-use Rattle.std.proofs.Common.{◌≡◌, ◌++◌, map, take}
-use Rattle.lw_words.proofs.said.put_all.Given as goal
-
-abbrev pub invariant-loop-word : goal.invariant-loop-word
-invariant-loop-word l = map (λ word. word.now) l.operands.items ≡ map (λ word. word.now) l.initial.operands.items ++ take l.word-index l.words
