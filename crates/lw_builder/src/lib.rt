@@ -16,6 +16,10 @@
 //! A mark takes constant time, but for the texts that it copies and for the end of a node, which is linear in the values of the node.
 //! Nothing recurses. The only error is that memory is refused; 2^32 nodes or references are too many for any. A node inside a reference
 //! that is not finished, which no grammar without faults reads, is refused in the same way.
+//!
+//! In a folder of its own stands:
+//!
+//! - [`preorder`]: nodes that were finished innermost first, put into preorder.
 #![tactic(auto)]
 
 mod actions;

@@ -6,7 +6,7 @@
 //!
 //! The definitions stand on three pictures of a rule:
 //!
-//! - `specs/Written.antt`: what is written where. A rule calls names, a type is named, a type is
+//! - `specs/Written.antt` of `lw_grammar`: what is written where. A rule calls names, a type is named, a type is
 //!   inferred, each at its place.
 //! - `specs/Reads.antt`: how many tokens an element may read, and which calls it may come to before
 //!   any token. A call of what is no parser rule reads one.
@@ -25,6 +25,10 @@
 //! that they have it not: an action behind an assignment and before it ([`misplaced_actions`]), a rule
 //! that calls itself behind a fragment that reads nothing and behind one that reads a token
 //! ([`left_recursion`]), and so on.
+//!
+//! In a folder of its own stands:
+//!
+//! - [`findings`]: what is found wrong with a grammar: a heap of faults that becomes the one list of them.
 #![tactic(auto)]
 
 pub mod findings;

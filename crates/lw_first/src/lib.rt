@@ -17,6 +17,11 @@
 //! Rules are done by rounds, from the last to the first, since most rules stand before those that they call. A rule is done
 //! again only where a rule that it calls got a head, so a grammar whose rules all stand before those that they
 //! call has each rule done once.
+//!
+//! In folders of their own stand:
+//!
+//! - [`heads`]: heads: the first kinds of what may be read, at most three of them, and sets of heads.
+//! - [`follow`]: what may follow the rules of a grammar, and their parts.
 #![tactic(auto)]
 
 mod callers;

@@ -10,6 +10,13 @@
 //! It promises exactly the list of all faults of this phase, each once, in their order; where a fragment or a terminal calls
 //! itself, what rules read and do is not looked at. It takes expected time linear in the grammar, but for what the crates below say of
 //! circles of calls.
+//!
+//! In folders of their own stand:
+//!
+//! - [`parts`]: what is wrong with how the parts of a grammar work together, as far as that is seen without a
+//!   look at what its rules read: entries and size, data type rules, circles of calls, bad calls and bad
+//!   assignments.
+//! - [`order`]: faults of the order of actions and calls, by what may come before each place of a rule.
 #![tactic(auto)]
 
 mod checking;

@@ -7,6 +7,11 @@
 //! Beside the types stand the definitions that the crates above share: the leaves of a rule's body,
 //! the first item of a name, subtypes, the rule that a cross-reference without one takes, which rules
 //! can be reached, which rules make nodes, the kinds of tokens in their order, and the size.
+//!
+//! In folders of their own stand:
+//!
+//! - [`sentences`]: what the rules of a grammar may read, as relations on whole lists.
+//! - [`formed`]: grammars that are well formed, whatever their names mean and whatever their rules read.
 #![tactic(auto)]
 
 mod declared_types;

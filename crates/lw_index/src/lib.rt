@@ -20,6 +20,10 @@
 //! does so for each name that there is; [`Index::others`] takes the first document of a type or the one behind it; [`Index::set`] and
 //! [`Index::remove`] do a few look-ups for each old and each new export. A name that nobody exports any more goes out of the map. Each
 //! name takes a node of a tree for its documents, some 700 bytes, which is most of the room of an index.
+//!
+//! In a folder of its own stands:
+//!
+//! - [`refs`]: where the references of each document lead, found both ways.
 #![tactic(auto)]
 
 mod exporters;

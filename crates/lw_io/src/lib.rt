@@ -16,6 +16,10 @@
 //! or where `regex` refuses it for another cause than memory.
 //!
 //! [`read_all`] and [`write_all`] read a source to its end and write all of a text.
+//!
+//! In a folder of its own stands:
+//!
+//! - [`paths`]: the paths of files that addresses stand for, and the addresses of files by their paths.
 #![tactic(auto)]
 
 mod calls;

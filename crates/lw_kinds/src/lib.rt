@@ -17,6 +17,11 @@
 //!
 //! A table is made in one walk over the rules, in expected linear time. A keyword is found in constant
 //! time, as expected, and a terminal in time that is logarithmic in the number of terminals.
+//!
+//! In folders of their own stand:
+//!
+//! - [`derivations`]: what the rules of a grammar can read, and what is wrong with that.
+//! - [`lexicon`]: what the names of a grammar mean where its rules are gone through.
 #![tactic(auto)]
 
 pub mod derivations;

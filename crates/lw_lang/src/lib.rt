@@ -14,6 +14,10 @@
 //!
 //! A grammar that is compiled has no empty keyword, and no two of its sentences have one list of kinds
 //! ([`compiled_grammars_are_read_in_one_way`]). What the crates above say of texts is settled by such a grammar, and they ask for one.
+//!
+//! In a folder of its own stands:
+//!
+//! - [`told`]: faults of a grammar as they are told to its author.
 #![tactic(auto)]
 
 mod compiler;

@@ -11,6 +11,10 @@
 //! whatever comes behind (`specs/Fronts.antt`), so that they are known by their first bytes and no pattern is tried. They are seen as the
 //! set; that any of this is known, is promised nowhere. They hold the automata of the terminals too, by which a text that some pattern reads
 //! far in at many places is gone through once (`lw_matching::lengths`).
+//!
+//! In a folder of its own stands:
+//!
+//! - [`recut`]: texts that begin alike, each cut into tokens from where they may differ.
 #![tactic(auto)]
 
 mod fault;

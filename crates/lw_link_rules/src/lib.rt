@@ -10,6 +10,10 @@
 //! ([`only_shown_texts_matter`]); exports that no reference of a document names change none of its links
 //! ([`unseen_exports_change_no_links`]). [`second_symbols_are_told`] and [`documents_are_told_of_each_other`] show over trees that are
 //! written out what is told.
+//!
+//! In a folder of its own stands:
+//!
+//! - [`distinct`]: of two diagnostics of one document, either the starts differ or the codes.
 #![tactic(auto)]
 
 pub mod distinct;

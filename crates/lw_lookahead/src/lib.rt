@@ -15,6 +15,10 @@
 //! Once the heads of all ways are found, tables are made by one look-up for each, in expected constant time. A choice in conflict takes one
 //! more for each head of the second way, and only those heads are printed that both ways have. To choose takes no memory and expected
 //! constant time.
+//!
+//! In a folder of its own stands:
+//!
+//! - [`points`]: the choices of a grammar, with what may come next at each of their ways.
 #![tactic(auto)]
 
 mod choosing;

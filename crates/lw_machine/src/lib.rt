@@ -16,6 +16,10 @@
 //! expect of them: a build goes on ([`build_goes_on`], [`a_step_can_be_taken`]), ends ([`build_ends`],
 //! [`build_has_end`]) and has one outcome ([`one_build`]); behind it every document is validated and its list
 //! is told ([`built`], [`stays_valid`]), and it publishes what differs ([`publishes_what_differs`]).
+//!
+//! In a folder of its own stands:
+//!
+//! - [`outcomes`]: what the builds of a workspace come to, whoever makes them, and that they come to something.
 #![tactic(auto)]
 
 mod laws;

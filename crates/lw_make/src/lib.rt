@@ -7,6 +7,11 @@
 //! It promises that the calls give exactly what is defined and fail only for want of memory, that no two documents
 //! have one address, how long the texts are, and that each edit is on a document of the workspace and goes between
 //! two of its lines.
+//!
+//! In a folder of its own stands:
+//!
+//! - [`making`]: a generated workspace, made by a language: its documents are put and built, its edits are made
+//!   with a build behind each, and what comes of it is summed up, for whoever wants to measure builds.
 #![tactic(auto)]
 
 mod documents;

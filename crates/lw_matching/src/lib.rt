@@ -19,6 +19,11 @@
 //!
 //! What it costs: a step for each state that is visited, and sixteen bytes for each way that is kept. A pattern that goes back
 //! much may visit a state at one place many times, so the steps of a walker bound all its walks together.
+//!
+//! In folders of their own stand:
+//!
+//! - [`sure`]: how much of a text's cut into tokens stands, whatever follows the text.
+//! - [`lengths`]: how many bytes a pattern matches at each place of a text, found for all places at once.
 #![tactic(auto)]
 
 mod first_bytes;

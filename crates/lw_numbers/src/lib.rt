@@ -16,6 +16,12 @@
 //! nothing: also where a rule and a terminal have one name, which then means what stands first, and
 //! likewise an interface and a union. Numbers are made in one pass over the grammar, and a look-up
 //! takes constant time; both are expected times.
+//!
+//! In folders of their own stand:
+//!
+//! - [`leaves`]: the leaves of what a grammar writes, as lists of what is lent from it.
+//! - [`subtypes`]: which rules of a grammar make nodes, and which of its types are below which.
+//! - [`name_rules`]: by which rule a cross-reference is read that writes none.
 #![tactic(auto)]
 
 mod called;

@@ -17,6 +17,11 @@
 //! A turn takes constant time and the memory that its places and marks take; there are a few turns for each visible token, and nothing
 //! recurses. That the turns between two tokens come to an end is not proved: after 2^64 - 1 of them the answer is that memory is wanting.
 //! A search for a fault takes as much time again as keeping the readings does.
+//!
+//! In a folder of its own stands:
+//!
+//! - [`opened`]: the trees opened of the readings of tokens: what a text may be so far, whether or not it is a
+//!   sentence.
 #![tactic(auto)]
 
 mod deciding;

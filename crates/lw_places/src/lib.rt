@@ -8,6 +8,11 @@
 //!
 //! There is no code here but the type [`Place`]. Each function has an empty body, and its contract is a law that a reader would expect:
 //! what stands at a place, and what is answered, is settled ([`one_place`], [`one_reply`]), by the texts alone ([`only_texts_matter`]).
+//!
+//! In folders of their own stand:
+//!
+//! - [`renaming`]: what a rename makes of the texts of all documents, and when it is refused: definitions.
+//! - [`offers`]: what is offered at a place of a document, to be written there: definitions.
 #![tactic(auto)]
 
 mod laws;

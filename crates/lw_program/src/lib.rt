@@ -19,6 +19,10 @@
 //!
 //! [`Program::of`] takes time and memory linear in the size of the grammar, but for the expected constant time in which a name is looked
 //! up. An element or a value takes at most three instructions.
+//!
+//! In a folder of its own stands:
+//!
+//! - [`recipes`]: what the marks of a reading make, by the numbers that they have.
 #![tactic(auto)]
 
 mod counts;

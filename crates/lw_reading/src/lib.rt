@@ -4,6 +4,12 @@
 //! into tokens, and the visible tokens have to be a sentence, whose marks give the tree. What reads texts is held against this
 //! definition; there is no code here but laws of it: a text has one reading ([`one_reading`]) by a grammar that has no empty keyword
 //! ([`filled_rules`]) and in which no two sentences have one list of kinds, and a kind has one text ([`one_kind_text`]).
+//!
+//! In folders of their own stand:
+//!
+//! - [`marks`]: the tree that the marks of a derivation stand for.
+//! - [`rooted`]: each sentence of a grammar without faults has a tree, and one only.
+//! - [`outwards`]: what holds of the trees of sentences, and of those of texts, that goes beyond one node.
 #![tactic(auto)]
 
 mod laws;

@@ -29,6 +29,11 @@
 //! left out of both.
 //!
 //! There is no code here but laws.
+//!
+//! In a folder of its own stands:
+//!
+//! - [`tried`]: whether a name that is tried in a text would be a reference there, and where it would lead,
+//!   without reading the text.
 #![tactic(auto)]
 
 mod laws;

@@ -12,6 +12,10 @@
 //! terminals are, and the first whose pattern is long, refused, or matches the empty text decides.
 //!
 //! A pattern that is long is measured and not built, so that time does not grow with its length.
+//!
+//! In a folder of its own stands:
+//!
+//! - [`patterns`]: the regular expression of each terminal of a grammar, as text.
 #![tactic(auto)]
 
 mod fault;

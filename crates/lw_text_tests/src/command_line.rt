@@ -1,6 +1,6 @@
 // What words are, as a table.
 use lw_base::{Name, NoMemory};
-use lw_command_line::words::{Command, command_of};
+use lw_command_line::{Command, command_of};
 use std::alloc::Global;
 use std::test::Fail;
 

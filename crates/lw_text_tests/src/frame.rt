@@ -4,13 +4,27 @@ ghost use Rattle.std.specs.Prelude.{◌<◌};
 
 use lw_base::{Items, Name, NoMemory};
 use lw_frame::FrameFault::{BadHeader, NoLength, TooLong, Truncated};
-use lw_frame::whole::drain;
 use lw_frame::{Body, FrameFault, FrameReader, Frames, frame, header_part, read_pieces};
 use std::alloc::Global;
 use std::test::Fail;
 
 /// More bytes than any stream of these tests has.
 const LONGEST: usize = 1 << 30;
+
+/// Hands out all bodies that are there, and answers the fault behind them.
+fn drain(
+    reader: &mut FrameReader,
+    bodies: &mut Items<Body>,
+) -> Result<Option<FrameFault>, NoMemory> {
+    for _ in 0..LONGEST {
+        match reader.next() {
+            Ok(Some(body)) => bodies.push(body)?,
+            Ok(None) => return Ok(None),
+            Err(fault) => return Ok(Some(fault)),
+        }
+    }
+    Ok(None)
+}
 
 /// What a stream gives that comes in pieces of `size` bytes, each read out before the next comes. Pieces
 /// of 0 bytes stand for pieces of as many as the reader wants.

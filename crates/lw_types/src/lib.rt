@@ -11,6 +11,11 @@
 //! else all that there are, each once, in their order, and that what is answered of types is what the definitions say. Each part
 //! takes expected time linear in the grammar, but for what the crates below say of circles, of chains of types, and of fragments that
 //! call each other.
+//!
+//! In folders of their own stand:
+//!
+//! - [`naming`]: what is wrong with the names of a grammar.
+//! - [`property_table`]: the properties that the types of a grammar have, and what each of them may hold.
 #![tactic(auto)]
 
 mod fault;

@@ -33,6 +33,13 @@
 //! `expected` takes a step for each kind; `complete` is linear in what is still to be done. Marks and places are lists that share their
 //! ends, twelve bytes a cell at most, and are given back with the whole. What is asked puts cells on these lists too, so for many questions
 //! at one place ask each once.
+//!
+//! In folders of their own stand:
+//!
+//! - [`begins`]: what is told of a program's places and of rules before anything is read: which places may read
+//!   nothing, which kinds of tokens may come next at a call, and which calls are nodes.
+//! - [`chains`]: lists that share their ends: of many lists that are equal from some item on, what is equal is
+//!   kept once.
 #![tactic(auto)]
 
 pub mod begins;
