@@ -2,8 +2,7 @@
 ghost use Rattle.std.specs.Prelude.{◌≡◌, ◌<◌};
 
 use lw_base::{Name, NoMemory, Steps};
-use lw_commands::desk::Desk;
-use lw_commands::top::run;
+use lw_commands::{Desk, run};
 use lw_io::{MemPatterns, MemSink, MemSource, MemStore, Sink, Wrote};
 use std::alloc::Global;
 use std::marker::Brand;

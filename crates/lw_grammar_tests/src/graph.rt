@@ -105,7 +105,6 @@ fn graphs_are_walked(rt: HostRuntime) -> Result<(), Fail> {
         assert!(rt; row.starts.iter().all(|start| *start < graph.nodes()));
         expect_nodes(&rt, &graph.reached(alloc, row.starts)?, row.reached, number);
         expect_nodes(&rt, &graph.circles(alloc)?, row.round, number);
-        expect_nodes(&rt, &graph.ended(alloc)?, row.ended, number);
         assert_eq!(rt; graph.successors_first(alloc)?.as_slice(), row.order);
     }
     Ok(())

@@ -2,8 +2,6 @@
 #![tactic(auto)]
 
 #[cfg(test)]
-mod builder;
-#[cfg(test)]
 mod chains;
 #[cfg(test)]
 mod gramlex;
@@ -15,7 +13,3 @@ mod load;
 mod preorder;
 #[cfg(test)]
 mod property_table;
-#[cfg(test)]
-mod recipes;
-#[cfg(test)]
-mod viable;

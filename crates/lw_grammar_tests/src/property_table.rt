@@ -29,7 +29,7 @@ fn pair<T: Drop>(alloc: Global, one: T, other: T) -> Result<Items<T>, NoMemory>
     Ok(Items::from_vec(items))
 }
 
-#[tactic(auto, using(lw_numbers::proofs::Sizes::sizes_of_forms))]
+#[tactic(auto, using(crate::proofs::Sizes::sizes_of_forms))]
 fn assigned(alloc: Global, property: &str, op: Op, called: &str) -> Result<Element, NoMemory>
     ensures { IfOk result (λ e. element_size e ≡ 2) }
 {
@@ -38,7 +38,7 @@ fn assigned(alloc: Global, property: &str, op: Op, called: &str) -> Result<Eleme
 }
 
 /// `{infer Pair.left=current}`
-#[tactic(auto, using(lw_numbers::proofs::Sizes::sizes_of_forms))]
+#[tactic(auto, using(crate::proofs::Sizes::sizes_of_forms))]
 fn action(alloc: Global) -> Result<Element, NoMemory>
     ensures { IfOk result (λ e. element_size e ≡ 2) }
 {
@@ -51,7 +51,7 @@ fn action(alloc: Global) -> Result<Element, NoMemory>
 }
 
 /// `name=ID first?=ID {infer Pair.left=current} right+=Item`
-#[tactic(auto, using(lw_numbers::proofs::Sizes::sizes_of_forms))]
+#[tactic(auto, using(crate::proofs::Sizes::sizes_of_forms))]
 fn body(alloc: Global) -> Result<Element, NoMemory>
     ensures { IfOk result (λ e. element_size e ≡ 9) }
 {
@@ -77,7 +77,7 @@ fn rule(alloc: Global) -> Result<Rule, NoMemory>
     })
 }
 
-#[tactic(auto, using(lw_numbers::proofs::Sizes::sizes_of_forms))]
+#[tactic(auto, using(crate::proofs::Sizes::sizes_of_forms))]
 fn terminal(alloc: Global) -> Result<Terminal, NoMemory>
     ensures { IfOk result (λ terminal. term_size terminal.body ≡ 1) }
 {

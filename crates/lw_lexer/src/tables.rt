@@ -1,8 +1,11 @@
 // A set of tokens, with what is known of it before any text is cut.
-ghost use Rattle.std.specs.Prelude.{◌≡◌, IfOk};
+ghost use Rattle.std.specs.Prelude.{◌≡◌, IfOk, IfSome, Some};
+ghost use Rattle.lw_tokens.specs.NextToken.{IsNextToken};
+ghost use Rattle.lw_lexer.specs.Place.{next_of};
 
-use crate::front::Front;
+use crate::front::{Front, known_next};
 use crate::fronts::fronts_of;
+use crate::next::Next;
 use lw_base::{Items, NoMemory};
 use lw_matchers::TokenSet;
 use regex_nfa::Nfa;
@@ -76,6 +79,14 @@ impl LexerTables {
     {
         self.fronts.as_slice()
     }
+
+    /// The next token of a text where it is known without a search, else none. Only tests ask: that anything is known is promised nowhere.
+    pub fn known_next(&self, text: &str) -> Option<Next>
+        ensures { IfSome result (λ next. IsNextToken self.now.lexicon text.now (Some (next_of next))) }
+    {
+        known_next(self.fronts(), text)
+    }
+
     /// The automata of the terminals, in order, or none.
     pub(crate) fn nfas(&self) -> &[Nfa]
         ensures { AreInTurn self.now.lexicon.terminals result.now }

@@ -123,6 +123,91 @@ fn shown(alloc: Global, language: &Language, text: &str) -> Result<String, NoMem
     }
 }
 
+/// What each kind of value says, by the terminal or the data type rule that reads it.
+const SAID: [(&str, &[(&str, &str)]); 10] = [
+    (
+        "grammar K entry A: v='state';",
+        &[("state", "0:0-5 'state'")],
+    ),
+    (
+        "grammar I entry A: v=ID; terminal ID: /.+/;",
+        &[
+            ("ab", "0:0-2 'ab'"),
+            ("^ab", "0:0-3 'ab'"),
+            ("^^ab", "0:0-4 '^ab'"),
+            ("a^b", "0:0-3 'a^b'"),
+            ("^", "0:0-1 ''"),
+        ],
+    ),
+    (
+        "grammar T entry A: v=STRING; terminal STRING: /.+/;",
+        &[
+            ("\"it's\"", "0:0-6 'it's'"),
+            ("'a b'", "0:0-5 'a b'"),
+            ("''", "0:0-2 ''"),
+            ("\"", "0:0-1 '\"'"),
+            ("€", "0:0-3 '€'"),
+            ("€a€", "0:0-7 'a'"),
+            (
+                "'\\b\\f\\n\\r\\t\\v\\0'",
+                "0:0-16 '\u{8}\u{c}\n\r\t\u{b}\0'",
+            ),
+            ("'\\x\\'\\\"\\\\\\€'", "0:0-14 'x'\"\\€'"),
+            ("'\\\\n'", "0:0-5 '\\n'"),
+            ("'a\\'", "0:0-4 'a\\'"),
+        ],
+    ),
+    (
+        "grammar N entry A: v=N; terminal N returns number: /.+/;",
+        &[
+            ("0", "0:0-1 0"),
+            ("-0", "0:0-2 0"),
+            ("+7", "0:0-2 7"),
+            ("00000000000000000000012", "0:0-23 12"),
+            ("9223372036854775807", "0:0-19 9223372036854775807"),
+            ("+9223372036854775808", "0:0-20 huge"),
+            ("-9223372036854775808", "0:0-20 -9223372036854775808"),
+            ("-9223372036854775809", "0:0-20 huge"),
+            ("1.5", "0:0-3 (1.5)"),
+            ("1_000", "0:0-5 (1_000)"),
+            ("٣", "0:0-2 (٣)"),
+            ("+", "0:0-1 (+)"),
+            ("--1", "0:0-3 (--1)"),
+        ],
+    ),
+    (
+        "grammar O entry A: v=T; terminal T: /.+/;",
+        &[
+            ("^ab", "0:0-3 '^ab'"),
+            ("'a\\n'", "0:0-5 ''a\\n''"),
+            ("12", "0:0-2 '12'"),
+        ],
+    ),
+    (
+        "grammar D entry A: v=D; D: T+; terminal T: /[^ ]+/; hidden terminal WS: / +/;",
+        &[("a . ^b", "0:0-6 'a.^b'"), ("'a' €", "0:0-7 ''a'€'")],
+    ),
+    (
+        "grammar F entry A: v?=D; D: T+; terminal T: /[^ ]+/; hidden terminal WS: / +/;",
+        &[("!", "0:0-1 true"), ("a . b", "0:0-5 true")],
+    ),
+    (
+        "grammar C entry A: v=[A:ID]; terminal ID: /.+/;",
+        &[("^ab", "0:0-3 @0 0->ab:0-3")],
+    ),
+    (
+        "grammar C entry A: v=[A:STRING]; terminal STRING: /.+/;",
+        &[("'\\n'", "0:0-4 @0 0->\n:0-4")],
+    ),
+    (
+        "grammar C entry A: v=[A:D]; D: T+; terminal T: /[^ ]+/; hidden terminal WS: / +/;",
+        &[
+            ("+007", "0:0-4 @0 0->+007:0-4"),
+            ("a . b", "0:0-5 @0 0->a.b:0-5"),
+        ],
+    ),
+];
+
 /// Each grammar with its texts and what they read as.
 const ROWS: [(&str, &[(&str, &str)]); 4] = [
     (
@@ -191,11 +276,21 @@ fn are_read(
     Ok(())
 }
 
+fn are_all_read(
+    rt: &impl Abort,
+    alloc: Global,
+    rows: &[(&str, &[(&str, &str)])],
+) -> Result<(), NoMemory> {
+    for (grammar, texts) in rows {
+        let language = language(rt, alloc, grammar)?;
+        are_read(rt, alloc, &language, texts)?;
+    }
+    Ok(())
+}
+
 #[test]
 fn texts_are_read(rt: HostRuntime) -> Result<(), Fail> {
-    for (grammar, rows) in ROWS {
-        let language = language(&rt, rt.alloc(), grammar)?;
-        are_read(&rt, rt.alloc(), &language, rows)?;
-    }
+    are_all_read(&rt, rt.alloc(), ROWS.as_slice())?;
+    are_all_read(&rt, rt.alloc(), SAID.as_slice())?;
     Ok(())
 }

@@ -5,7 +5,6 @@ ghost use Rattle.lw_tokens.specs.Keywords.{AreKeywords};
 
 use lw_base::{Name, NoMemory, Token};
 use lw_io::MemPatterns;
-use lw_lexer::front::known_next;
 use lw_lexer::{LexFault, Lexer, LexerTables};
 use lw_matchers::{TerminalSource, TokenSet};
 use std::alloc::Global;
@@ -105,12 +104,12 @@ fn check_texts(
 // How many bytes the front takes that is known at the start of each text, or none.
 fn check_fronts(rt: &impl Abort, tables: &LexerTables, fronts: &[(&str, usize)]) {
     for (text, bytes) in fronts {
-        let known = known_next(tables.fronts(), text).map_or(0, |next| next.bytes);
+        let known = tables.known_next(text).map_or(0, |next| next.bytes);
         assert_eq!(rt; known, *bytes, "at {text}");
     }
 }
 
-// Makes a set of these words and terminals, and cuts texts by it, without and with its fronts.
+// Makes a set of these words and terminals, and cuts texts by it.
 fn check_cuts(
     rt: &impl Abort,
     alloc: Global,
@@ -125,14 +124,6 @@ fn check_cuts(
     let mut patterns = MemPatterns::new(Vec::new(alloc));
     let made = TokenSet::make(alloc, keywords, terminals, &mut patterns);
     let set = made.expect(rt, "the patterns are made");
-    let unknown = Vec::new(alloc);
-    let none = Vec::new(alloc);
-    check_texts(
-        rt,
-        alloc,
-        Lexer::over(alloc, &set, unknown.as_slice(), none.as_slice())?,
-        cuts,
-    )?;
     let tables = LexerTables::of(alloc, set)?;
     check_fronts(rt, &tables, fronts);
     check_texts(rt, alloc, Lexer::new(alloc, &tables)?, cuts)

@@ -12,28 +12,28 @@ use std::test::Fail;
 
 const NOWHERE: Span = Span { start: 0, end: 0 };
 
-#[tactic(auto, using(lw_terminals::patterns::proofs::Sizes::sizes_of_terms))]
+#[tactic(auto, using(crate::proofs::Sizes::sizes_of_terms))]
 fn literal(alloc: Global, text: &str) -> Result<TermElement, NoMemory>
     ensures { IfOk result (λ e. term_size e ≡ 1) }
 {
     Ok(TermElement::Literal(Name::from_text(alloc, text)?, NOWHERE))
 }
 
-#[tactic(auto, using(lw_terminals::patterns::proofs::Sizes::sizes_of_terms))]
+#[tactic(auto, using(crate::proofs::Sizes::sizes_of_terms))]
 fn pattern(alloc: Global, text: &str) -> Result<TermElement, NoMemory>
     ensures { IfOk result (λ e. term_size e ≡ 1) }
 {
     Ok(TermElement::Pattern(Name::from_text(alloc, text)?, NOWHERE))
 }
 
-#[tactic(auto, using(lw_terminals::patterns::proofs::Sizes::sizes_of_terms))]
+#[tactic(auto, using(crate::proofs::Sizes::sizes_of_terms))]
 fn call(alloc: Global, name: &str) -> Result<TermElement, NoMemory>
     ensures { IfOk result (λ e. term_size e ≡ 1) }
 {
     Ok(TermElement::Call(Name::from_text(alloc, name)?, NOWHERE))
 }
 
-#[tactic(auto, using(lw_terminals::patterns::proofs::Sizes::sizes_of_terms))]
+#[tactic(auto, using(crate::proofs::Sizes::sizes_of_terms))]
 fn range(alloc: Global, from: &str, to: &str) -> Result<TermElement, NoMemory>
     ensures { IfOk result (λ e. term_size e ≡ 1) }
 {
@@ -55,7 +55,7 @@ fn pair(
 }
 
 /// Two parts in a row.
-#[tactic(auto, using(lw_terminals::patterns::proofs::Sizes::sizes_of_terms))]
+#[tactic(auto, using(crate::proofs::Sizes::sizes_of_terms))]
 fn row(alloc: Global, first: TermElement, second: TermElement) -> Result<TermElement, NoMemory>
     ensures { IfOk result (λ e. term_size e ≡ 1 + term_size first + term_size second) }
 {
@@ -63,7 +63,7 @@ fn row(alloc: Global, first: TermElement, second: TermElement) -> Result<TermEle
 }
 
 /// Two alternatives.
-#[tactic(auto, using(lw_terminals::patterns::proofs::Sizes::sizes_of_terms))]
+#[tactic(auto, using(crate::proofs::Sizes::sizes_of_terms))]
 fn either(alloc: Global, first: TermElement, second: TermElement) -> Result<TermElement, NoMemory>
     ensures { IfOk result (λ e. term_size e ≡ 1 + term_size first + term_size second) }
 {
@@ -80,7 +80,7 @@ fn marked(alloc: Global) -> Result<TermElement, NoMemory>
 }
 
 /// `('a' | 'b')*` in front of `'c'+`
-#[tactic(auto, using(lw_terminals::patterns::proofs::Sizes::sizes_of_terms))]
+#[tactic(auto, using(crate::proofs::Sizes::sizes_of_terms))]
 fn repeated(alloc: Global) -> Result<TermElement, NoMemory>
     ensures { IfOk result (λ e. term_size e ≡ 7) }
 {
@@ -89,7 +89,7 @@ fn repeated(alloc: Global) -> Result<TermElement, NoMemory>
     row(alloc, TermElement::Many(Boxed::new(alloc, many)?), some)
 }
 
-#[tactic(auto, using(lw_terminals::patterns::proofs::Sizes::sizes_of_terms))]
+#[tactic(auto, using(crate::proofs::Sizes::sizes_of_terms))]
 fn optional(alloc: Global, element: TermElement) -> Result<TermElement, NoMemory>
     ensures { IfOk result (λ e. term_size e ≡ 1 + term_size element) }
 {
@@ -152,7 +152,7 @@ fn body(alloc: Global, name: &str) -> Result<TermElement, NoMemory>
 }
 
 /// A choice without an alternative, which no grammar file can say.
-#[tactic(auto, using(lw_terminals::patterns::proofs::Sizes::sizes_of_terms))]
+#[tactic(auto, using(crate::proofs::Sizes::sizes_of_terms))]
 fn empty(alloc: Global) -> Result<TermElement, NoMemory>
     ensures { IfOk result (λ e. term_size e ≡ 1) }
 {

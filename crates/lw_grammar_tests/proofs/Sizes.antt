@@ -1,0 +1,4 @@
+-- How large the forms are that the tests build.
+use Rattle.lw_numbers.proofs.Sizes.{size-Assign, size-value_Call, size-Act, size-Group, size-Pattern}
+
+pub ruleset sizes_of_forms = (size-Assign, size-value_Call, size-Act, size-Group, size-Pattern)
