@@ -1,4 +1,7 @@
-//! TODO
+//! Tests of languages, workspaces and sessions: what grammars and texts read as, what builds publish, and what messages are answered.
+//!
+//! They show what no clause says: that the calls succeed where there is memory, and what examples come to that are worked by hand. Each
+//! module is named by what it tries, and names public items alone.
 #![tactic(auto)]
 
 #[cfg(test)]
