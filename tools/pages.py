@@ -158,6 +158,10 @@ def about_architecture():
     for crate in uses():
         if rows.count(crate) != 1:
             yield f"docs/architecture.md: {rows.count(crate)} rows of {crate}"
+    heights = dict(re.findall(r"^\| (\d+) \| (`.*`) \|$", page, re.M))
+    for crate in uses():
+        if f"`{crate}`" not in heights.get(str(level(crate)), ""):
+            yield f"docs/architecture.md: {crate} has the height {level(crate)}"
     longest = max(map(level, uses()))
     said = re.search(r"longest chain has (\d+) crates", page)
     if not said or int(said[1]) != longest:
@@ -169,7 +173,9 @@ def about_names():
     pages = ["README.md", "CONTRIBUTING.md", *(f"docs/{path.name}" for path in sorted((TOP / "docs").glob("*.md")))]
     pages += [path.relative_to(TOP).as_posix() for path in sorted(TOP.glob("examples/*/README.md"))]
     for page in pages:
+        fenced = False
         for number, line in enumerate(read(page).splitlines(), 1):
+            fenced ^= line.startswith("```")
             for crate, folder in re.findall(r"\b(lw_\w+|langbench(?=::))(?:::(\w+))?", line):
                 source = TOP / "crates" / crate / "src"
                 if crate not in uses():
@@ -177,8 +183,8 @@ def about_names():
                 elif folder and folder not in words_of(crate):
                     yield f"{page}:{number}: {crate} has no {folder}"
             places = re.findall(r"`((?:crates|docs|examples|tools|editors)/[\w./-]+)`", line)
-            places += [(pathlib.PurePosixPath(page).parent / link).as_posix()
-                       for link in re.findall(r"\]\((?!https?:|#)([^)#]+)", line)]
+            links = [] if fenced else re.findall(r"\]\((?!https?:|#)([\w./-]+)", line)
+            places += [(pathlib.PurePosixPath(page).parent / link).as_posix() for link in links]
             for place in places:
                 if not (TOP / place).exists() and page != PROVED or "/out/" in place:
                     yield f"{page}:{number}: there is no {place}"
@@ -196,7 +202,7 @@ def about_readme():
         elif not fenced and not line.startswith(("    ", "#")):
             prose.append(line if line.strip() else "\n")
     cells = re.sub(r"\]\([^)]*\)", "]", " ".join(prose).replace("|", "\n"))
-    for sentence in re.split(r"(?<=[.:;?!])\s+|\n", cells):
+    for sentence in re.split(r"(?<=[.?!])\s+|\n", cells):
         if len(sentence.split()) > WORDS:
             yield f"README.md: {len(sentence.split())} words: {sentence.strip()}"
 
