@@ -103,7 +103,7 @@ def main():
                 differing += 1
                 for line in difflib.unified_diff(wanted, found, "the page", "the program", lineterm="", n=0):
                     print("       ", line)
-    print(f"{count} commands, {differing} differ or have no row")
+    print(f"{count} commands, {differing} differ or have no row", flush=True)
     agree = subprocess.run([sys.executable, str(TOP / "tools" / "pages.py"), "check"], check=False).returncode == 0
     sys.exit(1 if differing or not count or not agree else 0)
 
