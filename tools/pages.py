@@ -30,7 +30,7 @@ SAYS_SO = re.compile(r"promis|\blaws?\b|[Nn]o code here|\b[Nn]ot (said|proved)\b
 COST = re.compile(
     r"^(What it costs|How )|\b(constant|linear|logarithmic|quadratic|expected) time|\btime (that is )?linear\b"
     r"|\btime in proportion\b|\bin the time of\b|\bas many steps\b|\btakes one step\b|\bn log n\b|\d+ bytes\b(?! at a time)"
-    r"|\bcopied once\b|\bin one pass\b|\blook-ups for each\b|\bmade fast\b")
+    r"|\bcopied once\b|\bas much time\b|\bcosts a walk\b|\bin one pass\b|\blook-ups for each\b")
 SENTENCE = re.compile(r"(?<=[.)])\s+(?=[A-Z`\[])")
 LINK = re.compile(r"\[(`[^`]+`)\](?:\([^)]*\))?")
 
