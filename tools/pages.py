@@ -12,7 +12,8 @@ Paragraphs on how a thing is made and what it costs are left out.
 `check` looks whether that part is up to date; whether each name under "Beside the root pages" is a word of its crate;
 whether each file that docs/definitions.md names is there, and each file of specs/ in one of its rows; whether
 docs/architecture.md has one row for each crate, and the length of the longest chain; whether each crate, folder and file
-that a page names is there; and whether README.md is as short as it shall be.
+that a page names is there; whether each entry of docs/DECISIONS.md opens with a question, and each row of docs/measured.md
+has a machine and a date; and whether README.md is as short as it shall be.
 """
 
 import functools
@@ -190,6 +191,18 @@ def about_names():
                     yield f"{page}:{number}: there is no {place}"
 
 
+def about_entries():
+    """Whether each decision opens with its question, and each row of a measurement ends with machine and date."""
+    for number, line in enumerate(read("docs/DECISIONS.md").splitlines(), 1):
+        if line.startswith("**") and not re.match(r"\*\*.*?\?\*\* \S", line):
+            yield f"docs/DECISIONS.md:{number}: opens with no question"
+    rows = False
+    for number, line in enumerate(read("docs/measured.md").splitlines(), 1):
+        rows = line.startswith("|") and (rows or line.endswith("| Machine and date |"))
+        if rows and not re.search(r"\| (Machine and date|---|[A-Z-], \d{4}-\d\d-\d\d) ?\|$|\|---\|$", line):
+            yield f"docs/measured.md:{number}: ends with no machine and date"
+
+
 def about_readme():
     text = read("README.md")
     lines = text.splitlines()
@@ -207,12 +220,15 @@ def about_readme():
             yield f"README.md: {len(sentence.split())} words: {sentence.strip()}"
 
 
+LOOKS = (about_proved, about_definitions, about_architecture, about_names, about_entries, about_readme)
+
+
 def main():
     if sys.argv[1:] == ["write"]:
         head = read(PROVED).split(MARKER)[0]
         (TOP / PROVED).write_text(f"{head}{MARKER}\n{sections()}", encoding="utf-8")
     elif sys.argv[1:] == ["check"]:
-        found = [line for look in (about_proved, about_definitions, about_architecture, about_names, about_readme) for line in look()]
+        found = [line for look in LOOKS for line in look()]
         print("\n".join(found) if found else "pages agree with the crates")
         sys.exit(1 if found else 0)
     else:
