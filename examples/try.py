@@ -8,10 +8,10 @@ fenced block is read whose first line begins with `$ `. A line that begins so is
 one are what it prints, on standard output and standard error. Commands are run in the order of the page by `sh`, at the
 top of the repository, with PROGRAM in place of `./langbench`. Each line of a command's output may end with `\\r\\n`, and
 the last one with nothing. Where langbench prints something, the table that the gate tries,
-crates/langbench/src/page_tests.rt, has to hold what is read and what is printed.
+crates/lw_command_tests/src/page_tests.rt, has to hold what is read and what is printed.
 
-One line is printed for each command. The status is 1 where one of them differs or is not in the table, or where there is
-none.
+One line is printed for each command. Then `tools/pages.py check` tells where pages and crates do not agree. The status is
+1 where a command differs or is not in the table, where there is none, or where something does not agree.
 """
 
 import difflib
@@ -23,7 +23,7 @@ import sys
 
 TOP = pathlib.Path(__file__).resolve().parent.parent
 PAGES = ["README.md", "docs/commands.md", "docs/tutorial.md"]
-TABLE = "crates/langbench/src/page_tests.rt"
+TABLE = "crates/lw_command_tests/src/page_tests.rt"
 
 
 def commands(page):
@@ -103,8 +103,9 @@ def main():
                 differing += 1
                 for line in difflib.unified_diff(wanted, found, "the page", "the program", lineterm="", n=0):
                     print("       ", line)
-    print(f"{count} commands, {differing} differ or have no row")
-    sys.exit(1 if differing or not count else 0)
+    print(f"{count} commands, {differing} differ or have no row", flush=True)
+    agree = subprocess.run([sys.executable, str(TOP / "tools" / "pages.py"), "check"], check=False).returncode == 0
+    sys.exit(1 if differing or not count or not agree else 0)
 
 
 main()
