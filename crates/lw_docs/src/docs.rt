@@ -236,7 +236,7 @@ impl Docs {
 
     /// The document that the next build step takes up: of those that are not validated the one of the least
     /// state, and of these the one of the least address; None where all are validated. It takes constant
-    /// time.
+    /// time. Only tests ask.
     pub fn least(&self) -> Option<DocId>
         ensures least { MatchOption result (AllValidated self.now) (IsLeast self.now) }
         ensures held { IfSome result (IsHeld self.now) }
@@ -291,7 +291,7 @@ impl Docs {
         }
     }
 
-    /// Gives a document another state. It takes logarithmic time and no memory.
+    /// Gives a document another state. It takes logarithmic time and no memory. Only tests ask.
     pub fn set_state(&mut self, d: DocId, state: State)
         requires { IsHeld self.old d }
         ensures { Turns self.old self.new d (λ x. record x { state = state }) }

@@ -31,7 +31,7 @@ pub struct Document {
     pub exports: Items<Export>,
 }
 
-/// What a document no longer exports.
+/// What a document no longer exports. Only tests look at it.
 #[derive(Debug, Drop)]
 pub struct Delta {
     pub doc: DocId,

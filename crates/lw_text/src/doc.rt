@@ -123,7 +123,8 @@ impl TextDoc {
     /// All changes in order, each in the text that the one before left, or the first fault: then, and
     /// where memory is refused, the text stays as it was.
     ///
-    /// Each change costs one copy of the text that it makes, and one look through it for its lines.
+    /// Each change costs one copy of the text that it makes, and one look through it for its lines. Only tests ask: a workspace makes a
+    /// new text by `edited`.
     pub fn apply(
         &mut self,
         alloc: Global,
