@@ -305,7 +305,7 @@ impl Docs {
     }
 
     /// Makes all changes in order in the text of a document, or answers the first fault: then, and where
-    /// memory is refused, nothing changes. It costs what [`TextDoc::apply`] costs.
+    /// memory is refused, nothing changes. It costs what [`TextDoc::apply`] costs. Only tests ask.
     pub fn apply(&mut self, d: DocId, changes: &[Change], enc: Encoding) -> Result<(), EditFault>
         requires { IsHeld self.old d }
         ensures made { OnOk result ((x : OneDoc) → IsAt self.old d x → (text : List ℕ) × Changes enc x.text changes.now (Ok text)
