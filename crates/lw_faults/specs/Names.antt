@@ -17,9 +17,9 @@ module _ (g : Grammar) where
   -- A rule, terminal, interface or union has the name of one of its space that stands before it; a type is inferred that is declared; an interface
   -- has a second attribute of one name.
   pub data Duplicate : ℕ → Span → List ℕ → Type 0 where
-    rule_ : (first second : Declaration) → Contains rule_space first → Contains rule_space second → first.name ≡ second.name → StandsBefore first second →
+    rule_ : (first second : Declaration) → Contains (rule_space g) first → Contains (rule_space g) second → first.name ≡ second.name → StandsBefore first second →
         Duplicate second.file second.span second.name
-    type_ : (first second : Declaration) → Contains type_space first → Contains type_space second → first.name ≡ second.name → StandsBefore first second →
+    type_ : (first second : Declaration) → Contains (type_space g) first → Contains (type_space g) second → first.name ≡ second.name → StandsBefore first second →
         Duplicate second.file second.span second.name
     inferred : {file : ℕ} {s : Span} {name : List ℕ} → InfersHere g file s name → HasDeclaration g name → Duplicate file s name
     attribute : (interface : Interface) (i j : ℕ) (first second : Attribute) → Contains g.interfaces interface → i < j →
