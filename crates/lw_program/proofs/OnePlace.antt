@@ -26,7 +26,7 @@ unseen seen (y ∷ ys) i x is = by (λ i x. unseen seen ys i x) (λ i x. unseen 
     by old new false was zero x is = subst (λ x. stands_in x seen ≡ false) (same_Some y x is) was
     by old new false was (suc i) x is = (neither (bytes_eq x y) (stands_in x seen) (new i x is)).1
 
-one_place : (seen xs : List (List ℕ)) (i j : ℕ) (x : List ℕ) → slice_get (first_uses seen xs) i ≡ Some x → slice_get (first_uses seen xs) j ≡ Some x → i ≡ j
+pub one_place : (seen xs : List (List ℕ)) (i j : ℕ) (x : List ℕ) → slice_get (first_uses seen xs) i ≡ Some x → slice_get (first_uses seen xs) j ≡ Some x → i ≡ j
 one_place seen [] i j x is was = absurd (none-some x is)
 one_place seen (y ∷ ys) i j x is was = by (λ i j. one_place seen ys i j x) (λ i j. one_place (y ∷ seen) ys i j x) (stands_in y seen) i j is was
   where
