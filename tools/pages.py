@@ -9,11 +9,10 @@ page of the crate (the `//!` lines at the head of src/lib.rt) and the pages of i
 say that is promised: the first paragraph, and each that says so, that speaks of a law, or that names a call by a link.
 Paragraphs on how a thing is made and what it costs are left out.
 
-`check` looks whether that part is up to date; whether each name under "Beside the root pages" is a word of its crate;
-whether each file that docs/definitions.md names is there, and each file of specs/ in one of its rows; whether
-docs/architecture.md has one row for each crate, and the length of the longest chain; whether each crate, folder and file
-that a page names is there; whether each entry of docs/DECISIONS.md opens with a question, and each row of docs/measured.md
-has a machine and a date; and whether README.md is as short as it shall be.
+`check` looks whether that part is up to date; whether each file that docs/definitions.md names is there, and each file of
+specs/ in one of its rows; whether docs/architecture.md has one row for each crate, and the length of the longest chain;
+whether each crate, folder and file that a page names is there; whether each entry of docs/DECISIONS.md opens with a
+question, and each row of docs/measured.md has a machine and a date; and whether README.md is as short as it shall be.
 """
 
 import functools
@@ -24,7 +23,6 @@ import sys
 TOP = pathlib.Path(__file__).resolve().parent.parent
 PROVED = "docs/proved.md"
 MARKER = "<!-- What follows is made from the crates by `python3 tools/pages.py write`. -->\n"
-BESIDE = "Beside the root pages"
 ROW, CHARACTERS, LINES, WORDS = re.compile(r"^\|(.*)\|$"), 12_000, 120, 25
 
 SAYS_SO = re.compile(r"promis|\blaws?\b|[Nn]o code here|\b[Nn]ot (said|proved)\b|item for item")
@@ -86,8 +84,6 @@ def told(paragraph):
 
 def sections():
     """The part below the marker."""
-    head = read(PROVED).split(MARKER)[0] if (TOP / PROVED).exists() else ""
-    beside = head.partition(f"## {BESIDE}")[2]
     out, silent = [], []
     for crate in uses():
         for name, path in pages_of(crate):
@@ -100,8 +96,7 @@ def sections():
             out.append(f"{'##' if name == crate else '###'} {name}")
             out += [LINK.sub(r"\1", " ".join(page[0].split()))]
             out += filter(None, (told(part) for part in page[1:] if is_told(part)))
-            more = f" More of it stands under \"{BESIDE}\"." if f"**{name}**" in beside else ""
-            out.append(f"From [`{where}`](../{where}).{more}")
+            out.append(f"From [`{where}`](../{where}).")
     if silent:
         out += ["## Crates that promise nothing", "Tests, and programs of tests: " + ", ".join(silent) + "."]
     return "\n\n".join(out) + "\n"
@@ -120,21 +115,8 @@ def about_proved():
     if MARKER not in read(PROVED):
         yield f"{PROVED}: the marker is missing"
         return
-    head, rest = read(PROVED).split(MARKER)
-    if rest != "\n" + sections():
+    if read(PROVED).split(MARKER)[1] != "\n" + sections():
         yield f"{PROVED}: not up to date; run `python3 tools/pages.py write`"
-    for line in head.partition(f"## {BESIDE}")[2].splitlines():
-        opening = re.match(r"- \*\*(\w+)(?:::(\w+))?\*\*", line)
-        if not opening:
-            continue
-        crate = opening[1]
-        if crate not in uses():
-            yield f"{PROVED}: {crate} is no crate"
-            continue
-        known = words_of(crate)
-        for name in re.findall(r"`([A-Za-z_]\w*(?:::\w+)*)`", line):
-            if not set(name.split("::")) <= known and not name.startswith("lw_"):
-                yield f"{PROVED}: {crate} has no `{name}`"
 
 
 def about_definitions():

@@ -5,8 +5,13 @@
 //! finite set of its members' numbers; a [`Steps`] is the number of its ticks. Typed numbers, spans
 //! and tokens are plain data, seen by their fields.
 //!
-//! It promises that a copy equals what it was made of, that a text which is taken over or given back is
-//! not copied, that a refusal for want of memory changes nothing, and that only `tick` changes the counter.
+//! It promises that a copy equals what it was made of. A text that is taken over or given back has the
+//! same bytes. A refusal for want of memory changes nothing, and only `tick` changes the counter.
+//!
+//! A [`Name`] is made of a text that it copies ([`Name::from_text`], [`Name::from_bytes`]) or takes over
+//! ([`Name::from_string`], [`Name::from_vec`]). [`Name::into_string`] gives the text back. Bytes that
+//! are no UTF-8 make no [`Name`]. Texts that are taken over or given back are not copied, which is not
+//! proved. Names compare by their bytes. [`Steps::tick`] adds one to a [`Steps`].
 #![tactic(auto)]
 
 mod limits;

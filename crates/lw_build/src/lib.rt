@@ -13,6 +13,11 @@
 //! that the farewell of a document that is removed is the machine's; and that what is refused changes nothing, for a cause that is
 //! told ([`WorkFault`]).
 //!
+//! [`Workspace::put`], [`Workspace::edit`] and [`Workspace::remove`] lead from all documents that a workspace may
+//! stand for to what the machine's events make of them. [`Workspace::published`] lends the list that was published
+//! last of a document. What a build does not make anew, since no changed name is named there (`specs/Standing.antt`),
+//! is what it was. Where memory is refused, [`Workspace::advance`] has published nothing.
+//!
 //! What a text was read as is kept with its symbols, by the number of its document, until the text changes; so is what it exports, in an
 //! index (`specs/Readings.antt`), and where its references lead, found both ways (`specs/Linked.antt`). So a build reads the texts that
 //! are new and no other. It links and checks these, and with them each document that looks for a name, or exports one, by which a
@@ -23,9 +28,10 @@
 //! linked and checked. While a build runs, it needs memory for the lists that are news, twice. What is kept of references takes an answer
 //! and a number for each (see `lw_index::refs`), and what stands a number for each document.
 //!
-//! Once all is built, a workspace lends what the questions of an editor need: [`Workspace::seen`] the tree of a document by its number, its
-//! text, and where its references lead, and [`Workspace::views`] the list of all documents. It promises that these are the trees of
-//! the present texts and their links, as `lw_query` says it (`specs/Seen.antt`).
+//! Once all is built, a workspace lends what the questions of an editor need. [`Workspace::seen`] lends the tree of a
+//! document by its number, its text, and where its references lead. [`Workspace::views`] gives all documents in the
+//! order of addresses. It promises that these are the trees of the present texts and their links, as `lw_query` says
+//! it (`specs/Seen.antt`).
 #![tactic(auto)]
 
 mod fault;

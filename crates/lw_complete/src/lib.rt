@@ -8,8 +8,8 @@
 //! Its model: offers are those of `lw_places::offers`, over the trees of all documents; an [`Item`] stands for an offer, with the span of the word
 //! that it takes the place of. The index stands for what the other documents export (`lw_link`).
 //!
-//! It promises exactly what `lw_places::offers` defines: all that is offered, in order, each once, and nothing else. Want of memory may take the
-//! place of the answer.
+//! It promises exactly what `lw_places::offers` defines: all that is offered, each once, and nothing else. Offers
+//! come in the order of labels and then of kinds ([`complete`]). Want of memory may take the place of the answer.
 //!
 //! Names that are tried are those that would be found from one of the places where a cross-reference may come next: in the tree of what was
 //! read before, or in that of the whole text with the reference left blank, which is made once for each place, or among what other documents

@@ -17,11 +17,12 @@
 //! - `Sessions.antt`: the build stands behind every message once `initialize` was answered, and so on through all
 //!   bodies up to `exit`.
 //!
-//! There is no code here but the types [`Ended`] and [`Phase`] and the codes of errors. Each function has an empty body, and its contract is
-//! a law that a reader would expect: what a session does is settled by its bodies and by what the store answers, or
-//! by its files where no read failed ([`one_outcome`]), and leaves nothing to do behind a message
-//! ([`sessions_stay_current`]); edits are told of documents in the order of their addresses
-//! ([`edits_are_in_order`]).
+//! There is no code here but the types [`Ended`] and [`Phase`] and the codes of errors. Each function has an empty
+//! body, and its contract is a law that a reader would expect. Edits are told of documents in the order of their
+//! addresses ([`edits_are_in_order`]). Two laws are of a grammar by which a text is read in one way. What a session
+//! does is settled by its bodies and by what the store answers, or by its files where no read failed
+//! ([`one_outcome`]). Once `initialize` was answered with a result, nothing is left to do behind a message
+//! ([`sessions_stay_current`]).
 #![tactic(auto)]
 
 mod ended;

@@ -13,6 +13,10 @@
 //! next step of a build takes up: of those that are not validated the one of the least state, and of these the one of the least address
 //! by its bytes (`specs/Least.antt`). [`the_least_is_next`] ties that to the machine of `lw_machine`.
 //!
+//! For another cause than memory [`Docs::add`] refuses exactly where 65,536 documents are held. [`Docs::take_out`]
+//! hands one back. No two documents have one number, and each stands at its own address ([`Docs::numbered`]).
+//! [`Docs::least`] answers none exactly where all are validated.
+//!
 //! Documents lie in a table by number, beside an ordered map from addresses to numbers. Which is the least is kept as a knockout among
 //! the numbers: each place holds the first of the document of its own number and those that two places behind it hold, so the first place
 //! holds the first of all, and a document that comes, goes or turns plays only at the places between its own and the first. So

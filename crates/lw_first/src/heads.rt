@@ -8,6 +8,9 @@
 //!
 //! It promises that heads are joined and cut exactly, that a set holds exactly what was put in, and that a set that
 //! says that it did not grow is as it was.
+//!
+//! Heads are joined and cut by [`Head::behind`] and [`Head::followed_by`]. A head is seen as a window
+//! ([`Head::window`]), and a window has one head at most ([`Head::of_window`]).
 mod head;
 mod head_set;
 

@@ -7,8 +7,9 @@
 //! given heads is a relation on lists of kinds (`CanBefore`), and a set of heads has grown by exactly those
 //! that are so.
 //!
-//! It promises that the heads of the rules are all that there are and no others, and that what is put into a
-//! set for a part is exactly what may come. The order in which heads stand in a set is not promised.
+//! It promises that the heads of the rules are all that there are and no others, and that what is put into a set for
+//! a part is exactly what may come. It is put in by [`First::element`], [`First::value`], [`First::row`] and
+//! [`First::repeated`]. The order in which heads stand in a set is not promised.
 //!
 //! A part is gone through once for each set of heads that it stands before, and each head that is found costs
 //! expected constant time. A row is done from its end, in a loop, so that a long one needs no deep stack. What

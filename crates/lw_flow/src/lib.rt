@@ -14,6 +14,10 @@
 //! what is so on a way is said. Fragments may call themselves and each other: what is done before a leaf
 //! has an end, and the way behind it need have none.
 //!
+//! [`Ways::before`] tells of a leaf whether nothing may come before it, whether some step may, and whether
+//! one may that fills a node. It tells which types may be current there, and the types of which rules come
+//! to it.
+//!
 //! How it is made. What a list of steps does is told by one effect, that of the last step among those of
 //! most weight: an action, else a call of a rule that makes nodes, else an assignment, else
 //! any other call. Effects join, so that an element has a set of them in place of its ways, and a loop

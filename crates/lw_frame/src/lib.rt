@@ -17,10 +17,17 @@
 //! is copied once, and once more where its buffer grows; no piece makes it look at earlier bytes of a body
 //! again.
 //!
-//! A message is written by [`frame`], or as its [`header_part`] with the body behind it. The limits of a
+//! [`FrameReader::feed`] takes the next piece of a stream, [`FrameReader::close`] ends it, and
+//! [`FrameReader::next`] hands out the next body or the fault. [`read_pieces`] gives what a whole stream
+//! has that comes in some pieces.
+//!
+//! A message is written by [`frame`], or as its [`header_part`] with the body behind it. A reader takes
+//! back a message that is written, where its body is not longer than [`LONGEST_BODY`]. The limits of a
 //! stream are [`LONGEST_SESSION`], [`LONGEST_BODY`] and [`LONGEST_HEADER_PART`].
 //!
-//! Of the definitions themselves [`streams_grow`] says what stays as a stream goes on.
+//! Of the definitions themselves [`streams_grow`] says what stays as a stream goes on. Its bodies stay,
+//! and others come behind them. Its fault stays where that does not come from the stream's end, and no
+//! body comes behind it.
 #![tactic(auto)]
 
 mod body;

@@ -11,6 +11,10 @@
 //! itself, what rules read and do is not looked at. It takes expected time linear in the grammar, but for what the crates below say of
 //! circles of calls.
 //!
+//! The faults of this phase are 1 to 3, 7 to 13 and 20 to 23 ([`check`]). Those from 7 to 12 are looked for only
+//! where no fragment and no terminal calls itself. [`judge`] answers the types of a grammar where none of the 23
+//! faults is in it.
+//!
 //! In folders of their own stand:
 //!
 //! - [`parts`]: what is wrong with how the parts of a grammar work together, as far as that is seen without a

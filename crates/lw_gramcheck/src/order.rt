@@ -10,7 +10,8 @@
 //! by the leaf itself and by what `lw_flow` recorded of it: that nothing may come before it, that some
 //! step may, or that one may that fills a node. It promises that exactly the misplaced actions and the
 //! misplaced calls of the grammar are found besides what was found before, unless there is no memory:
-//! then some of them may be missing.
+//! then some of them may be missing. [`find_order_faults`] finds the faults 11 and 12 of
+//! `docs/faults.md`.
 //!
 //! Each leaf is looked at once, and of a call what its name means, in expected constant time. So a
 //! call takes time linear in the size of the grammar, and memory for the leaves of one rule at a time

@@ -11,9 +11,10 @@
 //! property, or as the text of a cross-reference; most of what is asked of a rule is asked of these.
 //! Fragments that call fragments and terminals that call terminals are the edges of two graphs.
 //!
-//! It promises that exactly the faults that the definitions of the grammar's faults tell are found,
-//! whatever else is wrong with the grammar. Each kind takes expected time linear in the grammar, but
-//! for circles, where what may lie on one is walked from, one after the other.
+//! It promises that exactly the faults that the definitions of the grammar's faults tell are found, whatever
+//! else is wrong with the grammar. [`find_circular_calls`] finds the fault 20, and [`find_plain_faults`] the
+//! faults 1, 2, 3, 13, 21, 22 and 23. Each kind takes expected time linear in the grammar, but for circles,
+//! where what may lie on one is walked from, one after the other.
 mod assignments;
 mod bad_calls;
 mod call_graphs;

@@ -8,6 +8,10 @@
 //! the first item of a name, subtypes, the rule that a cross-reference without one takes, which rules
 //! can be reached, which rules make nodes, the kinds of tokens in their order, and the size.
 //!
+//! `IsWellFormed` (`specs/WellFormed.antt`) says that each choice in a terminal has a part, and that no
+//! rule stands where a terminal stands. `lw_load` promises it of a grammar that is loaded, and
+//! `lw_terminals::patterns` goes by it.
+//!
 //! In folders of their own stand:
 //!
 //! - [`sentences`]: what the rules of a grammar may read, as relations on whole lists.

@@ -14,8 +14,9 @@
 //!
 //! It promises that [`read_grammar`] gives the grammar that a text says, and that it says no other; and else
 //! the first token that cannot follow those before it, or the first parenthesis that is opened inside 64
-//! others. A token that tells a form which is left out is told with that form, and no other is. All places
-//! that it gives are in the text.
+//! others. In place of the token may stand the file's end, where it ends too early. Where a fault is
+//! answered that is not want of memory, the text says no grammar. A token that tells a form which is left
+//! out is told with that form, and no other is. All places that it gives are in the text.
 //!
 //! `Steps.antt` and the files of steps beside it are the reader's own way through a file; the lemmas show
 //! that what it comes to is what the rules say.

@@ -8,9 +8,10 @@
 //! Its model: a graph is the number of its nodes and, by node, the list of those that edges lead to from
 //! it, of which clauses say only whether there is an edge; a set of nodes is a list of flags, by node.
 //!
-//! It promises that both sets are exact: a node is in one where such a walk exists, and nowhere else. Of
-//! the list it promises that it has nodes of the graph only; which stands where is tested. Where memory
-//! is refused for an edge, the graph stays as it was.
+//! It promises that a [`Graph`] has exactly the edges that were put in ([`Graph::add`]). Both sets are exact:
+//! a node is in one where such a walk exists, and nowhere else. Of the list it promises that it has nodes of
+//! the graph only; which stands where is tested. Where memory is refused for an edge, the graph stays as it
+//! was.
 //!
 //! What is reached is found in time that is linear in nodes and edges, and so is the list. So are circles in
 //! a graph that has none: over and over, nodes are taken away whose successors were all taken away, and there

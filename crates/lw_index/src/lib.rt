@@ -14,6 +14,9 @@
 //! of their bytes, each once, and [`Index::is_exported_elsewhere`] whether a name is one of these; and that nothing changes where memory is
 //! refused.
 //!
+//! [`Index::set`] puts a document in, in place of the one of its number. [`Index::others`] answers none exactly where
+//! there is no such document. [`Index::of`] lends what a document exports.
+//!
 //! Beside the documents it keeps an ordered map from each name to the documents that export it, which are ordered by type and URI, each
 //! with the least of its nodes. So no call goes through all exports or all documents: [`Index::first`] and
 //! [`Index::is_exported_elsewhere`] look up the name, and then go by the types that are there and not by the documents; [`Index::names`]

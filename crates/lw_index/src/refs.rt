@@ -13,6 +13,9 @@
 //! node and no other, each once, in the order of documents and of references (`specs/Users.antt`); and that nothing changes where memory
 //! is refused.
 //!
+//! [`RefIndex::set`] puts in the answers of one document, in place of what it had. [`RefIndex::answer`] is none where
+//! a reference was given none.
+//!
 //! Each document has beside its answers a second list of those that lead somewhere, in the order of what they lead to, so that those of
 //! one node are found by halving. A set of pairs says which documents lead into which. So [`RefIndex::of`] looks at no document but
 //! those with references into the document of the node. Documents are linked often and asked for seldom: [`RefIndex::set`] brings one

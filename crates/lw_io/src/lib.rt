@@ -13,9 +13,18 @@
 //! as it is; a fault changes nothing else. So a program that looks at the counts before and after can say
 //! whose fault it was. At its last value, 2^64 - 1, a count stands still, and is said to have risen. Want
 //! of memory is an answer of its own, and is counted nowhere. A pattern is refused only where it is listed,
-//! or where `regex` refuses it for another cause than memory.
+//! or where `regex` refuses it for another cause than memory. A text that is listed is always refused.
+//! `regex` refuses a text for a fault of its syntax, or because the pattern is too big. From which size on
+//! it is too big is not said.
 //!
-//! [`read_all`] and [`write_all`] read a source to its end and write all of a text.
+//! [`Source::read`] says what a read gives and takes, and [`Sink::write`] what a write adds.
+//! [`Store::read`] says what a store answers for a path, where it tells its files. [`Patterns::make`] says
+//! what becomes of a text. The forms in memory and the adapters over the real things meet what these
+//! promise.
+//!
+//! [`read_all`] reads a source to its end, or as many bytes as it may at most. [`write_all`] writes all of
+//! a text. At a fault, or where memory is refused, [`read_all`] has taken fewer bytes than it may. Then
+//! [`write_all`] has written a front of the text.
 //!
 //! In a folder of its own stands:
 //!

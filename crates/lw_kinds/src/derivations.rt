@@ -5,8 +5,8 @@
 //! looked for over the rules that can be reached from the entry.
 //!
 //! [`Reading`] has three flags for each rule: whether it can be reached, whether it may read no token,
-//! and whether it can come to an end. [`find_derivation_faults`] puts in the faults. [`entry`] finds the
-//! entry rule.
+//! and whether it can come to an end. [`find_derivation_faults`] puts in the faults, which are 7 to 10
+//! of `docs/faults.md`. [`entry`] finds the entry rule.
 //!
 //! Its model: a [`Reading`] is three lists of flags, by the numbers of rules. Whether a part of a
 //! rule may be read so goes by the flags of the rules that it calls, and rounds over all rules set

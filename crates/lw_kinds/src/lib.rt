@@ -14,6 +14,7 @@
 //! than 65,535 kinds.
 //!
 //! [`name_rule`] says which rule or terminal, by its number, reads a cross-reference to a type where none is written.
+//! Nothing asks it yet.
 //!
 //! A table is made in one walk over the rules, in expected linear time. A keyword is found in constant
 //! time, as expected, and a terminal in time that is logarithmic in the number of terminals.

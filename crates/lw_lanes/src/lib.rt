@@ -8,6 +8,9 @@
 //! length that is allowed; that of a UTF-8 text the counts are those of its characters and of its
 //! units in UTF-16; and that no call takes memory. That vectors make it fast is measured and not
 //! proved.
+//!
+//! The counts are those of [`utf16_len`], [`char_count`] and [`break_count`]. [`next_break`] finds
+//! the next line break byte from a place on, and none exactly where none follows.
 #![tactic(auto)]
 
 mod block;

@@ -15,6 +15,15 @@
 //! A grammar that is compiled has no empty keyword, and no two of its sentences have one list of kinds
 //! ([`compiled_grammars_are_read_in_one_way`]). What the crates above say of texts is settled by such a grammar, and they ask for one.
 //!
+//! A keyword at fault is told by the path and the position of its first use, and a conflict by those of its choice. A
+//! terminal is told by its number among the rules and terminals, its name, and the path and the position where that
+//! stands. The count of the patterns rises exactly where one was refused ([`compile`]).
+//!
+//! [`Language::cut`] gives the one cut of a text into tokens. Where there is none, it gives the first place where no
+//! token stands, with the character there. [`Language::types`], [`Language::tokens`], [`Language::look`] and
+//! [`Language::parser`] lend the types of the grammar, its set of tokens, its tables and what its texts are parsed
+//! by.
+//!
 //! In a folder of its own stands:
 //!
 //! - [`told`]: faults of a grammar as they are told to its author.

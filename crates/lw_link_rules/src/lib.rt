@@ -6,10 +6,12 @@
 //! diagnostics a document has. They take the shown texts of all documents and nothing that was computed before. What links and checks is
 //! held against these definitions.
 //!
-//! There is no code here but laws of them: a document has one list of each ([`one_list`]), which depends on the shown texts alone
-//! ([`only_shown_texts_matter`]); exports that no reference of a document names change none of its links
-//! ([`unseen_exports_change_no_links`]). [`second_symbols_are_told`] and [`documents_are_told_of_each_other`] show over trees that are
-//! written out what is told.
+//! There is no code here but laws of them. By a grammar by which a text is read in one way, a document has one list
+//! of each at most ([`one_list`]). They depend on the shown texts alone ([`only_shown_texts_matter`]). Where a text
+//! becomes another that is read as something, or goes, another document keeps its links
+//! ([`unseen_exports_change_no_links`]). That asks that no reference of it names an export of the text, before or
+//! after. [`second_symbols_are_told`] and [`documents_are_told_of_each_other`] show over trees that are written out
+//! what is told.
 //!
 //! In a folder of its own stands:
 //!

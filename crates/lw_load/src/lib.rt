@@ -11,10 +11,15 @@
 //! - `FilledChoices.antt`: that each choice in a rule has a part.
 //! - `Opening.antt`, `Walking.antt`: how the walk opens a file, and goes on.
 //!
-//! It promises that [`load`] gives the grammar of a root file and no other, or the first fault, and then the files say
-//! none; that the grammar is not larger than [`LARGEST_GRAMMAR`]; that each choice in a terminal has a part, and no rule
-//! stands where a terminal stands (`lw_grammar::formed`); that each choice in a rule has a part, too; and that each place in it is
-//! in the text of its file, so that whoever finds something wrong can tell where.
+//! It promises that [`load`] gives the grammar of a root file and no other, or the first fault, where the store tells
+//! its files. At a fault the files say none, but where the store failed or memory was wanting. Files are loaded depth
+//! first, each once. Of each file what it says, and then how large the grammar is with it, is looked at before its
+//! imports. The count of the store rises exactly where the store failed.
+//!
+//! Of a grammar that is loaded it promises that it has a file, and that it is not larger than [`LARGEST_GRAMMAR`].
+//! Each choice in a terminal has a part, and no rule stands where a terminal stands (`lw_grammar::formed`). Each
+//! choice in a rule has a part, too. Each place in the grammar is in the text of its file, so that whoever finds
+//! something wrong can tell where.
 #![tactic(auto)]
 
 mod fault;

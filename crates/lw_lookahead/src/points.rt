@@ -8,8 +8,8 @@
 //! stands twice. The ways of `|` are its alternatives. The first way of `?`, `*` and `+` reads the part, of `*` and `+` once more, and
 //! the second goes on behind it.
 //!
-//! It promises that each choice is there once, in its place, with exactly its heads, and that it gives up exactly where there are
-//! more than [`MOST_STRINGS`] heads in all.
+//! It promises that each choice is there once, in its place, with exactly its heads. It gives up exactly where there
+//! are more than [`MOST_STRINGS`] heads in all, which are 200,000.
 //!
 //! The rules are gone through once, up to the first choice with which there are too many heads. The heads of a way are found anew
 //! from its part, and those behind a part of a row from the parts that come later, so a part is looked at once for each choice and

@@ -5,7 +5,8 @@
 //! to ([`current_documents_are_built`]), since there are no two such documents, and no two such news ([`one_end`]).
 //! So the builds of documents of the same content, whose lists that were published last are the same, come to one
 //! end, and the build of documents of which all that was computed is forgotten comes to the end of theirs
-//! ([`clean_builds`]).
+//! ([`clean_builds`]). These three laws are of a grammar by which a text is read in one way. The last two ask for
+//! documents that are valid, of which each has links and a list, whichever texts are shown.
 //!
 //! `lw_machine` runs a build to its end where each document has links and a list of diagnostics, whichever texts are
 //! shown meanwhile. It has both where each text is UTF-8 and reads as something (`specs/Readable.antt`), by a grammar

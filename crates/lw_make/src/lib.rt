@@ -4,9 +4,11 @@
 //! Its model: a document is its number, below the number of all; an address and a text are their lists of bytes,
 //! and an edit is what a client would send. `specs/Made.antt` says what each of them is.
 //!
-//! It promises that the calls give exactly what is defined and fail only for want of memory, that no two documents
-//! have one address, how long the texts are, and that each edit is on a document of the workspace and goes between
-//! two of its lines.
+//! It promises that the calls give exactly what is defined and fail only for want of memory. They are
+//! [`made_address`], [`made_text`], [`made_edit`] and [`edit_count`]. No two documents have one address, of as
+//! many as a workspace may have ([`addresses_are_distinct`]). The length of a text in bytes is what the digits of
+//! two numbers say, and 842 at most ([`texts_have_their_lengths`]). Each edit is on a document of the workspace,
+//! and puts its line behind the first ([`edits_go_behind_the_model`]).
 //!
 //! In a folder of its own stands:
 //!

@@ -5,8 +5,10 @@
 //! (`specs/Making.antt`), whose documents a workspace stands for; what a summary counts, and its lines, are in
 //! `specs/Summaries.antt`.
 //!
-//! It promises that [`make`] leaves the workspace and the summary that are defined, and fails only for want of memory,
-//! and that they are the only ones.
+//! It promises that [`make`] leaves the workspace and the summary that are defined, and fails only for want of
+//! memory. By a grammar by which a text is read in one way, no other summary comes of a generated workspace
+//! ([`one_summary`]). [`summary_text`] gives the lines of a summary. Sums of 2^64 and more, which no memory holds,
+//! would be told as want of memory.
 mod laws;
 mod making;
 mod summary;

@@ -7,9 +7,11 @@
 //! Its model: patterns and texts are lists of bytes, and what a pattern matches is `match_length` of `lw_tokens`. The lengths are a list, one
 //! for each byte of the text and one for its end (`specs/Lengths.antt`). A [`KnownLengths`] is a pattern and a text.
 //!
-//! It promises that the lengths of [`match_lengths`] are those of the matches of the pattern wherever the text may be cut, and that what a
-//! [`KnownLengths`] tells of a place is so. Neither ever has to tell anything: nothing is told of a pattern that has another assertion than
-//! that of the start, as `\b` or `$`, nor where there is no memory for it, and a [`KnownLengths`] tells nothing before searches have read far.
+//! It promises that the lengths of [`match_lengths`] are those of the matches of the pattern wherever the text may be
+//! cut, and that what a [`KnownLengths`] tells of a place is so. [`match_lengths`] answers nothing only where the
+//! automaton has another assertion than that of the start, as `\b` or `$`, or memory is wanting. A [`KnownLengths`]
+//! never has to tell anything. It tells nothing of such a pattern, nor where there is no memory for it, nor before
+//! searches have read far.
 //!
 //! How it is done. From a state of an automaton the first match ends at one place of the text, if at all, and this hangs on what follows
 //! alone, and on whether the search begins here (`specs/Rows.antt`). So the row of these ends, one for each state, is known of a place once

@@ -7,11 +7,13 @@
 //! Its model: texts, keywords and patterns are lists of bytes, tokens are plain data, and a cut is what `lw_tokens` says that it is. An NFA
 //! is that of a terminal's pattern, as `lw_matching` makes it.
 //!
-//! It promises that the tokens which it counts begin the cut of every text that begins with the front (`specs/Front.antt`), for every
-//! lexicon with these keywords whose terminals have these NFAs, be the front a text that can be cut up to its end or not. It never has to
-//! count one: where it counts fewer, whoever asks cuts more anew, and never wrong. [`stays`] has the laws by which this is so
-//! (`specs/Stays.antt`), and those by which what is left is cut by itself: a text has a cut exactly where the text behind a place of its
-//! cut has one, and the tokens of the whole are those before the place and these, moved to it (`specs/Parted.antt`).
+//! It promises that the tokens which it counts begin the cut of every text that begins with the front
+//! (`specs/Front.antt`), for every lexicon with these keywords whose terminals have these NFAs, be the front a text
+//! that can be cut up to its end or not. It never has to count one: where it counts fewer, whoever asks cuts more
+//! anew, and never wrong. [`stays`] has the laws by which this is so (`specs/Stays.antt`), and those by which what is
+//! left is cut by itself: a text has a cut exactly where the text behind a place of its cut has one, and the tokens
+//! of the whole are those before the place and these, moved to it (`specs/Parted.antt`). [`next_stays`] says of what
+//! stands next at the start of a text that it does whatever follows. That may be so and not be said.
 //!
 //! How it is done. A token hangs on the keywords that the text begins with and on what the terminals match there. The keywords stay the
 //! same if none begins with all that is left of the text and goes on behind it. The terminals are asked in order, up to the one that is

@@ -14,8 +14,15 @@
 //!
 //! It promises that a name has the number of the declaration that it means, and none where it means
 //! nothing: also where a rule and a terminal have one name, which then means what stands first, and
-//! likewise an interface and a union. Numbers are made in one pass over the grammar, and a look-up
-//! takes constant time; both are expected times.
+//! likewise an interface and a union. Where a rule and a terminal of one name stand at one place, it
+//! means neither. Numbers are made in one pass over the grammar, and a look-up takes constant time;
+//! both are expected times.
+//!
+//! [`Numbers::rule`] finds the number of the rule or terminal that a name means. [`Numbers::type_of`],
+//! [`Numbers::prop`], [`Numbers::type_name`] and [`Numbers::prop_name`] go between names and numbers.
+//! [`Numbers::called`] and [`Numbers::declared`] say what a name means, [`Numbers::is_called`] and
+//! [`Numbers::is_declared`] whether anything has it. [`Numbers::called_before`] and
+//! [`Numbers::declared_before`] say whether something of the name stands before a place.
 //!
 //! In folders of their own stand:
 //!

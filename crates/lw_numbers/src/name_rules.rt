@@ -8,10 +8,11 @@
 //! Its model: a [`NameRules`] is a list of pairs, a wanted type and the name that its rule calls.
 //!
 //! It promises that a type has the entry that the definition gives it, and none where there is none.
-//! To find a rule's first `name=` each fragment that the rule puts in is looked into once, so that all
-//! rules together take as many steps as the rules and the fragments within each have leaves. It calls
-//! itself nowhere, however long a chain of fragments is. Each rule that names its nodes then takes one
-//! step for each type that its own is below. A look-up takes constant time, as expected.
+//! The rule or terminal of a type is answered by [`NameRules::rule_of`]. To find a rule's first
+//! `name=` each fragment that the rule puts in is looked into once, so that all rules together take as
+//! many steps as the rules and the fragments within each have leaves. It calls itself nowhere, however
+//! long a chain of fragments is. Each rule that names its nodes then takes one step for each type that
+//! its own is below. A look-up takes constant time, as expected.
 mod first_name;
 mod name_rules;
 

@@ -14,6 +14,10 @@
 //! the tokens are kept from the first on (`lw_viable`) until there is none. Numbers of tokens count hidden ones too. Besides, memory may be
 //! wanting.
 //!
+//! [`Parser::parse`] answers the tree of the only sentence that the visible tokens are. Else it answers the first
+//! token that no sentence has after those before it. Or it answers the end, where every token can stand and the whole
+//! is no sentence.
+//!
 //! A turn takes constant time and the memory that its places and marks take; there are a few turns for each visible token, and nothing
 //! recurses. That the turns between two tokens come to an end is not proved: after 2^64 - 1 of them the answer is that memory is wanting.
 //! A search for a fault takes as much time again as keeping the readings does.

@@ -6,8 +6,10 @@
 //! texts, as a grammar reads them: what an editor is answered that asks for a definition, or for references. Places are byte offsets,
 //! counted from zero.
 //!
-//! There is no code here but the type [`Place`]. Each function has an empty body, and its contract is a law that a reader would expect:
-//! what stands at a place, and what is answered, is settled ([`one_place`], [`one_reply`]), by the texts alone ([`only_texts_matter`]).
+//! There is no code here but the type [`Place`]. Each function has an empty body, and its contract is a law that a
+//! reader would expect. What stands at a place is settled, and so are the mentions of a node ([`one_place`]). By a
+//! grammar by which a text is read in one way, a definition and references have one answer at most ([`one_reply`]).
+//! The texts alone settle it ([`only_texts_matter`]).
 //!
 //! In folders of their own stand:
 //!

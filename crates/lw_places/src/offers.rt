@@ -6,9 +6,10 @@
 //! is one token there and with which some sentence goes on, and a name that is read there as a cross-reference and leads somewhere once it
 //! is written. Places are byte offsets, counted from zero.
 //!
-//! There is no code here. Each function has an empty body, and its contract is a law that a reader would expect: there is one list of offers
-//! and one list of names ([`one_list`]), one word is being typed at an offset ([`one_word`]), and what is offered goes on with it
-//! ([`words_go_on`]).
+//! There is no code here. Each function has an empty body, and its contract is a law that a reader would expect. By a
+//! grammar by which a text is read in one way, there is one list of offers at most ([`one_list`]). Of the names by
+//! which a reference leads somewhere there is one list at most in any case. One word is being typed at an offset
+//! ([`one_word`]), and what is offered goes on with it ([`words_go_on`]).
 mod laws;
 
 pub use laws::{one_list, one_word, words_go_on};

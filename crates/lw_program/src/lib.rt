@@ -9,10 +9,14 @@
 //! reading of a value's text. What an instruction says is a local equation over the tasks at the places that it names, so nobody above
 //! walks over elements again.
 //!
-//! It promises that a program is one of its grammar (`specs/ProgramOf.antt`): there are tasks, at each place the instruction says its
-//! task, each rule that is reached has a start where its body stands, and behind the body stands the end of the node where the rule makes
-//! one. Choices, values that are assigned and actions have numbers by which a table can be kept for each. They are the places in the
-//! lists of those of the whole grammar (`specs/Numbered.antt`), so that what cannot be reached is counted too.
+//! It promises that a program is one of its grammar (`specs/ProgramOf.antt`): there are tasks, at each place the
+//! instruction says its task, each rule that is reached has a start where its body stands, and behind the body stands
+//! the end of the node where the rule makes one. Choices, values that are assigned and actions have numbers by which
+//! a table can be kept for each. They are the places in the lists of those of the whole grammar
+//! (`specs/Numbered.antt`), so that what cannot be reached is counted too.
+//!
+//! This is said of a grammar of which every keyword has a kind and every call gives something. No clause says that
+//! [`Program::of`] refuses for no other cause than memory.
 //!
 //! Numbers and places are of fixed widths. Where one would not fit, the answer is that memory is wanting. No grammar of the size that
 //! [`Program::of`] asks for comes to that, which is not proved.

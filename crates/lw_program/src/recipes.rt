@@ -9,10 +9,12 @@
 //! The model of [`Recipes`] is a record of three lists and that property (`specs/Making.antt`): what is made, by the numbers of values;
 //! what is done, by the numbers of actions; and what is opened, by the numbers of rules.
 //!
-//! It promises that these are the recipes of the grammar: each property and each type has its number there, and what a value becomes is
-//! all that the grammar lets it become; a cross-reference becomes a reference. A grammar with faults has recipes too. Where the name of a
-//! call means nothing, the value is a text; where that of a cross-reference means nothing, the reference wants the first type, or looks up
-//! its text as it stands.
+//! It promises that these are the recipes of the grammar ([`Recipes::of`]). Each property and each type has its
+//! number there, and what a value becomes is all that the grammar lets it become. A cross-reference that makes a
+//! reference becomes one, whatever its names mean. A grammar with faults has recipes too. Where the name of a call
+//! means nothing, the value is a text. Where that of a cross-reference means nothing, the reference wants the first
+//! type, or looks up its text as it stands. That these are a text, the first type and the text as it stands is not
+//! proved.
 //!
 //! [`Recipes::of`] takes time and memory linear in the size of the grammar, but for the expected constant time in which a name is looked
 //! up. A reader takes constant time.

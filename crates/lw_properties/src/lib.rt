@@ -9,8 +9,10 @@
 //! Its model: [`Attributes`] finds for a type and a name the attribute that the definition gives, or none.
 //! Everything is asked of the leaves of rules, each with what may come before it (`lw_flow`).
 //!
-//! It promises that exactly the faults of the four definitions are found, whatever else is wrong with the grammar:
-//! interfaces that extend themselves and unions that are their own members are looked into once.
+//! It promises that exactly the faults of the four definitions are found, which are 14 to 17 of `docs/faults.md`
+//! ([`find_property_faults`]). That is so whatever else is wrong with the grammar: interfaces that extend
+//! themselves and unions that are their own members are looked into once. The attribute of a type is answered by
+//! [`Attributes::attribute`].
 //!
 //! The interfaces above a declared type are searched once for it, and the unions below an attribute once for each
 //! value that is held against it. Else the cost is that of the leaves, times the types that may be current there.

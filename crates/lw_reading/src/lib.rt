@@ -1,9 +1,13 @@
 //! What a text reads as by a grammar: whole, with its tree, or broken with one fault at its exact place.
 //!
-//! [`Parsed`] is the answer as plain data, and `specs/Reading.antt` says which answer a text has: it is looked at for its length, then cut
-//! into tokens, and the visible tokens have to be a sentence, whose marks give the tree. What reads texts is held against this
-//! definition; there is no code here but laws of it: a text has one reading ([`one_reading`]) by a grammar that has no empty keyword
-//! ([`filled_rules`]) and in which no two sentences have one list of kinds, and a kind has one text ([`one_kind_text`]).
+//! [`Parsed`] is the answer as plain data, and `specs/Reading.antt` says which answer a text has: it is looked at for
+//! its length, then cut into tokens, and the visible tokens have to be a sentence, whose marks give the tree. What
+//! reads texts is held against this definition; there is no code here but laws of it.
+//!
+//! A text has one reading at most ([`one_reading`]). That is said of a grammar that has no empty keyword and in which
+//! no two sentences have one list of kinds. Two readings of one text are the same fault, or trees of which each
+//! reader gives the same. A grammar of which no rule writes an empty keyword has none ([`filled_rules`]). A kind has
+//! one text at most ([`one_kind_text`]).
 //!
 //! In folders of their own stand:
 //!

@@ -1,11 +1,11 @@
 //! Each sentence of a grammar without faults has a tree, and one only.
 //!
 //! `lw_reading::marks` says what marks build: which brackets are open once they are followed, and what is left once
-//! these are closed. `lw_grammar::sentences` says which marks are a sentence. The laws of this crate join the two.
-//! Whatever the grammar, marks that are followed leave one list of open brackets, and it is closed in one
-//! way ([`marks_have_one_tree`]). Where no fault is found in the grammar, the marks of each sentence, read
-//! with tokens of its kinds, leave a root, and each beginning of them that is not empty leaves brackets
-//! that can be closed ([`each_sentence_has_a_tree`]); `specs/Growing.antt` says both in one line each.
+//! these are closed. `lw_grammar::sentences` says which marks are a sentence. The laws of this folder join the two.
+//! Whatever the grammar, marks that are followed leave one list of open brackets, and it is closed in one way
+//! ([`marks_have_one_tree`]). Where no fault is found in the grammar, the marks of each sentence, read with tokens
+//! of its kinds, leave a root, and each beginning of them that is not empty leaves brackets that can be closed
+//! ([`each_sentence_has_a_tree`]); `specs/Growing.antt` says both in one line each.
 //!
 //! That there is a tree needs a grammar without faults: a rule that makes nodes and returns a primitive
 //! type has no type for its node, a node that is called where its container holds something already has

@@ -7,8 +7,9 @@
 //! Its model: texts, trees and links stand by address, as `lw_places` and `lw_places::renaming` say what is mentioned and what a rename comes to;
 //! views stand for them (`lw_query`). What is replaced stands for mentions (`specs/Grouped.antt`), and a fault for a refusal.
 //!
-//! It promises exactly what `lw_places::renaming` defines: the spans are all mentions of what is meant, in order, and where it is refused the
-//! refusal is the first that stands against it. Want of memory may take the place of any answer.
+//! It promises exactly what `lw_places::renaming` defines: the spans are all mentions of what is meant, in order, and
+//! where it is refused the refusal is the first that stands against it. Every span that is answered stands in its
+//! text ([`rename`]). Want of memory may take the place of any answer.
 //!
 //! Edited documents are read again and no others. Then all documents are linked anew over a new index, and each reference is compared
 //! with where it led. So a rename takes time that is linear in all trees and in the edited texts, beside one look-up in the index for

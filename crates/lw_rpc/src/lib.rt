@@ -9,10 +9,11 @@
 //! `specs/Replies.antt` gives the bytes of a [`Reply`], and `specs/Values.antt` the JSON value that they are.
 //!
 //! It promises that [`read_message`] gives exactly that message, each refusal by its own rule alone; that
-//! [`reply_text`] gives exactly those bytes, and that they read back as that value. Either call may be
-//! refused memory instead. What is to be changed in documents is an object whose keys are their addresses:
-//! [`reply_text`] asks that [`Outcome::Edits`] has them in byte order, each once. What may be put in at a place
-//! is a list: of each item its kind, its text, and that text as an edit of the document.
+//! [`reply_text`] gives exactly those bytes, and that they read back as that value. The changes of a text are
+//! read one by one, each by its own shape. Either call may be refused memory instead. What is to be changed in
+//! documents is an object whose keys are their addresses: [`reply_text`] asks that [`Outcome::Edits`] has them
+//! in byte order, each once. What may be put in at a place is a list: of each item its kind, its text, and that
+//! text as an edit of the document.
 //!
 //! A reply is written piece by piece into one text, with no JSON value between: the work is linear in the bytes
 //! that are written, and an entry of a list takes no memory but what the text grows by. Only a text that has

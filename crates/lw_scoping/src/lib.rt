@@ -6,12 +6,14 @@
 //! number. `specs/Links.antt` says so over the trees of documents by their addresses, whatever the types are: a relation tells which type
 //! is another or below it.
 //!
-//! The laws: a document has one list of links ([`one_link`]), which depends on nothing but the tables of the trees
-//! ([`links_follow_from_tables`]); what it finds in its own tree depends on the types that it wants alone
-//! ([`own_symbols_follow_from_wanted_types`]); one way leads outwards from each node of a tree in which containers have smaller numbers than what
-//! stands in them ([`one_way_leads_out`]). [`inner_symbols_shadow_outer_ones`] and [`smaller_addresses_come_first`] show over trees that
-//! are written out what this comes to: what is of a type that is not wanted hides nothing, and a root is no symbol of a node, so that its
-//! own document finds it among the exports only.
+//! By the laws a document has one list of links at most ([`one_link`]). It depends on nothing but the tables of the
+//! trees ([`links_follow_from_tables`]). What a reference finds in its own tree depends on the types that it wants
+//! alone ([`own_symbols_follow_from_wanted_types`]). One way leads outwards from each node of a tree in which
+//! containers have smaller numbers than what stands in them ([`one_way_leads_out`]).
+//! [`inner_symbols_shadow_outer_ones`] and [`smaller_addresses_come_first`] show over trees that are written out what
+//! this comes to: what is of a type that is not wanted hides nothing, and a root is no symbol of a node, so that its
+//! own document finds it among the exports only. Of exports that fit, the one of the smallest address comes first
+//! there, whether it is a root or not.
 //!
 //! There is no code here but laws.
 #![tactic(auto)]

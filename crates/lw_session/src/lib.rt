@@ -12,6 +12,11 @@
 //! files of the store. Before the first body [`Session::load_file`] puts texts at addresses, one behind the other:
 //! the session is then exactly one in which these were put.
 //!
+//! What the store answers at its reads fits its files, where it tells them. Its count of faults rises once for each
+//! read that failed, and for nothing else. Where memory is refused, the texts are those behind some of the message's
+//! changes, from the first on, none to all of them ([`Session::handle`]). What holds of documents still holds, and
+//! nothing was replied. [`Session::load_file`] answers why it does not load a file.
+//!
 //! How it is made: `lifecycle` decides a message by the two facts of a session alone; `opening` puts a text
 //! and `editing` makes the changes of one in the workspace (`lw_build`), `closing` makes a file the truth of a document again
 //! and `watching` sees what was done to files (both by `files`, which asks the store), `asking` answers what is asked about a place, over

@@ -2,7 +2,7 @@
 //!
 //! Completion tries many names at one place. Each makes a text of its own, `front ++ name ++ rest`, and a name is
 //! offered by what that text reads as: whether it has a tree with a reference that spans just the name, and whether
-//! that reference has a target. To read each text is too slow. The laws of this crate say how its tokens, and the one
+//! that reference has a target. To read each text is too slow. The laws of this folder say how its tokens, and the
 //! tree of the text in which the reference is left blank, answer for it.
 //!
 //! `specs/Around.antt` says what tokens such a text has, where none reaches over an end of the name. Where these are a

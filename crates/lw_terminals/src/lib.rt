@@ -11,6 +11,16 @@
 //! [`MOST_TERMINALS`] of them terminals. Then keywords are, none of which may be empty or begin with white space. Then
 //! terminals are, and the first whose pattern is long, refused, or matches the empty text decides.
 //!
+//! With the numbered kinds it is known which rules read cross-references, and which make nodes
+//! ([`NumberedKinds::of`]). Of each rule it is known whether it has a finite sentence. [`token_set`] answers how many
+//! kinds there are, or else terminals, where these are too many. Else it answers the first use of the first blank
+//! keyword. Else it answers the first terminal in the order of kinds that does not serve, and why; the patterns
+//! before it are taken.
+//!
+//! Where the kinds and the patterns of a grammar serve, it has none of these faults but a refusal, whatever a maker
+//! lists ([`one_answer`]). What holds for a maker that lists some patterns holds for one that lists none
+//! ([`listed_or_not`]).
+//!
 //! A pattern that is long is measured and not built, so that time does not grow with its length.
 //!
 //! In a folder of its own stands:

@@ -9,8 +9,10 @@
 //! circle, a call means no terminal, or a range has other ends than two characters in order.
 //!
 //! It promises that each answer is exactly what the definition in `lw_tokens` says of the terminal. A
-//! terminal has at most one pattern ([`one_pattern`]), and in a grammar without faults each has one, if
-//! its choices have parts and no rule stands where a terminal stands ([`each_has_a_pattern`]).
+//! pattern is given where its length in bytes is at most 1,000 ([`patterns`]). A longer one is told by
+//! its length, where 4,294,967,295 stands for that many and more. A terminal has at most one pattern
+//! ([`one_pattern`]), and in a grammar without faults each has one, if its choices have parts and no rule
+//! stands where a terminal stands ([`each_has_a_pattern`]).
 //!
 //! Where terminals call each other, lengths can double with each call. So a text is held only while it is
 //! short, and a pattern that is long is measured and never built. What is called is written before what

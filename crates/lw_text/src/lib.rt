@@ -6,10 +6,17 @@
 //! changes makes of a text, all in the words of the Language Server Protocol 3.17. What a character
 //! counts is a matter of the [`Encoding`], of which there is one: UTF-16.
 //!
-//! It promises that each place has one position and each position means one place, that these lead back
-//! to the place they came from and keep their order, that changes are made all in order or not at all, and that the calls give
-//! what the definitions say. A [`TextDoc`] knows where its lines begin, so that a place is found by
-//! looking at its line alone, and without memory; [`position`] is for a text that is looked at once.
+//! It promises that the calls give what the definitions say. Each place has one position
+//! ([`a_place_has_one_position`]), and each position means one place ([`a_position_means_one_place`]). The position
+//! of a place leads back to it where that is a character's start and not inside `\r\n` ([`positions_lead_back`]). A
+//! later position means no earlier place ([`positions_keep_their_order`]). A list of changes has one outcome
+//! ([`changes_have_one_outcome`]).
+//!
+//! [`TextDoc::offset`] and [`TextDoc::position`] count whole characters of a line, by UTF-16 units.
+//! [`TextDoc::apply`] makes all changes, each in the text that the one before left, or answers the first fault. Then,
+//! and where memory is refused, it leaves the text. [`TextDoc::edited`] makes a new text in the same way. A
+//! [`TextDoc`] knows where its lines begin, so that a place is found by looking at its line alone, and without
+//! memory; [`position`] is for a text that is looked at once.
 #![tactic(auto)]
 
 mod change;

@@ -7,8 +7,9 @@
 //! and of suffixes of the text; code keeps a position and tries few kinds. It is a crate of its own so
 //! that only what cuts texts depends on `regex`.
 //!
-//! There is no code here but laws of the definitions: a grammar has one lexicon ([`one_lexicon`]), and a
-//! text one cut ([`one_cut`]).
+//! There is no code here but laws of the definitions. A grammar has one lexicon at most
+//! ([`one_lexicon`]). Where no keyword is empty and no two are equal, a text has one cut at most, or one
+//! place where no token stands ([`one_cut`]).
 #![tactic(auto)]
 
 mod laws;

@@ -11,9 +11,10 @@
 //! speak of it, and that a type lies on a circle of edges exactly where it leads to itself.
 //!
 //! It promises that exactly those faults are found which the definitions name, besides what was found
-//! before. The names are gathered in one pass, and what a name means is looked up in constant time, as
-//! expected, so the time is linear in the grammar, but for types on circles: each interface or union
-//! that lies on one or leads to one costs a search of its own.
+//! before. [`find_name_faults`] finds the faults 4, 5, 6, 18 and 19. The names are gathered in one
+//! pass, and what a name means is looked up in constant time, as expected, so the time is linear in the
+//! grammar, but for types on circles: each interface or union that lies on one or leads to one costs a
+//! search of its own.
 mod attributes;
 mod circles;
 mod faults;

@@ -14,6 +14,10 @@
 //! [`Fronts::step`] keeps those of one token more and answers whether some whole begins so, and that [`Fronts::complete`] answers whether
 //! the tokens are a whole. Where memory is refused, the readings are those of before.
 //!
+//! What [`Fronts::step`] answers, and what [`Fronts::readings`] and [`Fronts::expected`] give, is said where every
+//! keyword has a kind and every call gives something. What is said of sentences holds for what places of a program
+//! give as well ([`Fronts::over`]).
+//!
 //! Of what may come next it tells three things, and the readings stay as they are. [`Fronts::expected`] gives exactly the kinds that some
 //! whole has next. [`Fronts::references`] gives each cross-reference that may come next, as a [`ReferenceStart`]: the marks before it, the
 //! place at which its value is read and the places behind it (`specs/ReferenceStarts.antt`); whatever is read from these makes a whole, and
