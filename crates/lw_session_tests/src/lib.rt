@@ -6,8 +6,6 @@ mod build;
 #[cfg(test)]
 mod completion_tests;
 #[cfg(test)]
-mod fault_tests;
-#[cfg(test)]
 mod file_tests;
 #[cfg(test)]
 mod make;
