@@ -13,7 +13,7 @@ pub fn difference(alloc: Global, row: &Row, ran: &Ran) -> Result<Option<String>,
     if row.status != ran.status {
         let wanted = row.status;
         let found = ran.status;
-        let notes = shown(alloc, ran.notes.as_slice())?;
+        let notes = shown(alloc, ran.notes.as_slice(), 0)?;
         return Ok(Some(format!(in alloc; "status: wanted {wanted}, found {found}, with {notes}")?));
     }
     if let Some(told) = text_difference(alloc, "out", &row.out, ran.out.as_slice())? {
@@ -51,14 +51,25 @@ fn text_difference(
     if wanted.as_slice() == found {
         return Ok(None);
     }
-    let wanted = shown(alloc, wanted.as_slice())?;
-    let found = shown(alloc, found)?;
-    Ok(Some(format!(in alloc; "{what}: wanted {wanted}, found {found}")?))
+    let at = first_difference(wanted.as_slice(), found);
+    let wanted = shown(alloc, wanted.as_slice(), at)?;
+    let found = shown(alloc, found, at)?;
+    Ok(Some(format!(in alloc; "{what} from byte {at}: wanted {wanted}, found {found}")?))
 }
 
-/// The first bytes of a text, in quotes and with escapes.
-fn shown(alloc: Global, bytes: &[u8]) -> Result<String, NoMemory> {
-    let cut = &bytes[..bytes.len().min(MOST_SHOWN)];
-    let text = String::from_utf8_lossy(alloc, cut)?;
+/// How many bytes of a text the other one has at its front, too.
+fn first_difference(text: &[u8], other: &[u8]) -> usize {
+    'bytes: for (at, byte) in text.iter().enumerate() {
+        if other.get(at) != Some(byte) {
+            return at;
+        }
+    }
+    text.len()
+}
+
+/// Some bytes of a text from this one on, in quotes and with escapes.
+fn shown(alloc: Global, bytes: &[u8], from: usize) -> Result<String, NoMemory> {
+    let rest = &bytes[from.min(bytes.len())..];
+    let text = String::from_utf8_lossy(alloc, &rest[..rest.len().min(MOST_SHOWN)])?;
     Ok(format!(in alloc; "{text:?}")?)
 }
