@@ -1,4 +1,5 @@
-//! Tests of languages, workspaces and sessions: what grammars and texts read as, what builds publish, and what messages are answered.
+//! Tests of languages, workspaces, sessions and commands: what grammars and texts read as, what builds publish, and what is answered.
+//! What else is tried of the commands is a row of `lw_command_rows`.
 //!
 //! They show what no clause says: that the calls succeed where there is memory, and what examples come to that are worked by hand. Each
 //! module is named by what it tries, and names public items alone.
@@ -7,18 +8,18 @@
 #[cfg(test)]
 mod build;
 #[cfg(test)]
-mod completion_tests;
+mod commands;
 #[cfg(test)]
-mod fault_tests;
+mod completion;
 #[cfg(test)]
-mod file_tests;
+mod files;
 #[cfg(test)]
 mod make;
 #[cfg(test)]
 mod making;
 #[cfg(test)]
-mod reading_tests;
+mod reading;
 #[cfg(test)]
 mod session;
 #[cfg(test)]
-mod syntax_tests;
+mod syntax;
