@@ -7,6 +7,8 @@
 //!
 //! `lw_commands::run` has the whole meaning; `main` hands it the real streams, files and patterns and the words of the command line, and
 //! ends with its status.
+//!
+//! The tests are those of want of memory. All else that is tried of the commands is a row of `lw_command_rows`.
 #![tactic(auto)]
 
 ghost use Rattle.std.specs.Prelude.{◌≡◌, ◌<◌};
@@ -94,3 +96,6 @@ fn start<L: Ledger>(rt: &HostRuntime, blank: Blank) -> u8
 fn main(rt: HostRuntime) -> ExitCode {
     ExitCode::from(start::<Brand>(&rt, Blank::new(1)))
 }
+
+#[cfg(test)]
+mod tests;

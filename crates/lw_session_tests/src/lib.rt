@@ -1,5 +1,5 @@
-//! Tests of languages, workspaces, sessions and commands: what grammars and texts read as, what builds publish, and what is answered.
-//! What else is tried of the commands is a row of `lw_command_rows`.
+//! Tests of languages, workspaces and sessions: what grammars and texts read as, what builds publish, and what messages are answered.
+//! What is tried of whole commands is a row of `lw_command_rows`.
 //!
 //! They show what no clause says: that the calls succeed where there is memory, and what examples come to that are worked by hand. Each
 //! module is named by what it tries, and names public items alone.
@@ -7,8 +7,6 @@
 
 #[cfg(test)]
 mod build;
-#[cfg(test)]
-mod commands;
 #[cfg(test)]
 mod completion;
 #[cfg(test)]

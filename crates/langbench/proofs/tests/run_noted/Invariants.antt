@@ -1,4 +1,4 @@
-use Rattle.lw_session_tests.proofs.commands.run_noted.Given as goal
+use Rattle.langbench.proofs.tests.run_noted.Given as goal
 
 abbrev pub ghosts-run_counted : goal.ghosts-run_counted
 ghosts-run_counted a = record { name = a.blank.name; parts = a.blank.parts }
