@@ -29,7 +29,7 @@ pub fn body_leaves(alloc: Global, body: &Element) -> Result<Vec<BodyLeaf<'_>>, N
 }
 
 #[cycle(elements)]
-#[tactic(auto, using(crate::leaves::proofs::Equations::leaves_of_forms))]
+#[tactic(auto, using(crate::proofs::Equations::leaves_of_forms))]
 fn put_element<'g>(found: &mut Vec<BodyLeaf<'g>>, element: &'g Element) -> Result<(), NoMemory>
     ensures { OnOk result (map leaf_of found.new.items ≡ map leaf_of found.old.items ++ leaves element.now) }
 {

@@ -26,7 +26,7 @@ pub fn term_calls(alloc: Global, element: &TermElement) -> Result<Vec<(&Name, Sp
 }
 
 #[cycle(calls)]
-#[tactic(auto, using(crate::leaves::proofs::Equations::calls_of_forms))]
+#[tactic(auto, using(crate::proofs::Equations::calls_of_forms))]
 fn put_calls<'g>(
     found: &mut Vec<(&'g Name, Span)>,
     element: &'g TermElement,
@@ -69,7 +69,7 @@ pub fn term_ranges(alloc: Global, element: &TermElement) -> Result<Vec<TermRange
 }
 
 #[cycle(ranges)]
-#[tactic(auto, using(crate::leaves::proofs::Equations::ranges_of_forms))]
+#[tactic(auto, using(crate::proofs::Equations::ranges_of_forms))]
 fn put_ranges<'g>(found: &mut Vec<TermRange<'g>>, element: &'g TermElement) -> Result<(), NoMemory>
     ensures { OnOk result (map term_range_of found.new.items ≡ map term_range_of found.old.items ++ term_ranges element.now) }
 {

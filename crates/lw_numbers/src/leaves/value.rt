@@ -27,7 +27,7 @@ pub fn value_parts(alloc: Global, value: &Value0) -> Result<Vec<ValuePart<'_>>, 
 }
 
 #[cycle(values)]
-#[tactic(auto, using(crate::leaves::proofs::Equations::values_of_forms))]
+#[tactic(auto, using(crate::proofs::Equations::values_of_forms))]
 fn put_value<'g>(found: &mut Vec<ValuePart<'g>>, value: &'g Value0) -> Result<(), NoMemory>
     ensures { OnOk result (map value_leaf_of found.new.items ≡ map value_leaf_of found.old.items ++ value_leaves value.now) }
 {
