@@ -1,13 +1,14 @@
--- The rows of the table, number by number.
-use Rattle.std.proofs.Common.{◌≡◌, ℕ, ◌+◌, ◌<◌, ◌≤◌, List, [], ◌∷◌, ◌++◌, Some, length, get_or, slice_get, Contains, ◌⊎◌, ◌↔◌, inl, inr, sym, ap, ◌∙◌, subst, arith}
+-- The rows of the table, and the flags of a set, number by number.
+use Rattle.std.proofs.Common.{◌≡◌, ℕ, ◌+◌, ◌<◌, ◌≤◌, Bool, true, IsTrue, List, [], ◌∷◌, ◌++◌, Some, length, get_or, slice_get, Contains, ◌⊎◌, ◌↔◌, inl, inr, sym, ap, ◌∙◌, subst, arith}
 use Rattle.std.proofs.lemmas.Bool.{cases_order, cases_lt}
 use Rattle.std.proofs.lemmas.List.{length-append, get_or_append_left}
 use Rattle.std.proofs.lemmas.List.Elements.{Contains-append_left, Contains-append_right, Contains-append_cases}
 use Rattle.std.proofs.lemmas.Option.{slice_get_within, slice_get-get_or, same_Some}
 use Rattle.std.proofs.Math.Seq.{get_or-append_seam}
-use Rattle.lw_graph.specs.Walks.{Links, Walks, IsReachedFrom}
+use Rattle.lw_graph.specs.Walks.{Links, Walks, HasNode, IsReachedFrom}
 use Rattle.lw_numbers.specs.Above.{IsRow, AreRows}
 use Rattle.lw_numbers.specs.Ascending.{IsAscending}
+use Rattle.lw_numbers.specs.Makers.{Shows}
 use Rattle.lw_base.proofs.Lists.{first_or_later, get_or_any, the_first}
 
 -- an item of a list with one more behind it
@@ -87,3 +88,28 @@ module _ (graph : Links) (count : ℕ) where
           ∙ sym (slice_get-get_or (rows ++ row ∷ []) from row inside) ∙ at
           ) in
           subst (IsRow graph count from) equal (subst (λ n. IsRow graph count n row) (sym (at_end ∙ are.all)) is)
+
+-- one flag more behind those of the first so many nodes
+pub shows_more : (met : List Bool) (count : ℕ) (flags : List Bool) (held : Bool) → Shows met count flags → (IsTrue held ↔ HasNode met count) →
+    Shows met (count + 1) (flags ++ held ∷ [])
+shows_more met count flags held is tells = record {
+  all = omega (arith, length-append flags (held ∷ []), is.all);
+  each = λ n inside. by n inside (cases_lt n count);
+}
+  where
+    by : (n : ℕ) → n < count + 1 → (n < count) ⊎ (count ≤ n) → HasNode met n ↔ (slice_get (flags ++ held ∷ []) n ≡ Some true)
+    by n inside (inl old) =
+        let before : n < length flags = omega (arith, is.all) in
+        let within : n < length (flags ++ held ∷ []) = omega (arith, length-append flags (held ∷ [])) in
+        let kept = slice_get-get_or flags n true before ∙ ap Some (sym (get_or_append_left flags (held ∷ []) true n before))
+        ∙ sym (slice_get-get_or (flags ++ held ∷ []) n true within) in
+        subst (λ flag. HasNode met n ↔ (flag ≡ Some true)) kept (is.each n old)
+    by n inside (inr last) =
+        let equal : n ≡ count = omega arith in
+        let at_end : n ≡ length flags = omega (arith, is.all) in
+        let within : n < length (flags ++ held ∷ []) = omega (arith, length-append flags (held ∷ [])) in
+        let at = slice_get-get_or (flags ++ held ∷ []) n true within
+        ∙ ap Some (ap (λ k. get_or (flags ++ held ∷ []) k true) at_end ∙ get_or-append_seam flags held [] true) in (
+          λ has. at ∙ ap Some (tells.1 (subst (HasNode met) equal has)),
+          λ yes. subst (HasNode met) (sym equal) (tells.0 (same_Some held true (sym at ∙ yes))),
+        )

@@ -22,8 +22,8 @@ impl Numbers {
         requires { AreNumbersOf g.now self.now }
         ensures { MeansType g.now name.now result }
     {
-        let interface = self.interfaces.get(name);
-        let union = self.unions.get(name);
+        let interface = self.interfaces.by_name.get(name);
+        let union = self.unions.by_name.get(name);
         match number_ahead(interface, union) {
             Some(number) => {
                 let place = number as usize;

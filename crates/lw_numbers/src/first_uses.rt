@@ -13,10 +13,19 @@ use lw_grammar::{Action, Element, Grammar, Interface, Rule, RuleResult, UnionDef
 use std::alloc::Global;
 
 /// The names of types and of properties, each at its first use.
-#[derive(Drop)]
 pub struct FirstUses {
     pub(crate) types: IndexSet<Name>,
     pub(crate) properties: IndexSet<Name>,
+}
+
+impl Drop for FirstUses {
+    // In one place, so that whoever drops such a value sees one call and not the drops of all its parts.
+    fn drop(self) {
+        let FirstUses {
+            types: _,
+            properties: _,
+        } = self;
+    }
 }
 
 /// Puts the name behind the others, unless it is one of them.

@@ -6,8 +6,7 @@ ghost use Rattle.lw_numbers.specs.Numbering.{IsNumbered, type_names, property_na
 ghost use Rattle.lw_numbers.specs.Tables.{AreNumbersOf};
 
 use crate::first_uses::FirstUses;
-use crate::standing::{Standing, number_ahead, standings};
-use indexmap::IndexMap;
+use crate::standing::{StandingTable, number_ahead, standings};
 use lw_base::{Name, NoMemory, PropId, RuleId, TypeId};
 use lw_grammar::Grammar;
 use std::alloc::Global;
@@ -15,10 +14,10 @@ use std::marker::Model;
 
 /// The numbers of the names of a grammar's rules, terminals, types and properties.
 pub struct Numbers {
-    pub(crate) rules: IndexMap<Name, Standing>,
-    pub(crate) terminals: IndexMap<Name, Standing>,
-    pub(crate) interfaces: IndexMap<Name, Standing>,
-    pub(crate) unions: IndexMap<Name, Standing>,
+    pub(crate) rules: StandingTable,
+    pub(crate) terminals: StandingTable,
+    pub(crate) interfaces: StandingTable,
+    pub(crate) unions: StandingTable,
     uses: FirstUses,
 }
 
@@ -41,7 +40,7 @@ impl Model for Numbers {
 
     ghost Value = { Tables };
 
-    ghost view = { λ a. record { rules = a.rules.entries; terminals = a.terminals.entries; interfaces = a.interfaces.entries; unions = a.unions.entries; types = a.uses.types.keys; properties = a.uses.properties.keys } };
+    ghost view = { λ a. record { rules = a.rules.by_name.entries; terminals = a.terminals.by_name.entries; interfaces = a.interfaces.by_name.entries; unions = a.unions.by_name.entries; types = a.uses.types.keys; properties = a.uses.properties.keys } };
 
     ghost invariant = { λ a. (length a.uses.types.keys ≤ 65535) × (length a.uses.properties.keys ≤ 65535) };
 }
@@ -72,8 +71,8 @@ impl Numbers {
         ensures { (g : Grammar) → AreNumbersOf g self.now →
             MatchOption result ((n : ℕ) → ¬ IsNumbered g name.now n) (λ id. IsNumbered g name.now id.0) }
     {
-        let rule = self.rules.get(name);
-        let terminal = self.terminals.get(name);
+        let rule = self.rules.by_name.get(name);
+        let terminal = self.terminals.by_name.get(name);
         let number = match number_ahead(rule, terminal) {
             Some(number) => number,
             None => number_ahead(terminal, rule)?,

@@ -15,14 +15,14 @@ impl Numbers {
     pub fn is_called(&self, name: &Name) -> bool
         ensures { (g : Grammar) → AreNumbersOf g self.now → MatchBool result (HasRule g name.now) (IsNoRule g name.now) }
     {
-        self.rules.contains_key(name) || self.terminals.contains_key(name)
+        self.rules.by_name.contains_key(name) || self.terminals.by_name.contains_key(name)
     }
 
     /// Whether an interface or a union has this name, in expected constant time.
     pub fn is_declared(&self, name: &Name) -> bool
         ensures { (g : Grammar) → AreNumbersOf g self.now → (IsTrue result ↔ HasDeclaration g name.now) }
     {
-        self.interfaces.contains_key(name) || self.unions.contains_key(name)
+        self.interfaces.by_name.contains_key(name) || self.unions.by_name.contains_key(name)
     }
 
     /// Whether a rule or a terminal of this name stands before the place, in expected constant time:
@@ -31,7 +31,8 @@ impl Numbers {
         ensures { (g : Grammar) → AreNumbersOf g self.now → (IsTrue result ↔ IsDeclaredBefore (rule_space g) name.now file start) }
     {
         let place = Place { file, start };
-        begins_before(self.rules.get(name), place) || begins_before(self.terminals.get(name), place)
+        begins_before(self.rules.by_name.get(name), place)
+            || begins_before(self.terminals.by_name.get(name), place)
     }
 
     /// Whether an interface or a union of this name stands before the place, in expected constant
@@ -40,7 +41,7 @@ impl Numbers {
         ensures { (g : Grammar) → AreNumbersOf g self.now → (IsTrue result ↔ IsDeclaredBefore (type_space g) name.now file start) }
     {
         let place = Place { file, start };
-        begins_before(self.interfaces.get(name), place)
-            || begins_before(self.unions.get(name), place)
+        begins_before(self.interfaces.by_name.get(name), place)
+            || begins_before(self.unions.by_name.get(name), place)
     }
 }

@@ -122,20 +122,34 @@ impl Declared for UnionDef {
     }
 }
 
+/// How names stand among declarations, by the name.
+pub(crate) struct StandingTable {
+    pub(crate) by_name: IndexMap<Name, Standing>,
+}
+
+impl Drop for StandingTable {
+    // In one place, so that whoever drops such a value sees one call and not the drops of all its parts.
+    fn drop(self) {
+        let StandingTable { by_name: _ } = self;
+    }
+}
+
 /// How each name stands among these, which are numbered from `first`.
 pub(crate) fn standings<T: Declared>(
     alloc: Global,
     first: u16,
     declared: &[T],
-) -> Result<IndexMap<Name, Standing>, NoMemory>
+) -> Result<StandingTable, NoMemory>
     requires { first + length declared.now ≤ 65535 }
-    ensures { IfOk result (λ standings. StandAmong T.declaration first declared.now standings.entries) }
+    ensures { IfOk result (λ standings. StandAmong T.declaration first declared.now standings.by_name.entries) }
 {
-    let mut standings: IndexMap<Name, Standing> = IndexMap::new(alloc);
+    let mut standings = StandingTable {
+        by_name: IndexMap::new(alloc),
+    };
     let mut number = first;
     for item in declared {
         let place = item.place();
-        let standing = match standings.get(item.name()) {
+        let standing = match standings.by_name.get(item.name()) {
             Some(standing) => standing.met_at(place),
             None => Standing {
                 number,
@@ -143,7 +157,9 @@ pub(crate) fn standings<T: Declared>(
                 earliest: place,
             },
         };
-        standings.insert(item.name().copy(alloc)?, standing)?;
+        standings
+            .by_name
+            .insert(item.name().copy(alloc)?, standing)?;
         number += 1;
     }
     Ok(standings)

@@ -1,5 +1,5 @@
 // The leaves of a rule's body.
-ghost use Rattle.std.specs.Prelude.{◌≡◌, ◌++◌, OnOk, IfOk, map};
+ghost use Rattle.std.specs.Prelude.{◌≡◌, [], ◌∷◌, ◌++◌, OnOk, IfOk, map};
 ghost use Rattle.std.specs.List.{flat_map};
 ghost use Rattle.lw_grammar.specs.Leaves.{leaves};
 ghost use Rattle.lw_numbers.specs.Parts.{leaf_of};
@@ -28,26 +28,33 @@ pub fn body_leaves(alloc: Global, body: &Element) -> Result<Vec<BodyLeaf<'_>>, N
     Ok(found)
 }
 
+/// Puts one more behind the others.
+fn put<'g>(found: &mut Vec<BodyLeaf<'g>>, leaf: BodyLeaf<'g>) -> Result<(), NoMemory>
+    ensures { OnOk result (map leaf_of found.new.items ≡ map leaf_of found.old.items ++ leaf_of leaf.entry ∷ []) }
+{
+    found.push(leaf)?;
+    Ok(())
+}
+
 #[cycle(elements)]
 #[tactic(auto, using(crate::proofs::Equations::leaves_of_forms))]
 fn put_element<'g>(found: &mut Vec<BodyLeaf<'g>>, element: &'g Element) -> Result<(), NoMemory>
     ensures { OnOk result (map leaf_of found.new.items ≡ map leaf_of found.old.items ++ leaves element.now) }
 {
     match element {
-        Element::Keyword(text, span) => found.push(BodyLeaf::Keyword(text, *span))?,
-        Element::Call(name, span) => found.push(BodyLeaf::Call(name, *span))?,
+        Element::Keyword(text, span) => put(found, BodyLeaf::Keyword(text, *span)),
+        Element::Call(name, span) => put(found, BodyLeaf::Call(name, *span)),
         Element::Assign(property, op, value, span) => {
-            found.push(BodyLeaf::Assign(property, *op, value, *span))?
+            put(found, BodyLeaf::Assign(property, *op, value, *span))
         }
-        Element::Act(action) => found.push(BodyLeaf::Act(action))?,
+        Element::Act(action) => put(found, BodyLeaf::Act(action)),
         Element::Group(parts, _) | Element::Choice(parts, _) => {
-            put_elements(found, parts.as_slice())?
+            put_elements(found, parts.as_slice())
         }
         Element::Maybe(part, _) | Element::Many(part, _) | Element::Some1(part, _) => {
-            put_element(found, part.get())?
+            put_element(found, part.get())
         }
     }
-    Ok(())
 }
 
 #[cycle(elements)]

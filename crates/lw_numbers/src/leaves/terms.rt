@@ -1,5 +1,5 @@
 // The calls and the ranges of a terminal's body.
-ghost use Rattle.std.specs.Prelude.{◌≡◌, ◌++◌, OnOk, IfOk, map};
+ghost use Rattle.std.specs.Prelude.{◌≡◌, [], ◌∷◌, ◌++◌, OnOk, IfOk, map};
 ghost use Rattle.std.specs.List.{flat_map};
 ghost use Rattle.lw_grammar.specs.Written.{term_calls, term_ranges};
 ghost use Rattle.lw_numbers.specs.Parts.{term_call_of, term_range_of};
@@ -25,6 +25,18 @@ pub fn term_calls(alloc: Global, element: &TermElement) -> Result<Vec<(&Name, Sp
     Ok(found)
 }
 
+/// Puts one more behind the others.
+fn put_call<'g>(
+    found: &mut Vec<(&'g Name, Span)>,
+    name: &'g Name,
+    span: Span,
+) -> Result<(), NoMemory>
+    ensures { OnOk result (map term_call_of found.new.items ≡ map term_call_of found.old.items ++ (name.now, span) ∷ []) }
+{
+    found.push((name, span))?;
+    Ok(())
+}
+
 #[cycle(calls)]
 #[tactic(auto, using(crate::proofs::Equations::calls_of_forms))]
 fn put_calls<'g>(
@@ -34,16 +46,15 @@ fn put_calls<'g>(
     ensures { OnOk result (map term_call_of found.new.items ≡ map term_call_of found.old.items ++ term_calls element.now) }
 {
     match element {
-        TermElement::Literal(..) | TermElement::Range(..) | TermElement::Pattern(..) => {}
-        TermElement::Call(name, span) => found.push((name, *span))?,
+        TermElement::Literal(..) | TermElement::Range(..) | TermElement::Pattern(..) => Ok(()),
+        TermElement::Call(name, span) => put_call(found, name, *span),
         TermElement::Group(parts) | TermElement::Choice(parts) => {
-            put_all_calls(found, parts.as_slice())?
+            put_all_calls(found, parts.as_slice())
         }
         TermElement::Maybe(part) | TermElement::Many(part) | TermElement::Some1(part) => {
-            put_calls(found, part.get())?
+            put_calls(found, part.get())
         }
     }
-    Ok(())
 }
 
 #[cycle(calls)]
@@ -68,26 +79,36 @@ pub fn term_ranges(alloc: Global, element: &TermElement) -> Result<Vec<TermRange
     Ok(found)
 }
 
+/// Puts one more behind the others.
+fn put_range<'g>(found: &mut Vec<TermRange<'g>>, range: TermRange<'g>) -> Result<(), NoMemory>
+    ensures { OnOk result (map term_range_of found.new.items ≡ map term_range_of found.old.items ++ term_range_of range.entry ∷ []) }
+{
+    found.push(range)?;
+    Ok(())
+}
+
 #[cycle(ranges)]
 #[tactic(auto, using(crate::proofs::Equations::ranges_of_forms))]
 fn put_ranges<'g>(found: &mut Vec<TermRange<'g>>, element: &'g TermElement) -> Result<(), NoMemory>
     ensures { OnOk result (map term_range_of found.new.items ≡ map term_range_of found.old.items ++ term_ranges element.now) }
 {
     match element {
-        TermElement::Literal(..) | TermElement::Pattern(..) | TermElement::Call(..) => {}
-        TermElement::Range(first, last, span) => found.push(TermRange {
-            first,
-            last,
-            span: *span,
-        })?,
+        TermElement::Literal(..) | TermElement::Pattern(..) | TermElement::Call(..) => Ok(()),
+        TermElement::Range(first, last, span) => put_range(
+            found,
+            TermRange {
+                first,
+                last,
+                span: *span,
+            },
+        ),
         TermElement::Group(parts) | TermElement::Choice(parts) => {
-            put_all_ranges(found, parts.as_slice())?
+            put_all_ranges(found, parts.as_slice())
         }
         TermElement::Maybe(part) | TermElement::Many(part) | TermElement::Some1(part) => {
-            put_ranges(found, part.get())?
+            put_ranges(found, part.get())
         }
     }
-    Ok(())
 }
 
 #[cycle(ranges)]

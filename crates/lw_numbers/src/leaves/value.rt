@@ -1,5 +1,5 @@
 // The parts of what an assignment reads.
-ghost use Rattle.std.specs.Prelude.{◌≡◌, ◌++◌, OnOk, IfOk, map};
+ghost use Rattle.std.specs.Prelude.{◌≡◌, [], ◌∷◌, ◌++◌, OnOk, IfOk, map};
 ghost use Rattle.std.specs.List.{flat_map};
 ghost use Rattle.lw_grammar.specs.Leaves.{value_leaves};
 ghost use Rattle.lw_numbers.specs.Parts.{value_leaf_of};
@@ -26,20 +26,27 @@ pub fn value_parts(alloc: Global, value: &Value0) -> Result<Vec<ValuePart<'_>>, 
     Ok(found)
 }
 
+/// Puts one more behind the others.
+fn put<'g>(found: &mut Vec<ValuePart<'g>>, part: ValuePart<'g>) -> Result<(), NoMemory>
+    ensures { OnOk result (map value_leaf_of found.new.items ≡ map value_leaf_of found.old.items ++ value_leaf_of part.entry ∷ []) }
+{
+    found.push(part)?;
+    Ok(())
+}
+
 #[cycle(values)]
 #[tactic(auto, using(crate::proofs::Equations::values_of_forms))]
 fn put_value<'g>(found: &mut Vec<ValuePart<'g>>, value: &'g Value0) -> Result<(), NoMemory>
     ensures { OnOk result (map value_leaf_of found.new.items ≡ map value_leaf_of found.old.items ++ value_leaves value.now) }
 {
     match value {
-        Value0::Keyword(text, span) => found.push(ValuePart::Keyword(text, *span))?,
-        Value0::Call(name, span) => found.push(ValuePart::Call(name, *span))?,
+        Value0::Keyword(text, span) => put(found, ValuePart::Keyword(text, *span)),
+        Value0::Call(name, span) => put(found, ValuePart::Call(name, *span)),
         Value0::Cross(wanted, rule, span) => {
-            found.push(ValuePart::Cross(wanted, rule.as_ref(), *span))?
+            put(found, ValuePart::Cross(wanted, rule.as_ref(), *span))
         }
-        Value0::Choice(parts, _) => put_values(found, parts.as_slice())?,
+        Value0::Choice(parts, _) => put_values(found, parts.as_slice()),
     }
-    Ok(())
 }
 
 #[cycle(values)]

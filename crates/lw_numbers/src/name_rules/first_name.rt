@@ -15,12 +15,21 @@ use lw_grammar::{Element, Grammar, Op, Rule, Value0};
 use std::alloc::Global;
 
 /// A search for the first name that a rule's body gives.
-#[derive(Drop)]
 struct Search<'g> {
     /// The numbers of the fragments that it has looked into.
     seen: IndexSet<usize>,
     /// The leaves that it has ahead, the next one last.
     waiting: Vec<BodyLeaf<'g>>,
+}
+
+impl Drop for Search<'_> {
+    // In one place, so that whoever drops such a value sees one call and not the drops of all its parts.
+    fn drop(self) {
+        let Search {
+            seen: _,
+            waiting: _,
+        } = self;
+    }
 }
 
 impl<'g> Search<'g> {

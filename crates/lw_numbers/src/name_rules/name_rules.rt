@@ -17,10 +17,22 @@ use lw_grammar::{Grammar, Rule, RuleResult};
 use std::alloc::Global;
 use std::marker::Model;
 
+/// By the wanted type, the name that is called.
+struct Calls {
+    by_type: IndexMap<Name, Name>,
+}
+
+impl Drop for Calls {
+    // In one place, so that whoever drops such a value sees one call and not the drops of all its parts.
+    fn drop(self) {
+        let Calls { by_type: _ } = self;
+    }
+}
+
 /// By the wanted type, the name that reads a cross-reference to it where none is written.
 #[derive(Drop)]
 pub struct NameRules {
-    called: IndexMap<Name, Name>,
+    called: Calls,
 }
 
 impl Model for NameRules {
@@ -28,7 +40,7 @@ impl Model for NameRules {
 
     ghost Value = { List (List ℕ × List ℕ) };
 
-    ghost view = { λ a. a.called.entries };
+    ghost view = { λ a. a.called.by_type.entries };
 }
 
 impl NameRules {
@@ -44,9 +56,11 @@ impl NameRules {
         requires small { size g.now ≤ 65535 }
         ensures { IfOk result (AreNameRulesOf g.now) }
     {
-        let mut called: IndexMap<Name, Name> = IndexMap::new(alloc);
+        let mut called = Calls {
+            by_type: IndexMap::new(alloc),
+        };
         for rule in g.rules.as_slice() {
-            put_rule(alloc, g, numbers, subtypes, rule, &mut called)?;
+            put_rule(alloc, g, numbers, subtypes, rule, &mut called.by_type)?;
         }
         Ok(NameRules { called })
     }
@@ -56,7 +70,7 @@ impl NameRules {
         ensures { (g : Grammar) → AreNameRulesOf g self.now →
             MatchOption result ((called : List ℕ) → ¬ IsNameRule g wanted.now called) (λ called. IsNameRule g wanted.now called.now) }
     {
-        self.called.get(wanted)
+        self.called.by_type.get(wanted)
     }
 }
 

@@ -14,7 +14,7 @@ use crate::Numbers;
 use crate::leaves::{BodyLeaf, body_leaves};
 use crate::subtypes::declared::{is_meant_interface, is_meant_union};
 use crate::subtypes::kin::{Kin, put_up};
-use crate::subtypes::names::names;
+use crate::subtypes::names::{TypeNames, names};
 use crate::subtypes::types::inferred_type;
 use indexmap::IndexSet;
 use lw_base::{Name, NoMemory};
@@ -23,11 +23,17 @@ use lw_graph::Graph;
 use std::alloc::Global;
 
 /// The names of types, and which is directly below which. A body stands for what is read at its level.
-#[derive(Drop)]
 pub(crate) struct Kinship {
     pub(crate) names: IndexSet<Name>,
     /// The names by their numbers, and behind them the bodies of the rules.
     pub(crate) graph: Graph,
+}
+
+impl Drop for Kinship {
+    // In one place, so that whoever drops such a value sees one call and not the drops of all its parts.
+    fn drop(self) {
+        let Kinship { names: _, graph: _ } = self;
+    }
 }
 
 impl Kinship {
@@ -46,15 +52,26 @@ impl Kinship {
     }
 
     /// These names, and none below another.
-    fn unrelated(alloc: Global, g: &Grammar, names: IndexSet<Name>) -> Result<Kinship, NoMemory>
+    fn unrelated(alloc: Global, g: &Grammar, names: TypeNames) -> Result<Kinship, NoMemory>
         requires { size g.now ≤ 65535 }
-        ensures names { IfOk result (λ kinship. kinship.names.keys ≡ names.keys) }
+        ensures names { IfOk result (λ kinship. kinship.names.keys ≡ names.set.keys) }
         ensures distinct { IfOk result (λ kinship. IsDistinct bytes_eq kinship.names.keys) }
         ensures room { IfOk result (HasRoomYet g.now) }
         ensures empty { IfOk result (λ kinship. (a b : ℕ) → ¬ HasEdge kinship.graph a b) }
     {
-        let graph = Graph::new(alloc, names.len() + g.rules.len())?;
-        Ok(Kinship { names, graph })
+        let graph = Graph::new(alloc, names.set.len() + g.rules.len())?;
+        Ok(Kinship {
+            names: names.into_set(),
+            graph,
+        })
+    }
+
+    /// The names alone.
+    pub(crate) fn into_names(self) -> IndexSet<Name>
+        ensures { result ≡ self.names }
+    {
+        let Kinship { names, graph: _ } = self;
+        names
     }
 
     /// Puts in what interfaces extend.

@@ -12,29 +12,51 @@ use lw_base::{Name, NoMemory, TypeId};
 use lw_grammar::{Grammar, Interface, Member, UnionDef};
 use std::alloc::Global;
 
+/// Names of types, each once.
+pub(crate) struct TypeNames {
+    pub(crate) set: IndexSet<Name>,
+}
+
+impl Drop for TypeNames {
+    // In one place, so that whoever drops such a value sees one call and not the drops of all its parts.
+    fn drop(self) {
+        let TypeNames { set: _ } = self;
+    }
+}
+
+impl TypeNames {
+    /// The set itself.
+    pub(crate) fn into_set(self) -> IndexSet<Name>
+        ensures { result ≡ self.set }
+    {
+        let TypeNames { set } = self;
+        set
+    }
+}
+
 /// The names of a grammar's types: first those that have numbers, in their order, then those that only
 /// stand behind `extends` or in unions.
-pub(crate) fn names(
-    alloc: Global,
-    g: &Grammar,
-    numbers: &Numbers,
-) -> Result<IndexSet<Name>, NoMemory>
+pub(crate) fn names(alloc: Global, g: &Grammar, numbers: &Numbers) -> Result<TypeNames, NoMemory>
     requires { AreNumbersOf g.now numbers.now }
-    ensures { IfOk result (λ names. AreNames g.now names.keys) }
+    ensures { IfOk result (λ names. AreNames g.now names.set.keys) }
 {
     let mut names = numbered(alloc, numbers)?;
-    put_interfaces(alloc, &mut names, g.interfaces.as_slice())?;
-    put_unions(alloc, &mut names, g.unions.as_slice())?;
+    put_interfaces(alloc, &mut names.set, g.interfaces.as_slice())?;
+    put_unions(alloc, &mut names.set, g.unions.as_slice())?;
     Ok(names)
 }
 
 /// The names of the types that have numbers, in their order.
-fn numbered(alloc: Global, numbers: &Numbers) -> Result<IndexSet<Name>, NoMemory>
-    ensures { IfOk result (λ names. (g : Grammar) → AreNumbersOf g numbers.now → names.keys ≡ type_names g) }
+fn numbered(alloc: Global, numbers: &Numbers) -> Result<TypeNames, NoMemory>
+    ensures { IfOk result (λ names. (g : Grammar) → AreNumbersOf g numbers.now → names.set.keys ≡ type_names g) }
 {
-    let mut names = IndexSet::new(alloc);
+    let mut names = TypeNames {
+        set: IndexSet::new(alloc),
+    };
     for number in 0..numbers.type_count() {
-        names.insert(numbers.type_name(TypeId(number as u16)).copy(alloc)?)?;
+        names
+            .set
+            .insert(numbers.type_name(TypeId(number as u16)).copy(alloc)?)?;
     }
     Ok(names)
 }

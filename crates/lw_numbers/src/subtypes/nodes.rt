@@ -37,12 +37,21 @@ fn flags(alloc: Global, met: &NodeSet, count: usize) -> Result<Vec<bool>, NoMemo
 }
 
 /// What makes a rule make nodes.
-#[derive(Drop)]
 pub(crate) struct Makers {
     /// The rules by number, with an edge from each that is called to the one that calls it.
     pub(crate) callers: Graph,
     /// The rules in whose bodies an assignment or an action stands, maybe more than once each.
     pub(crate) starts: Vec<usize>,
+}
+
+impl Drop for Makers {
+    // In one place, so that whoever drops such a value sees one call and not the drops of all its parts.
+    fn drop(self) {
+        let Makers {
+            callers: _,
+            starts: _,
+        } = self;
+    }
 }
 
 impl Makers {

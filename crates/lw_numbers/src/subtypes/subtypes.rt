@@ -19,11 +19,17 @@ use std::alloc::Global;
 use std::marker::Model;
 
 /// Which types are below which. It has an entry for each pair of types of which one is below the other.
-#[derive(Drop)]
 pub struct Subtypes {
     names: IndexSet<Name>,
     /// By the number of a type, the numbers of those that it is below, in ascending order.
     above: Vec<Items<u32>>,
+}
+
+impl Drop for Subtypes {
+    // In one place, so that whoever drops such a value sees one call and not the drops of all its parts.
+    fn drop(self) {
+        let Subtypes { names: _, above: _ } = self;
+    }
 }
 
 impl Model for Subtypes {
@@ -78,12 +84,15 @@ impl Subtypes {
         requires small { size g.now ≤ 65535 }
         ensures { IfOk result (AreSubtypesOf g.now) }
     {
-        let Kinship { names, graph } = Kinship::of(alloc, g, numbers)?;
-        if names.len() > u32::MAX as usize {
+        let kinship = Kinship::of(alloc, g, numbers)?;
+        if kinship.names.len() > u32::MAX as usize {
             return Err(NoMemory);
         }
-        let above = rows(alloc, &graph, names.len())?;
-        Ok(Subtypes { names, above })
+        let above = rows(alloc, &kinship.graph, kinship.names.len())?;
+        Ok(Subtypes {
+            names: kinship.into_names(),
+            above,
+        })
     }
 
     /// The number of the type of this name.

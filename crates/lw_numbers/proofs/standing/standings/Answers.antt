@@ -12,7 +12,7 @@ loop-item-preserved g c =
     let new = c.match-get.standing in (
       omega (arith, loop.invariant.0),
       stand_next g.T.Declared.declaration c.args.first c.args.declared.now loop.item-index c.item-item.result c.loop-item-test.true c.item-item.is
-          loop.standings.entries c.insert.new.self.entries new loop.number place c.name.result.now c.in_ok-copy.field-0 (option_copied c.get.result)
+          loop.standings.by_name.entries c.insert.new.self.entries new loop.number place c.name.result.now c.in_ok-copy.field-0 (option_copied c.get.result)
           loop.invariant.1 loop.invariant.0 c.place-place.ensures c.name.ensures (c.in_ok-copy.ensures ∙ c.name-in-loop-item.ensures) c.get.ensures.value
           (elim c.match-get.branch [
             | in-Some w ↦ subst (λ r. Continues place loop.number (option_copied r) new) (sym w.in-Some.is)

@@ -26,13 +26,13 @@ invariant_of-result c =
 
 pub returns : goal.returns
 returns c = record {
-  rules = subst (λ rules. StandAmong declared_rule 0 rules c.in_ok-rules.rules.entries) c.as_slice.ensures c.in_ok-rules.ensures;
+  rules = subst (λ rules. StandAmong declared_rule 0 rules c.in_ok-rules.rules.by_name.entries) c.as_slice.ensures c.in_ok-rules.ensures;
   terminals =
-      let entries = c.in_ok-terminals.terminals.entries in
+      let entries = c.in_ok-terminals.terminals.by_name.entries in
       subst (λ first. StandAmong declared_terminal first c.args.g.now.terminals entries) c.len.ensures
       (subst (λ terminals. StandAmong declared_terminal c.len.result terminals entries) c.as_slice-2.ensures c.in_ok-terminals.ensures);
-  interfaces = subst (λ interfaces. StandAmong declared_interface 0 interfaces c.in_ok-interfaces.interfaces.entries) c.as_slice-3.ensures c.in_ok-interfaces.ensures;
-  unions = subst (λ unions. StandAmong declared_union 0 unions c.in_ok-unions.unions.entries) c.as_slice-4.ensures c.in_ok-unions.ensures;
+  interfaces = subst (λ interfaces. StandAmong declared_interface 0 interfaces c.in_ok-interfaces.interfaces.by_name.entries) c.as_slice-3.ensures c.in_ok-interfaces.ensures;
+  unions = subst (λ unions. StandAmong declared_union 0 unions c.in_ok-unions.unions.by_name.entries) c.as_slice-4.ensures c.in_ok-unions.ensures;
   types = c.in_ok-uses.ensures.types;
   properties = c.in_ok-uses.ensures.properties;
 }

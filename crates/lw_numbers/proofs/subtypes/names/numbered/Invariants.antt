@@ -6,4 +6,4 @@ use Rattle.lw_numbers.specs.Tables.{AreNumbersOf}
 use Rattle.lw_numbers.proofs.subtypes.names.numbered.Given as goal
 
 abbrev pub invariant-loop-number : goal.invariant-loop-number
-invariant-loop-number l = (g : Grammar) → AreNumbersOf g l.numbers → l.names.keys ≡ insert_all bytes_eq [] (take l.number (type_names g))
+invariant-loop-number l = (g : Grammar) → AreNumbersOf g l.numbers → l.names.set.keys ≡ insert_all bytes_eq [] (take l.number (type_names g))

@@ -1,4 +1,4 @@
-use Rattle.std.proofs.Common.{◌≤◌, arith, length}
+use Rattle.std.proofs.Common.{◌≤◌, ap, arith, length}
 use Rattle.lw_numbers.proofs.Sizes.{numbers-le}
 use Rattle.lw_numbers.proofs.subtypes.kinship.Kinship.unrelated.Goals as goal
 
@@ -10,5 +10,5 @@ overflow_add-len c =
 pub returns-clause-room : goal.returns-clause-room
 returns-clause-room c = record {
   few = omega (arith, numbers-le c.args.g.now, c.requires);
-  nodes = omega (arith, c.in_ok-graph.ensures.nodes, c.len.ensures.len, c.len-2.ensures);
+  nodes = omega (arith, c.in_ok-graph.ensures.nodes, c.len.ensures.len, c.len-2.ensures, ap (λ set. length set.keys) c.into_set.ensures);
 }
