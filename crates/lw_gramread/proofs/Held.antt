@@ -65,6 +65,13 @@ over _ _ = false
 abbrev pub held_or_over : Bottom → List Sym → Bool
 held_or_over b wants = cond (held b wants) true (over b wants)
 
+-- what cannot be, said once, so that where a case is left over nothing is looked for
+pub not_true : false ≡ true → ⊥
+not_true e = cc e
+
+pub not_false : true ≡ false → ⊥
+not_false e = cc e
+
 pub both : (c x : Bool) → cond c x false ≡ true → (c ≡ true) × (x ≡ true)
 both true x e = (refl, e)
 both false x e = absurd (cc e)
@@ -79,17 +86,28 @@ closing_solid InTerminal TermsEnd e = refl
 closing_solid (InType true) Above e = refl
 closing_solid (InType true) NamesOpen e = refl
 closing_solid (InType true) Attributes e = refl
-closing_solid _ _ e = absurd (cc e)
+closing_solid _ _ e = absurd (not_true e)
 
 pub held_solid : (b : Bottom) (wants : List Sym) → held b wants ≡ true → all_nullable wants ≡ false
 held_solid b [] e = absurd (cc e)
 held_solid b (s ∷ []) e = rw (closing_solid b s e) refl
 held_solid b (s ∷ r ∷ others) e = if_false (nullable s) (all_nullable (r ∷ others)) (held_solid b (r ∷ others) (both (inner b s) (held b (r ∷ others)) e).1)
 
+pub data Over : Bottom → List Sym → Type 0 where
+  nothing : {b : Bottom} → Over b []
+  semicolon : Over (InType true) (May sign.Semicolon ∷ [])
+
+pub over_is : (b : Bottom) (wants : List Sym) → over b wants ≡ true → Over b wants
+over_is b [] e = Over.nothing
+over_is (InType true) (May sign.Semicolon ∷ []) e = Over.semicolon
+over_is _ _ e = absurd (not_true e)
+
 pub over_nullable : (b : Bottom) (wants : List Sym) → over b wants ≡ true → all_nullable wants ≡ true
-over_nullable b [] e = refl
-over_nullable (InType true) (May sign.Semicolon ∷ []) e = refl
-over_nullable _ _ e = absurd (cc e)
+over_nullable b wants e = from b wants (over_is b wants e)
+  where
+    from : (c : Bottom) (w : List Sym) → Over c w → all_nullable w ≡ true
+    from _ _ Over.nothing = refl
+    from _ _ Over.semicolon = refl
 
 held_front : (b : Bottom) (w : List Sym) (r : Sym) (others : List Sym) → all_inner b w ≡ true → held b (r ∷ others) ≡ true → held b (w ++ r ∷ others) ≡ true
 held_front b [] r others a h = h
@@ -168,7 +186,7 @@ inner_keeps (InType true) TypeEnd t e = kept T (is sign.OpenBracket t) _ _ refl 
 inner_keeps (InType true) AttributeMembers t e = kept T (is sign.Bar t) _ _ refl (kept T (is sign.Semicolon t) _ _ refl refl)
 inner_keeps (InType true) AttributeEnd t e = kept T (is sign.Semicolon t) _ _ refl refl
 inner_keeps (InType true) MembersClose t e = kept T (is sign.Bar t) _ _ refl (kept T (is sign.CloseParenthesis t) _ _ refl refl)
-inner_keeps _ _ t e = absurd (cc e)
+inner_keeps _ _ t e = absurd (not_true e)
 
 abbrev I : List Sym → Bool
 I = held_or_over (InType true)
@@ -186,7 +204,7 @@ closing_keeps InTerminal TermsEnd t e =
 closing_keeps (InType true) Above t e = kept I (is_reserved word.Extends t) _ _ refl (opens_keeps t)
 closing_keeps (InType true) NamesOpen t e = kept I (is sign.Comma t) _ _ refl (opens_keeps t)
 closing_keeps (InType true) Attributes t e = kept I (sees_word (t ∷ [])) _ _ refl (kept I (is sign.CloseBrace t) _ _ refl refl)
-closing_keeps _ _ t e = absurd (cc e)
+closing_keeps _ _ t e = absurd (not_true e)
 
 -- ---- what a token makes of a stack
 

@@ -190,15 +190,18 @@ pub record Stack : Type 0 where
 abbrev pub stands : Bottom → List Sym → Option Stack
 stands b wants = Some (record { bottom = b; wants = wants })
 
+abbrev pub rule_begin : Lexeme → Option Stack
+rule_begin t =
+    if is_reserved word.Entry t then stands InRule (RuleName ∷ ResultColon false ∷ Element ∷ RowsEnd ∷ [])
+    else if is_reserved word.Fragment t then stands InRule (WantName ∷ ResultColon false ∷ Element ∷ RowsEnd ∷ [])
+    else if sees_name (t ∷ []) then stands InRule (ResultColon true ∷ Element ∷ RowsEnd ∷ []) else None
+
 abbrev pub item_begin : Lexeme → Option Stack
 item_begin t =
     if is_reserved word.Interface t then stands (InType true) (WantName ∷ Above ∷ [])
     else if is_reserved word.Type t then stands (InType false) (WantName ∷ Want sign.Equals ∷ Single ∷ MembersEnd ∷ [])
     else if is_reserved word.Hidden t then stands InTerminal (WantWord word.Terminal ∷ TerminalName ∷ Term ∷ TermsEnd ∷ [])
-    else if is_reserved word.Terminal t then stands InTerminal (TerminalName ∷ Term ∷ TermsEnd ∷ [])
-    else if is_reserved word.Entry t then stands InRule (RuleName ∷ ResultColon false ∷ Element ∷ RowsEnd ∷ [])
-    else if is_reserved word.Fragment t then stands InRule (WantName ∷ ResultColon false ∷ Element ∷ RowsEnd ∷ [])
-    else if sees_name (t ∷ []) then stands InRule (ResultColon true ∷ Element ∷ RowsEnd ∷ []) else None
+    else if is_reserved word.Terminal t then stands InTerminal (TerminalName ∷ Term ∷ TermsEnd ∷ []) else rule_begin t
 
 abbrev pub bottom_begin : Bottom → Lexeme → Option Stack
 bottom_begin AtImports t = if is_reserved word.Import t then stands AtImports (WantText ∷ May sign.Semicolon ∷ []) else item_begin t

@@ -5,19 +5,21 @@ use Rattle.lw_grammar.specs.declared.grammar.Grammar.{Grammar}
 use Rattle.lw_grammar.specs.declared.terminal.Primitive.{Primitive}
 use Rattle.lw_grammar.specs.declared.rule.RuleResult.{RuleResult}
 use Rattle.lw_gramlex.specs.declared.token.Symbol.TheVariants as sign
+use Rattle.lw_gramread.specs.declared.lexeme.Reserved.{Reserved}
 use Rattle.lw_gramread.specs.declared.lexeme.Reserved.TheVariants as word
 use Rattle.lw_gramread.specs.declared.lexeme.Lexeme.{Lexeme}
-use Rattle.lw_gramread.specs.declared.lexeme.Lexeme.TheVariants.{Word, Sign}
+use Rattle.lw_gramread.specs.declared.lexeme.Lexeme.TheVariants.{Word}
 use Rattle.lw_gramread.specs.Lexemes.{primitive_of}
 use Rattle.lw_gramread.specs.OptionalTokens.{MayTakeWord}
 use Rattle.lw_gramread.specs.ParserRules as rules
 use Rattle.lw_gramread.specs.ParserRules.{SpellsResult}
 use Rattle.lw_gramread.specs.Syntax.{SpellsFile}
 use Rattle.lw_gramread.specs.Forms.{Unfinished, BeginsRule, BeginsTerminal, BeginsInterface, RuleHead}
-use Rattle.lw_gramread.specs.Steps.{same_symbol, same_reserved}
-use Rattle.lw_gramread.proofs.Machine.{Sym, WantName, May, Above, Element, RowsEnd, RuleName, ResultColon, TypedColon, Returned, TerminalName, Term, TermsEnd, Bottom, AtStart, AtImports, AtItems, InType, InRule, InTerminal, Stack, Wanted, begin, nullable, all_nullable, pushed, after, item_begin, bottom_begin}
+use Rattle.lw_gramread.specs.Steps.{sees_name, sees_primitive}
+use Rattle.lw_gramread.proofs.Machine.{Sym, Want, WantWord, WantName, WantText, May, Above, Single, MembersEnd, Element, RowsEnd, RuleName, ResultColon, TypedColon, Returned, TerminalName, Term, TermsEnd, Bottom, AtStart, AtImports, AtItems, InType, InRule, InTerminal, Stack, Wanted, is, is_reserved, begin, nullable, all_nullable, pushed, after, rule_begin, item_begin, bottom_begin}
+use Rattle.lw_gramread.proofs.At.{is_the_word}
 use Rattle.lw_gramread.proofs.Reach.{reach, onward, reach_join, same_stack}
-use Rattle.lw_gramread.proofs.Held.{held, over, held_or_over, held_solid, over_nullable, keeps, stays}
+use Rattle.lw_gramread.proofs.Held.{held, over, Over, over_is, not_true, held_or_over, held_solid, over_nullable, keeps, stays}
 use Rattle.lw_gramread.proofs.Spelled.{whole_spelled, unfinished}
 
 abbrev pub Body : List Sym
@@ -52,54 +54,97 @@ head_on us (RuleHead.head MayTakeWord.left_out MayTakeWord.there) = RuleHead.hea
 head_on us (RuleHead.head MayTakeWord.there MayTakeWord.left_out) = RuleHead.head MayTakeWord.there MayTakeWord.left_out
 head_on us (RuleHead.head MayTakeWord.there MayTakeWord.there) = RuleHead.head MayTakeWord.there MayTakeWord.there
 
+-- ---- what a token is, by the tests that the stack makes of it
+
+word_of : (r : Reserved) (t : Lexeme) → is_reserved r t ≡ true → (n : List ℕ) × (s : Span) × (t ≡ Word n (Some r) s)
+word_of r (Word n (Some q) s) h = (n, s, ap (λ z. Word n (Some z) s) (is_the_word q r h))
+word_of r _ h = absurd (not_true h)
+
+name_of : (t : Lexeme) → sees_name (t ∷ []) ≡ true → (n : List ℕ) × (s : Span) × (t ≡ Word n None s)
+name_of (Word n None s) h = (n, s, refl)
+name_of _ h = absurd (not_true h)
+
+primitive_word : (t : Lexeme) → sees_primitive (t ∷ []) ≡ true → (n : List ℕ) × (r : Reserved) × (s : Span) × (p : Primitive) × (primitive_of r ≡ Some p) × (t ≡ Word n (Some r) s)
+primitive_word (Word n (Some r) s) h = from (primitive_of r) refl h
+  where
+    from : (o : Option Primitive) → primitive_of r ≡ o → is_some o ≡ true →
+        (m : List ℕ) × (q : Reserved) × (z : Span) × (p : Primitive) × (primitive_of q ≡ Some p) × (Word n (Some r) s ≡ Word m (Some q) z)
+    from (Some p) f h = (n, r, s, p, f, refl)
+    from None f h = absurd (cc h)
+primitive_word _ h = absurd (not_true h)
+
+-- a test that comes true, or else the tests behind it
+on_test : {X : Type 0} (b : Bottom) (others : List Sym) (m : Stack) (c : Bool) (w : List Sym) (o : Wanted) → pushed (cond c (Some w) o) b others None ≡ Some m →
+    (c ≡ true → record { bottom = b; wants = w ++ others } ≡ m → X) → (pushed o b others None ≡ Some m → X) → X
+on_test b others m true w o e yes_ no_ = yes_ refl (same_stack (record { bottom = b; wants = w ++ others }) m e)
+on_test b others m false w o e yes_ no_ = no_ e
+
+on_begin : {X : Type 0} (m : Stack) (c : Bool) (b : Bottom) (wants : List Sym) (o : Option Stack) → cond c (Some (record { bottom = b; wants = wants })) o ≡ Some m →
+    (c ≡ true → record { bottom = b; wants = wants } ≡ m → X) → (o ≡ Some m → X) → X
+on_begin m true b wants o e yes_ no_ = yes_ refl (same_stack (record { bottom = b; wants = wants }) m e)
+on_begin m false b wants o e yes_ no_ = no_ e
+
+pub no_stack : (m : Stack) → None ≡ Some m → ⊥
+no_stack m e = cc e
+
 -- what a token makes of the head of a rule or of its body: the rule goes on, or is whole
 abbrev RuleOn : List Lexeme → Stack → Type 0
 RuleOn ts m = (m.bottom ≡ InRule) × (Heads ts m.wants ⊎ (m.wants ≡ []))
 
-rule_on : (ts : List Lexeme) (wants : List Sym) (m : Stack) → Some (record { bottom = InRule; wants = wants }) ≡ Some m → Heads ts wants → RuleOn ts m
-rule_on ts wants m e h = subst (RuleOn ts) (same_stack (record { bottom = InRule; wants = wants }) m e) (refl, inl h)
+rule_on : (ts : List Lexeme) (t u : Lexeme) (wants : List Sym) (m : Stack) → record { bottom = InRule; wants = wants } ≡ m → t ≡ u → Heads (ts ++ u ∷ []) wants → RuleOn (ts ++ t ∷ []) m
+rule_on ts t u wants m k same h = subst (λ v. RuleOn (ts ++ v ∷ []) m) (sym same) (subst (RuleOn (ts ++ u ∷ [])) k (refl, inl h))
+
+words_named : {w : List ℕ} {s : Span} {ts : List Lexeme} {entry : Bool} (n : List ℕ) (q : Span) → MayTakeWord word.Entry ts (Word w (Some word.Fragment) s ∷ []) entry →
+    RuleHead (ts ++ Word n None q ∷ []) []
+words_named n q MayTakeWord.left_out = RuleHead.head MayTakeWord.left_out MayTakeWord.there
+words_named n q MayTakeWord.there = RuleHead.head MayTakeWord.there MayTakeWord.there
 
 module _ (m : Stack) where
   entry_on : (w : List ℕ) (s : Span) (t : Lexeme) → after InRule (RuleName ∷ ResultColon false ∷ Body) t ≡ Some m → RuleOn (Word w (Some word.Entry) s ∷ t ∷ []) m
-  unfolding same_reserved
-  entry_on w s (Word n None q) e = rule_on _ (ResultColon false ∷ Body) m e (Heads.named (RuleHead.head MayTakeWord.there MayTakeWord.left_out))
-  entry_on w s (Word n (Some word.Fragment) q) e = rule_on _ (WantName ∷ ResultColon false ∷ Body) m e (Heads.behind_words MayTakeWord.there)
-  entry_on w s t e = absurd (cc e)
+  entry_on w s t e =
+      on_test InRule (ResultColon false ∷ Body) m (is_reserved word.Fragment t) (WantName ∷ []) _ e
+      (λ h k. let q = word_of word.Fragment t h in
+      rule_on (Word w (Some word.Entry) s ∷ []) t (Word q.0 (Some word.Fragment) q.1) (WantName ∷ ResultColon false ∷ Body) m k q.2 (Heads.behind_words MayTakeWord.there))
+      (λ e. on_test InRule (ResultColon false ∷ Body) m (sees_name (t ∷ [])) [] None e
+      (λ h k. let q = name_of t h in
+      rule_on (Word w (Some word.Entry) s ∷ []) t (Word q.0 None q.1) (ResultColon false ∷ Body) m k q.2 (Heads.named (RuleHead.head MayTakeWord.there MayTakeWord.left_out)))
+      (λ e. absurd (no_stack m e)))
 
   words_on : (w : List ℕ) (s : Span) (ts : List Lexeme) (entry : Bool) → MayTakeWord word.Entry ts (Word w (Some word.Fragment) s ∷ []) entry → (t : Lexeme) →
       after InRule (WantName ∷ ResultColon false ∷ Body) t ≡ Some m → RuleOn (ts ++ t ∷ []) m
-  words_on w s _ _ MayTakeWord.left_out (Word n None q) e = rule_on _ (ResultColon false ∷ Body) m e (Heads.named (RuleHead.head MayTakeWord.left_out MayTakeWord.there))
-  words_on w s _ _ MayTakeWord.there (Word n None q) e = rule_on _ (ResultColon false ∷ Body) m e (Heads.named (RuleHead.head MayTakeWord.there MayTakeWord.there))
-  words_on w s ts entry f t e = absurd (cc e)
+  words_on w s ts entry f t e =
+      on_test InRule (ResultColon false ∷ Body) m (sees_name (t ∷ [])) [] None e
+      (λ h k. let q = name_of t h in rule_on ts t (Word q.0 None q.1) (ResultColon false ∷ Body) m k q.2 (Heads.named (words_named q.0 q.1 f))) (λ e. absurd (no_stack m e))
 
   -- behind the name
   name_on : (first : Bool) (ts : List Lexeme) → RuleHead ts [] → (t : Lexeme) → after InRule (ResultColon first ∷ Body) t ≡ Some m → RuleOn (ts ++ t ∷ []) m
-  unfolding same_reserved same_symbol
-  name_on first ts h (Word n (Some word.Infers) q) e = rule_on _ (WantName ∷ TypedColon ∷ Body) m e (Heads.infers (head_on (Word n (Some word.Infers) q ∷ []) h))
-  name_on first ts h (Word n (Some word.Returns) q) e = rule_on _ (Returned ∷ TypedColon ∷ Body) m e (Heads.returns (head_on (Word n (Some word.Returns) q ∷ []) h))
-  name_on first ts h (Sign sign.Colon q) e = rule_on _ Body m e (Heads.body refl)
-  name_on first ts h t e = absurd (cc e)
+  name_on first ts h t e =
+      on_test InRule Body m (is_reserved word.Infers t) (WantName ∷ TypedColon ∷ []) _ e
+      (λ g k. let q = word_of word.Infers t g in
+      rule_on ts t (Word q.0 (Some word.Infers) q.1) (WantName ∷ TypedColon ∷ Body) m k q.2 (Heads.infers (head_on (Word q.0 (Some word.Infers) q.1 ∷ []) h)))
+      (λ e. on_test InRule Body m (is_reserved word.Returns t) (Returned ∷ TypedColon ∷ []) _ e
+      (λ g k. let q = word_of word.Returns t g in
+      rule_on ts t (Word q.0 (Some word.Returns) q.1) (Returned ∷ TypedColon ∷ Body) m k q.2 (Heads.returns (head_on (Word q.0 (Some word.Returns) q.1 ∷ []) h)))
+      (λ e. on_test InRule Body m (is sign.Colon t) [] None e (λ g k. rule_on ts t t Body m k refl (Heads.body refl)) (λ e. absurd (no_stack m e))))
 
   infers_on : (w : List ℕ) (s : Span) (ts : List Lexeme) → RuleHead ts (Word w (Some word.Infers) s ∷ []) → (t : Lexeme) → after InRule (WantName ∷ TypedColon ∷ Body) t ≡ Some m →
       RuleOn (ts ++ t ∷ []) m
-  infers_on w s ts h (Word n None q) e = rule_on _ (TypedColon ∷ Body) m e (Heads.typed (head_on (Word n None q ∷ []) h) rules.infers)
-  infers_on w s ts h t e = absurd (cc e)
+  infers_on w s ts h t e =
+      on_test InRule (TypedColon ∷ Body) m (sees_name (t ∷ [])) [] None e
+      (λ g k. let q = name_of t g in rule_on ts t (Word q.0 None q.1) (TypedColon ∷ Body) m k q.2 (Heads.typed (head_on (Word q.0 None q.1 ∷ []) h) rules.infers)) (λ e. absurd (no_stack m e))
 
   returns_on : (w : List ℕ) (s : Span) (ts : List Lexeme) → RuleHead ts (Word w (Some word.Returns) s ∷ []) → (t : Lexeme) → after InRule (Returned ∷ TypedColon ∷ Body) t ≡ Some m →
       RuleOn (ts ++ t ∷ []) m
-  returns_on w s ts h (Word n None q) e = rule_on _ (TypedColon ∷ Body) m e (Heads.typed (head_on (Word n None q ∷ []) h) rules.returns)
-  returns_on w s ts h (Word n (Some r) q) e = from (primitive_of r) refl e
-    where
-      from : (o : Option Primitive) → primitive_of r ≡ o → pushed (cond (is_some o) (Some []) (cond false (Some []) None)) InRule (TypedColon ∷ Body) None ≡ Some m →
-          RuleOn (ts ++ Word n (Some r) q ∷ []) m
-      from (Some p) f e = rule_on _ (TypedColon ∷ Body) m e (Heads.typed (head_on (Word n (Some r) q ∷ []) h) (rules.gives f))
-      from None f e = absurd (cc e)
-  returns_on w s ts h t e = absurd (cc e)
+  returns_on w s ts h t e =
+      on_test InRule (TypedColon ∷ Body) m (sees_primitive (t ∷ [])) [] _ e
+      (λ g k. let q = primitive_word t g in
+      rule_on ts t (Word q.0 (Some q.1) q.2) (TypedColon ∷ Body) m k q.5 (Heads.typed (head_on (Word q.0 (Some q.1) q.2 ∷ []) h) (rules.gives q.4)))
+      (λ e. on_test InRule (TypedColon ∷ Body) m (sees_name (t ∷ [])) [] None e
+      (λ g k. let q = name_of t g in rule_on ts t (Word q.0 None q.1) (TypedColon ∷ Body) m k q.2 (Heads.typed (head_on (Word q.0 None q.1 ∷ []) h) rules.returns))
+      (λ e. absurd (no_stack m e)))
 
   typed_on : (ts : List Lexeme) (t : Lexeme) → after InRule (TypedColon ∷ Body) t ≡ Some m → RuleOn (ts ++ t ∷ []) m
-  unfolding same_symbol
-  typed_on ts (Sign sign.Colon q) e = rule_on _ Body m e (Heads.body refl)
-  typed_on ts t e = absurd (cc e)
+  typed_on ts t e = on_test InRule Body m (is sign.Colon t) [] None e (λ g k. rule_on ts t t Body m k refl (Heads.body refl)) (λ e. absurd (no_stack m e))
 
   body_on : (ts : List Lexeme) (wants : List Sym) (t : Lexeme) → held InRule wants ≡ true → after InRule wants t ≡ Some m → RuleOn (ts ++ t ∷ []) m
   body_on ts wants t h e = from (held InRule m.wants) refl k.1
@@ -219,42 +264,68 @@ module _ (before : List Lexeme) (t : Lexeme) (m : Stack) (next : reach AtStart [
   not_whole n = λ g. unfinished (before ++ t ∷ []) g m next n
 
   -- a stack that is known
-  known : (k : Stack) → Some k ≡ Some m → (all_nullable m.wants ≡ false → StateOf (before ++ t ∷ []) k) → all_nullable k.wants ≡ false → StateOf (before ++ t ∷ []) m
-  known k e f n = let same : k ≡ m = same_stack k m e in subst (StateOf (before ++ t ∷ [])) same (f (subst (λ (z : Stack). all_nullable z.wants ≡ false) same n))
+  known : (b : Bottom) (wants : List Sym) → record { bottom = b; wants = wants } ≡ m → all_nullable wants ≡ false → (NotWhole (before ++ t ∷ []) → State (before ++ t ∷ []) b wants) →
+      StateOf (before ++ t ∷ []) m
+  known b wants same n f = subst (StateOf (before ++ t ∷ [])) same (f (not_whole (subst (λ (z : Stack). all_nullable z.wants ≡ false) same n)))
 
 module _ (before : List Lexeme) (g : Grammar) (s : SpellsFile before g) (m : Stack) where
   -- an item begins
+  begun : (t u : Lexeme) → t ≡ u → NotWhole (before ++ t ∷ []) → Unfinished (before ++ u ∷ []) (u ∷ [])
+  begun t u same n = unfinished_one before u g s (subst (λ v. NotWhole (before ++ v ∷ [])) same n)
+
+  rule_begun : (t u : Lexeme) (wants : List Sym) → t ≡ u → BeginsRule (u ∷ []) → Heads (u ∷ []) wants → NotWhole (before ++ t ∷ []) → State (before ++ t ∷ []) InRule wants
+  rule_begun t u wants same r h n = subst (λ v. State (before ++ v ∷ []) InRule wants) (sym same) (State.rule (begun t u same n) r h)
+
+  terminal_begun : (t u : Lexeme) (wants : List Sym) → t ≡ u → BeginsTerminal (u ∷ []) → held InTerminal wants ≡ true → NotWhole (before ++ t ∷ []) → State (before ++ t ∷ []) InTerminal wants
+  terminal_begun t u wants same r h n = subst (λ v. State (before ++ v ∷ []) InTerminal wants) (sym same) (State.terminal (begun t u same n) r h)
+
+  interface_begun : (t u : Lexeme) (wants : List Sym) → t ≡ u → BeginsInterface (u ∷ []) → held (InType true) wants ≡ true → NotWhole (before ++ t ∷ []) →
+      State (before ++ t ∷ []) (InType true) wants
+  interface_begun t u wants same r h n = subst (λ v. State (before ++ v ∷ []) (InType true) wants) (sym same) (State.interface (begun t u same n) r h)
+
+  rule_states : (t : Lexeme) → reach AtStart [] (before ++ t ∷ []) ≡ Some m → rule_begin t ≡ Some m → StateOf (before ++ t ∷ []) m
+  rule_states t r e =
+      on_begin m (is_reserved word.Entry t) InRule (RuleName ∷ ResultColon false ∷ Body) _ e
+      (λ h k. let q = word_of word.Entry t h in
+      known before t m r InRule (RuleName ∷ ResultColon false ∷ Body) k refl
+      (rule_begun t (Word q.0 (Some word.Entry) q.1) (RuleName ∷ ResultColon false ∷ Body) q.2 BeginsRule.entry Heads.behind_entry))
+      (λ e. on_begin m (is_reserved word.Fragment t) InRule (WantName ∷ ResultColon false ∷ Body) _ e
+      (λ h k. let q = word_of word.Fragment t h in
+      known before t m r InRule (WantName ∷ ResultColon false ∷ Body) k refl
+      (rule_begun t (Word q.0 (Some word.Fragment) q.1) (WantName ∷ ResultColon false ∷ Body) q.2 BeginsRule.fragment (Heads.behind_words MayTakeWord.left_out)))
+      (λ e. on_begin m (sees_name (t ∷ [])) InRule (ResultColon true ∷ Body) None e
+      (λ h k. let q = name_of t h in
+      known before t m r InRule (ResultColon true ∷ Body) k refl (rule_begun t (Word q.0 None q.1) (ResultColon true ∷ Body) q.2 BeginsRule.named Heads.first_name))
+      (λ e. absurd (no_stack m e))))
+
   item_states : (t : Lexeme) → reach AtStart [] (before ++ t ∷ []) ≡ Some m → item_begin t ≡ Some m → StateOf (before ++ t ∷ []) m
-  unfolding same_reserved
-  item_states (Word n None p) r e =
-      known before (Word n None p) m r (record { bottom = InRule; wants = ResultColon true ∷ Body }) e
-      (λ z. State.rule (unfinished_one before (Word n None p) g s (not_whole before (Word n None p) m r z)) BeginsRule.named Heads.first_name) refl
-  item_states (Word n (Some word.Entry) p) r e =
-      known before (Word n (Some word.Entry) p) m r (record { bottom = InRule; wants = RuleName ∷ ResultColon false ∷ Body }) e
-      (λ z. State.rule (unfinished_one before (Word n (Some word.Entry) p) g s (not_whole before (Word n (Some word.Entry) p) m r z)) BeginsRule.entry Heads.behind_entry) refl
-  item_states (Word n (Some word.Fragment) p) r e =
-      known before (Word n (Some word.Fragment) p) m r (record { bottom = InRule; wants = WantName ∷ ResultColon false ∷ Body }) e
-      (λ z. State.rule (unfinished_one before (Word n (Some word.Fragment) p) g s (not_whole before (Word n (Some word.Fragment) p) m r z)) BeginsRule.fragment
-      (Heads.behind_words MayTakeWord.left_out)) refl
-  item_states (Word n (Some word.Hidden) p) r e =
-      known before (Word n (Some word.Hidden) p) m r (record { bottom = InTerminal; wants = _ }) e
-      (λ z. State.terminal (unfinished_one before (Word n (Some word.Hidden) p) g s (not_whole before (Word n (Some word.Hidden) p) m r z)) BeginsTerminal.hidden refl) refl
-  item_states (Word n (Some word.Terminal) p) r e =
-      known before (Word n (Some word.Terminal) p) m r (record { bottom = InTerminal; wants = TerminalName ∷ Term ∷ TermsEnd ∷ [] }) e
-      (λ z. State.terminal (unfinished_one before (Word n (Some word.Terminal) p) g s (not_whole before (Word n (Some word.Terminal) p) m r z)) BeginsTerminal.terminal refl) refl
-  item_states (Word n (Some word.Interface) p) r e =
-      known before (Word n (Some word.Interface) p) m r (record { bottom = InType true; wants = WantName ∷ Above ∷ [] }) e
-      (λ z. State.interface (unfinished_one before (Word n (Some word.Interface) p) g s (not_whole before (Word n (Some word.Interface) p) m r z)) BeginsInterface.interface refl) refl
-  item_states (Word n (Some word.Type) p) r e =
-      known before (Word n (Some word.Type) p) m r (record { bottom = InType false; wants = _ }) e (λ z. State.beside refl refl) refl
-  item_states t r e = absurd (cc e)
+  item_states t r e =
+      on_begin m (is_reserved word.Interface t) (InType true) (WantName ∷ Above ∷ []) _ e
+      (λ h k. let q = word_of word.Interface t h in
+      known before t m r (InType true) (WantName ∷ Above ∷ []) k refl (interface_begun t (Word q.0 (Some word.Interface) q.1) (WantName ∷ Above ∷ []) q.2 BeginsInterface.interface refl))
+      (λ e. on_begin m (is_reserved word.Type t) (InType false) (WantName ∷ Want sign.Equals ∷ Single ∷ MembersEnd ∷ []) _ e
+      (λ h k. known before t m r (InType false) (WantName ∷ Want sign.Equals ∷ Single ∷ MembersEnd ∷ []) k refl (λ n. State.beside refl refl))
+      (λ e. on_begin m (is_reserved word.Hidden t) InTerminal (WantWord word.Terminal ∷ TerminalName ∷ Term ∷ TermsEnd ∷ []) _ e
+      (λ h k. let q = word_of word.Hidden t h in
+      known before t m r InTerminal (WantWord word.Terminal ∷ TerminalName ∷ Term ∷ TermsEnd ∷ []) k refl
+      (terminal_begun t (Word q.0 (Some word.Hidden) q.1) (WantWord word.Terminal ∷ TerminalName ∷ Term ∷ TermsEnd ∷ []) q.2 BeginsTerminal.hidden refl))
+      (λ e. on_begin m (is_reserved word.Terminal t) InTerminal (TerminalName ∷ Term ∷ TermsEnd ∷ []) _ e
+      (λ h k. let q = word_of word.Terminal t h in
+      known before t m r InTerminal (TerminalName ∷ Term ∷ TermsEnd ∷ []) k refl
+      (terminal_begun t (Word q.0 (Some word.Terminal) q.1) (TerminalName ∷ Term ∷ TermsEnd ∷ []) q.2 BeginsTerminal.terminal refl))
+      (λ e. rule_states t r e))))
+
+  import_states : (t : Lexeme) → reach AtStart [] (before ++ t ∷ []) ≡ Some m → bottom_begin AtImports t ≡ Some m → StateOf (before ++ t ∷ []) m
+  import_states t r e =
+      on_begin m (is_reserved word.Import t) AtImports (WantText ∷ May sign.Semicolon ∷ []) _ e
+      (λ h k. known before t m r AtImports (WantText ∷ May sign.Semicolon ∷ []) k refl (λ n. State.beside refl refl)) (λ e. item_states t r e)
 
   bottom_states : (b : Bottom) (t : Lexeme) → reach AtStart [] (before ++ t ∷ []) ≡ Some m → bottom_begin b t ≡ Some m → StateOf (before ++ t ∷ []) m
-  unfolding same_reserved
-  bottom_states AtStart (Word n (Some word.Grammar) p) r e = known before (Word n (Some word.Grammar) p) m r (record { bottom = AtImports; wants = WantName ∷ [] }) e (λ z. State.beside refl refl) refl
-  bottom_states AtStart (Word n (Some word.Import) p) r e = known before (Word n (Some word.Import) p) m r (record { bottom = AtImports; wants = _ }) e (λ z. State.beside refl refl) refl
-  bottom_states AtImports (Word n (Some word.Import) p) r e = known before (Word n (Some word.Import) p) m r (record { bottom = AtImports; wants = _ }) e (λ z. State.beside refl refl) refl
-  bottom_states b t r e = item_states t r e
+  bottom_states AtStart t r e =
+      on_begin m (is_reserved word.Grammar t) AtImports (WantName ∷ []) _ e (λ h k. known before t m r AtImports (WantName ∷ []) k refl (λ n. State.beside refl refl))
+      (λ e. import_states t r e)
+  bottom_states AtImports t r e = import_states t r e
+  bottom_states _ t r e = item_states t r e
 
   -- behind a whole file: something else of it, or the next item
   loose_states : (b : Bottom) (wants : List Sym) (t : Lexeme) → is_item b ≡ false → reach AtStart [] (before ++ t ∷ []) ≡ Some m → after b wants t ≡ Some m → StateOf (before ++ t ∷ []) m
@@ -267,19 +338,21 @@ module _ (before : List Lexeme) (g : Grammar) (s : SpellsFile before g) (m : Sta
       from None true e again = again e
       from None false e again = absurd (cc e)
 
+  -- behind an item
+  over_states : (b : Bottom) (wants : List Sym) (t : Lexeme) → Over b wants → reach AtStart [] (before ++ t ∷ []) ≡ Some m → after b wants t ≡ Some m → StateOf (before ++ t ∷ []) m
+  over_states b _ t Over.nothing r e = bottom_states b t r e
+  over_states _ _ t Over.semicolon r e = from (is sign.Semicolon t) e
+    where
+      from : (c : Bool) → pushed (cond c (Some []) None) (InType true) [] (bottom_begin (InType true) t) ≡ Some m → StateOf (before ++ t ∷ []) m
+      from true e = subst (StateOf (before ++ t ∷ [])) (same_stack (record { bottom = InType true; wants = [] }) m e) (State.between refl refl)
+      from false e = bottom_states (InType true) t r e
+
   between_states : (b : Bottom) (wants : List Sym) (t : Lexeme) → loose b wants ≡ true → reach AtStart [] (before ++ t ∷ []) ≡ Some m → after b wants t ≡ Some m → StateOf (before ++ t ∷ []) m
-  unfolding same_symbol
-  between_states InRule [] t l r e = bottom_states InRule t r e
-  between_states InTerminal [] t l r e = bottom_states InTerminal t r e
-  between_states (InType true) [] t l r e = bottom_states (InType true) t r e
-  between_states (InType true) (May sign.Semicolon ∷ []) (Sign sign.Semicolon p) l r e =
-      subst (StateOf (before ++ Sign sign.Semicolon p ∷ [])) (same_stack (record { bottom = InType true; wants = [] }) m e) (State.between refl refl)
-  between_states (InType true) (May sign.Semicolon ∷ []) t l r e = bottom_states (InType true) t r e
-  between_states AtStart wants t l r e = loose_states AtStart wants t refl r e
-  between_states AtImports wants t l r e = loose_states AtImports wants t refl r e
-  between_states AtItems wants t l r e = loose_states AtItems wants t refl r e
-  between_states (InType false) wants t l r e = loose_states (InType false) wants t refl r e
-  between_states b wants t l r e = absurd (cc l)
+  between_states b wants t l r e = from (is_item b) refl l
+    where
+      from : (c : Bool) → is_item b ≡ c → cond c (over b wants) true ≡ true → StateOf (before ++ t ∷ []) m
+      from true i l = over_states b wants t (over_is b wants l) r e
+      from false i l = loose_states b wants t i r e
 
 -- what a token makes of where a stack stands
 module _ (before : List Lexeme) (b : Bottom) (wants : List Sym) (t : Lexeme) (m : Stack) (reached : reach AtStart [] before ≡ Some (record { bottom = b; wants = wants }))

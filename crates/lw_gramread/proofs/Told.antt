@@ -25,9 +25,9 @@ use Rattle.lw_gramread.proofs.Machine.{Sym, Want, WantWord, WantName, WantFeatur
 use Rattle.lw_gramread.proofs.At.{Seen, comes, comes_not, seen}
 use Rattle.lw_gramread.proofs.Reach.{reach, onward, reach_join, same_stack}
 use Rattle.lw_gramread.proofs.AgainTypes.{symbol_itself}
-use Rattle.lw_gramread.proofs.Held.{held, over, stays}
+use Rattle.lw_gramread.proofs.Held.{held, Over, over_is, not_true, not_false, stays}
 use Rattle.lw_gramread.proofs.Spelled.{spelled_reach, begins_reached, whole_spelled}
-use Rattle.lw_gramread.proofs.Stands.{Body, Heads, State, NotWhole, state, next}
+use Rattle.lw_gramread.proofs.Stands.{Body, Heads, no_stack, State, NotWhole, state, next}
 
 -- ---- lists
 
@@ -71,17 +71,17 @@ seen_ends x ts e = from (last_token ts) refl (seen x (last_token ts))
 
 rule_bottom : (b : Bottom) → is_in_rule (bottom_spot b) ≡ true → b ≡ InRule
 rule_bottom InRule e = refl
-rule_bottom _ e = absurd (cc e)
+rule_bottom _ e = absurd (not_true e)
 
 rule_head : (b : Bottom) (s : Spot) → is_in_rule (head_spot b s) ≡ true → b ≡ InRule
 rule_head InRule s e = refl
-rule_head _ s e = absurd (cc e)
+rule_head _ s e = absurd (not_true e)
 
 rule_type : (b : Bottom) (left : List Lexeme) (s : Spot) → is_in_rule (type_spot b left s) ≡ true → is_in_rule s ≡ true
 rule_type (InType true) left s e = from (sees sign.Equals left) e
   where
     from : (c : Bool) → is_in_rule (cond c spot.Attribute s) ≡ true → is_in_rule s ≡ true
-    from true e = absurd (cc e)
+    from true e = absurd (not_true e)
     from false e = e
 rule_type b left s e = e
 
@@ -89,7 +89,7 @@ abbrev InItem : Bottom → Bottom → List Sym → Type 0
 InItem c b wants = (b ≡ c) × (all_nullable wants ≡ false)
 
 in_rule_spot : (b : Bottom) (wants : List Sym) (left : List Lexeme) → is_in_rule (spot_of b wants left) ≡ true → InItem InRule b wants
-in_rule_spot b [] left e = absurd (cc e)
+in_rule_spot b [] left e = absurd (not_true e)
 in_rule_spot b (TypeEnd ∷ others) left e = in_rule_spot b others left (rule_type b left (spot_of b others left) e)
 in_rule_spot b (AttributeMembers ∷ others) left e = in_rule_spot b others left (rule_type b left (spot_of b others left) e)
 in_rule_spot b (AttributeEnd ∷ others) left e = in_rule_spot b others left (rule_type b left (spot_of b others left) e)
@@ -105,28 +105,28 @@ in_rule_spot b (s ∷ others) left e = (rule_bottom b e, refl)
 
 terminal_bottom : (b : Bottom) → is_in_terminal (bottom_spot b) ≡ true → b ≡ InTerminal
 terminal_bottom InTerminal e = refl
-terminal_bottom _ e = absurd (cc e)
+terminal_bottom _ e = absurd (not_true e)
 
 terminal_name : (b : Bottom) (first : Bool) → is_in_terminal (head_spot b (name_spot first)) ≡ true → b ≡ InTerminal
 terminal_name InTerminal first e = refl
-terminal_name InRule true e = absurd (cc e)
-terminal_name InRule false e = absurd (cc e)
-terminal_name _ first e = absurd (cc e)
+terminal_name InRule true e = absurd (not_true e)
+terminal_name InRule false e = absurd (not_true e)
+terminal_name _ first e = absurd (not_true e)
 
 terminal_head : (b : Bottom) → is_in_terminal (head_spot b spot.RuleType) ≡ true → b ≡ InTerminal
 terminal_head InTerminal e = refl
-terminal_head _ e = absurd (cc e)
+terminal_head _ e = absurd (not_true e)
 
 terminal_type : (b : Bottom) (left : List Lexeme) (s : Spot) → is_in_terminal (type_spot b left s) ≡ true → is_in_terminal s ≡ true
 terminal_type (InType true) left s e = from (sees sign.Equals left) e
   where
     from : (c : Bool) → is_in_terminal (cond c spot.Attribute s) ≡ true → is_in_terminal s ≡ true
-    from true e = absurd (cc e)
+    from true e = absurd (not_true e)
     from false e = e
 terminal_type b left s e = e
 
 in_terminal_spot : (b : Bottom) (wants : List Sym) (left : List Lexeme) → is_in_terminal (spot_of b wants left) ≡ true → InItem InTerminal b wants
-in_terminal_spot b [] left e = absurd (cc e)
+in_terminal_spot b [] left e = absurd (not_true e)
 in_terminal_spot b (TypeEnd ∷ others) left e = in_terminal_spot b others left (terminal_type b left (spot_of b others left) e)
 in_terminal_spot b (AttributeMembers ∷ others) left e = in_terminal_spot b others left (terminal_type b left (spot_of b others left) e)
 in_terminal_spot b (AttributeEnd ∷ others) left e = in_terminal_spot b others left (terminal_type b left (spot_of b others left) e)
@@ -145,20 +145,20 @@ abbrev BehindType : Bottom → List Sym → Type 0
 BehindType b wants = (b ≡ InType true) × (k : Stack) × (after b wants (Sign sign.Semicolon (record { start = 0; end = 0 })) ≡ Some k)
 
 type_bottom : (b : Bottom) → is_behind_type (bottom_spot b) ≡ true → ⊥
-type_bottom InRule e = cc e
-type_bottom InTerminal e = cc e
-type_bottom _ e = cc e
+type_bottom InRule e = not_true e
+type_bottom InTerminal e = not_true e
+type_bottom _ e = not_true e
 
 type_name : (b : Bottom) (first : Bool) → is_behind_type (head_spot b (name_spot first)) ≡ true → ⊥
-type_name InRule true e = cc e
-type_name InRule false e = cc e
-type_name InTerminal first e = cc e
-type_name _ first e = cc e
+type_name InRule true e = not_true e
+type_name InRule false e = not_true e
+type_name InTerminal first e = not_true e
+type_name _ first e = not_true e
 
 type_head : (b : Bottom) → is_behind_type (head_spot b spot.RuleType) ≡ true → ⊥
-type_head InRule e = cc e
-type_head InTerminal e = cc e
-type_head _ e = cc e
+type_head InRule e = not_true e
+type_head InTerminal e = not_true e
+type_head _ e = not_true e
 
 type_here : (b : Bottom) (left : List Lexeme) (s : Spot) → is_behind_type (type_spot b left s) ≡ true → (is_behind_type s ≡ true → b ≡ InType true) → b ≡ InType true
 type_here (InType true) left s e f = refl
@@ -166,7 +166,7 @@ type_here b left s e f = f e
 
 behind_type_spot : (b : Bottom) (wants : List Sym) (left : List Lexeme) → is_behind_type (spot_of b wants left) ≡ true → BehindType b wants
 unfolding same_symbol
-behind_type_spot b [] left e = absurd (cc e)
+behind_type_spot b [] left e = absurd (not_true e)
 behind_type_spot b (TypeEnd ∷ others) left e = (type_here b left (spot_of b others left) e (λ h. (behind_type_spot b others left h).0), _, refl)
 behind_type_spot b (AttributeMembers ∷ others) left e = (type_here b left (spot_of b others left) e (λ h. (behind_type_spot b others left h).0), _, refl)
 behind_type_spot b (AttributeEnd ∷ others) left e = (type_here b left (spot_of b others left) e (λ h. (behind_type_spot b others left h).0), _, refl)
@@ -206,9 +206,9 @@ terminal_here front _ wants (State.interface u g h) i = absurd (cc i.0)
 
 -- in the body of a rule nothing else is said
 body_spot : (wants : List Sym) (left : List Lexeme) → held InRule wants ≡ true → spot_of InRule wants left ≡ spot.Rule
-body_spot [] left h = absurd (cc h)
+body_spot [] left h = absurd (not_true h)
 body_spot (RowsEnd ∷ []) left h = refl
-body_spot (s ∷ []) left h = absurd (cc h)
+body_spot (s ∷ []) left h = absurd (not_true h)
 body_spot (Card ∷ r ∷ others) left h = body_spot (r ∷ others) left h
 body_spot (AfterWord ∷ r ∷ others) left h = body_spot (r ∷ others) left h
 body_spot (Want x ∷ r ∷ others) left h = refl
@@ -224,55 +224,55 @@ body_spot (Operator ∷ r ∷ others) left h = refl
 body_spot (ActionType ∷ r ∷ others) left h = refl
 body_spot (PutEnd ∷ r ∷ others) left h = refl
 body_spot (PutOperator ∷ r ∷ others) left h = refl
-body_spot (s ∷ r ∷ others) left h = absurd (cc h)
+body_spot (s ∷ r ∷ others) left h = absurd (not_true h)
 
 -- directly behind the name, and behind the name or the type
 name_here : (begun : List Lexeme) (wants : List Sym) (left : List Lexeme) → Heads begun wants → is_name (spot_of InRule wants left) ≡ true → RuleHead begun []
-name_here _ _ left Heads.behind_entry e = absurd (cc e)
-name_here begun _ left (Heads.behind_words m) e = absurd (cc e)
+name_here _ _ left Heads.behind_entry e = absurd (not_true e)
+name_here begun _ left (Heads.behind_words m) e = absurd (not_true e)
 name_here _ _ left Heads.first_name e = RuleHead.head MayTakeWord.left_out MayTakeWord.left_out
 name_here begun _ left (Heads.named h) e = h
-name_here begun _ left (Heads.infers h) e = absurd (cc e)
-name_here begun _ left (Heads.returns h) e = absurd (cc e)
-name_here begun _ left (Heads.typed h x) e = absurd (cc e)
+name_here begun _ left (Heads.infers h) e = absurd (not_true e)
+name_here begun _ left (Heads.returns h) e = absurd (not_true e)
+name_here begun _ left (Heads.typed h x) e = absurd (not_true e)
 name_here begun wants left (Heads.body h) e = absurd (cc (rw (body_spot wants left h) at e))
 
 head_here : (begun : List Lexeme) (wants : List Sym) (left : List Lexeme) → Heads begun wants → is_in_head (spot_of InRule wants left) ≡ true →
     (behind : List Lexeme) × (type : RuleResult) × RuleHead begun behind × SpellsResult behind [] type
-head_here _ _ left Heads.behind_entry e = absurd (cc e)
-head_here begun _ left (Heads.behind_words m) e = absurd (cc e)
+head_here _ _ left Heads.behind_entry e = absurd (not_true e)
+head_here begun _ left (Heads.behind_words m) e = absurd (not_true e)
 head_here _ _ left Heads.first_name e = ([], _, RuleHead.head MayTakeWord.left_out MayTakeWord.left_out, rules.own)
 head_here begun _ left (Heads.named h) e = ([], _, h, rules.own)
-head_here begun _ left (Heads.infers h) e = absurd (cc e)
-head_here begun _ left (Heads.returns h) e = absurd (cc e)
+head_here begun _ left (Heads.infers h) e = absurd (not_true e)
+head_here begun _ left (Heads.returns h) e = absurd (not_true e)
 head_here begun _ left (Heads.typed h x) e = (_, _, h, x)
 head_here begun wants left (Heads.body h) e = absurd (cc (rw (body_spot wants left h) at e))
 
 first_here : (begun : List Lexeme) (wants : List Sym) (left : List Lexeme) → Heads begun wants → is_first_name (spot_of InRule wants left) ≡ true →
     (n : List ℕ) × (s : Span) × (begun ≡ Word n None s ∷ [])
-first_here _ _ left Heads.behind_entry e = absurd (cc e)
-first_here begun _ left (Heads.behind_words m) e = absurd (cc e)
+first_here _ _ left Heads.behind_entry e = absurd (not_true e)
+first_here begun _ left (Heads.behind_words m) e = absurd (not_true e)
 first_here _ _ left (Heads.first_name {n} {s}) e = (n, s, refl)
-first_here begun _ left (Heads.named h) e = absurd (cc e)
-first_here begun _ left (Heads.infers h) e = absurd (cc e)
-first_here begun _ left (Heads.returns h) e = absurd (cc e)
-first_here begun _ left (Heads.typed h x) e = absurd (cc e)
+first_here begun _ left (Heads.named h) e = absurd (not_true e)
+first_here begun _ left (Heads.infers h) e = absurd (not_true e)
+first_here begun _ left (Heads.returns h) e = absurd (not_true e)
+first_here begun _ left (Heads.typed h x) e = absurd (not_true e)
 first_here begun wants left (Heads.body h) e = absurd (cc (rw (body_spot wants left h) at e))
 
 name_in_rule : (s : Spot) → is_name s ≡ true → is_in_rule s ≡ true
 name_in_rule spot.FirstName e = refl
 name_in_rule spot.RuleName e = refl
-name_in_rule _ e = absurd (cc e)
+name_in_rule _ e = absurd (not_true e)
 
 head_in_rule : (s : Spot) → is_in_head s ≡ true → is_in_rule s ≡ true
 head_in_rule spot.FirstName e = refl
 head_in_rule spot.RuleName e = refl
 head_in_rule spot.RuleType e = refl
-head_in_rule _ e = absurd (cc e)
+head_in_rule _ e = absurd (not_true e)
 
 first_in_head : (s : Spot) → is_first_name s ≡ true → (is_in_rule s ≡ true) × (is_in_head s ≡ true)
 first_in_head spot.FirstName e = (refl, refl)
-first_in_head _ e = absurd (cc e)
+first_in_head _ e = absurd (not_true e)
 
 form_in : Option Form → Form → Form
 form_in (Some f) g = f
@@ -282,9 +282,12 @@ same_form : (f g : Form) → Some f ≡ Some g → f ≡ g
 unfolding form_in
 same_form f g e = ap (λ o. form_in o f) e
 
+no_form : (f : Form) → None ≡ Some f → ⊥
+no_form f e = cc e
+
 two : (c d : Bool) → (c && d) ≡ true → (c ≡ true) × (d ≡ true)
 two true d e = (refl, e)
-two false d e = absurd (cc e)
+two false d e = absurd (not_true e)
 
 -- what is told stands in the table
 module _ (front : List Lexeme) (m : Stack) (t : Lexeme) (ts : List Lexeme) (reached : reach AtStart [] front ≡ Some m) where
@@ -301,13 +304,12 @@ module _ (front : List Lexeme) (m : Stack) (t : Lexeme) (ts : List Lexeme) (reac
   behind_type : is_behind_type (spot_of m.bottom m.wants (t ∷ ts)) ≡ true → (begun : List Lexeme) × Unfinished front begun × BeginsInterface begun
   behind_type e = from m.bottom m.wants (state front m reached) (behind_type_spot m.bottom m.wants (t ∷ ts) e).0 e
     where
-      none : (wants : List Sym) → over (InType true) wants ≡ true → is_behind_type (spot_of (InType true) wants (t ∷ ts)) ≡ true → ⊥
-      none [] o e = cc e
-      none (May sign.Semicolon ∷ []) o e = cc e
-      none (s ∷ wants) o e = absurd (cc o)
+      none : (wants : List Sym) → Over (InType true) wants → is_behind_type (spot_of (InType true) wants (t ∷ ts)) ≡ true → ⊥
+      none _ Over.nothing e = not_true e
+      none _ Over.semicolon e = not_true e
 
       from : (b : Bottom) (wants : List Sym) → State front b wants → b ≡ InType true → is_behind_type (spot_of b wants (t ∷ ts)) ≡ true → (begun : List Lexeme) × Unfinished front begun × BeginsInterface begun
-      from b wants (State.between n l) i e = absurd (none wants (rw i at l) (rw i at e))
+      from b wants (State.between n l) i e = absurd (none wants (over_is (InType true) wants (rw i at l)) (rw i at e))
       from b wants (State.beside n l) i e = absurd (cc (rw i at l))
       from _ wants (State.rule u g h) i e = absurd (cc i)
       from _ wants (State.terminal u g h) i e = absurd (cc i)
@@ -363,31 +365,31 @@ module _ (front : List Lexeme) (m : Stack) (t : Lexeme) (ts : List Lexeme) (reac
   symbol_told sign.FatArrow p f e = subst (TellsForm front (Sign sign.FatArrow p)) (same_form form.Predicate f e) TellsForm.predicate
   symbol_told sign.ThinArrow p f e =
       told_if (Sign sign.ThinArrow p) (is_in_rule (spot_of m.bottom m.wants (t ∷ ts))) form.Predicate _ f e (λ h. let k = in_rule h in TellsForm.arrow k.1 k.2)
-      (λ c e. told_if (Sign sign.ThinArrow p) (is_in_terminal (spot_of m.bottom m.wants (t ∷ ts))) form.Until None f e (λ h. let k = in_terminal h in TellsForm.until k.1 k.2) (λ c e. absurd (cc e)))
+      (λ c e. told_if (Sign sign.ThinArrow p) (is_in_terminal (spot_of m.bottom m.wants (t ∷ ts))) form.Until None f e (λ h. let k = in_terminal h in TellsForm.until k.1 k.2) (λ c e. absurd (no_form f e)))
   symbol_told sign.Exclamation p f e =
-      told_if (Sign sign.Exclamation p) (is_in_terminal (spot_of m.bottom m.wants (t ∷ ts))) form.Negation None f e (λ h. let k = in_terminal h in TellsForm.negation k.1 k.2) (λ c e. absurd (cc e))
+      told_if (Sign sign.Exclamation p) (is_in_terminal (spot_of m.bottom m.wants (t ∷ ts))) form.Negation None f e (λ h. let k = in_terminal h in TellsForm.negation k.1 k.2) (λ c e. absurd (no_form f e))
   symbol_told sign.Dot p f e =
-      told_if (Sign sign.Dot p) (is_in_terminal (spot_of m.bottom m.wants (t ∷ ts))) form.Wildcard None f e (λ h. let k = in_terminal h in TellsForm.wildcard k.1 k.2) (λ c e. absurd (cc e))
+      told_if (Sign sign.Dot p) (is_in_terminal (spot_of m.bottom m.wants (t ∷ ts))) form.Wildcard None f e (λ h. let k = in_terminal h in TellsForm.wildcard k.1 k.2) (λ c e. absurd (no_form f e))
   symbol_told sign.Question p f e =
       told_if (Sign sign.Question p) (is_in_terminal (spot_of m.bottom m.wants (t ∷ ts)) && sees sign.OpenParenthesis (last_token front)) form.Lookaround None f e
       (λ h. let q = two (is_in_terminal (spot_of m.bottom m.wants (t ∷ ts))) (sees sign.OpenParenthesis (last_token front)) h in let k = in_terminal q.0 in
-      TellsForm.lookahead k.1 k.2 (seen_ends sign.OpenParenthesis front q.1)) (λ c e. absurd (cc e))
+      TellsForm.lookahead k.1 k.2 (seen_ends sign.OpenParenthesis front q.1)) (λ c e. absurd (no_form f e))
   symbol_told sign.QuestionEquals p f e =
       told_if (Sign sign.QuestionEquals p) (is_in_terminal (spot_of m.bottom m.wants (t ∷ ts)) && sees sign.OpenParenthesis (last_token front)) form.Lookaround None f e
       (λ h. let q = two (is_in_terminal (spot_of m.bottom m.wants (t ∷ ts))) (sees sign.OpenParenthesis (last_token front)) h in let k = in_terminal q.0 in
-      TellsForm.lookahead_equals k.1 k.2 (seen_ends sign.OpenParenthesis front q.1)) (λ c e. absurd (cc e))
+      TellsForm.lookahead_equals k.1 k.2 (seen_ends sign.OpenParenthesis front q.1)) (λ c e. absurd (no_form f e))
   symbol_told sign.Star p f e =
-      told_if (Sign sign.Star p) (is_name (spot_of m.bottom m.wants (t ∷ ts))) form.WildcardFragment None f e (λ h. let k = name_told h in TellsForm.wildcard_fragment k.1 k.2) (λ c e. absurd (cc e))
+      told_if (Sign sign.Star p) (is_name (spot_of m.bottom m.wants (t ∷ ts))) form.WildcardFragment None f e (λ h. let k = name_told h in TellsForm.wildcard_fragment k.1 k.2) (λ c e. absurd (no_form f e))
   symbol_told sign.Equals p f e =
       told_if (Sign sign.Equals p) (is_behind_type (spot_of m.bottom m.wants (t ∷ ts))) form.PropertyDefault None f e
-      (λ h. let k = behind_type h in TellsForm.property_default (record { start = 0; end = 0 }) k.1 k.2 (semicolon_follows h)) (λ c e. absurd (cc e))
+      (λ h. let k = behind_type h in TellsForm.property_default (record { start = 0; end = 0 }) k.1 k.2 (semicolon_follows h)) (λ c e. absurd (no_form f e))
   symbol_told sign.Plus p f e =
-      told_if (Sign sign.Plus p) (sees sign.OpenBracket (last_token front)) form.MultiReference None f e (λ h. TellsForm.multi_reference (seen_ends sign.OpenBracket front h)) (λ c e. absurd (cc e))
-  symbol_told x p f e = absurd (cc e)
+      told_if (Sign sign.Plus p) (sees sign.OpenBracket (last_token front)) form.MultiReference None f e (λ h. TellsForm.multi_reference (seen_ends sign.OpenBracket front h)) (λ c e. absurd (no_form f e))
+  symbol_told x p f e = absurd (no_form f e)
 
   hidden_is : (r : Option Reserved) → is_hidden r ≡ true → r ≡ Some word.Hidden
   hidden_is (Some word.Hidden) e = refl
-  hidden_is _ e = absurd (cc e)
+  hidden_is _ e = absurd (not_true e)
 
   word_told : (w : List ℕ) (r : Option Reserved) (p : Span) (f : Form) → form_told (spot_of m.bottom m.wants (t ∷ ts)) front (Word w r p) ≡ Some f → TellsForm front (Word w r p) f
   word_told w r p f e =
@@ -395,7 +397,7 @@ module _ (front : List Lexeme) (m : Stack) (t : Lexeme) (ts : List Lexeme) (reac
       (λ h. let q = two (is_hidden r) (is_in_head (spot_of m.bottom m.wants (t ∷ ts))) h in subst (λ z. TellsForm front (Word w z p) form.HiddenList) (sym (hidden_is r q.0)) (hidden_told w p q.1))
       (λ c e. told_if (Word w r p) (is_first_name (spot_of m.bottom m.wants (t ∷ ts)) && begins_infix (last_token front)) form.InfixRule None f e
       (λ h. let q = two (is_first_name (spot_of m.bottom m.wants (t ∷ ts))) (begins_infix (last_token front)) h in
-      infix_told w r p q.0 q.1 (λ z. cc (c, hidden_too z (first_in_head (spot_of m.bottom m.wants (t ∷ ts)) q.0).1))) (λ c e. absurd (cc e)))
+      infix_told w r p q.0 q.1 (λ z. cc (c, hidden_too z (first_in_head (spot_of m.bottom m.wants (t ∷ ts)) q.0).1))) (λ c e. absurd (no_form f e)))
     where
       hidden_too : r ≡ Some word.Hidden → is_in_head (spot_of m.bottom m.wants (t ∷ ts)) ≡ true → (is_hidden r && is_in_head (spot_of m.bottom m.wants (t ∷ ts))) ≡ true
       hidden_too z h = rw (z, h) refl
@@ -404,7 +406,7 @@ module _ (front : List Lexeme) (m : Stack) (t : Lexeme) (ts : List Lexeme) (reac
   told_is (Flagged p) f e = subst (TellsForm front (Flagged p)) (same_form form.RegexFlags f e) TellsForm.regex_flags
   told_is (Word w r p) f e = word_told w r p f e
   told_is (Sign x p) f e = symbol_told x p f e
-  told_is u f e = absurd (cc e)
+  told_is u f e = absurd (no_form f e)
 
 -- ---- from the table to the stack
 
@@ -413,7 +415,7 @@ named_rule true = refl
 named_rule false = refl
 
 stack_in_rule : (wants : List Sym) (left : List Lexeme) → all_nullable wants ≡ false → is_in_rule (spot_of InRule wants left) ≡ true
-stack_in_rule [] left n = absurd (cc n)
+stack_in_rule [] left n = absurd (not_false n)
 stack_in_rule (TypeEnd ∷ others) left n = stack_in_rule others left n
 stack_in_rule (AttributeMembers ∷ others) left n = stack_in_rule others left n
 stack_in_rule (AttributeEnd ∷ others) left n = stack_in_rule others left n
@@ -427,7 +429,7 @@ stack_in_rule (NameColon first ∷ others) left n = named_rule first
 stack_in_rule (s ∷ others) left n = refl
 
 stack_in_terminal : (wants : List Sym) (left : List Lexeme) → all_nullable wants ≡ false → spot_of InTerminal wants left ≡ spot.Terminal
-stack_in_terminal [] left n = absurd (cc n)
+stack_in_terminal [] left n = absurd (not_false n)
 stack_in_terminal (TypeEnd ∷ others) left n = stack_in_terminal others left n
 stack_in_terminal (AttributeMembers ∷ others) left n = stack_in_terminal others left n
 stack_in_terminal (AttributeEnd ∷ others) left n = stack_in_terminal others left n
@@ -441,21 +443,21 @@ stack_in_terminal (s ∷ others) left n = refl
 stack_behind_type : (wants : List Sym) (p q : Span) (ts : List Lexeme) (k : Stack) → held (InType true) wants ≡ true → after (InType true) wants (Sign sign.Semicolon q) ≡ Some k →
     is_behind_type (spot_of (InType true) wants (Sign sign.Equals p ∷ ts)) ≡ true
 unfolding same_symbol
-stack_behind_type [] p q ts k h e = absurd (cc h)
-stack_behind_type (Above ∷ []) p q ts k h e = absurd (cc e)
-stack_behind_type (NamesOpen ∷ []) p q ts k h e = absurd (cc e)
-stack_behind_type (Attributes ∷ []) p q ts k h e = absurd (cc e)
-stack_behind_type (s ∷ []) p q ts k h e = absurd (cc h)
+stack_behind_type [] p q ts k h e = absurd (not_true h)
+stack_behind_type (Above ∷ []) p q ts k h e = absurd (no_stack k e)
+stack_behind_type (NamesOpen ∷ []) p q ts k h e = absurd (no_stack k e)
+stack_behind_type (Attributes ∷ []) p q ts k h e = absurd (no_stack k e)
+stack_behind_type (s ∷ []) p q ts k h e = absurd (not_true h)
 stack_behind_type (TypeEnd ∷ r ∷ others) p q ts k h e = refl
 stack_behind_type (AttributeMembers ∷ r ∷ others) p q ts k h e = refl
 stack_behind_type (AttributeEnd ∷ r ∷ others) p q ts k h e = refl
 stack_behind_type (May sign.Question ∷ r ∷ others) p q ts k h e = stack_behind_type (r ∷ others) p q ts k h e
-stack_behind_type (Want sign.Colon ∷ r ∷ others) p q ts k h e = absurd (cc e)
-stack_behind_type (Want sign.CloseBracket ∷ r ∷ others) p q ts k h e = absurd (cc e)
-stack_behind_type (WantName ∷ r ∷ others) p q ts k h e = absurd (cc e)
-stack_behind_type (Single ∷ r ∷ others) p q ts k h e = absurd (cc e)
-stack_behind_type (MembersClose ∷ r ∷ others) p q ts k h e = absurd (cc e)
-stack_behind_type (s ∷ r ∷ others) p q ts k h e = absurd (cc h)
+stack_behind_type (Want sign.Colon ∷ r ∷ others) p q ts k h e = absurd (no_stack k e)
+stack_behind_type (Want sign.CloseBracket ∷ r ∷ others) p q ts k h e = absurd (no_stack k e)
+stack_behind_type (WantName ∷ r ∷ others) p q ts k h e = absurd (no_stack k e)
+stack_behind_type (Single ∷ r ∷ others) p q ts k h e = absurd (no_stack k e)
+stack_behind_type (MembersClose ∷ r ∷ others) p q ts k h e = absurd (no_stack k e)
+stack_behind_type (s ∷ r ∷ others) p q ts k h e = absurd (not_true h)
 
 -- behind a whole file a word begins an item
 word_falls : (b : Bottom) (wants : List Sym) (w : List ℕ) (r : Option Reserved) (s : Span) → all_nullable wants ≡ true → after b wants (Word w r s) ≡ bottom_begin b (Word w r s)
@@ -468,7 +470,7 @@ word_falls b (MembersEnd ∷ others) w r s n = word_falls b others w r s n
 word_falls b (Card ∷ others) w r s n = word_falls b others w r s n
 word_falls b (AfterWord ∷ others) w r s n = word_falls b others w r s n
 word_falls b (AfterText ∷ others) w r s n = word_falls b others w r s n
-word_falls b (x ∷ others) w r s n = absurd (cc n)
+word_falls b (x ∷ others) w r s n = absurd (not_true n)
 
 bottom_item : (b : Bottom) (t : Lexeme) → sees_reserved word.Grammar (t ∷ []) ≡ false → sees_reserved word.Import (t ∷ []) ≡ false → bottom_begin b t ≡ item_begin t
 bottom_item AtStart t g i = rw (g, i) refl
