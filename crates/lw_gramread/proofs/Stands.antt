@@ -16,7 +16,7 @@ use Rattle.lw_gramread.specs.ParserRules.{SpellsResult}
 use Rattle.lw_gramread.specs.Syntax.{SpellsFile}
 use Rattle.lw_gramread.specs.Forms.{Unfinished, BeginsRule, BeginsTerminal, BeginsInterface, RuleHead}
 use Rattle.lw_gramread.specs.Steps.{sees_name, sees_primitive}
-use Rattle.lw_gramread.proofs.Machine.{Sym, Want, WantWord, WantName, WantText, May, Above, Single, MembersEnd, Element, RowsEnd, RuleName, ResultColon, TypedColon, Returned, TerminalName, Term, TermsEnd, Bottom, AtStart, AtImports, AtItems, InType, InRule, InTerminal, Stack, Wanted, is, is_reserved, begin, nullable, all_nullable, pushed, after, rule_begin, item_begin, bottom_begin}
+use Rattle.lw_gramread.proofs.Machine.{Sym, Want, WantWord, WantName, WantText, May, Above, Single, MembersEnd, Element, RowsEnd, RuleName, ResultColon, TypedColon, Returned, TerminalName, Term, TermsEnd, Bottom, AtStart, AtImports, InType, InRule, InTerminal, Stack, Wanted, is, is_reserved, begin, nullable, all_nullable, pushed, after, rule_begin, item_begin, bottom_begin}
 use Rattle.lw_gramread.proofs.At.{is_the_word}
 use Rattle.lw_gramread.proofs.Reach.{reach, onward, reach_join, same_stack}
 use Rattle.lw_gramread.proofs.Held.{held, over, Over, over_is, not_true, held_or_over, held_solid, over_nullable, keeps, stays}
