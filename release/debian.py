@@ -52,8 +52,6 @@ langbench ({version}) unstable; urgency=medium
 OVERRIDES = """\
 # the very file that was proved, with its names
 langbench: unstripped-binary-or-object *
-# the release has no other history
-langbench: initial-upload-closes-no-bugs *
 """
 
 

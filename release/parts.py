@@ -23,7 +23,8 @@ def of_commit(commit):
     packed = checkout.answer("git", "-c", "tar.umask=022", "archive", "--format=tar", commit, "--", *PAGES, *OWN)
     with tarfile.open(fileobj=io.BytesIO(packed)) as tar:
         for entry in tar:
-            if entry.isfile():
+            # what git alone reads is left out
+            if entry.isfile() and "/.git" not in entry.name:
                 name = entry.name[len("release/"):] if entry.name.startswith("release/") else entry.name
                 yield File(name, bool(entry.mode & 0o100), tar.extractfile(entry).read())
 
