@@ -2,20 +2,24 @@
 
 # The operands before the cursor, the command's name among them. Behind a `--` every word is one.
 function __langbench_operands
-    set -l words (commandline -opc)[2..-1]
-    set -l ended 0
-    set -l skips 0
-    for word in $words
-        if test $skips = 1
-            set skips 0
-        else if test $ended = 1
-            echo -- $word
-        else if test -- $word = --
-            set ended 1
-        else if test -- $word = --lookahead
-            set skips 1
-        else if not string match -q -- '-*' $word
-            echo -- $word
+    set -l words (commandline -opc)
+    set -l is_ended 0
+    set -l is_number 0
+    for word in $words[2..-1]
+        if test $is_ended = 1
+            printf '%s\n' $word
+        else if test $is_number = 1
+            set is_number 0
+        else
+            switch $word
+                case --
+                    set is_ended 1
+                case --lookahead
+                    set is_number 1
+                case '--lookahead=*'
+                case '*'
+                    printf '%s\n' $word
+            end
         end
     end
 end
