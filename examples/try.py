@@ -27,8 +27,8 @@ import sys
 TOP = pathlib.Path(__file__).resolve().parent.parent
 PAGES = ["README.md", "docs/commands.md", "docs/tutorial.md"]
 TABLE = "crates/langbench/src/page_tests.rt"
-# a release has the manual page and the completions at its top
-SHARED = TOP / "release" if (TOP / "release").is_dir() else TOP
+# The folder of the manual page and the completions, which a release has at its top. What is installed has them elsewhere.
+SHARED = next((folder for folder in (TOP / "release", TOP) if (folder / "install").is_file()), None)
 HELLO = "examples/hello/hello.langium"
 
 # Words that docs/commands.md speaks of: the status, and the line that is printed, where it is not that on usage.
@@ -55,12 +55,12 @@ TRIED = [
 ]
 
 # Where the commands, the options and the numbers of kinds stand in the files that tell of them.
+PAGE = (r"^    langbench ([\w-]+) +GRAMMAR", r"`--([\w-]+) K`", r"`K` is ([\d, or]+)")
 TOLD = {
-    TOP / "docs/commands.md": (r"^    langbench ([\w-]+) +GRAMMAR", r"`--([\w-]+) K`", r"`K` is ([\d, or]+)"),
-    SHARED / "langbench.1": (r"^\.It Cm ([\w-]+)", r"Fl Fl ([\w-]+)", r"^\.Cm (\d.*) \.$"),
-    SHARED / "completions/langbench.bash": (r"commands='([^']+)'", r"options='--([^']+)'", r"depths='([^']+)'"),
-    SHARED / "completions/_langbench": (r"^ +'([a-z-]+):", r"--([\w-]+)=", r":kinds:\((.+?)\)"),
-    SHARED / "completions/langbench.fish": (r" -a ([\w-]+) -d", r"^complete .* -l ([\w-]+)", r" -a '([\d ]+)'"),
+    "langbench.1": (r"^\.It Cm ([\w-]+)", r"Fl Fl ([\w-]+)", r"^\.Cm (\d.*) \.$"),
+    "completions/langbench.bash": (r"commands='([^']+)'", r"options='--([^']+)'", r"depths='([^']+)'"),
+    "completions/_langbench": (r"^ +'([a-z-]+):", r"--([\w-]+)=", r":kinds:\((.+?)\)"),
+    "completions/langbench.fish": (r" -a ([\w-]+) -d", r"^complete .* -l ([\w-]+)", r" -a '([\d ]+)'"),
 }
 
 
@@ -170,7 +170,8 @@ def words_at(pattern, text):
 def try_told(program):
     """Holds the files that tell of the words against the program, and gives for each whether it has all and no others."""
     wanted = taken(program)
-    for path, patterns in TOLD.items():
+    others = {SHARED / name: patterns for name, patterns in TOLD.items()} if SHARED else {}
+    for path, patterns in {TOP / "docs/commands.md": PAGE, **others}.items():
         text = path.read_text(encoding="utf-8")
         found = tuple(words_at(pattern, text) for pattern in patterns)
         lines = [f"the program takes {sorted(one)}, and here is {sorted(other)}" for one, other in zip(wanted, found)]
@@ -179,6 +180,8 @@ def try_told(program):
 
 def try_statuses():
     """Holds the statuses of the manual page against those of docs/commands.md."""
+    if not SHARED:
+        return
     page = (TOP / "docs/commands.md").read_text(encoding="utf-8")
     manual = (SHARED / "langbench.1").read_text(encoding="utf-8")
     wanted, found = re.findall(r"^\| (\d+) \|", page, re.M), re.findall(r"^\.It (\d+)$", manual, re.M)
