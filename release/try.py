@@ -16,7 +16,6 @@ import resource
 import shutil
 import subprocess
 import sys
-import tarfile
 import tempfile
 
 TOP = pathlib.Path(__file__).resolve().parent.parent
@@ -199,8 +198,7 @@ def try_words(folder):
 
 def try_archive(archive, room):
     """Tries what is in an archive."""
-    with tarfile.open(archive) as tar:
-        tar.extractall(room)
+    run(["tar", "-xzf", os.path.abspath(archive)], room)
     folder, = pathlib.Path(room).iterdir()
     try_manifest(folder, pathlib.Path(room, "never"))
     try_install(folder, pathlib.Path(room, "prefix"))
