@@ -17,6 +17,12 @@ class Refusal(Exception):
     """Why no release is made of a checkout."""
 
 
+def why(fault):
+    """What stands in the way, in one line. Where a disk is full no file is named."""
+    said = getattr(fault, "strerror", None) or str(fault)
+    return f"{fault.filename}: {said}" if getattr(fault, "filename", None) else said
+
+
 def answer(*words, **how):
     """What a command prints, or why it did not run."""
     try:

@@ -59,15 +59,41 @@ def manifest(files, facts):
     return (said + "".join(f"{checkout.sum_of(file.data)}  {file.name}\n" for file in files)).encode()
 
 
+def header(name, file, when):
+    """The block that stands before a file in a tar archive (POSIX.1-2017, pax, "ustar Interchange Format"). It is written
+    here, since the versions of tarfile differ in it."""
+    if len(name.encode()) > 100:
+        raise checkout.Refusal(f"the name is too long for the archive: {name}")
+    zero = "0000000"
+    fields = (
+        (name, 100),
+        (f"{0o755 if file.runs else 0o644:07o}", 8),
+        (zero, 8),
+        (zero, 8),
+        (f"{len(file.data):011o}", 12),
+        (f"{when:011o}", 12),
+        # the sum is taken with blanks in its place
+        (" " * 8, 8),
+        ("0", 1),
+        ("", 100),
+        ("ustar\x0000", 8),
+        ("root", 32),
+        ("root", 32),
+        (zero, 8),
+        (zero, 8),
+        ("", 167),
+    )
+    block = b"".join(text.encode().ljust(size, b"\0") for text, size in fields)
+    return block[:148] + f"{sum(block):06o}\0 ".encode() + block[156:]
+
+
 def archive(files, folder, when):
     """An archive whose bytes come from the files and the moment alone."""
     room = io.BytesIO()
     # without the empty name gzip may write one
     with gzip.GzipFile(filename="", fileobj=room, mode="wb", compresslevel=9, mtime=when) as packed:
-        with tarfile.open(fileobj=packed, mode="w", format=tarfile.USTAR_FORMAT) as tar:
-            for file in sorted(files):
-                entry = tarfile.TarInfo(f"{folder}/{file.name}")
-                entry.size, entry.mtime, entry.mode = len(file.data), when, 0o755 if file.runs else 0o644
-                entry.uname = entry.gname = "root"
-                tar.addfile(entry, io.BytesIO(file.data))
+        for file in sorted(files):
+            packed.write(header(f"{folder}/{file.name}", file, when) + file.data + bytes(-len(file.data) % 512))
+        # two empty blocks end it
+        packed.write(bytes(1024))
     return room.getvalue()
