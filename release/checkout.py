@@ -72,9 +72,13 @@ def program():
     if not PROGRAM.is_file():
         raise Refusal(f"there is no proved program: {PROGRAM.relative_to(TOP)} is absent, and release/gate makes it")
     built = PROGRAM.stat().st_mtime_ns
+    known = set(answer("git", "ls-files", "-z").decode("utf-8", "surrogateescape").split("\0"))
     for path in sources():
+        name = str(path.relative_to(TOP))
+        if name not in known:
+            raise Refusal(f"{name} is ignored by git, and no part of the commit, but the program may be made from it")
         if path.stat().st_mtime_ns > built:
-            raise Refusal(f"the program is older than its sources: {path.relative_to(TOP)} has changed since")
+            raise Refusal(f"the program is older than its sources: {name} has changed since")
     return PROGRAM.read_bytes()
 
 

@@ -113,7 +113,8 @@ def run(*words, when):
     """Runs one of Debian's tools, and shows what it says where it fails."""
     # one thread, so that the number of processors is not to be seen in what is packed
     env = {**os.environ, "LC_ALL": "C", "SOURCE_DATE_EPOCH": str(when), "DPKG_DEB_THREADS_MAX": "1"}
-    ran = subprocess.run(words, env=env, stdin=subprocess.DEVNULL, stdout=subprocess.PIPE, stderr=subprocess.STDOUT, check=False)
+    how = {"stdin": subprocess.DEVNULL, "stdout": subprocess.PIPE, "stderr": subprocess.STDOUT}
+    ran = subprocess.run(words, env=env, check=False, **how)
     if ran.returncode:
         raise checkout.Refusal(f"{words[0]} failed: {ran.stdout.decode('utf-8', 'replace').strip()}")
 

@@ -43,8 +43,8 @@ def tell(good, what, said=""):
 def run(words, folder, env=None, room=None):
     """The status of a command, and all that it says."""
     limit = (lambda: resource.setrlimit(resource.RLIMIT_FSIZE, (room, room))) if room else None
-    how = {"cwd": folder, "env": env, "stdin": subprocess.DEVNULL, "stdout": subprocess.PIPE, "stderr": subprocess.STDOUT}
-    ran = subprocess.run(list(map(str, words)), preexec_fn=limit, check=False, **how)
+    how = {"stdin": subprocess.DEVNULL, "stdout": subprocess.PIPE, "stderr": subprocess.STDOUT, "preexec_fn": limit}
+    ran = subprocess.run(list(map(str, words)), cwd=folder, env=env, check=False, **how)
     return ran.returncode, ran.stdout.decode("utf-8", "replace")
 
 
@@ -78,6 +78,9 @@ class Copy:
         self.commit(".ci/run", GATE.format(program=STAND_IN, last=last))
         return run(["release/gate"], self.folder)
 
+    def gate_log(self, log):
+        return run(["release/gate", log], self.folder)
+
     def build(self, *words, **how):
         return run(["release/build", *words], self.folder, **how)
 
@@ -89,7 +92,8 @@ class Copy:
 def try_refusals(copy):
     """What makes no release."""
     tells("no program is refused", copy.build(), 1, "no proved program")
-    tells("a gate that fails is not kept", copy.gate_says("3 passed, 1 failed"), 1, "the gate did not pass: its last line is '3 passed, 1 failed'")
+    failing = copy.gate_says("3 passed, 1 failed")
+    tells("a gate that fails is not kept", failing, 1, "the gate did not pass: its last line is '3 passed, 1 failed'")
     tells("a program that no gate left is refused", copy.build(), 1, "no gate was kept")
     tells("a gate that passes is kept", copy.gate_says("4 passed, 0 failed"), 0, "kept out/gate.log")
     page = copy.folder / "docs/commands.md"
@@ -101,7 +105,13 @@ def try_refusals(copy):
     beside.write_text("mine")
     tells("a file that is not git's is refused", copy.build(), 1, "the checkout has changes: examples/mine.txt")
     beside.unlink()
-    tells("a source that is younger is refused", copy.with_touched("crates.txt"), 1, "older than its sources: crates.txt")
+    with open(copy.folder / ".git/info/exclude", "a", encoding="utf-8") as ignored:
+        ignored.write("mine.rt\n")
+    hidden = copy.folder / "crates/langbench/src/mine.rt"
+    hidden.write_text("mine")
+    tells("so is a source that git ignores", copy.build(), 1, "crates/langbench/src/mine.rt is ignored by git")
+    hidden.unlink()
+    tells("a source that is younger is refused", copy.with_touched("crates.txt"), 1, "sources: crates.txt")
     tells("a program that is younger is taken", copy.with_touched(PROGRAM), 0, "x86_64-linux.tar.gz")
 
 
@@ -123,9 +133,9 @@ def try_making(copy, room):
     log.write_text("4 passed, 0 failed\n")
     os.utime(copy.folder / PROGRAM)
     os.utime(log, (0, 0))
-    tells("a log that is older than the program is refused", run(["release/gate", log], copy.folder), 1, "older than the program")
+    tells("a log that is older than the program is refused", copy.gate_log(log), 1, "older than the program")
     os.utime(log)
-    tells("a log that is younger is kept", run(["release/gate", log], copy.folder), 0, "kept out/gate.log")
+    tells("a log that is younger is kept", copy.gate_log(log), 0, "kept out/gate.log")
 
 
 def try_manifest(folder, prefix):
@@ -136,7 +146,8 @@ def try_manifest(folder, prefix):
     data = page.read_bytes()
     page.write_bytes(data[:-2] + b"x\n")
     tells("the manifest names a changed file", run(check, folder, {}), 1, "docs/commands.md: FAILED")
-    tells("install names it too", run(["./install", "--prefix", prefix], folder, {}), 1, "docs/commands.md: FAILED", "those of the release")
+    installed = run(["./install", "--prefix", prefix], folder, {})
+    tells("install names it too", installed, 1, "docs/commands.md: FAILED", "those of the release")
     tell(not prefix.exists(), "and writes nothing")
     page.write_bytes(data)
 
@@ -159,7 +170,8 @@ def try_install(folder, prefix):
     page.write_text("mine")
     tells("a changed file is in the way", run(install, folder, {}), 1, f"in the way: {page}")
     page.write_bytes(data)
-    tells("it goes without the archive", run(["sh", prefix / "share/langbench/install", "--remove", "--prefix", prefix], "/", {}), 0)
+    own = ["sh", prefix / "share/langbench/install", "--remove", "--prefix", prefix]
+    tells("it goes without the archive", run(own, "/", {}), 0)
     tell(snapshot(prefix) == before, "and leaves what was there before")
     tells("there is nothing to take out then", run([*install, "--remove"], folder, {}), 1, "nothing is installed")
 
@@ -170,7 +182,8 @@ def try_bad_prefixes(folder, prefix):
     install = ["./install", "--prefix", prefix]
     tells("where there is no room nothing is installed", run(install, folder, {}, room=ROOM), 1, "nothing was installed")
     tell(not snapshot(prefix), "and nothing is left", snapshot(prefix))
-    tells("a prefix that cannot be written is said", run(["./install", "--prefix", "/dev/null/here"], folder, {}), 1, "cannot be written")
+    nowhere = ["./install", "--prefix", "/dev/null/here"]
+    tells("a prefix that cannot be written is said", run(nowhere, folder, {}), 1, "cannot be written")
     tells("so is that there is no home", run(["./install"], folder, {}), 1, "HOME is not set")
     tells("other words are refused", run(["./install", "--unknown"], folder, {}), 2, "usage: install")
     (prefix / "bin").mkdir()

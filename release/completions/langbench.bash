@@ -8,7 +8,7 @@ _langbench_files() {
 _langbench() {
     local commands='check make serve' options='--lookahead' depths='1 2 3'
     local current=${COMP_WORDS[COMP_CWORD]} before=${COMP_WORDS[COMP_CWORD - 1]}
-    local command=${COMP_WORDS[1]} operands=0 ended= word
+    local command=${COMP_WORDS[1]} operands=0 ended='' word
     COMPREPLY=()
 
     # bash cuts --lookahead=K into three words
