@@ -122,7 +122,8 @@ def try_making(copy, room):
     tell(not any(status for status, _ in ends) and made[0] == made[1], "made twice it has the same bytes", ends)
     full = copy.build("--to", f"{room}/full", room=ROOM)
     tell(full[0] == 1 and not snapshot(pathlib.Path(room, "full")), "where there is no room no half of it is left", full)
-    tells("a folder that cannot be written is said", copy.build("--to", "/dev/null/release"), 1, "release/build: ", "/dev/null/release")
+    nowhere = copy.build("--to", "/dev/null/release")
+    tells("a folder that cannot be written is said", nowhere, 1, "release/build: ", "/dev/null/release")
     with open(copy.folder / PROGRAM, "ab") as program:
         program.write(b"\n")
     tells("a program that the gate did not leave is refused", copy.build(), 1, "passed with another program")
