@@ -10,8 +10,8 @@ top of the repository, with PROGRAM in place of `./langbench`. Each line of a co
 the last one with nothing. Where langbench prints something, the table that the gate tries,
 crates/langbench/src/page_tests.rt, has to hold what is read and what is printed. A release has no table, and none is asked.
 
-Then words are tried that docs/commands.md speaks of, and the manual page, the completions and that page have to have the
-words that PROGRAM takes, and no others.
+Then words are tried that docs/commands.md speaks of. That page, the manual page and the completions have to have the words
+that PROGRAM takes, and no others.
 
 One line is printed for each command and each of these. The status is 1 where one of them differs or is not in the table, or
 where there is none.

@@ -31,7 +31,7 @@ Description: language server from one grammar file
  completion for a language of which only its grammar is written, in the
  notation of Langium's grammar language.
  .
- The command is proved: each function meets its contract on every input.
+ The program is proved against contracts that say what it answers.
 """
 
 COPYRIGHT = """\
