@@ -169,7 +169,8 @@ def about_names():
             links = [] if fenced else re.findall(r"\]\((?!https?:|#)([\w./-]+)", line)
             places += [(pathlib.PurePosixPath(page).parent / link).as_posix() for link in links]
             for place in places:
-                if not (TOP / place).exists() and page != PROVED or "/out/" in place:
+                # what is built is in no checkout that is new
+                if not (TOP / place).exists() and page != PROVED and "/out/" not in place:
                     yield f"{page}:{number}: there is no {place}"
 
 
