@@ -26,8 +26,8 @@ fn drain(
     Ok(None)
 }
 
-/// What a stream gives that comes in pieces of `size` bytes, each read out before the next comes. Pieces
-/// of 0 bytes stand for pieces of as many as the reader wants.
+/// What a stream gives that comes in pieces of `size` bytes. Pieces of 0 bytes stand for pieces of as many as the reader
+/// wants.
 fn read(alloc: Global, stream: &[u8], size: usize, closed: bool) -> Result<Frames, NoMemory> {
     let mut reader = FrameReader::new(alloc);
     let mut bodies = Items::new(alloc);
@@ -36,7 +36,6 @@ fn read(alloc: Global, stream: &[u8], size: usize, closed: bool) -> Result<Frame
         let most = if size == 0 { reader.wanted() } else { size };
         let end = fed + most.min(stream.len() - fed).min(LONGEST);
         reader.feed(&stream[fed..end])?;
-        drain(&mut reader, &mut bodies)?;
         fed = end;
     }
     if closed {

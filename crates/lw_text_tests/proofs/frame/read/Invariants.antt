@@ -1,5 +1,4 @@
 use Rattle.std.proofs.Common.{◌≡◌, ◌≤◌, ◌-◌, length, false}
-use Rattle.lw_frame.specs.Frames.{bodies_of}
 use Rattle.lw_text_tests.proofs.frame.read.Given as goal
 
 abbrev pub invariant-pieces : goal.invariant-pieces
@@ -7,7 +6,6 @@ invariant-pieces l = record {
   fed : length l.reader.stream.fed ≡ l.fed;
   within : l.fed ≤ length l.stream;
   going_on : l.reader.stream.closed ≡ false;
-  given : l.reader.stream.given ≡ length (bodies_of l.reader.stream.fed);
 }
 
 abbrev pub decreases-pieces : goal.decreases-pieces
