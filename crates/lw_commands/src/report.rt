@@ -5,7 +5,6 @@ ghost use Rattle.std.specs.Str.{IsUtf8};
 ghost use Rattle.lw_commands.specs.Checked.{diagnostic_line};
 ghost use Rattle.lw_commands.specs.Reports.{IsReport};
 
-use crate::desk::Desk;
 use crate::place::printed;
 use lw_alone::{Told, tell};
 use lw_base::{LONGEST_DOCUMENT, Name, NoMemory};
@@ -13,6 +12,7 @@ use lw_check::too_large;
 use lw_lang::Language;
 use lw_text::{Shown, TextDoc};
 use std::alloc::Global;
+use std::mem::forget;
 
 /// Whether a document is read whole.
 #[derive(Clone, Copy, Debug, PartialEq, Eq)]
@@ -40,12 +40,12 @@ impl Report {
     }
 }
 
-/// The report on the first bytes of a document: all of them, or one more than may be read. What they read as is left on the desk.
+/// The report on the first bytes of a document: all of them, or one more than may be read. What they read as is given up, and not taken
+/// apart: the process ends with it.
 pub(crate) fn report_on(
     alloc: Global,
     language: &Language,
     bytes: Vec<u8>,
-    desk: &mut Desk,
 ) -> Result<Report, NoMemory>
     requires { length bytes.items ≤ LONGEST_DOCUMENT + 1 }
     ensures { IfOk result (IsReport language.now.grammar bytes.items) }
@@ -55,7 +55,7 @@ pub(crate) fn report_on(
         return Ok(Report::broken(diagnostic_line(alloc, &shown)?));
     }
     match Name::from_vec(bytes) {
-        Some(text) => report_text(alloc, language, text, desk),
+        Some(text) => report_text(alloc, language, text),
         None => Ok(Report::broken(String::from_str(alloc, "text is not UTF-8\n")?)),
     }
 }
@@ -64,7 +64,6 @@ fn report_text(
     alloc: Global,
     language: &Language,
     text: Name,
-    desk: &mut Desk,
 ) -> Result<Report, NoMemory>
     requires short { length text ≤ LONGEST_DOCUMENT }
     requires utf8 { IsUtf8 text }
@@ -74,7 +73,7 @@ fn report_text(
         return Err(NoMemory);
     };
     let Told { parsed, list } = tell(alloc, language, &document)?;
-    desk.leave_checked(parsed);
+    forget(parsed);
     if list.is_empty() {
         return Ok(Report {
             text: String::from_str(alloc, "ok\n")?,

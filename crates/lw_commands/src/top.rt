@@ -41,9 +41,9 @@ pub struct Status {
 /// are two where nothing is said. `check GRAMMAR` reads the grammar from the store and a document from the source, and writes `ok` or
 /// what is wrong with it. `serve GRAMMAR FILE ..` puts the files that are named, and answers the session of the source frame by frame,
 /// each reply before the next read. `make GRAMMAR N` generates and builds N documents and writes what they hold; it reads nothing of the
-/// source. What a command worked on stays on the desk: what a document reads as, a session, or a workspace. The first that is met in
+/// source. What a command worked on stays on the desk: a session, or a workspace. The first that is met in
 /// this order ends the run: the words, the grammar, the files that are named, then the source in its order, each reply in its place.
-/// From status 2 on one line of why goes to `notes`; that a note fails changes nothing.
+/// From status 2 on one note of why goes to `notes`: a line, or for a grammar with faults a line for each. That a note fails changes nothing.
 pub fn run<S: Source, K: Sink, N: Sink, F: Store, P: Patterns, L: Ledger>(
     alloc: Global,
     words: &[Name],
@@ -145,7 +145,7 @@ fn act<S: Source, K: Sink, F: Store, P: Patterns, L: Ledger>(
         return Err(Stop::Words);
     };
     match command {
-        Command::Check(root) => check(alloc, *root, source, out, store, patterns, desk),
+        Command::Check(root) => check(alloc, *root, source, out, store, patterns),
         Command::Serve(root, files) => {
             serve(
                 alloc, *root, files, source, out, store, patterns, desk, steps,
@@ -157,7 +157,7 @@ fn act<S: Source, K: Sink, F: Store, P: Patterns, L: Ledger>(
     }
 }
 
-// Reads the grammar, then the document to its end, and prints what is told of it. What it reads as is left on the desk.
+// Reads the grammar, then the document to its end, and prints what is told of it.
 fn check<S: Source, K: Sink, F: Store, P: Patterns>(
     alloc: Global,
     root: Root<'_>,
@@ -165,7 +165,6 @@ fn check<S: Source, K: Sink, F: Store, P: Patterns>(
     out: &mut K,
     store: &mut F,
     patterns: &mut P,
-    desk: &mut Desk,
 ) -> Result<Verdict, Stop>
     ensures works { IfSome (F.files store.old) (λ files. IfSome (S.left source.old) (λ held.
         CheckComesTo files root.entry.path.now root.entry.k held (P.last_refused patterns.new) (S.left source.new) (K.written out.old) (K.written out.new) result)) }
@@ -177,7 +176,7 @@ fn check<S: Source, K: Sink, F: Store, P: Patterns>(
     ensures patterns { Counts ThePatterns (P.count patterns.old) (P.count patterns.new) result }
 {
     let language = compile(alloc, root.path, root.k, store, patterns)?;
-    let report = reported(alloc, &language, source, desk)?;
+    let report = reported(alloc, &language, source)?;
     print(out, &report)
 }
 
@@ -186,7 +185,6 @@ fn reported<S: Source>(
     alloc: Global,
     language: &Language,
     source: &mut S,
-    desk: &mut Desk,
 ) -> Result<Report, Stop>
     ensures report { IfOk result (λ report. IfSome (S.left source.old) (λ held. IsReport language.now.grammar (take most_read held) report)) }
     ensures read { OnOk result (IfSome (S.left source.old) (λ held. ReadsDocument held (S.left source.new))) }
@@ -194,7 +192,7 @@ fn reported<S: Source>(
     ensures source { Counts TheSource (S.count source.old) (S.count source.new) result }
 {
     let bytes = read_all(alloc, source, LONGEST_DOCUMENT + 1)?;
-    Ok(report_on(alloc, language, bytes, desk)?)
+    Ok(report_on(alloc, language, bytes)?)
 }
 
 // Prints a report.
