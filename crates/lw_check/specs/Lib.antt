@@ -1,3 +1,4 @@
+pub mod Codes
 pub mod Known
 pub mod Sorting
 pub mod Telling

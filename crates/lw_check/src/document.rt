@@ -13,10 +13,12 @@ ghost use Rattle.lw_link_rules.specs.Diagnostics.{IsDiagnosticShown, alone_at};
 ghost use Rattle.lw_link_rules.specs.Faults.{IsFaultShown, IsShownAt, too_large_shown};
 ghost use Rattle.lw_link_rules.specs.Links.{IsNumberBelow};
 ghost use Rattle.lw_types.specs.Inferred.{AreTypesOf};
+ghost use Rattle.lw_check.specs.Codes.{code_number};
 ghost use Rattle.lw_check.specs.Known.{AreKnownOf};
 ghost use Rattle.lw_check.specs.Sorting.{AreShown, diagnostic_of};
 ghost use Rattle.lw_check.specs.Telling.{AreToldAndShown};
 
+use crate::code::Code;
 use crate::sorting::{KeyedDiagnostic, sorted_diagnostics};
 use lw_base::{DocId, Items, LONGEST_DOCUMENT, Name, NoMemory, Span};
 use lw_index::{Answer, Index};
@@ -131,7 +133,7 @@ pub fn too_large(alloc: Global) -> Result<Shown, NoMemory>
     Ok(Shown {
         start,
         end: start,
-        code: 7,
+        code: Code::TooLong.number(),
         message: Name::from_string(message),
     })
 }
@@ -150,19 +152,29 @@ pub fn issue_diagnostic(
     match issue {
         Issue::Lexical(span) => {
             let message = Name::from_text(alloc, "Unexpected character.")?;
-            Ok(shown_at(document, span, 1, message))
+            Ok(issue_shown(document, span, Code::UnexpectedCharacter, message))
         }
         Issue::Syntax(span, kind) => {
             let kind = tokens.kind_text(kind);
             let message = format!(in alloc; "Unexpected {kind}.")?;
-            Ok(shown_at(document, span, 2, Name::from_string(message)))
+            Ok(issue_shown(document, span, Code::Unexpected, Name::from_string(message)))
         }
         Issue::End(at) => {
             let message = Name::from_text(alloc, "Unexpected end of text.")?;
-            Ok(shown_at(document, Span { start: at, end: at }, 2, message))
+            let end = Span { start: at, end: at };
+            Ok(issue_shown(document, end, Code::Unexpected, message))
         }
         Issue::TooLarge => too_large(alloc),
     }
+}
+
+// A fault of the text with this code, as it is shown.
+fn issue_shown(text: &TextDoc, span: Span, code: Code, message: Name) -> Shown
+    requires start { span.start ≤ length text.now }
+    requires end { span.end ≤ length text.now }
+    ensures { IsShownAt text.now span.start span.end (code_number code) message result }
+{
+    shown_at(text, span, code.number(), message)
 }
 
 // It is shown from the start of the span to its end.

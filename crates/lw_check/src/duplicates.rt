@@ -11,6 +11,7 @@ ghost use Rattle.lw_types.specs.Inferred.{AreTypesOf};
 ghost use Rattle.lw_check.specs.Sorting.{diagnostic_of, diagnostics_of};
 ghost use Rattle.lw_check.specs.Telling.{TellsDouble, TellsDoubleBelow};
 
+use crate::code::Code;
 use crate::sorting::{KeyedDiagnostic, keyed};
 use lw_base::{Name, NoMemory, NodeId, Span};
 use lw_symbols::Locals;
@@ -91,5 +92,5 @@ fn duplicate_at(
     ensures { IfOk result (λ diagnostic. diagnostic_of diagnostic ≡ duplicate_at span type_name.now name.now) }
 {
     let message = format!(in alloc; "Duplicate {type_name} named '{name}'.")?;
-    Ok(keyed(span, 4, Name::from_string(message)))
+    Ok(keyed(span, Code::Duplicate, Name::from_string(message)))
 }

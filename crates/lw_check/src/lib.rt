@@ -15,6 +15,7 @@
 //! prints of a document and what an editor is told of it both come from here.
 #![tactic(auto)]
 
+mod code;
 mod document;
 mod duplicates;
 mod numbers;

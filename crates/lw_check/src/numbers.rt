@@ -6,6 +6,7 @@ ghost use Rattle.lw_tree.specs.Keyed.{values_of};
 ghost use Rattle.lw_check.specs.Sorting.{diagnostic_of, diagnostics_of};
 ghost use Rattle.lw_check.specs.Telling.{TellsValue};
 
+use crate::code::Code;
 use crate::sorting::{KeyedDiagnostic, keyed};
 use lw_base::{Name, NoMemory, Span};
 use lw_tree::{Tree, Value};
@@ -44,5 +45,5 @@ fn out_of_range(alloc: Global, span: Span) -> Result<KeyedDiagnostic, NoMemory>
     ensures { IfOk result (λ diagnostic. diagnostic_of diagnostic ≡ out_of_range span) }
 {
     let message = Name::from_text(alloc, "Number is out of range.")?;
-    Ok(keyed(span, 6, message))
+    Ok(keyed(span, Code::OutOfRange, message))
 }

@@ -10,6 +10,7 @@ ghost use Rattle.lw_types.specs.Inferred.{AreTypesOf};
 ghost use Rattle.lw_check.specs.Sorting.{diagnostic_of, diagnostics_of};
 ghost use Rattle.lw_check.specs.Telling.{TellsRival};
 
+use crate::code::Code;
 use crate::sorting::{KeyedDiagnostic, keyed};
 use lw_base::{DocId, Name, NoMemory, NodeId, Span};
 use lw_index::Index;
@@ -82,5 +83,5 @@ fn also_exported_at(
     ensures { IfOk result (λ diagnostic. diagnostic_of diagnostic ≡ also_exported_at span type_name.now name.now uri.now) }
 {
     let message = format!(in alloc; "{type_name} '{name}' is also exported by {uri}.")?;
-    Ok(keyed(span, 5, Name::from_string(message)))
+    Ok(keyed(span, Code::AlsoExported, Name::from_string(message)))
 }

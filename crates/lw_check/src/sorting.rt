@@ -6,9 +6,11 @@ ghost use Rattle.lw_grammar.specs.declared.grammar.Grammar.{Grammar};
 ghost use Rattle.lw_reading.specs.Known.{HasKnownTypes};
 ghost use Rattle.lw_symbols.specs.Locals.{AreLocalsOf};
 ghost use Rattle.lw_types.specs.Inferred.{AreTypesOf};
+ghost use Rattle.lw_check.specs.Codes.{code_number};
 ghost use Rattle.lw_check.specs.Sorting.{diagnostic_of, diagnostics_of};
 ghost use Rattle.lw_check.specs.Telling.{AreTold, IsTold};
 
+use crate::code::Code;
 use crate::duplicates::tell_duplicates;
 use crate::numbers::tell_numbers;
 use crate::rivals::tell_rivals;
@@ -30,12 +32,12 @@ pub(crate) struct KeyedDiagnostic {
 }
 
 /// The diagnostic of this code and message at a place.
-pub(crate) fn keyed(span: Span, code: u8, message: Name) -> KeyedDiagnostic
-    ensures { diagnostic_of result ≡ record { span = span; code = code; message = message } }
+pub(crate) fn keyed(span: Span, code: Code, message: Name) -> KeyedDiagnostic
+    ensures { diagnostic_of result ≡ record { span = span; code = code_number code; message = message } }
 {
     KeyedDiagnostic {
         start: span.start,
-        code,
+        code: code.number(),
         end: span.end,
         message,
     }

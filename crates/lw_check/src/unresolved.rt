@@ -8,6 +8,7 @@ ghost use Rattle.lw_types.specs.Inferred.{AreTypesOf};
 ghost use Rattle.lw_check.specs.Sorting.{diagnostic_of, diagnostics_of};
 ghost use Rattle.lw_check.specs.Telling.{TellsAnswer, TellsAnswerAt};
 
+use crate::code::Code;
 use crate::sorting::{KeyedDiagnostic, keyed};
 use lw_base::{Name, NoMemory, Span};
 use lw_index::Answer;
@@ -66,5 +67,5 @@ fn unresolved_at(
     ensures { IfOk result (λ diagnostic. diagnostic_of diagnostic ≡ unresolved_at span wanted.now name.now) }
 {
     let message = format!(in alloc; "Could not resolve reference to {wanted} named '{name}'.")?;
-    Ok(keyed(span, 3, Name::from_string(message)))
+    Ok(keyed(span, Code::Unresolved, Name::from_string(message)))
 }

@@ -60,11 +60,7 @@ pub(crate) fn report_on(
     }
 }
 
-fn report_text(
-    alloc: Global,
-    language: &Language,
-    text: Name,
-) -> Result<Report, NoMemory>
+fn report_text(alloc: Global, language: &Language, text: Name) -> Result<Report, NoMemory>
     requires short { length text ≤ LONGEST_DOCUMENT }
     requires utf8 { IsUtf8 text }
     ensures { IfOk result (IsReport language.now.grammar text) }

@@ -181,11 +181,7 @@ fn check<S: Source, K: Sink, F: Store, P: Patterns>(
 }
 
 // The report on what the source holds.
-fn reported<S: Source>(
-    alloc: Global,
-    language: &Language,
-    source: &mut S,
-) -> Result<Report, Stop>
+fn reported<S: Source>(alloc: Global, language: &Language, source: &mut S) -> Result<Report, Stop>
     ensures report { IfOk result (λ report. IfSome (S.left source.old) (λ held. IsReport language.now.grammar (take most_read held) report)) }
     ensures read { OnOk result (IfSome (S.left source.old) (λ held. ReadsDocument held (S.left source.new))) }
     ensures stopped { IfErr result (StopsReading (S.left source.old) (S.left source.new)) }

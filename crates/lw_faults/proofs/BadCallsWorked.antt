@@ -23,9 +23,11 @@ use Rattle.lw_grammar.specs.Written.{WritesCall, Range, term_calls, term_ranges}
 use Rattle.lw_grammar.specs.Written as written
 use Rattle.lw_faults.specs.BadCalls.{BadCall, CrossesBy, IsInOrder}
 use Rattle.lw_faults.specs.BadCalls as bad
-use Rattle.lw_faults.specs.Worked.{StandsAlone, StandsNowhere, place, no_place, entry_rule, plain_rule, terminal_id, x_id, y_id, id_element, x_value, t_terminal, with_terminal, calling_terminal, crossing}
+use Rattle.lw_faults.specs.Worked.{StandsAlone, StandsNowhere, place, no_place, entry_rule, plain_rule, terminal_id, x_id, y_id, id_element, x_value, t_terminal, flagged_terminal, naming_terminal, with_terminal, calling_terminal, crossing}
 use Rattle.lw_grammar.proofs.Every.{every_of, every_at, differ, first_here, first_later, meant, not_meant}
 use Rattle.lw_faults.proofs.AloneLemmas.{the_rule}
+use Rattle.lw_faults.proofs.NameRulesWorked.{by_called, its_leaf, its_name, its_part}
+use Rattle.lw_faults.proofs.NameRulesWorked as named
 use Rattle.lw_faults.proofs.AssignLemmas.{writes, crosses, part_there, leaf_there}
 use Rattle.lw_faults.proofs.NodeLemmas.{puts_makes, id_makes_none}
 use Rattle.lw_grammar.proofs.TermLemmas.{call_equations, range_equations, calls-Call, calls-Range, ranges-Call, ranges-Range}
@@ -76,6 +78,10 @@ module _ (is_hidden is_fragment : Bool) where
   only_t f t n (bad.range terminal first last has inside _) =
       absurd (none_there (first, last, t) (subst (λ ls. Contains {X = Range} ls (first, last, t)) (plain terminal has).1 inside))
   only_t f t n (bad.crossed rule r by has crossed _ _) =
+      let same : A ≡ rule = every_of (λ x. A ≡ x) (A ∷ []) rule (refl, tt) has in
+      absurd (crosses A (codes "x") One (value.Call (codes "T") (place 21 22)) no_place (Calls (codes "T") (place 21 22)) refl (values-Call (codes "T") (place 21 22)) G t n
+      (subst (λ (x : Rule). CrossesBy G x t n) (sym same) crossed))
+  only_t f t n (bad.crossed_hidden rule k terminal has crossed _ _) =
       let same : A ≡ rule = every_of (λ x. A ≡ x) (A ∷ []) rule (refl, tt) has in
       absurd (crosses A (codes "x") One (value.Call (codes "T") (place 21 22)) no_place (Calls (codes "T") (place 21 22)) refl (values-Call (codes "T") (place 21 22)) G t n
       (subst (λ (x : Rule). CrossesBy G x t n) (sym same) crossed))
@@ -159,6 +165,10 @@ module _ (body : TermElement) where
   only_within f t n (bad.range terminal first last has inside not) =
       let found = ranges_within terminal has first last t inside in (found.0, inr (found.1, (first, last, found.2, not)))
   only_within f t n (bad.crossed rule r by has crossed _ _) =
+      let same : X ≡ rule = every_of (λ x. X ≡ x) (X ∷ []) rule (refl, tt) has in
+      absurd (crosses X (codes "x") One (value.Call (codes "ID") no_place) no_place (Calls (codes "ID") no_place) refl (values-Call (codes "ID") no_place) H t n
+      (subst (λ (x : Rule). CrossesBy H x t n) (sym same) crossed))
+  only_within f t n (bad.crossed_hidden rule k terminal has crossed _ _) =
       let same : X ≡ rule = every_of (λ x. X ≡ x) (X ∷ []) rule (refl, tt) has in
       absurd (crosses X (codes "x") One (value.Call (codes "ID") no_place) no_place (Calls (codes "ID") no_place) refl (values-Call (codes "ID") no_place) H t n
       (subst (λ (x : Rule). CrossesBy H x t n) (sym same) crossed))
@@ -322,6 +332,12 @@ module _ (body : Element) where
     only_cross f t n (bad.range terminal first last has inside _) =
         let its_ranges : term_ranges terminal.body ≡ [] = every_of (λ (x : Terminal). term_ranges x.body ≡ []) K.terminals terminal (id_ranges, tt) has in
         absurd (none_there (first, last, t) (subst (λ ls. Contains {X = Range} ls (first, last, t)) its_ranges inside))
+    only_cross f t n (bad.crossed_hidden rule k terminal _ _ is which) =
+        absurd (every_at (λ (x : Terminal). ¬ ((x.is_hidden ≡ true) ⊎ (x.is_fragment ≡ true))) K.terminals k terminal (neither, tt) is.first.there which)
+      where
+        neither : (false ≡ true) ⊎ (false ≡ true) → ⊥
+        neither (inl same) = true≢false (sym same)
+        neither (inr same) = true≢false (sym same)
     only_cross f t n (bad.crossed rule r by has crossed is not) =
         let found = crosses_here rule has t n crossed in
         let it : by ≡ B = first_item (subst (λ x. IsRule K x r by) found.2 is).first b_named.first in (found, subst (λ (x : Rule). ¬ IsDataType K x) it not)
@@ -357,3 +373,20 @@ to_text = cross_nowhere id_element none (refl, id_makes_none (K id_element) (B i
     none : (t : Span) (n : List ℕ) → ¬ CrossesBy (K id_element) (B id_element) t n
     none t n (bad.written q o w u wanted has _) = no_assignment q o w u has
     none t n (bad.by_name q o w u wanted has _ _) = no_assignment q o w u has
+
+-- ---- a cross-reference that writes no rule
+
+module _ (is_hidden is_fragment : Bool) where
+  abbrev M : Grammar
+  M = naming_terminal is_hidden is_fragment (place 28 31)
+
+  m_named : IsTerminal M (codes "T") 1 (flagged_terminal is_hidden is_fragment)
+  m_named =
+      meant declared_terminal declared_rule (codes "T") M.terminals M.rules 1 (flagged_terminal is_hidden is_fragment) (first_later (differ _ _ refl) (first_here refl))
+      (differ _ _ refl, tt)
+
+  pub implicit_found : (is_hidden ≡ true) ⊎ (is_fragment ≡ true) → BadCall M 0 (place 28 31) (codes "T")
+  implicit_found which =
+      bad.crossed_hidden (named.B (place 28 31) (codes "T") M.terminals) 1 (flagged_terminal is_hidden is_fragment) (0, omega arith, refl)
+      (bad.by_name (codes "x") One (its_name (place 28 31)) no_place (codes "A") (its_leaf (place 28 31) (codes "T") M.terminals) (its_part (place 28 31))
+      (by_called (place 28 31) (codes "T") M.terminals)) m_named which

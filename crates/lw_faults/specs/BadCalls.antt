@@ -32,10 +32,12 @@ module _ (g : Grammar) where
     by_name : {s : Span} {name : List ℕ} (p : List ℕ) (op : Op) (v : Value0) (t : Span) (wanted : List ℕ) → Contains (leaves rule.body) (Assign p op v t) →
         Contains (value_leaves v) (Cross wanted None s) → IsNameRule g wanted name → CrossesBy rule s name
 
-  -- A rule calls a hidden terminal or a fragment of terminals; a terminal calls a rule; a range has other ends than two characters in order; a
-  -- cross-reference reads by a rule that makes nodes, or by a fragment.
+  -- A rule calls a hidden terminal or a fragment of terminals, by a call that it writes or by a cross-reference that writes none; a terminal calls
+  -- a rule; a range has other ends than two characters in order; a cross-reference reads by a rule that makes nodes, or by a fragment.
   pub data BadCall : ℕ → Span → List ℕ → Type 0 where
     hidden : {s : Span} {name : List ℕ} (rule : Rule) (t : ℕ) (terminal : Terminal) → Contains g.rules rule → WritesCall rule s name →
+        IsTerminal g name t terminal → (terminal.is_hidden ≡ true) ⊎ (terminal.is_fragment ≡ true) → BadCall rule.file s name
+    crossed_hidden : {s : Span} {name : List ℕ} (rule : Rule) (t : ℕ) (terminal : Terminal) → Contains g.rules rule → CrossesBy rule s name →
         IsTerminal g name t terminal → (terminal.is_hidden ≡ true) ⊎ (terminal.is_fragment ≡ true) → BadCall rule.file s name
     of_rule : {s : Span} {name : List ℕ} (terminal : Terminal) (r : ℕ) (rule : Rule) → Contains g.terminals terminal → Contains (term_calls terminal.body) (name, s) →
         IsRule g name r rule → BadCall terminal.file s name

@@ -12,4 +12,5 @@ pub mod BadCalls
 pub mod Faults
 pub mod Worked
 pub mod Finding
+pub mod Kinds
 pub mod Telling

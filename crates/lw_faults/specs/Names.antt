@@ -36,8 +36,12 @@ module _ (g : Grammar) where
   pub data UnknownType : ℕ → Span → List ℕ → Type 0 where
     unknown : {file : ℕ} {s : Span} {name : List ℕ} → NamesType g file s name → ¬ IsKnownType g name → UnknownType file s name
 
-  -- a cross-reference names no rule, and none names the nodes of its type
+  -- a cross-reference to this type that names no rule is read by none: none names the nodes of the type, or what its `name=` calls is not there
+  abbrev pub IsNameless : List ℕ → Type 0
+  IsNameless wanted = (called : List ℕ) → IsNameRule g wanted called → IsNoRule g called
+
+  -- a cross-reference names no rule, and is read by none
   pub data NoNameRule : ℕ → Span → List ℕ → Type 0 where
     nameless : {s : Span} {wanted : List ℕ} (rule : Rule) (p : List ℕ) (op : Op) (v : Value0) (t : Span) → Contains g.rules rule →
-        Contains (leaves rule.body) (Assign p op v t) → Contains (value_leaves v) (Cross wanted None s) → ((name : List ℕ) → ¬ IsNameRule g wanted name) →
+        Contains (leaves rule.body) (Assign p op v t) → Contains (value_leaves v) (Cross wanted None s) → IsNameless wanted →
         NoNameRule rule.file s wanted

@@ -321,9 +321,12 @@ abbrev pub x_value : Value0 → Element
 x_value v = x_by One v no_place
 
 -- the terminal is hidden or not, and a fragment or not
+abbrev pub flagged_terminal : Bool → Bool → Terminal
+flagged_terminal is_hidden is_fragment = record (t_terminal (term.Pattern (codes "a") no_place)) { is_hidden = is_hidden; is_fragment = is_fragment }
+
 abbrev pub calling_terminal : Bool → Bool → Grammar
 calling_terminal is_hidden is_fragment = record (alone (x_value (value.Call (codes "T") (place 21 22)))) {
-  terminals = terminal_id ∷ record (t_terminal (term.Pattern (codes "a") no_place)) { is_hidden = is_hidden; is_fragment = is_fragment } ∷ [];
+  terminals = terminal_id ∷ flagged_terminal is_hidden is_fragment ∷ [];
 }
 
 -- grammar G entry A: x=[A:B]; B: y=ID;
@@ -355,6 +358,12 @@ makes_declared name s = record { infers = false; type_name = name; put = None; s
 -- grammar G entry A: x=[A];
 abbrev pub by_its_name : Span → Element
 by_its_name s = x_value (value.Cross (codes "A") None s)
+
+-- grammar G entry A: name=T x=[A]; terminal T: /a/;
+abbrev pub naming_terminal : Bool → Bool → Span → Grammar
+naming_terminal is_hidden is_fragment s = record (two_parts (puts (codes "name") (codes "T")) (by_its_name s)) {
+  terminals = terminal_id ∷ flagged_terminal is_hidden is_fragment ∷ [];
+}
 
 -- ---- many rules, and one terminal
 

@@ -12,7 +12,7 @@ ghost use Rattle.lw_grammar.specs.declared.fault.GrammarFault.{GrammarFault};
 ghost use Rattle.lw_grammar.specs.declared.grammar.Grammar.{Grammar};
 ghost use Rattle.lw_faults.specs.Derivations.{LeftRecursion, ReadsNothing, RepeatsNothing, NeverEnds};
 ghost use Rattle.lw_faults.specs.Faults.{IsTypeFault, IsCheckFault, AreTypeFaults, AreCheckFaults};
-ghost use Rattle.lw_faults.specs.Worked.{StandsAlone, StandsNowhere, place, no_place, left_recursive, right_recursive, x_id, calling_b, alone, repeating, a_a, endless, keyword_of, makes_b, takes_b, two_parts, action_and_word, acts_in_fragment, with_node, node_behind, node_before, node_and_word, puts, with_attribute, extending_type, united, x_by, calls_id, i_reference, with_endless, twice, unknown_twice, making_s, types_alone, extends, a_extending, b_extending, union_of, fragment_calling, terminal_calling, of_rules, plain_rule, in_file, a_entry, b_entry, entry_fragment, id_element, resulting, with_terminal, calling_terminal, crossing, assigning, y_id, node_rule, fragment_rule, x_value, behind_a, beside_interface, makes_declared, by_its_name, many_rules};
+ghost use Rattle.lw_faults.specs.Worked.{StandsAlone, StandsNowhere, place, no_place, left_recursive, right_recursive, x_id, calling_b, alone, repeating, a_a, endless, keyword_of, makes_b, takes_b, two_parts, action_and_word, acts_in_fragment, with_node, node_behind, node_before, node_and_word, puts, with_attribute, extending_type, united, x_by, calls_id, i_reference, with_endless, twice, unknown_twice, making_s, types_alone, extends, a_extending, b_extending, union_of, fragment_calling, terminal_calling, of_rules, plain_rule, in_file, a_entry, b_entry, entry_fragment, id_element, resulting, with_terminal, calling_terminal, crossing, assigning, y_id, node_rule, fragment_rule, x_value, behind_a, beside_interface, makes_declared, by_its_name, many_rules, naming_terminal};
 ghost use Rattle.lw_faults.specs.Names.{Duplicate, UnknownRule, UnknownType, NoNameRule};
 ghost use Rattle.lw_faults.specs.BadCalls.{BadCall, BadAssignment};
 ghost use Rattle.lw_faults.specs.Entries.{NoEntry, SecondEntry, EntryMakesNoNode, TooManyRules};
@@ -163,11 +163,14 @@ pub fn data_types()
     ensures texts_by_union { StandsNowhere (MixedDataTypeRule (resulting (Returns (codes "U") no_place) (union_of (Literal (codes "a")) ∷ []) id_element)) }
 {}
 
-/// A rule calls no terminal that is hidden or a fragment, a terminal no rule; a range goes up, and a cross-reference reads no node.
+/// A rule calls no terminal that is hidden or a fragment, nor does a cross-reference by the name rule of its type; a terminal calls no rule; a range
+/// goes up, and a cross-reference reads no node.
 pub fn bad_calls()
     ensures hidden { StandsAlone (BadCall (calling_terminal true false)) 0 (place 21 22) (codes "T") }
     ensures fragment_ { StandsAlone (BadCall (calling_terminal false true)) 0 (place 21 22) (codes "T") }
     ensures token { StandsNowhere (BadCall (calling_terminal false false)) }
+    ensures implicit { BadCall (naming_terminal true false (place 28 31)) 0 (place 28 31) (codes "T") }
+    ensures implicit_fragment { BadCall (naming_terminal false true (place 28 31)) 0 (place 28 31) (codes "T") }
     ensures of_rule { StandsAlone (BadCall (with_terminal (term.Call (codes "A") (place 37 38)))) 0 (place 37 38) (codes "A") }
     ensures of_terminal { StandsNowhere (BadCall (with_terminal (term.Call (codes "ID") no_place))) }
     ensures down { StandsAlone (BadCall (with_terminal (term.Range (codes "b") (codes "a") (place 37 45)))) 0 (place 37 45) (codes "T") }
@@ -206,9 +209,10 @@ pub fn unknown_types()
     ensures inferred { (s : Span) → StandsNowhere (UnknownType (alone (Act (makes_declared (codes "A") s)))) }
 {}
 
-/// A cross-reference that names no rule is to a type whose nodes have names.
+/// A cross-reference that names no rule is to a type whose nodes have names, read by what is there.
 pub fn name_rules()
     ensures nameless { StandsAlone (NoNameRule (alone (by_its_name (place 21 24)))) 0 (place 21 24) (codes "A") }
+    ensures unread { StandsAlone (NoNameRule (two_parts (puts (codes "name") (codes "IX")) (by_its_name (place 29 32)))) 0 (place 29 32) (codes "A") }
     ensures named { (s : Span) → StandsNowhere (NoNameRule (two_parts (puts (codes "name") (codes "ID")) (by_its_name s))) }
 {}
 

@@ -19,7 +19,7 @@
 //! `specs/Attributes.antt` adds which attributes a declared type has, and which values one takes. The
 //! other files have the faults by their subject.
 //!
-//! There is no code here but laws. A grammar has one list of faults in each phase
+//! There is no code here but laws and the kinds of faults ([`FaultKind`]), which have the numbers that are told. A grammar has one list of faults in each phase
 //! ([`one_list_of_faults`]), and no fault is of both ([`phases`]). The others say of grammars that are
 //! written out (`specs/Worked.antt`) where each fault is and how it is told, and of those beside them
 //! that they have it not: an action behind an assignment and before it ([`misplaced_actions`]), a rule
@@ -32,8 +32,10 @@
 #![tactic(auto)]
 
 pub mod findings;
+mod kind;
 mod laws;
 
+pub use kind::FaultKind;
 pub use laws::{
     bad_assignments, bad_calls, circular_calls, circular_types, data_types, duplicates, entries,
     left_recursion, misplaced_actions, misplaced_calls, mixed_properties, name_rules,

@@ -15,11 +15,6 @@ use Rattle.lw_grammar.specs.Written.{Range, term_calls, term_ranges}
 use Rattle.lw_faults.specs.Finding.{OfSome, OneIf}
 use Rattle.lw_gramcheck.specs.Sites.{How, Assigned, Crossed, ByName, Site, HasSite}
 
--- the name stands in the text
-abbrev pub is_written : How → Bool
-is_written ByName = false
-is_written _ = true
-
 -- a cross-reference reads by the name
 abbrev pub is_cross : How → Bool
 is_cross Crossed = true
@@ -38,7 +33,7 @@ module _ (g : Grammar) where
   -- ---- calls of rules
 
   abbrev pub CallsUncallable : Site → Type 0
-  CallsUncallable call = (t : ℕ) × (terminal : Terminal) × IsTerminal g call.name t terminal × (is_written call.how ≡ true) × IsUncallable terminal
+  CallsUncallable call = (t : ℕ) × (terminal : Terminal) × IsTerminal g call.name t terminal × IsUncallable terminal
 
   abbrev pub CrossesWrongly : Site → Type 0
   CrossesWrongly call = (r : ℕ) × (by : Rule) × IsRule g call.name r by × (is_cross call.how ≡ true) × ¬ IsDataType g by

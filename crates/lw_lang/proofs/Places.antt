@@ -259,6 +259,10 @@ module _ (texts : List (List ℕ)) (g : Grammar) (stands : Stands texts g) where
 
   bad_call_place : (file : ℕ) (s : Span) (name : List ℕ) → BadCall g file s name → At file s
   bad_call_place _ s name (bad.hidden rule t terminal has writes _ _) = of_calls rule s name has writes
+  bad_call_place _ s name (bad.crossed_hidden rule t terminal has (bad.written p op v u wanted there is) _ _) =
+      of_value rule p op v u s has there (value_stands v (leaf.Cross wanted (Some name) s) s is refl)
+  bad_call_place _ s name (bad.crossed_hidden rule t terminal has (bad.by_name p op v u wanted there is _) _ _) =
+      of_value rule p op v u s has there (value_stands v (leaf.Cross wanted None s) s is refl)
   bad_call_place _ s name (bad.of_rule terminal r rule has there _) = in_term terminal s has (term_call_stands terminal.body name s there)
   bad_call_place _ s _ (bad.range terminal first last has there _) = in_term terminal s has (term_range_stands terminal.body first last s there)
   bad_call_place _ s name (BadCall.crossed rule r by has (bad.written p op v t wanted there is) _ _) =

@@ -246,7 +246,7 @@ module _ (g : Grammar) (no_type_fault : (f : GrammarFault) → ¬ IsTypeFault g 
         by : ((called : List ℕ) × IsNameRule g wanted called) ⊎ ((called : List ℕ) → ¬ IsNameRule g wanted called) → (called : List ℕ) × IsNameRule g wanted called
         by (inl named) = named
         by (inr none) =
-            absurd (no_type_fault (list.fault 18 rule.file s wanted) (list.no_name_rule (fault.nameless rule p op v t (among g.rules r rule at) has within none)))
+            absurd (no_type_fault (list.fault 18 rule.file s wanted) (list.no_name_rule (fault.nameless rule p op v t (among g.rules r rule at) has within (λ called is. absurd (none called is)))))
 
     pub lacks_nothing : ChoicesHaveParts g → LacksNothing g
     lacks_nothing choices = record { calls = calls_known; crosses = cross_named; ends = body_ends; choices = choices }

@@ -14,6 +14,7 @@ use crate::places::Place;
 use crate::questions::{Question, holds_of_some};
 use crate::telling::{Spoken, tell_if};
 use lw_base::{Name, NoMemory};
+use lw_faults::FaultKind;
 use lw_faults::findings::Findings;
 use lw_numbers::Called;
 use lw_numbers::leaves::BodyLeaf;
@@ -51,12 +52,24 @@ fn not_below_at(
         BodyLeaf::Act(action) => {
             let (span, name) = (action.span, &action.type_name);
             let so = holds_of_some(alloc, known, Question::IsNotAbove(name), types)?;
-            tell_if(alloc, found, so, 17, &Spoken { file, span, name })
+            tell_if(
+                alloc,
+                found,
+                so,
+                FaultKind::NotSubtype,
+                &Spoken { file, span, name },
+            )
         }
         BodyLeaf::Call(name, span) => match node_type(known, name) {
             Some(below) => {
                 let so = holds_of_some(alloc, known, Question::IsNotAbove(below), types)?;
-                tell_if(alloc, found, so, 17, &Spoken { file, span, name })
+                tell_if(
+                    alloc,
+                    found,
+                    so,
+                    FaultKind::NotSubtype,
+                    &Spoken { file, span, name },
+                )
             }
             None => Ok(()),
         },

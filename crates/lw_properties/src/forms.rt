@@ -12,6 +12,7 @@ use crate::places::{Place, is_come_to};
 use crate::questions::{Question, holds_of_some};
 use crate::telling::{Spoken, tell_if};
 use lw_base::{Name, NoMemory};
+use lw_faults::FaultKind;
 use lw_faults::findings::Findings;
 use lw_flow::Before;
 use lw_grammar::{Action, Attribute};
@@ -49,7 +50,13 @@ fn wrong_form_at(
             let types = place.before.current.as_slice();
             let so = holds_of_some(alloc, known, Question::Misfits(name, op, value), types)?;
             let file = place.rule.file;
-            tell_if(alloc, found, so, 15, &Spoken { file, span, name })
+            tell_if(
+                alloc,
+                found,
+                so,
+                FaultKind::WrongPropertyForm,
+                &Spoken { file, span, name },
+            )
         }
         BodyLeaf::Act(action) => wrong_put(alloc, known, place, action, found),
         BodyLeaf::Call(_, _) => Ok(()),
@@ -71,7 +78,13 @@ fn wrong_put(
         Some((name, list)) => {
             let so = put_misfits(alloc, known, place.before, &action.type_name, name, *list)?;
             let (file, span) = (place.rule.file, action.span);
-            tell_if(alloc, found, so, 15, &Spoken { file, span, name })
+            tell_if(
+                alloc,
+                found,
+                so,
+                FaultKind::WrongPropertyForm,
+                &Spoken { file, span, name },
+            )
         }
         None => Ok(()),
     }

@@ -13,6 +13,7 @@ use crate::places::Place;
 use crate::puts::{Put, put_puts};
 use crate::telling::{Spoken, tell_if};
 use lw_base::NoMemory;
+use lw_faults::FaultKind;
 use lw_faults::findings::Findings;
 use std::alloc::Global;
 
@@ -59,5 +60,5 @@ fn mixed_at(
         name: put.property,
     };
     let so = is_mixed(firsts, put);
-    tell_if(alloc, found, so, 16, &spoken)
+    tell_if(alloc, found, so, FaultKind::MixedProperty, &spoken)
 }

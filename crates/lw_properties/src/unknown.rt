@@ -11,6 +11,7 @@ use crate::places::{Place, is_come_to};
 use crate::questions::{Question, holds_of_some, lacks};
 use crate::telling::{Spoken, tell_if};
 use lw_base::{Name, NoMemory};
+use lw_faults::FaultKind;
 use lw_faults::findings::Findings;
 use lw_flow::Before;
 use lw_grammar::Action;
@@ -48,7 +49,13 @@ fn unknown_at(
             let types = place.before.current.as_slice();
             let so = holds_of_some(alloc, known, Question::Lacks(name), types)?;
             let file = place.rule.file;
-            tell_if(alloc, found, so, 14, &Spoken { file, span, name })
+            tell_if(
+                alloc,
+                found,
+                so,
+                FaultKind::UnknownProperty,
+                &Spoken { file, span, name },
+            )
         }
         BodyLeaf::Act(action) => unknown_put(alloc, known, place, action, found),
         BodyLeaf::Call(_, _) => Ok(()),
@@ -70,7 +77,13 @@ fn unknown_put(
         Some((name, _)) => {
             let so = is_lacking(known, place.before, &action.type_name, name);
             let (file, span) = (place.rule.file, action.span);
-            tell_if(alloc, found, so, 14, &Spoken { file, span, name })
+            tell_if(
+                alloc,
+                found,
+                so,
+                FaultKind::UnknownProperty,
+                &Spoken { file, span, name },
+            )
         }
         None => Ok(()),
     }

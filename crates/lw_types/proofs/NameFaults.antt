@@ -3,8 +3,7 @@ use Rattle.std.proofs.Common.{ℕ, List, ◌⊎◌, inl, inr, refl, sym, subst}
 use Rattle.lw_base.specs.declared.token.Span.{Span}
 use Rattle.lw_grammar.specs.declared.grammar.Grammar.{Grammar}
 use Rattle.lw_grammar.specs.declared.fault.GrammarFault.{GrammarFault}
-use Rattle.lw_grammar.specs.NameRules.{IsNameRule}
-use Rattle.lw_faults.specs.Names.{Duplicate, UnknownRule, UnknownType, NoNameRule}
+use Rattle.lw_faults.specs.Names.{Duplicate, UnknownRule, UnknownType, IsNameless, NoNameRule}
 use Rattle.lw_faults.specs.Names as name
 use Rattle.lw_grammar.specs.Written.{IsNoRule}
 use Rattle.lw_faults.specs.Circles.{CircularType}
@@ -49,7 +48,7 @@ module _ (g : Grammar) where
   called_told (by_rule rule has writes) none = name.in_rule rule has writes none
   called_told (by_terminal terminal has at) none = name.in_terminal terminal has at none
 
-  wanted_told : {file : ℕ} {s : Span} {n : List ℕ} → WantsHere g file s n → ((called : List ℕ) → ¬ IsNameRule g n called) → NoNameRule g file s n
+  wanted_told : {file : ℕ} {s : Span} {n : List ℕ} → WantsHere g file s n → IsNameless g n → NoNameRule g file s n
   wanted_told (wants rule p op v t has at inside) none = name.nameless rule p op v t has at inside none
 
   wrong_told : (role : Role) (file : ℕ) (s : Span) (n : List ℕ) → IsSaid g role file s n → IsWrongAs g role file s n →

@@ -3,12 +3,12 @@ use Rattle.std.specs.Prelude.{ℕ, ◌≡◌, ◌↔◌, List, Contains, map}
 use Rattle.lw_base.specs.declared.token.Span.{Span}
 use Rattle.lw_grammar.specs.declared.grammar.Grammar.{Grammar}
 use Rattle.lw_grammar.specs.declared.fault.GrammarFault.{GrammarFault}
-use Rattle.lw_grammar.specs.NameRules.{IsNameRule}
 use Rattle.lw_numbers.specs.Tables.{AreNumbersOf}
 use Rattle.lw_numbers.specs.Presence.{IsDeclaredBefore}
 use Rattle.lw_numbers.specs.NameTable.{AreNameRulesOf}
 use Rattle.lw_grammar.specs.Written.{rule_space, type_space}
 use Rattle.lw_grammar.specs.Written.{IsNoRule, HasDeclaration, IsInferredType, IsKnownType}
+use Rattle.lw_faults.specs.Names.{IsNameless}
 use Rattle.lw_faults.specs.Faults.{fault}
 use Rattle.lw_faults.specs.Finding.{OneIf}
 use Rattle.lw_types.specs.declared.naming.mentions.Role.{Role}
@@ -35,7 +35,7 @@ module _ (g : Grammar) where
   IsWrongAs InfersType file s name = HasDeclaration g name
   IsWrongAs CallsRule file s name = IsNoRule g name
   IsWrongAs NamesType file s name = ¬ IsKnownType g name
-  IsWrongAs WantsNameRule file s name = (called : List ℕ) → ¬ IsNameRule g name called
+  IsWrongAs WantsNameRule file s name = IsNameless g name
 
   abbrev pub IsWrong : NameUse → Type 0
   IsWrong s = IsWrongAs s.role s.file s.place s.name

@@ -2,9 +2,11 @@
 ghost use Rattle.std.specs.Prelude.{◌≡◌, ◌↔◌, IsTrue, [], OnOk, IfOk, Contains, map};
 ghost use Rattle.lw_faults.specs.Faults.{fault, AreFaults};
 ghost use Rattle.lw_faults.specs.Finding.{Finds};
+ghost use Rattle.lw_faults.specs.Kinds.{number_of};
 ghost use Rattle.lw_faults.specs.Telling.{told_fault};
 
 use crate::findings::told::Told;
+use crate::kind::FaultKind;
 use lw_base::{Items, Name, NoMemory, Span};
 use lw_grammar::GrammarFault;
 use std::alloc::Global;
@@ -36,18 +38,18 @@ impl Findings {
         }
     }
 
-    /// Puts a fault in: its number, the file, the place there, and the name that is spoken of.
+    /// Puts a fault in: its kind, the file, the place there, and the name that is spoken of.
     pub fn add(
         &mut self,
         alloc: Global,
-        number: u8,
+        kind: FaultKind,
         file: u16,
         span: Span,
         name: &Name,
     ) -> Result<(), NoMemory>
-        ensures { OnOk result (Finds (λ f. f ≡ fault number file span name.now) self.old self.new) }
+        ensures { OnOk result (Finds (λ f. f ≡ fault (number_of kind) file span name.now) self.old self.new) }
     {
-        let told = Told::new(alloc, number, file, span, name)?;
+        let told = Told::new(alloc, kind.number(), file, span, name)?;
         self.found.push(told)?;
         Ok(())
     }

@@ -13,6 +13,7 @@ ghost use Rattle.lw_flow.specs.Recorded.{AreWaysOf};
 ghost use Rattle.lw_gramcheck.specs.Found.{IsToldAt, ToldByRule};
 
 use lw_base::{Name, NoMemory};
+use lw_faults::FaultKind;
 use lw_faults::findings::Findings;
 use lw_flow::{Before, Ways};
 use lw_grammar::{Action, Grammar, Rule};
@@ -89,7 +90,7 @@ fn find_at(
         BodyLeaf::Act(action) => find_at_action(alloc, rule, action, entry, found),
         BodyLeaf::Call(name, span) => {
             if entry.filled && calls_node(names, name) {
-                return found.add(alloc, 12, rule.file, *span, name);
+                return found.add(alloc, FaultKind::MisplacedCall, rule.file, *span, name);
             }
             Ok(())
         }
@@ -112,7 +113,13 @@ fn find_at_action(
         Some(_) => entry.first,
     };
     if misplaced {
-        return found.add(alloc, 11, rule.file, action.span, &rule.name);
+        return found.add(
+            alloc,
+            FaultKind::MisplacedAction,
+            rule.file,
+            action.span,
+            &rule.name,
+        );
     }
     Ok(())
 }

@@ -9,6 +9,7 @@ ghost use Rattle.lw_gramcheck.specs.BadSites.{IsMisused, PutsBadly, BadPut, HasB
 use crate::parts::checker::Checker;
 use crate::parts::sites::{CallSite, Manner, call_sites};
 use lw_base::{Name, NoMemory};
+use lw_faults::FaultKind;
 use lw_faults::findings::Findings;
 use lw_grammar::{Op, Rule};
 use lw_numbers::Called;
@@ -61,7 +62,7 @@ fn find_bad_put(
     if !puts_badly(checker, op, site.name) {
         return Ok(());
     }
-    found.add(alloc, 22, rule.file, span, property)?;
+    found.add(alloc, FaultKind::BadAssignment, rule.file, span, property)?;
     Ok(())
 }
 

@@ -7,21 +7,22 @@ ghost use Rattle.lw_numbers.specs.Parts.{term_call_of, term_range_of};
 ghost use Rattle.lw_faults.specs.Finding.{Finds, IsFaultOf, OfSome};
 ghost use Rattle.lw_gramcheck.specs.Knowing.{Knows};
 ghost use Rattle.lw_gramcheck.specs.Sites.{site_of, how_of};
-ghost use Rattle.lw_gramcheck.specs.BadSites.{is_written, is_cross, IsUncallable, IsBadSite, BadSite, HasBadSite, CallsRule, BadRange, HasBadPart};
+ghost use Rattle.lw_gramcheck.specs.BadSites.{is_cross, IsUncallable, IsBadSite, BadSite, HasBadSite, CallsRule, BadRange, HasBadPart};
 
 use crate::parts::checker::Checker;
 use crate::parts::range_ends::is_in_order;
 use crate::parts::sites::{CallSite, Manner, call_sites};
 use lw_base::{Name, NoMemory, Span};
+use lw_faults::FaultKind;
 use lw_faults::findings::Findings;
 use lw_grammar::{Rule, Terminal};
 use lw_numbers::Called;
 use lw_numbers::leaves::{TermRange, term_calls, term_ranges};
 use std::alloc::Global;
 
-/// Fault 21: a rule calls a hidden terminal or a fragment of terminals, a terminal a rule; a range
-/// has other ends than two characters in order; or a cross-reference reads by a rule that makes nodes,
-/// or by a fragment.
+/// Fault 21: a rule calls a hidden terminal or a fragment of terminals, or a cross-reference reads by
+/// one; a terminal calls a rule; a range has other ends than two characters in order; or a
+/// cross-reference reads by a rule that makes nodes, or by a fragment.
 pub(crate) fn find_bad_calls(
     alloc: Global,
     checker: &Checker<'_>,
@@ -74,7 +75,7 @@ fn find_bad_site(
     if !is_bad_site(checker, site) {
         return Ok(());
     }
-    found.add(alloc, 21, rule.file, site.span, site.name)?;
+    found.add(alloc, FaultKind::BadCall, rule.file, site.span, site.name)?;
     Ok(())
 }
 
@@ -85,7 +86,7 @@ fn is_bad_site(checker: &Checker<'_>, site: &CallSite<'_>) -> bool
 {
     match checker.called(site.name) {
         Called::Rule(r, rule) => crosses_wrongly(checker, &site.manner, r, rule),
-        Called::Terminal(_, terminal) => calls_wrongly(&site.manner, terminal),
+        Called::Terminal(_, terminal) => is_uncallable(terminal),
         Called::Nothing => false,
     }
 }
@@ -99,21 +100,11 @@ fn crosses_wrongly(checker: &Checker<'_>, manner: &Manner<'_>, r: usize, rule: &
     is_cross(manner) && !checker.is_data_type(r, rule)
 }
 
-/// Whether a rule's text calls this terminal, which no rule may call.
-fn calls_wrongly(manner: &Manner<'_>, terminal: &Terminal) -> bool
-    ensures { IsTrue result ↔ ((is_written (how_of manner.now) ≡ true) × IsUncallable terminal.now) }
+/// Whether no rule may call this terminal.
+fn is_uncallable(terminal: &Terminal) -> bool
+    ensures { IsTrue result ↔ IsUncallable terminal.now }
 {
-    is_written(manner) && (terminal.is_hidden || terminal.is_fragment)
-}
-
-/// Whether the name stands in the text.
-fn is_written(manner: &Manner<'_>) -> bool
-    ensures { result ≡ is_written (how_of manner.now) }
-{
-    match manner {
-        Manner::Plain | Manner::Assigned(..) | Manner::Crossed => true,
-        Manner::ByName => false,
-    }
+    terminal.is_hidden || terminal.is_fragment
 }
 
 /// Whether a cross-reference reads by the name.
@@ -181,7 +172,7 @@ fn find_called_rule(
     ensures { OnOk result (Finds (CallsRule checker.now.g.now terminal.now (term_call_of call.now)) found.old found.new) }
 {
     match checker.called(call.0) {
-        Called::Rule(..) => found.add(alloc, 21, terminal.file, call.1, call.0),
+        Called::Rule(..) => found.add(alloc, FaultKind::BadCall, terminal.file, call.1, call.0),
         Called::Terminal(..) => Ok(()),
         Called::Nothing => Ok(()),
     }
@@ -208,6 +199,12 @@ fn find_bad_range(
     if is_in_order(range.first, range.last) {
         return Ok(());
     }
-    found.add(alloc, 21, terminal.file, range.span, &terminal.name)?;
+    found.add(
+        alloc,
+        FaultKind::BadCall,
+        terminal.file,
+        range.span,
+        &terminal.name,
+    )?;
     Ok(())
 }

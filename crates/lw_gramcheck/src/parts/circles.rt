@@ -8,6 +8,7 @@ ghost use Rattle.lw_gramcheck.specs.Edges.{CircularFragment, CircularTerminal, R
 use crate::parts::call_graphs::{fragment_edges, graph_of, terminal_edges};
 use crate::parts::checker::Checker;
 use lw_base::NoMemory;
+use lw_faults::FaultKind;
 use lw_faults::findings::Findings;
 use lw_grammar::{Rule, Terminal};
 use lw_graph::NodeSet;
@@ -72,7 +73,13 @@ fn find_rule_in(
     if !round.holds(r) {
         return Ok(());
     }
-    found.add(alloc, 20, rule.file, rule.span, &rule.name)?;
+    found.add(
+        alloc,
+        FaultKind::CircularCall,
+        rule.file,
+        rule.span,
+        &rule.name,
+    )?;
     Ok(())
 }
 
@@ -119,6 +126,12 @@ fn find_terminal_in(
     if !round.holds(t) {
         return Ok(());
     }
-    found.add(alloc, 20, terminal.file, terminal.span, &terminal.name)?;
+    found.add(
+        alloc,
+        FaultKind::CircularCall,
+        terminal.file,
+        terminal.span,
+        &terminal.name,
+    )?;
     Ok(())
 }

@@ -7,6 +7,7 @@ ghost use Rattle.lw_gramcheck.specs.Parts.{IsMixed, MixedHere};
 
 use crate::parts::checker::Checker;
 use lw_base::{Name, NoMemory};
+use lw_faults::FaultKind;
 use lw_faults::findings::Findings;
 use lw_grammar::{Member, Rule, RuleResult};
 use lw_numbers::Declares;
@@ -42,7 +43,13 @@ fn find_mixed(
     if !is_mixed(checker, r, rule) {
         return Ok(());
     }
-    found.add(alloc, 13, rule.file, rule.span, &rule.name)?;
+    found.add(
+        alloc,
+        FaultKind::MixedDataType,
+        rule.file,
+        rule.span,
+        &rule.name,
+    )?;
     Ok(())
 }
 

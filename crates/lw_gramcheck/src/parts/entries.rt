@@ -11,6 +11,7 @@ ghost use Rattle.lw_gramcheck.specs.Parts.{IsMarked, MarkedAgain};
 
 use crate::parts::checker::Checker;
 use lw_base::{NoMemory, Span};
+use lw_faults::FaultKind;
 use lw_faults::findings::Findings;
 use lw_grammar::{Grammar, Rule};
 use lw_numbers::leaves::{BodyLeaf, body_leaves};
@@ -33,7 +34,7 @@ pub(crate) fn find_no_entry(
     if entry(g).is_some() {
         return Ok(());
     }
-    found.add(alloc, 1, 0, NOWHERE, &g.name)
+    found.add(alloc, FaultKind::NoEntry, 0, NOWHERE, &g.name)
 }
 
 /// Fault 2: a rule of the root file is marked as the entry, and is not the first.
@@ -61,7 +62,13 @@ pub(crate) fn find_entry_without_node(
 {
     match entry(checker.g) {
         Some((r, rule)) if rule.is_fragment || checker.is_data_type(r, rule) => {
-            found.add(alloc, 3, rule.file, rule.span, &rule.name)
+            found.add(
+                alloc,
+                FaultKind::EntryWithoutNode,
+                rule.file,
+                rule.span,
+                &rule.name,
+            )
         }
         _ => Ok(()),
     }
@@ -80,7 +87,7 @@ pub(crate) fn find_too_many_rules(
     if count.saturating_add(actions) <= MOST_RULES {
         return Ok(());
     }
-    found.add(alloc, 23, 0, NOWHERE, &g.name)
+    found.add(alloc, FaultKind::TooManyRules, 0, NOWHERE, &g.name)
 }
 
 /// How many actions these rules write, as far as a `usize` counts.
@@ -146,5 +153,11 @@ fn find_mark(alloc: Global, rule: &Rule, found: &mut Findings) -> Result<(), NoM
     if !is_marked(rule) {
         return Ok(());
     }
-    found.add(alloc, 2, rule.file, rule.span, &rule.name)
+    found.add(
+        alloc,
+        FaultKind::SecondEntry,
+        rule.file,
+        rule.span,
+        &rule.name,
+    )
 }

@@ -5,6 +5,7 @@ ghost use Rattle.lw_numbers.specs.Tables.{AreNumbersOf};
 ghost use Rattle.lw_numbers.specs.NameTable.{AreNameRulesOf};
 ghost use Rattle.lw_graph.specs.Walks.{HasNode};
 ghost use Rattle.lw_faults.specs.Reads.{ComesFirstTo, MayRead};
+ghost use Rattle.lw_faults.specs.Kinds.{number_of};
 ghost use Rattle.lw_faults.specs.Faults.{fault};
 ghost use Rattle.lw_faults.specs.Derivations.{LeftRecursion, ReadsNothing, RepeatsNothing, NeverEnds};
 ghost use Rattle.lw_faults.specs.Finding.{Finds, IsFaultOf};
@@ -17,20 +18,13 @@ use crate::derivations::names::Names;
 use crate::derivations::reaching::entry;
 use crate::derivations::reading::Reading;
 use lw_base::{NoMemory, Span};
+use lw_faults::FaultKind;
 use lw_faults::findings::Findings;
 use lw_grammar::{Element, Grammar, Rule};
 use lw_graph::NodeSet;
 use lw_numbers::Numbers;
 use lw_numbers::name_rules::NameRules;
 use std::alloc::Global;
-
-const LEFT_RECURSION: u8 = 7;
-
-const READS_NOTHING: u8 = 8;
-
-const REPEATS_NOTHING: u8 = 9;
-
-const NEVER_ENDS: u8 = 10;
 
 /// Puts in the faults of what rules read: left recursion, what reads nothing, what repeats nothing
 /// and what never ends.
@@ -95,7 +89,7 @@ fn tell_left_recursion(
 {
     for (number, rule) in g.rules.as_slice().iter().enumerate() {
         let is_so = comes_round(reading, round, number);
-        tell_if(alloc, is_so, LEFT_RECURSION, rule, found)?;
+        tell_if(alloc, is_so, FaultKind::LeftRecursion, rule, found)?;
     }
     Ok(())
 }
@@ -118,7 +112,7 @@ fn find_reading_nothing(
     let first = entry(g);
     for (number, rule) in g.rules.as_slice().iter().enumerate() {
         let is_so = reads_nothing(reading, first, number, rule);
-        tell_if(alloc, is_so, READS_NOTHING, rule, found)?;
+        tell_if(alloc, is_so, FaultKind::ReadsNothing, rule, found)?;
     }
     Ok(())
 }
@@ -143,7 +137,7 @@ fn find_never_ending(
 {
     for (number, rule) in g.rules.as_slice().iter().enumerate() {
         let is_so = never_ends(reading, number);
-        tell_if(alloc, is_so, NEVER_ENDS, rule, found)?;
+        tell_if(alloc, is_so, FaultKind::NeverEnds, rule, found)?;
     }
     Ok(())
 }
@@ -158,14 +152,14 @@ fn never_ends(reading: &Reading, number: usize) -> bool
 fn tell_if(
     alloc: Global,
     is_so: bool,
-    number: u8,
+    kind: FaultKind,
     rule: &Rule,
     found: &mut Findings,
 ) -> Result<(), NoMemory>
-    ensures { OnOk result (Finds (λ f. IsTrue is_so × SpeaksOf number rule.now f) found.old found.new) }
+    ensures { OnOk result (Finds (λ f. IsTrue is_so × SpeaksOf (number_of kind) rule.now f) found.old found.new) }
 {
     if is_so {
-        found.add(alloc, number, rule.file, rule.span, &rule.name)?;
+        found.add(alloc, kind, rule.file, rule.span, &rule.name)?;
     }
     Ok(())
 }
@@ -275,7 +269,13 @@ impl Names<'_> {
         ensures { OnOk result (Finds (λ f. MayRead self.now.g.now part.now 0 × (f ≡ fault 9 rule.now.file span rule.now.name)) found.old found.new) }
     {
         if self.passes(false, nothing, part) {
-            found.add(alloc, REPEATS_NOTHING, rule.file, span, &rule.name)?;
+            found.add(
+                alloc,
+                FaultKind::RepeatsNothing,
+                rule.file,
+                span,
+                &rule.name,
+            )?;
         }
         Ok(())
     }

@@ -8,6 +8,7 @@ ghost use Rattle.lw_types.specs.Attributes.{RepeatsAttribute};
 use crate::naming::names::put_name;
 use indexmap::IndexSet;
 use lw_base::{Name, NoMemory};
+use lw_faults::FaultKind;
 use lw_faults::findings::Findings;
 use lw_grammar::{Attribute, Interface};
 use std::alloc::Global;
@@ -52,5 +53,11 @@ fn meet(
     if !is_second {
         return Ok(());
     }
-    found.add(alloc, 4, file, attribute.span, &attribute.name)
+    found.add(
+        alloc,
+        FaultKind::Duplicate,
+        file,
+        attribute.span,
+        &attribute.name,
+    )
 }

@@ -9,6 +9,7 @@ ghost use Rattle.lw_types.specs.Wrong.{KnowsNames};
 
 use crate::naming::names::KnownNames;
 use lw_base::{Name, NoMemory};
+use lw_faults::FaultKind;
 use lw_faults::findings::Findings;
 use lw_grammar::{Interface, Member, UnionDef};
 use lw_graph::{Graph, NodeSet};
@@ -115,7 +116,13 @@ impl KnownNames<'_> {
     {
         match self.interface_place(&interface.name) {
             Some(place) if place == i && round.holds(i) => {
-                found.add(alloc, 19, interface.file, interface.span, &interface.name)
+                found.add(
+                    alloc,
+                    FaultKind::CircularType,
+                    interface.file,
+                    interface.span,
+                    &interface.name,
+                )
             }
             _ => Ok(()),
         }
@@ -237,7 +244,13 @@ impl KnownNames<'_> {
     {
         match self.union_place(&union.name) {
             Some(place) if place == u && round.holds(u) => {
-                found.add(alloc, 19, union.file, union.span, &union.name)
+                found.add(
+                    alloc,
+                    FaultKind::CircularType,
+                    union.file,
+                    union.span,
+                    &union.name,
+                )
             }
             _ => Ok(()),
         }
@@ -286,7 +299,13 @@ impl KnownNames<'_> {
         if !self.extends_other(interface) {
             return Ok(());
         }
-        found.add(alloc, 19, interface.file, interface.span, &interface.name)
+        found.add(
+            alloc,
+            FaultKind::CircularType,
+            interface.file,
+            interface.span,
+            &interface.name,
+        )
     }
 
     fn extends_other(&self, interface: &Interface) -> bool

@@ -1,17 +1,19 @@
 // What is known of the names of a grammar, and what is wrong with them where they are written.
 ghost use Rattle.std.specs.Prelude.{ℕ, ◌≡◌, ◌↔◌, List, [], IsTrue, OnOk, IfOk, bytes_eq};
 ghost use Rattle.indexmap.specs.IndexSet.{insert_key};
-ghost use Rattle.lw_grammar.specs.NameRules.{IsNameRule};
 ghost use Rattle.lw_numbers.specs.Tables.{AreNumbersOf};
 ghost use Rattle.lw_numbers.specs.NameTable.{AreNameRulesOf};
 ghost use Rattle.lw_grammar.specs.Written.{IsNoRule, IsKnownType};
 ghost use Rattle.lw_faults.specs.Finding.{Finds, OfSome};
+ghost use Rattle.lw_faults.specs.Kinds.{number_of};
+ghost use Rattle.lw_faults.specs.Names.{IsNameless};
 ghost use Rattle.lw_types.specs.NameUses.{use_of, uses};
 ghost use Rattle.lw_types.specs.Wrong.{KnowsNames, IsWrong, fault_number, TellsWrong, InfersName};
 
 use crate::naming::mentions::{Mention, Role, mentions};
 use indexmap::IndexSet;
 use lw_base::{Name, NoMemory};
+use lw_faults::FaultKind;
 use lw_faults::findings::Findings;
 use lw_grammar::Grammar;
 use lw_numbers::Numbers;
@@ -68,12 +70,15 @@ impl<'g> KnownNames<'g> {
         !self.numbers.is_called(name)
     }
 
-    /// Whether no rule names the nodes of the type.
+    /// Whether nothing that is there reads a cross-reference to the type that names no rule.
     fn is_nameless(&self, wanted: &Name) -> bool
         requires { KnowsNames self.now }
-        ensures { IsTrue result ↔ ((called : List ℕ) → ¬ IsNameRule self.now.g.now wanted.now called) }
+        ensures { IsTrue result ↔ IsNameless self.now.g.now wanted.now }
     {
-        self.name_rules.rule_of(wanted).is_none()
+        match self.name_rules.rule_of(wanted) {
+            Some(called) => self.is_no_rule(called),
+            None => true,
+        }
     }
 
     /// Whether what the name does here is a fault.
@@ -128,20 +133,20 @@ impl<'g> KnownNames<'g> {
         if !self.is_wrong(mention) {
             return Ok(());
         }
-        let number = fault_number(mention.role);
-        found.add(alloc, number, mention.file, mention.span, mention.name)
+        let kind = fault_kind(mention.role);
+        found.add(alloc, kind, mention.file, mention.span, mention.name)
     }
 }
 
-/// The number of the fault of a name that is wrong in what it does.
-fn fault_number(role: Role) -> u8
-    ensures { result ≡ fault_number role }
+/// The fault of a name that is wrong in what it does.
+fn fault_kind(role: Role) -> FaultKind
+    ensures { number_of result ≡ fault_number role }
 {
     match role {
-        Role::DeclaresRule | Role::DeclaresType | Role::InfersType => 4,
-        Role::CallsRule => 5,
-        Role::NamesType => 6,
-        Role::WantsNameRule => 18,
+        Role::DeclaresRule | Role::DeclaresType | Role::InfersType => FaultKind::Duplicate,
+        Role::CallsRule => FaultKind::UnknownRule,
+        Role::NamesType => FaultKind::UnknownType,
+        Role::WantsNameRule => FaultKind::NoNameRule,
     }
 }
 

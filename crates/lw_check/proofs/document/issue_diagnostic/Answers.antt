@@ -11,16 +11,16 @@ shown_as text message said from to code shown says is = subst (λ m. IsShownAt t
 
 pub returns-in_ok-message-in-Lexical : goal.returns-in_ok-message-in-Lexical
 returns-in_ok-message-in-Lexical c g are =
-    rw c.in-Lexical.is (fault.lexical (shown_as _ _ _ _ _ _ _ c.in_ok-message-in-Lexical.ensures c.shown_at.ensures))
+    rw c.in-Lexical.is (fault.lexical (shown_as _ _ _ _ _ _ _ c.in_ok-message-in-Lexical.ensures c.issue_shown.ensures))
 
 pub returns-in_ok-message-in-Syntax : goal.returns-in_ok-message-in-Syntax
 returns-in_ok-message-in-Syntax c g are =
     let says : c.from_string.result ≡ fault.unexpected c.kind_text-kind.result.now = c.from_string.ensures ∙ c.in_ok-message-in-Syntax.ensures.ok in
     rw c.in-Syntax.is
-    (fault.syntax_ c.kind_text-kind.result.now (c.args.tokens.now.texts, are, c.kind_text-kind.ensures) (shown_as _ _ _ _ _ _ _ says c.shown_at-in-Syntax.ensures))
+    (fault.syntax_ c.kind_text-kind.result.now (c.args.tokens.now.texts, are, c.kind_text-kind.ensures) (shown_as _ _ _ _ _ _ _ says c.issue_shown-in-Syntax.ensures))
 
 pub returns-in_ok-message-in-End : goal.returns-in_ok-message-in-End
-returns-in_ok-message-in-End c g are = rw c.in-End.is (fault.end_ (shown_as _ _ _ _ _ _ _ c.in_ok-message-in-End.ensures c.shown_at-in-End.ensures))
+returns-in_ok-message-in-End c g are = rw c.in-End.is (fault.end_ (shown_as _ _ _ _ _ _ _ c.in_ok-message-in-End.ensures c.issue_shown-in-End.ensures))
 
 pub returns-in-TooLarge : goal.returns-in-TooLarge
 returns-in-TooLarge c g are = rw c.in-TooLarge.is (IfOk-weaker c.too_large.result _ _ (λ shown is. rw is fault.too_large) c.too_large.ensures)

@@ -17,8 +17,8 @@ returns-in-Terminal c =
     let g = c.args.checker.now.g.now in
     let call = site_of c.args.site.now in
     let x = c.in-Terminal.terminal.now in (
-      λ is. let so = c.calls_wrongly.ensures.0 is in inl (c.in-Terminal.field-0, x, c.in-Terminal.ensures, so.0, so.1),
-      λ bad. c.calls_wrongly.ensures.1 (bad_by_terminal g call c.in-Terminal.field-0 x c.in-Terminal.ensures bad),
+      λ is. inl (c.in-Terminal.field-0, x, c.in-Terminal.ensures, c.is_uncallable.ensures.0 is),
+      λ bad. c.is_uncallable.ensures.1 (bad_by_terminal g call c.in-Terminal.field-0 x c.in-Terminal.ensures bad),
     )
 
 pub returns-in-Nothing : goal.returns-in-Nothing

@@ -14,4 +14,4 @@ returns c =
     let P : ℕ → Type 0 = λ n. Finds (λ f. f ≡ fault n m.file m.span m.name.now) c.args.found.now c.add.new.self in
     on_ok_weaker c.add.result
     (λ finds. Finds-where (IsWrong c.args.self.now.g.now (use_of m)) (fault (fault_number m.role) m.file m.span m.name.now) wrong
-    (subst P c.fault_number-number.ensures finds)) c.add.ensures
+    (subst P c.fault_kind-kind.ensures finds)) c.add.ensures
