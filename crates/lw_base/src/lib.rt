@@ -12,8 +12,12 @@
 //! ([`Name::from_string`], [`Name::from_vec`]). [`Name::into_string`] gives the text back. Bytes that
 //! are no UTF-8 make no [`Name`]. Texts that are taken over or given back are not copied, which is not
 //! proved. Names compare by their bytes. [`Steps::tick`] adds one to a [`Steps`].
+//!
+//! [`limits_of_all`] says which numbers the limits are: 67,108,864 bytes of a text, 65,536 documents, 9,999 documents
+//! of a generated workspace, and 2,097,152 bytes of a document that is read by a grammar.
 #![tactic(auto)]
 
+mod laws;
 mod limits;
 mod memory;
 mod name;
@@ -22,6 +26,7 @@ mod steps;
 mod token;
 mod type_set;
 
+pub use laws::limits_of_all;
 pub use limits::{GREATEST_WORKSPACE, LONGEST_DOCUMENT, LONGEST_TEXT, MOST_DOCUMENTS};
 pub use memory::NoMemory;
 pub use name::Name;

@@ -28,6 +28,9 @@
 //! Of the definitions themselves [`streams_grow`] says what stays as a stream goes on. Its bodies stay,
 //! and others come behind them. Its fault stays where that does not come from the stream's end, and no
 //! body comes behind it.
+//!
+//! [`limits_of_streams`] says which numbers the limits are: 2^40 bytes of a session, 4,096 of a header part and
+//! 16,777,216 of a body.
 #![tactic(auto)]
 
 mod body;
@@ -45,7 +48,7 @@ mod write;
 
 pub use body::Body;
 pub use fault::FrameFault;
-pub use laws::streams_grow;
+pub use laws::{limits_of_streams, streams_grow};
 pub use limits::{LONGEST_BODY, LONGEST_HEADER_PART, LONGEST_SESSION};
 pub use reader::FrameReader;
 pub use whole::{Frames, read_pieces};
