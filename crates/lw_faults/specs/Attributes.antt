@@ -26,6 +26,11 @@ pub data Kind : Type 0 where
   NodesOf : List ℕ → Kind
   ReferencesTo : List ℕ → Kind
 
+-- the values that are texts: strings, and what a data type rule reads
+pub data IsText : Kind → Type 0 where
+  string : IsText (Plain Text)
+  of_rule : {type_name : List ℕ} → IsText (TextsOf type_name)
+
 module _ (g : Grammar) where
   -- The interfaces whose attributes a type has: its own, and those that it extends, depth first, each with all that it extends. One that
   -- extends itself is looked into once: `entered` numbers those that are open.
@@ -64,14 +69,22 @@ module _ (g : Grammar) where
     reference : {wanted name : List ℕ} {s : Span} → IsKindOf (Cross wanted (Some name) s) (ReferencesTo wanted)
     reference_by_name : {wanted : List ℕ} {s : Span} → IsKindOf (Cross wanted None s) (ReferencesTo wanted)
 
-  -- the member takes values of this kind. A text that is written out means `string`, and a union takes what one of its members takes.
+  -- texts have this type: it is that of a data type rule
+  pub record IsTypeOfTexts (type_name : List ℕ) : Type 0 where
+    pub rule : Rule
+    pub among : Contains g.rules rule
+    pub reads_text : IsDataType g rule
+    pub of_type : HasType g rule type_name
+
+  -- the member takes values of this kind. A text that is written out means `string`, the type of a data type rule takes every text, and a
+  -- union takes what one of its members takes.
   pub data TakesKind : Member → Kind → Type 0 where
     plain : {p : Primitive} → TakesKind (member.Plain p) (Plain p)
     plain_text : {type_name : List ℕ} → TakesKind (member.Plain Text) (TextsOf type_name)
     literal : {text : List ℕ} → TakesKind (member.Literal text) (Plain Text)
     literal_text : {text type_name : List ℕ} → TakesKind (member.Literal text) (TextsOf type_name)
     node : {name type_name : List ℕ} {s : Span} → IsSubtype g type_name name → TakesKind (member.Named name s) (NodesOf type_name)
-    text : {name : List ℕ} {s : Span} → TakesKind (member.Named name s) (TextsOf name)
+    text : {name : List ℕ} {s : Span} {kind : Kind} → IsTypeOfTexts name → IsText kind → TakesKind (member.Named name s) kind
     union : {name : List ℕ} {s : Span} {kind : Kind} (u : ℕ) (union : UnionDef) (m : Member) → IsUnion g name u union → Contains union.members m → TakesKind m kind →
         TakesKind (member.Named name s) kind
     reference : {name wanted : List ℕ} {s : Span} → IsSubtype g wanted name → TakesKind (member.Refers name s) (ReferencesTo wanted)
