@@ -1,4 +1,6 @@
 // What is offered, as it is handed out.
+ghost use Rattle.std.specs.Prelude.{◌≡◌};
+
 use lw_base::Name;
 
 /// The kind of a keyword. Language Server Protocol 3.17, `CompletionItemKind`.
@@ -19,3 +21,9 @@ pub struct Item {
     /// Where it ends: the offset that was asked about.
     pub to: u32,
 }
+
+/// The kinds of items are the numbers that the Language Server Protocol 3.17 fixes ("CompletionItemKind").
+pub fn kinds_of_items()
+    ensures keyword { KEYWORD_ITEM ≡ 14 }
+    ensures reference { REFERENCE_ITEM ≡ 18 }
+{}

@@ -10,6 +10,7 @@
 //!
 //! It promises exactly what `lw_places::offers` defines: all that is offered, each once, and nothing else. Offers
 //! come in the order of labels and then of kinds ([`complete`]). Want of memory may take the place of the answer.
+//! The kinds of items are the numbers of the protocol ([`kinds_of_items`]).
 //!
 //! Names that are tried are those that would be found from one of the places where a cross-reference may come next: in the tree of what was
 //! read before, or in that of the whole text with the reference left blank, which is made once for each place, or among what other documents
@@ -33,4 +34,4 @@ mod words;
 mod written;
 
 pub use completion::complete;
-pub use item::{Item, KEYWORD_ITEM, REFERENCE_ITEM};
+pub use item::{Item, KEYWORD_ITEM, REFERENCE_ITEM, kinds_of_items};

@@ -1,4 +1,5 @@
 // The codes of errors.
+ghost use Rattle.std.specs.Prelude.{◌≡◌, neg_ℤ, pos};
 
 /// A body is no JSON (JSON-RPC 2.0, "Error object").
 pub const PARSE_ERROR: i32 = -32700;
@@ -20,3 +21,13 @@ pub const SERVER_NOT_INITIALIZED: i32 = -32002;
 /// A request was of the right shape, and what it asks for cannot be done (Language Server Protocol 3.17,
 /// "ErrorCodes").
 pub const REQUEST_FAILED: i32 = -32803;
+
+/// The codes are the numbers that JSON-RPC 2.0 ("Error object") and the Language Server Protocol 3.17 ("ErrorCodes") fix.
+pub fn error_codes()
+    ensures parse_error { PARSE_ERROR ≡ neg_ℤ (pos 32700) }
+    ensures invalid_request { INVALID_REQUEST ≡ neg_ℤ (pos 32600) }
+    ensures method_not_found { METHOD_NOT_FOUND ≡ neg_ℤ (pos 32601) }
+    ensures invalid_params { INVALID_PARAMS ≡ neg_ℤ (pos 32602) }
+    ensures server_not_initialized { SERVER_NOT_INITIALIZED ≡ neg_ℤ (pos 32002) }
+    ensures request_failed { REQUEST_FAILED ≡ neg_ℤ (pos 32803) }
+{}

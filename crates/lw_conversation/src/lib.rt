@@ -17,7 +17,8 @@
 //! - `Sessions.antt`: the build stands behind every message once `initialize` was answered, and so on through all
 //!   bodies up to `exit`.
 //!
-//! There is no code here but the types [`Ended`] and [`Phase`] and the codes of errors. Each function has an empty
+//! There is no code here but the types [`Ended`] and [`Phase`] and the codes of errors, which are those of the
+//! protocol ([`error_codes`]). Each function has an empty
 //! body, and its contract is a law that a reader would expect. Edits are told of documents in the order of their
 //! addresses ([`edits_are_in_order`]). Two laws are of a grammar by which a text is read in one way. What a session
 //! does is settled by its bodies and by what the store answers, or by its files where no read failed
@@ -33,7 +34,7 @@ mod phase;
 pub use ended::Ended;
 pub use error_code::{
     INVALID_PARAMS, INVALID_REQUEST, METHOD_NOT_FOUND, PARSE_ERROR, REQUEST_FAILED,
-    SERVER_NOT_INITIALIZED,
+    SERVER_NOT_INITIALIZED, error_codes,
 };
 pub use laws::{edits_are_in_order, one_outcome, sessions_stay_current};
 pub use phase::Phase;
