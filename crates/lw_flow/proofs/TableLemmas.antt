@@ -114,8 +114,14 @@ module _ {X S : Type 0} where
   room_set [] n old new at = absurd (none-some old at)
   room_set (row ∷ rows) zero old new at =
       let same : length row.keys ≡ length old.keys = ap (λ (r : HashSet X S). length r.keys) (same_Some row old at) in
-      omega (arith, same)
-  room_set (row ∷ rows) (suc n) old new at = let rest = room_set rows n old new at in omega (arith, rest)
+      let after : room (slice_set (row ∷ rows) zero new) ≡ (2 ^ 64 - length new.keys) + room rows = refl in
+      let before : room (row ∷ rows) ≡ (2 ^ 64 - length row.keys) + room rows = refl in
+      omega (arith, same, after, before)
+  room_set (row ∷ rows) (suc n) old new at =
+      let rest = room_set rows n old new at in
+      let after : room (slice_set (row ∷ rows) (suc n) new) ≡ (2 ^ 64 - length row.keys) + room (slice_set rows n new) = refl in
+      let before : room (row ∷ rows) ≡ (2 ^ 64 - length row.keys) + room rows = refl in
+      omega (arith, rest, after, before)
 
 module _ {X S : Type 0} {eq : X → X → Bool} {n : ℕ} {xs : List X} {grown : Bool} {old new : List (HashSet X S)} (put : RowPut eq n xs grown old new) where
   pub row_room : TakesRoom grown (room old) (room new)
@@ -132,10 +138,10 @@ module _ {X S : Type 0} {eq : X → X → Bool} {n : ℕ} {xs : List X} {grown :
           let same = ap length (put.none stayed) in
           record { most = omega (arith, both, same); less = λ grew. absurd (true≢false (sym grew ∙ stayed)) }
 
-pub room_put : {X S E : Type 0} {eq : X → X → Bool} {n : ℕ} {xs : List X} {old new : List (HashSet X S)} (r : Result Bool E) →
-    IfOk r (λ grown. RowPut eq n xs grown old new) → IfOk r (λ grown. TakesRoom grown (room old) (room new))
-room_put (Ok grown) put = row_room put
-room_put (Err e) put = tt
+module _ {X S E : Type 0} (eq : X → X → Bool) (n : ℕ) (xs : List X) (old new : List (HashSet X S)) where
+  pub room_put : (r : Result Bool E) → IfOk r (λ grown. RowPut eq n xs grown old new) → IfOk r (λ grown. TakesRoom grown (room old) (room new))
+  room_put (Ok grown) put = row_room put
+  room_put (Err e) put = tt
 
 pub no_room_taken : (n : ℕ) → TakesRoom false n n
 no_room_taken n = record { most = omega arith; less = λ is. absurd (true≢false (sym is)) }

@@ -144,7 +144,8 @@ impl Parser {
 
     /// The first fault of tokens that are no sentence.
     fn fault(&self, alloc: Global, tokens: &[Token]) -> ParseFault
-        requires { (g : Grammar) × (kinds : Kinds) × (k : ℕ) × IsParserOf g kinds k self.now × AreOfKinds kinds tokens.now }
+        requires known { (g : Grammar) × (kinds : Kinds) × (k : ℕ) × IsParserOf g kinds k self.now × AreOfKinds kinds tokens.now }
+        requires tile { Tile 0 tokens.now }
         ensures { (g : Grammar) (kinds : Kinds) (k : ℕ) → IsParserOf g kinds k self.now → IsSupplied g kinds → AreOfKinds kinds tokens.now →
             ¬ IsWhole g kinds (kinds_seen tokens.now) → IsParseFault g kinds tokens.now result }
     {

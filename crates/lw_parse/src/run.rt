@@ -114,8 +114,8 @@ fn behind_first(kinds: &[KindId]) -> &[KindId]
     }
 }
 
-/// The marks of the sentence that tokens of these kinds are, if they are one. How many turns that takes is not proved; after 2^64 - 1 of them
-/// the answer is that memory is wanting, which no text comes to.
+/// The marks of the sentence that tokens of these kinds are, if they are one. Where that would take more than 2^64 - 1 turns, the answer is
+/// that memory is wanting. A short text can take so many, where each of many fragments calls another twice.
 pub(crate) fn marks_of<'p>(
     alloc: Global,
     parser: &'p Parser,

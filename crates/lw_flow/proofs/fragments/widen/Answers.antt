@@ -1,6 +1,7 @@
 use Rattle.std.proofs.Common.{◌↔◌, Contains, subst}
 use Rattle.lw_flow.specs.declared.effect.Effect.{Effect}
 use Rattle.lw_flow.specs.Passing.{Does}
+use Rattle.lw_flow.specs.contracts.effect.EffectPartialEq.TheImpl.{eq-value}
 use Rattle.lw_flow.specs.Rows.{InTable, room}
 use Rattle.lw_flow.proofs.FixedLemmas.{rule_at, widens_none, widened, widened_length}
 use Rattle.lw_flow.proofs.TableLemmas.{no_room_taken, room_put}
@@ -35,4 +36,5 @@ pub returns-then-not-rule-clause-room : goal.returns-then-not-rule-clause-room
 returns-then-not-rule-clause-room c = no_room_taken (room c.args.table.now.items)
 
 pub returns-clause-room : goal.returns-clause-room
-returns-clause-room c = room_put c.widen_row.result c.widen_row.ensures
+returns-clause-room c = 
+    room_put (eq-value).it c.args.number c.as_slice-3.result.now c.args.table.now.items c.widen_row.new.table.items c.widen_row.result c.widen_row.ensures
