@@ -1,5 +1,5 @@
 -- Tables of sets, one of whose sets is widened.
-use Rattle.std.proofs.Common.{Result, Ok, Err, OnOk, IfOk, ◌≡◌, ◌≢◌, ◌↔◌, ◌⊎◌, ◌+◌, ◌-◌, ◌^◌, ◌<◌, ◌≤◌, ℕ, zero, suc, Bool, true, false, List, [], ◌∷◌, ◌++◌, Some, length, slice_get, slice_set, Contains, refl, sym, ap, ◌∙◌, subst, inl, inr, length-set, arith, true≢false}
+use Rattle.std.proofs.Common.{Result, Ok, Err, OnOk, IfOk, ◌≡◌, ◌≢◌, ◌↔◌, ◌⊎◌, ◌+◌, ◌-◌, ◌^◌, ◌<◌, ℕ, zero, suc, Bool, true, false, List, [], ◌∷◌, ◌++◌, Some, length, slice_get, slice_set, Contains, refl, sym, ap, ◌∙◌, subst, inl, inr, length-set, arith, true≢false}
 use Rattle.std.specs.HashSet.{HashSet}
 use Rattle.std.proofs.lemmas.Bool.{cases_eq}
 use Rattle.std.proofs.lemmas.Option.{same_Some, none-some}
@@ -111,6 +111,7 @@ module _ {X S : Type 0} (table : List (HashSet X S)) (n : ℕ) (row : HashSet X 
 module _ {X S : Type 0} where
   room_set : (table : List (HashSet X S)) (n : ℕ) (old new : HashSet X S) → slice_get table n ≡ Some old →
       room (slice_set table n new) + (2 ^ 64 - length old.keys) ≡ room table + (2 ^ 64 - length new.keys)
+  unfolding room
   room_set [] n old new at = absurd (none-some old at)
   room_set (row ∷ rows) zero old new at =
       let same : length row.keys ≡ length old.keys = ap (λ (r : HashSet X S). length r.keys) (same_Some row old at) in

@@ -21,7 +21,7 @@ module _ {X S : Type 0} where
     pub more : grown ≡ true → (length before.keys < length after.keys) × (length after.keys < 2 ^ 64)
 
   -- how much more the sets can have, of which none has 2^64
-  pub room : List (HashSet X S) → ℕ
+  unfoldable pub room : List (HashSet X S) → ℕ
   room [] = 0
   room (row ∷ rows) = (2 ^ 64 - length row.keys) + room rows
 

@@ -18,7 +18,7 @@ pub returns-in-None-clause-spreads : goal.returns-in-None-clause-spreads
 returns-in-None-clause-spreads c = spread_none c.args.visit.now (InTable c.args.marks.now.items) c.in-None.is
 
 pub returns-in-Some-clause-room : goal.returns-in-Some-clause-room
-returns-in-Some-clause-room c = 
+returns-in-Some-clause-room c =
     room_put (mark-eq).it c.in-Some.number c.as_slice.result.now c.args.marks.now.items c.widen_row.new.table.items c.widen_row.result c.widen_row.ensures
 
 pub returns-in-None-clause-room : goal.returns-in-None-clause-room

@@ -36,5 +36,5 @@ pub returns-then-not-rule-clause-room : goal.returns-then-not-rule-clause-room
 returns-then-not-rule-clause-room c = no_room_taken (room c.args.table.now.items)
 
 pub returns-clause-room : goal.returns-clause-room
-returns-clause-room c = 
+returns-clause-room c =
     room_put (eq-value).it c.args.number c.as_slice-3.result.now c.args.table.now.items c.widen_row.new.table.items c.widen_row.result c.widen_row.ensures
