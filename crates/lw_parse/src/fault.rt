@@ -9,6 +9,6 @@ pub enum ParseFault {
     Unexpected(u32, Token),
     /// Each token can stand after those before it, but all together are no sentence.
     UnexpectedEnd,
-    /// There was no memory, or more than 2^64 - 1 turns would be needed.
+    /// There was no memory, or 2^64 turns in a row left no mark.
     NoMemory,
 }
