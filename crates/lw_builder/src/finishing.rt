@@ -14,7 +14,7 @@ use crate::spans::{read_since, span_of_tokens};
 use lw_base::{NoMemory, NodeId, PropId, RefId};
 use lw_tree::{Node, Reference, Value};
 
-/// The place behind so many nodes or references. There are less than 2^32.
+/// The place behind so many nodes or references. Where there are 2^32 of them, memory is wanting.
 pub(crate) fn place_behind(len: usize) -> Result<u32, NoMemory>
     ensures { IfOk result (λ place. place ≡ len) }
 {

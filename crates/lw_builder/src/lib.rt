@@ -16,8 +16,8 @@
 //! no name is compared. What tokens say, as a name or as a text, is told by [`said_by`].
 //!
 //! A mark takes constant time, but for the texts that it copies and for the end of a node, which is linear in the
-//! values of the node. Nothing recurses. The only error is that memory is refused; 2^32 nodes or references are too
-//! many for any.
+//! values of the node. Nothing recurses. The only error is want of memory. It is answered, too, where there would
+//! be 2^32 nodes or 2^32 references.
 //!
 //! In a folder of its own stands:
 //!

@@ -3,7 +3,7 @@ use Rattle.std.proofs.Common.{◌≡◌, ◌↔◌, ◌⊎◌, ℕ, zero, suc, �
 use Rattle.std.specs.List.{list_any}
 use Rattle.std.proofs.lemmas.Map.Views.{Contains-from_any}
 use Rattle.std.proofs.lemmas.Bool.{cases_lt}
-use Rattle.std.proofs.lemmas.List.{take_more, take_all}
+use Rattle.std.proofs.lemmas.List.{take_more, take_all, length-append}
 use Rattle.std.proofs.lemmas.List.Elements.{Contains-append_left, Contains-push, Contains-push_cases}
 use Rattle.indexmap.specs.IndexSet.{insert_key, insert_all}
 use Rattle.lw_flow.specs.declared.effect.Effect.{Effect}
@@ -51,6 +51,22 @@ module _ {X : Type 0} {eq : X → X → Bool} (exact : (x y : X) → eq x y ≡ 
           | inr (suc k, inside, is) ↦ all.1 (inr (k, omega (arith, inside), is))
         ],
       )
+
+-- a list of keys stays as it is, or gets longer
+module _ {X : Type 0} (eq : X → X → Bool) where
+  one_longer : (ks : List X) (k : X) → (length ks ≤ length (insert_key eq ks k)) × (length (insert_key eq ks k) ≤ length ks → insert_key eq ks k ≡ ks)
+  one_longer ks k = by (list_any (eq k) ks)
+    where
+      by : (b : Bool) → (length ks ≤ length (if b then ks else ks ++ k ∷ [])) × (length (if b then ks else ks ++ k ∷ []) ≤ length ks → (if b then ks else ks ++ k ∷ []) ≡ ks)
+      by true = (omega arith, λ _. refl)
+      by false = let more = length-append ks (k ∷ []) in (omega (arith, more), λ le. absurd (omega (arith, more, le)))
+
+  pub all_longer : (ks xs : List X) → (length ks ≤ length (insert_all eq ks xs)) × (length (insert_all eq ks xs) ≤ length ks → insert_all eq ks xs ≡ ks)
+  all_longer ks [] = (omega arith, λ _. refl)
+  all_longer ks (x ∷ xs) =
+      let one = one_longer ks x in
+      let rest = all_longer (insert_key eq ks x) xs in
+      (omega (arith, one.0, rest.0), λ le. rest.1 (omega (arith, le, one.0)) ∙ one.1 (omega (arith, rest.0, le)))
 
 module _ {A X : Type 0} (P : A → X → Type 0) (old : List X) where
   pub adds_step : (mid new : List X) (xs : List A) (i : ℕ) (d : A) → i < length xs → AddsFrom P old (take i xs) mid →

@@ -1,10 +1,10 @@
 -- Tables of sets, one of whose sets is widened.
-use Rattle.std.proofs.Common.{Result, Ok, Err, OnOk, IfOk, ◌≡◌, ◌≢◌, ◌↔◌, ◌⊎◌, ℕ, zero, suc, Bool, true, false, List, [], ◌∷◌, ◌++◌, Some, length, slice_get, slice_set, Contains, refl, sym, ap, ◌∙◌, subst, inl, inr, length-set}
+use Rattle.std.proofs.Common.{Result, Ok, Err, OnOk, IfOk, ◌≡◌, ◌≢◌, ◌↔◌, ◌⊎◌, ◌+◌, ◌-◌, ◌^◌, ◌<◌, ℕ, zero, suc, Bool, true, false, List, [], ◌∷◌, ◌++◌, Some, length, slice_get, slice_set, Contains, refl, sym, ap, ◌∙◌, subst, inl, inr, length-set, arith, true≢false}
 use Rattle.std.specs.HashSet.{HashSet}
 use Rattle.std.proofs.lemmas.Bool.{cases_eq}
 use Rattle.std.proofs.lemmas.Option.{same_Some, none-some}
 use Rattle.indexmap.specs.IndexSet.{insert_all}
-use Rattle.lw_flow.specs.Rows.{InTable, RowPut, AreEmptyRows}
+use Rattle.lw_flow.specs.Rows.{InTable, RowPut, AreEmptyRows, TakesRoom, room}
 use Rattle.lw_flow.proofs.SetLemmas.{in_all, nothing_in}
 
 module _ {A : Type 0} where
@@ -91,9 +91,10 @@ module _ {X S : Type 0} where
 
 module _ {X S E : Type 0} (eq : X → X → Bool) (n : ℕ) (xs : List X) (old : List (HashSet X S)) (before after : HashSet X S) (there : slice_get old n ≡ Some before) where
   pub row_from : (r : Result Bool E) → OnOk r (after.keys ≡ insert_all eq before.keys xs) → IfOk r (λ grown. grown ≡ false → after.keys ≡ before.keys) →
+      IfOk r (λ grown. grown ≡ true → (length before.keys < length after.keys) × (length after.keys < 2 ^ 64)) →
       IfOk r (λ grown. RowPut eq n xs grown old (slice_set old n after))
-  row_from (Ok grown) put none = record { before = before; after = after; there = there; is = refl; put = put; none = none }
-  row_from (Err e) put none = tt
+  row_from (Ok grown) put none more = record { before = before; after = after; there = there; is = refl; put = put; none = none; more = more }
+  row_from (Err e) put none more = tt
 
 -- a row of the table
 module _ {X S : Type 0} (table : List (HashSet X S)) (n : ℕ) (row : HashSet X S) (at : slice_get table n ≡ Some row) (xs : List X) (same : xs ≡ row.keys) where
@@ -104,3 +105,52 @@ module _ {X S : Type 0} (table : List (HashSet X S)) (n : ℕ) (row : HashSet X 
         let is : row ≡ there.row = same_Some row there.row (sym at ∙ there.there) in
         subst (λ ys. Contains ys x) (sym (same ∙ ap (λ (r : HashSet X S). r.keys) is)) there.has,
   )
+
+-- ---- the room of a table
+
+module _ {X S : Type 0} where
+  room_set : (table : List (HashSet X S)) (n : ℕ) (old new : HashSet X S) → slice_get table n ≡ Some old →
+      room (slice_set table n new) + (2 ^ 64 - length old.keys) ≡ room table + (2 ^ 64 - length new.keys)
+  unfolding room
+  room_set [] n old new at = absurd (none-some old at)
+  room_set (row ∷ rows) zero old new at =
+      let same : length row.keys ≡ length old.keys = ap (λ (r : HashSet X S). length r.keys) (same_Some row old at) in
+      let after : room (slice_set (row ∷ rows) zero new) ≡ (2 ^ 64 - length new.keys) + room rows = refl in
+      let before : room (row ∷ rows) ≡ (2 ^ 64 - length row.keys) + room rows = refl in
+      omega (arith, same, after, before)
+  room_set (row ∷ rows) (suc n) old new at =
+      let rest = room_set rows n old new at in
+      let after : room (slice_set (row ∷ rows) (suc n) new) ≡ (2 ^ 64 - length row.keys) + room (slice_set rows n new) = refl in
+      let before : room (row ∷ rows) ≡ (2 ^ 64 - length row.keys) + room rows = refl in
+      omega (arith, rest, after, before)
+
+module _ {X S : Type 0} {eq : X → X → Bool} {n : ℕ} {xs : List X} {grown : Bool} {old new : List (HashSet X S)} (put : RowPut eq n xs grown old new) where
+  pub row_room : TakesRoom grown (room old) (room new)
+  row_room = by grown refl
+    where
+      both : room new + (2 ^ 64 - length put.before.keys) ≡ room old + (2 ^ 64 - length put.after.keys)
+      both = ap (λ t. room t + (2 ^ 64 - length put.before.keys)) put.is ∙ room_set old n put.before put.after put.there
+
+      by : (b : Bool) → grown ≡ b → TakesRoom grown (room old) (room new)
+      by true grew =
+          let more = put.more grew in
+          record { most = omega (arith, both, more.0, more.1); less = λ _. omega (arith, both, more.0, more.1) }
+      by false stayed =
+          let same = ap length (put.none stayed) in
+          record { most = omega (arith, both, same); less = λ grew. absurd (true≢false (sym grew ∙ stayed)) }
+
+module _ {X S E : Type 0} (eq : X → X → Bool) (n : ℕ) (xs : List X) (old new : List (HashSet X S)) where
+  pub room_put : (r : Result Bool E) → IfOk r (λ grown. RowPut eq n xs grown old new) → IfOk r (λ grown. TakesRoom grown (room old) (room new))
+  room_put (Ok grown) put = row_room put
+  room_put (Err e) put = tt
+
+pub no_room_taken : (n : ℕ) → TakesRoom false n n
+no_room_taken n = record { most = omega arith; less = λ is. absurd (true≢false (sym is)) }
+
+pub room_step : (grown more after : Bool) (old mid new : ℕ) → TakesRoom grown old mid → TakesRoom more mid new →
+    ((more ≡ true) × (after ≡ true)) ⊎ ((more ≡ false) × (after ≡ grown)) → TakesRoom after old new
+room_step grown more after old mid new before one (inl (grew, _)) =
+    let less = one.less grew in
+    record { most = omega (arith, before.most, less); less = λ _. omega (arith, before.most, less) }
+room_step grown more after old mid new before one (inr (_, same)) =
+    record { most = omega (arith, before.most, one.most); less = λ is. let less = before.less (sym same ∙ is) in omega (arith, less, one.most) }

@@ -7,7 +7,7 @@ ghost use Rattle.lw_flow.specs.declared.effect.Mark.{Mark};
 ghost use Rattle.lw_flow.specs.declared.walking.Visit.{Visit};
 ghost use Rattle.lw_flow.specs.Arrivals.{Spread, StartsRule, BelongsTo, AllOfWays, Spreads, SpreadsBelow, AreArrivals};
 ghost use Rattle.lw_flow.specs.Fixed.{IsSound};
-ghost use Rattle.lw_flow.specs.Rows.{InTable};
+ghost use Rattle.lw_flow.specs.Rows.{InTable, TakesRoom, room};
 
 use crate::callee::Source;
 use crate::effect::{Effect, Mark};
@@ -33,13 +33,11 @@ pub(crate) fn arrivals(
     ensures exact { IfOk result (λ marks. AreArrivals source.now.grammar.now (InTable table.now) (InTable marks.items)) }
 {
     let mut marks = starts(alloc, source)?;
-    // A round that is not the last has put something new into memory, which is refused before they are so many.
-    for _round in 0..u64::MAX {
+    'rounds: loop {
         if !spread_all(alloc, source, table, &mut marks)? {
             return Ok(marks);
         }
     }
-    Err(NoMemory)
 }
 
 /// The marks at the begin of each rule, none at that of a fragment.
@@ -87,6 +85,7 @@ fn spread_all(
     requires marks_sized { length marks.old.items ≡ length source.now.grammar.now.rules }
     ensures length { OnOk result (length marks.new.items ≡ length marks.old.items) }
     ensures spreads { IfOk result (λ grown. SpreadsBelow source.now.grammar.now (InTable table.now) (length source.now.grammar.now.rules) grown (InTable marks.old.items) (InTable marks.new.items)) }
+    ensures room { IfOk result (λ grown. TakesRoom grown (room marks.old.items) (room marks.new.items)) }
 {
     let mut grown = false;
     for number in 0..source.grammar.rules.len() {
@@ -112,6 +111,7 @@ fn spread(
     requires within { number < length source.now.grammar.now.rules }
     ensures length { OnOk result (length marks.new.items ≡ length marks.old.items) }
     ensures spreads { IfOk result (λ grown. Spreads source.now.grammar.now (InTable table.now) number grown (InTable marks.old.items) (InTable marks.new.items)) }
+    ensures room { IfOk result (λ grown. TakesRoom grown (room marks.old.items) (room marks.new.items)) }
 {
     let rule = &source.grammar.rules.as_slice()[number];
     let mut visits = Vec::new(alloc);
@@ -131,6 +131,7 @@ fn spread_visits(marks: &mut Vec<IndexSet<Mark>>, visits: &[Visit]) -> Result<bo
     requires { (v : Visit) (f : ℕ) → Contains visits.now v → v.enters ≡ Some f → f < length marks.old.items }
     ensures length { OnOk result (length marks.new.items ≡ length marks.old.items) }
     ensures spreads { IfOk result (λ grown. Spread visits.now grown (InTable marks.old.items) (InTable marks.new.items)) }
+    ensures room { IfOk result (λ grown. TakesRoom grown (room marks.old.items) (room marks.new.items)) }
 {
     let mut grown = false;
     for visit in visits {
@@ -146,6 +147,7 @@ fn spread_visit(marks: &mut Vec<IndexSet<Mark>>, visit: &Visit) -> Result<bool, 
     requires { (f : ℕ) → visit.now.enters ≡ Some f → f < length marks.old.items }
     ensures length { OnOk result (length marks.new.items ≡ length marks.old.items) }
     ensures spreads { IfOk result (λ grown. Spread (visit.now ∷ []) grown (InTable marks.old.items) (InTable marks.new.items)) }
+    ensures room { IfOk result (λ grown. TakesRoom grown (room marks.old.items) (room marks.new.items)) }
 {
     match visit.enters {
         Some(number) => widen_row(marks, number, visit.marks.as_slice()),

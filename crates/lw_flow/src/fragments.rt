@@ -1,9 +1,9 @@
 // What fragments may do.
-ghost use Rattle.std.specs.Prelude.{◌≡◌, ◌<◌, false, ℕ, IfOk, OnOk, length};
+ghost use Rattle.std.specs.Prelude.{◌≡◌, ◌<◌, ◌≤◌, false, ℕ, IfOk, OnOk, length};
 ghost use Rattle.lw_numbers.specs.Tables.{AreNumbersOf};
 ghost use Rattle.lw_numbers.specs.Kinship.{AreNodeRules};
 ghost use Rattle.lw_flow.specs.Fixed.{IsSound, IsClosed, Widens, WidensBelow};
-ghost use Rattle.lw_flow.specs.Rows.{InTable};
+ghost use Rattle.lw_flow.specs.Rows.{InTable, TakesRoom, room};
 
 use crate::callee::Source;
 use crate::doing::effects_of;
@@ -25,14 +25,12 @@ pub(crate) fn fragment_effects(
     ensures closed { IfOk result (λ table. IsClosed source.now.grammar.now (InTable table.items)) }
 {
     let mut table: Vec<IndexSet<Effect>> = empty_rows(alloc, source.grammar.rules.len())?;
-    // A round that is not the last has put something new into memory, which is refused before they are so many.
-    for _round in 0..u64::MAX {
+    'rounds: loop {
         widen_back(alloc, source, &mut table)?;
         if !widen_all(alloc, source, &mut table)? {
             return Ok(table);
         }
     }
-    Err(NoMemory)
 }
 
 /// Puts what each fragment may do into the table, from the last to the first.
@@ -46,6 +44,7 @@ fn widen_back(
     requires sized { length table.old.items ≡ length source.now.grammar.now.rules }
     ensures length { OnOk result (length table.new.items ≡ length table.old.items) }
     ensures sound { OnOk result (IsSound source.now.grammar.now (InTable table.old.items) → IsSound source.now.grammar.now (InTable table.new.items)) }
+    ensures room { OnOk result (room table.new.items ≤ room table.old.items) }
 {
     for number in (0..source.grammar.rules.len()).rev() {
         widen(alloc, source, table, number)?;
@@ -64,6 +63,7 @@ fn widen_all(
     requires sized { length table.old.items ≡ length source.now.grammar.now.rules }
     ensures length { OnOk result (length table.new.items ≡ length table.old.items) }
     ensures widens { IfOk result (λ grown. WidensBelow source.now.grammar.now (length source.now.grammar.now.rules) grown (InTable table.old.items) (InTable table.new.items)) }
+    ensures room { IfOk result (λ grown. TakesRoom grown (room table.old.items) (room table.new.items)) }
 {
     let mut grown = false;
     for number in 0..source.grammar.rules.len() {
@@ -87,6 +87,7 @@ fn widen(
     requires within { number < length source.now.grammar.now.rules }
     ensures length { OnOk result (length table.new.items ≡ length table.old.items) }
     ensures widens { IfOk result (λ grown. Widens source.now.grammar.now number grown (InTable table.old.items) (InTable table.new.items)) }
+    ensures room { IfOk result (λ grown. TakesRoom grown (room table.old.items) (room table.new.items)) }
 {
     let rule = &source.grammar.rules.as_slice()[number];
     if !rule.is_fragment {

@@ -1,5 +1,5 @@
 // Sets of effects and of marks.
-ghost use Rattle.std.specs.Prelude.{◌≡◌, ◌≤◌, ◌<◌, ◌↔◌, ◌⊎◌, [], ◌∷◌, false, IsTrue, OnOk, IfOk, Contains};
+ghost use Rattle.std.specs.Prelude.{◌≡◌, ◌≤◌, ◌<◌, ◌^◌, ◌↔◌, ◌⊎◌, [], ◌∷◌, true, false, length, IsTrue, OnOk, IfOk, Contains};
 ghost use Rattle.indexmap.specs.IndexSet.{insert_all};
 ghost use Rattle.lw_flow.specs.declared.effect.Effect.{Effect};
 ghost use Rattle.lw_flow.specs.declared.effect.Mark.{Mark};
@@ -20,14 +20,13 @@ pub(crate) fn put_all<T: Eq + Hash + Copy>(
 ) -> Result<bool, NoMemory>
     ensures keys { OnOk result (set.new.keys ≡ insert_all T.eq set.old.keys items.now) }
     ensures none { IfOk result (λ grown. grown ≡ false → set.new.keys ≡ set.old.keys) }
+    ensures more { IfOk result (λ grown. grown ≡ true → (length set.old.keys < length set.new.keys) × (length set.new.keys < 2 ^ 64)) }
 {
-    let mut grown = false;
+    let before = set.len();
     for item in items {
-        if set.insert(*item)? {
-            grown = true;
-        }
+        set.insert(*item)?;
     }
-    Ok(grown)
+    Ok(before < set.len())
 }
 
 /// A set of these.

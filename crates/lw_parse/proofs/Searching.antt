@@ -1,5 +1,5 @@
 -- The search for the first token that cannot stand, token by token.
-use Rattle.std.proofs.Common.{◌≡◌, ℕ, ◌+◌, ◌<◌, ◌⊎◌, List, [], ◌∷◌, ◌++◌, true, false, not, cond, All, length, get_or, map, take, sym, ap, ◌∙◌, subst, append-nil}
+use Rattle.std.proofs.Common.{◌≡◌, ℕ, ◌+◌, ◌<◌, ◌≤◌, ◌⊎◌, zero, suc, arith, List, [], ◌∷◌, ◌++◌, true, false, not, cond, All, length, get_or, map, take, sym, ap, ◌∙◌, subst, append-nil}
 use Rattle.std.proofs.lemmas.List.{map-append}
 use Rattle.std.proofs.lemmas.List.Elements.{filter_more, All-contains, Contains-get_or}
 use Rattle.std.proofs.lemmas.Option.{slice_get-get_or}
@@ -8,8 +8,21 @@ use Rattle.lw_grammar.specs.declared.grammar.Grammar.{Grammar}
 use Rattle.lw_grammar.specs.Kinds.{Kinds}
 use Rattle.lw_grammar.specs.Sentences.{Starts}
 use Rattle.lw_builder.specs.Built.{visible_of}
+use Rattle.lw_tree.specs.Parts.{Tile}
+use Rattle.lw_tree.specs.Parts as part
 use Rattle.lw_viable.specs.Fronts.{seen}
 use Rattle.lw_parse.specs.Outcomes.{kinds_seen, CanStand, IsFirstImpossible}
+
+-- no token begins before its number, since none is empty
+begins_behind : (from : ℕ) (tokens : List Token) (i : ℕ) (d : Token) → i < length tokens → Tile from tokens → from + i ≤ (get_or tokens i d).span.start
+begins_behind from [] i d inside tile = absurd (omega (arith, inside))
+begins_behind from (t ∷ ts) zero d inside (part.more starts some rest) = omega (arith, starts)
+begins_behind from (t ∷ ts) (suc i) d inside (part.more starts some rest) =
+    let later = begins_behind t.span.end ts i d (omega (arith, inside)) rest in
+    omega (arith, some, later)
+
+pub number_within : (tokens : List Token) (i : ℕ) (d : Token) → i < length tokens → Tile 0 tokens → i ≤ (get_or tokens i d).span.start
+number_within tokens i d inside tile = let behind = begins_behind 0 tokens i d inside tile in omega (arith, behind)
 
 module _ (tokens : List Token) (i : ℕ) (d : Token) (inside : i < length tokens) where
   abbrev here : Token

@@ -9,6 +9,6 @@ pub enum ParseFault {
     Unexpected(u32, Token),
     /// Each token can stand after those before it, but all together are no sentence.
     UnexpectedEnd,
-    /// There was no memory.
+    /// There was no memory, or 2^64 turns in a row left no mark.
     NoMemory,
 }

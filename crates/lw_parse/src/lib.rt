@@ -18,8 +18,9 @@
 //! token that no sentence has after those before it. Or it answers the end, where every token can stand and the whole
 //! is no sentence.
 //!
-//! A turn takes constant time and the memory that its places and marks take; there are a few turns for each visible token, and nothing
-//! recurses. That the turns between two tokens come to an end is not proved: after 2^64 - 1 of them the answer is that memory is wanting.
+//! A turn takes constant time and the memory that its places and marks take, and nothing recurses. Most grammars take a few turns for
+//! each visible token. Where each of many fragments calls another twice, a short text can leave more marks than memory holds. That some
+//! turn leaves a mark is not proved: where 2^64 turns in a row leave none, the answer is that memory is wanting.
 //! A search for a fault takes as much time again as keeping the readings does.
 //!
 //! In a folder of its own stands:

@@ -1,5 +1,5 @@
 // A parser, and what texts are by it.
-ghost use Rattle.std.specs.Prelude.{ℕ, ◌≡◌, ◌≢◌, ◌↔◌, ◌≤◌, ◌<◌, List, Some, IsTrue, IfOk, IfErr, MatchOption, true, slice_get, map};
+ghost use Rattle.std.specs.Prelude.{ℕ, ◌≡◌, ◌≢◌, ◌↔◌, ◌≤◌, ◌<◌, Some, IsTrue, IfOk, IfErr, MatchOption, true, slice_get, map};
 ghost use Rattle.lw_kinds.specs.Reading.{IsReadingOf};
 ghost use Rattle.lw_grammar.specs.declared.grammar.Grammar.{Grammar};
 ghost use Rattle.lw_grammar.specs.declared.rule.Rule.{Rule};
@@ -144,7 +144,8 @@ impl Parser {
 
     /// The first fault of tokens that are no sentence.
     fn fault(&self, alloc: Global, tokens: &[Token]) -> ParseFault
-        requires { (g : Grammar) × (kinds : Kinds) × (k : ℕ) × IsParserOf g kinds k self.now × AreOfKinds kinds tokens.now }
+        requires known { (g : Grammar) × (kinds : Kinds) × (k : ℕ) × IsParserOf g kinds k self.now × AreOfKinds kinds tokens.now }
+        requires tile { Tile 0 tokens.now }
         ensures { (g : Grammar) (kinds : Kinds) (k : ℕ) → IsParserOf g kinds k self.now → IsSupplied g kinds → AreOfKinds kinds tokens.now →
             ¬ IsWhole g kinds (kinds_seen tokens.now) → IsParseFault g kinds tokens.now result }
     {

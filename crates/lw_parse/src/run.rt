@@ -1,5 +1,5 @@
 // A run of the parser over visible tokens, a place of the program at a time.
-ghost use Rattle.std.specs.Prelude.{ℕ, ◌≡◌, ◌≢◌, ◌-◌, [], ◌∷◌, Some, IfOk, OnOk, MatchOption, drop, map};
+ghost use Rattle.std.specs.Prelude.{ℕ, ◌≡◌, ◌≢◌, ◌<◌, ◌≤◌, ◌⊎◌, ◌+◌, ◌-◌, [], ◌∷◌, Some, IfOk, OnOk, MatchOption, drop, map};
 ghost use Rattle.lw_grammar.specs.declared.grammar.Grammar.{Grammar};
 ghost use Rattle.lw_grammar.specs.Kinds.{Kinds};
 ghost use Rattle.lw_grammar.specs.Sentences.{IsWhole};
@@ -114,8 +114,19 @@ fn behind_first(kinds: &[KindId]) -> &[KindId]
     }
 }
 
-/// The marks of the sentence that tokens of these kinds are, if they are one. How many turns that takes is not proved; after 2^64 - 1 of them
-/// the answer is that memory is wanting, which no text comes to.
+/// So many turns in a row have left no mark, and there is one more, by how many marks there were before and are now. Where the turns have
+/// no number, the answer is that memory is wanting.
+fn without_mark(turns: u64, before: usize, now: usize) -> Result<u64, NoMemory>
+    ensures { IfOk result (λ more. ((before < now) × (more ≡ 0)) ⊎ ((now ≤ before) × (more ≡ turns + 1))) }
+{
+    if before < now {
+        return Ok(0);
+    }
+    turns.checked_add(1).ok_or(NoMemory)
+}
+
+/// The marks of the sentence that tokens of these kinds are, if they are one. Where 2^64 turns in a row leave no mark, the answer is that
+/// memory is wanting.
 pub(crate) fn marks_of<'p>(
     alloc: Global,
     parser: &'p Parser,
@@ -135,14 +146,16 @@ pub(crate) fn marks_of<'p>(
         return Ok(None);
     };
     run.make(start)?;
-    'turns: for _turn in 0..u64::MAX {
+    let mut quiet = 0;
+    'turns: loop {
         let Some(place) = run.to_do.pop() else {
             return Ok(run.whole());
         };
         let Some(turn) = run.decide(place)? else {
             return Ok(None);
         };
+        let before = run.marks.len();
         run.turn(turn)?;
+        quiet = without_mark(quiet, before, run.marks.len())?;
     }
-    Err(NoMemory)
 }

@@ -1,8 +1,9 @@
 // The first token that no sentence has after those before it.
-ghost use Rattle.std.specs.Prelude.{ℕ, ◌≡◌, IfOk, MatchOption};
+ghost use Rattle.std.specs.Prelude.{ℕ, ◌≡◌, ◌≤◌, IfOk, MatchOption};
 ghost use Rattle.lw_grammar.specs.declared.grammar.Grammar.{Grammar};
 ghost use Rattle.lw_grammar.specs.Kinds.{Kinds};
 ghost use Rattle.lw_look.specs.Supplied.{IsSupplied};
+ghost use Rattle.lw_tree.specs.Parts.{Tile};
 ghost use Rattle.lw_parse.specs.Outcomes.{CanStand, IsFirstImpossible};
 ghost use Rattle.lw_parse.specs.Parsers.{AreOfKinds, IsParserOf};
 
@@ -18,7 +19,8 @@ pub(crate) fn first_impossible(
     parser: &Parser,
     tokens: &[Token],
 ) -> Result<Option<(u32, Token)>, NoMemory>
-    requires { (g : Grammar) × (kinds : Kinds) × (k : ℕ) × IsParserOf g kinds k parser.now × AreOfKinds kinds tokens.now }
+    requires known { (g : Grammar) × (kinds : Kinds) × (k : ℕ) × IsParserOf g kinds k parser.now × AreOfKinds kinds tokens.now }
+    requires tile { Tile 0 tokens.now }
     ensures { (g : Grammar) (kinds : Kinds) (k : ℕ) → IsParserOf g kinds k parser.now → IsSupplied g kinds → AreOfKinds kinds tokens.now →
         IfOk result (λ found. MatchOption found (CanStand g kinds tokens.now) (λ first. IsFirstImpossible g kinds tokens.now first.0 first.1)) }
 {
@@ -28,15 +30,17 @@ pub(crate) fn first_impossible(
             continue;
         }
         if !fronts.step(*token)? {
-            return Ok(Some((numbered(number)?, *token)));
+            return Ok(Some((numbered(number, *token), *token)));
         }
     }
     Ok(None)
 }
 
-/// The number as one of 32 bits. Where it has more, memory is wanting.
-fn numbered(number: usize) -> Result<u32, NoMemory>
-    ensures { IfOk result (λ same. same ≡ number) }
+/// The number of a token as one of 32 bits. No token begins before its number, since none is empty.
+fn numbered(number: usize, token: Token) -> u32
+    requires { number ≤ token.span.start }
+    ensures { result ≡ number }
 {
-    u32::try_from(number).map_err(|_| NoMemory)
+    let _start = token.span.start;
+    number as u32
 }

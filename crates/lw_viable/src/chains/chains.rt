@@ -42,8 +42,8 @@ impl<T: Copy> Chains<T> {
         self.cells.len()
     }
 
-    /// Puts an item before a list and answers the new list, in constant time on average. All lists that were there stay. Where memory is
-    /// refused, and where there would be 2^32 lists, nothing changes.
+    /// Puts an item before a list and answers the new list, in constant time on average. All lists that were there stay. Where there would
+    /// be 2^32 lists, the answer is that memory is wanting. Nothing changes then, and where memory is refused.
     pub fn put(&mut self, item: T, below: Link) -> Result<Link, NoMemory>
         requires { below.0 ≤ length self.old }
         ensures put { IfOk result (λ link. (self.new ≡ (item, below.0) ∷ self.old) × (link.0 ≡ length self.old + 1)) }

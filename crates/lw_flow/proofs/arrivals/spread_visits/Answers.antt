@@ -1,6 +1,7 @@
 use Rattle.std.proofs.Common.{◌∙◌, sym, arith, inl, inr}
-use Rattle.lw_flow.specs.Rows.{InTable}
+use Rattle.lw_flow.specs.Rows.{InTable, room}
 use Rattle.lw_flow.proofs.ArrivalLemmas.{spread_more, spread_end}
+use Rattle.lw_flow.proofs.TableLemmas.{room_step}
 use Rattle.lw_flow.proofs.arrivals.spread_visits.Goals as goal
 use Rattle.lw_flow.proofs.arrivals.spread_visits.Goals.{then-branch, else-branch}
 
@@ -16,6 +17,12 @@ loop-visit-preserved c = record {
       spread_more c.args.visits.now c.loop-visit.visit-index c.visit-item.result c.loop-visit-test.true c.visit-item.is c.loop-visit.grown c.in_ok-spread_visit.field-0
       c.if-branch.grown (InTable c.args.marks.now.items) (InTable c.loop-visit.marks.items) (InTable c.spread_visit.new.marks.items) c.loop-visit.invariant.spreads
       c.in_ok-spread_visit.ensures.spreads (elim c.if-branch.branch [
+        | then-branch w ↦ inl (w.if-branch.true, w.grown-is)
+        | else-branch w ↦ inr (w.if-branch.false, w.grown-is)
+      ]);
+  room =
+      room_step c.loop-visit.grown c.in_ok-spread_visit.field-0 c.if-branch.grown (room c.args.marks.now.items) (room c.loop-visit.marks.items)
+      (room c.spread_visit.new.marks.items) c.loop-visit.invariant.room c.in_ok-spread_visit.ensures.room (elim c.if-branch.branch [
         | then-branch w ↦ inl (w.if-branch.true, w.grown-is)
         | else-branch w ↦ inr (w.if-branch.false, w.grown-is)
       ]);

@@ -10,7 +10,7 @@ use Rattle.lw_viable.specs.Told.{BeginsParts}
 use Rattle.lw_viable.specs.Aims.{Sentence}
 use Rattle.lw_viable.specs.Fronts.{HoldReadings, IsKnownProgram, IsProgramWith}
 use Rattle.lw_parse.specs.Outcomes.{CanStand, kinds_seen}
-use Rattle.lw_parse.proofs.Searching.{hidden_seen, shown_kinds, seen_shown, of_kind, can_stand_past, is_first}
+use Rattle.lw_parse.proofs.Searching.{number_within, hidden_seen, shown_kinds, seen_shown, of_kind, can_stand_past, is_first}
 use Rattle.lw_parse.proofs.search.first_impossible.Goals as goal
 
 -- the program of the parser, as its fields are read
@@ -21,7 +21,7 @@ known_at {g} {kinds} same_program same_begins known =
 
 pub start-requires : goal.start-requires
 start-requires c =
-    let (g, kinds, k, is, all) = c.requires in
+    let (g, kinds, k, is, all) = c.requires.known in
     record {
       known = (
         g,
@@ -59,7 +59,7 @@ pub step-requires : goal.step-requires
 step-requires c =
     let tokens = c.args.tokens.now in
     let i = c.loop-number.number in
-    let (g, kinds, k, is, all) = c.requires in
+    let (g, kinds, k, is, all) = c.requires.known in
     let (tasks, hold) = (c.loop-number.invariant g kinds k is all).0 in
     record {
       known = (
@@ -81,7 +81,7 @@ returns-then-not-branch c = λ g kinds k is supplied all.
     let ks = kinds_seen (take i tokens) in
     let ((tasks, hold), stand) = c.loop-number.invariant g kinds k is all in
     let starts = c.in_ok-step.ensures.starts g kinds tasks Sentence ks hold (of_kind tokens i _ inside (kind_count kinds) all) supplied in
-    is_first tokens i _ inside g kinds c.in_ok-numbered.field-0 c.in_ok-numbered.ensures c.if-token.false (stand supplied)
+    is_first tokens i _ inside g kinds c.numbered.result c.numbered.ensures c.if-token.false (stand supplied)
     (λ can. true≢false (sym (starts.1 (subst (Starts g kinds) (sym (seen_shown tokens i _ inside ks c.if-token.false)) can)) ∙ c.if-not-branch.true))
 
 pub loop-number-preserved : goal.loop-number-preserved
@@ -100,3 +100,6 @@ loop-number-preserved c = λ g kinds k is all.
 pub returns : goal.returns
 returns c = λ g kinds k is supplied all.
     subst (CanStand g kinds) (take_all c.loop-number.number c.args.tokens.now c.loop-number-test.false) ((c.loop-number.invariant g kinds k is all).1 supplied)
+
+pub numbered-requires : goal.numbered-requires
+numbered-requires c = number_within c.args.tokens.now c.loop-number.number _ c.loop-number-test.true c.requires.tile
