@@ -15,5 +15,4 @@ pub record IsPrepared (g : Grammar) (types : Types) (tokens : TokenKinds) (parse
   pub kinds : AreKinds g of
   pub lexicon : IsLexicon g of tokens.lexicon
   pub texts : tokens.texts ≡ texts_of of
-  pub depth : ℕ
-  pub parses : ParsesFaultless g of depth parser
+  pub parses : ParsesFaultless g of parser.k parser
