@@ -262,11 +262,10 @@ fn parser_of(
 {
     match entry(g) {
         Some(rule) => {
-            let lexicon = facts.lexicon(g, types);
             let nodes = types.nodes();
             Parser::of(
                 alloc,
-                lexicon,
+                facts.lexicon(g, types),
                 &facts.reading,
                 nodes,
                 tables,
