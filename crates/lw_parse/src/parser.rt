@@ -1,5 +1,5 @@
 // A parser, and what texts are by it.
-ghost use Rattle.std.specs.Prelude.{ℕ, ◌≡◌, ◌≢◌, ◌↔◌, ◌≤◌, ◌<◌, List, Some, IsTrue, IfOk, IfErr, MatchOption, true, slice_get, map};
+ghost use Rattle.std.specs.Prelude.{ℕ, ◌≡◌, ◌≢◌, ◌↔◌, ◌≤◌, ◌<◌, Some, IsTrue, IfOk, IfErr, MatchOption, true, slice_get, map};
 ghost use Rattle.lw_kinds.specs.Reading.{IsReadingOf};
 ghost use Rattle.lw_grammar.specs.declared.grammar.Grammar.{Grammar};
 ghost use Rattle.lw_grammar.specs.declared.rule.Rule.{Rule};
