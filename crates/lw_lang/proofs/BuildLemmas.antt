@@ -46,7 +46,14 @@ module _ (g : Grammar) (row : KindRow) (are : AreKindRowOf g row) where
     sound_tokens = record { faultless = faultless; tokens = has_tokens [] tokens is }
 
     pub is_prepared : (types : Types) → AreTypesOf g types → (k : ℕ) (parser : ParserParts) → ParsesFaultless g is.of k parser → IsPrepared g types tokens parser
-    is_prepared types typed k parser parses = record { typed = typed; of = is.of; kinds = is.are; lexicon = is.lexicon; texts = is.texts; depth = k; parses = parses }
+    is_prepared types typed k parser parses = record {
+      typed = typed;
+      of = is.of;
+      kinds = is.are;
+      lexicon = is.lexicon;
+      texts = is.texts;
+      parses = subst (λ depth. ParsesFaultless g is.of depth parser) (sym parses.parser.depth) parses;
+    }
 
     pub is_clear : (k : ℕ) → HasTables g k → IsClear g k
     is_clear k tables = record { sound = sound_tokens; tables = tables }

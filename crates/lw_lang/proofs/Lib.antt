@@ -13,6 +13,7 @@ pub mod CompileLemmas
 pub mod ChoicePlaces
 pub mod LookLemmas
 pub mod Supplied
+pub mod ToldEnds
 pub mod OneWay
 pub mod Spans
 pub mod Places

@@ -21,7 +21,7 @@ use Rattle.lw_lang.specs.declared.language.Language.TheInside.{Inside}
 module _ (l : Inside) (seen : LanguageView) (is : seen_as l ≡ seen) (ready : IsLanguageReady l) (text : List ℕ) where
   pub can_parse : (tokens : List Token) → IsCut l.tokens.lexicon text tokens → All (IsTokenPlace text) tokens →
       CanParse l.grammar ready.of l.tokens.lexicon l.parser text tokens
-  can_parse tokens cut places = record { depth = ready.depth; parses = ready.parses; is_lexicon = ready.lexicon; cut = cut; places = places }
+  can_parse tokens cut places = record { depth = l.parser.k; parses = ready.parses; is_lexicon = ready.lexicon; cut = cut; places = places }
 
   module _ (short : length text ≤ LONGEST_DOCUMENT) where
     pub read_fault : (s : Span) → HasNoTokenAt l.tokens.lexicon text s.start → IsCharacterAt text s → Reads seen.grammar text (Broken (Lexical s))

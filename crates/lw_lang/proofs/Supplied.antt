@@ -27,9 +27,13 @@ use Rattle.lw_look.specs.Supplied.{ChoicesHaveParts, IsSupplied, ReadingIsTold}
 use Rattle.lw_look.proofs.Known.{lacks_nothing}
 use Rattle.lw_look.proofs.Supplying.{supplied}
 use Rattle.lw_numbers.specs.NameTable.{AreNameRulesOf}
-use Rattle.lw_terminals.specs.Numbered.{AreNumberedKindsOf}
-use Rattle.lw_terminals.specs.declared.numbered.NumberedKinds.{NumberedKinds}
+use Rattle.lw_kinds.specs.Reading.{RuleFlags, IsReadingOf}
+use Rattle.lw_types.specs.Inferred.{AreTypesOf}
+use Rattle.lw_types.specs.declared.types.Types.{Types}
+use Rattle.lw_lang.specs.Facts.{AreReadingFactsOf}
+use Rattle.lw_lang.specs.declared.facts.ReadingFacts.{ReadingFacts}
 use Rattle.lw_lang.proofs.LookLemmas.{nodes_told}
+use Rattle.lw_lang.proofs.ToldEnds.{ends_told}
 
 -- ---- each of these sizes is that of a choice that has a part
 
@@ -135,13 +139,13 @@ module _ (g : Grammar) where
       by None none = inr none
       by (Some name) is = inl (name, is)
 
-  reading_told : (numbered : NumberedKinds) → AreNumberedKindsOf g numbered → ReadingIsTold g
-  reading_told numbered are = record { bodies = are.ends; names = name_told numbered.name_rules are.name_rules }
+  reading_told : (types : Types) → AreTypesOf g types → (flags : RuleFlags) → IsReadingOf g flags → ReadingIsTold g
+  reading_told types typed flags are = record { bodies = ends_told g flags are; names = name_told types.types.name_rules typed.types.name_rules }
 
-  -- ---- a grammar without faults, as it is loaded and numbered
+  -- ---- a grammar without faults, as it is loaded and judged
 
-  pub is_supplied : (numbered : NumberedKinds) → IsFaultless g → IsWellFormed g → HasFilledChoices g → AreNumberedKindsOf g numbered →
+  pub is_supplied : (types : Types) → AreTypesOf g types → (facts : ReadingFacts) → AreReadingFactsOf g facts → IsFaultless g → IsWellFormed g → HasFilledChoices g →
       (kinds : Kinds) → AreKinds g kinds → IsSupplied g kinds
-  is_supplied numbered faultless formed filled are kinds kinds_are =
-      supplied g kinds kinds_are (nodes_told g numbered.nodes.items are.nodes)
-      (lacks_nothing g faultless.types faultless.checks formed (reading_told numbered are) (choices_have_parts filled))
+  is_supplied types typed facts are faultless formed filled kinds kinds_are =
+      supplied g kinds kinds_are (nodes_told g types.rules.nodes.items typed.rules.nodes)
+      (lacks_nothing g faultless.types faultless.checks formed (reading_told types typed facts.reading are.reading) (choices_have_parts filled))

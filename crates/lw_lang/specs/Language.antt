@@ -1,7 +1,8 @@
--- What callers see of a language: its grammar, and the texts by which messages name its kinds.
+-- What callers see of a language: its grammar, the texts by which messages name its kinds, and how many kinds its tables look ahead.
 use Rattle.std.specs.Prelude.{ℕ, List}
 use Rattle.lw_grammar.specs.declared.grammar.Grammar.{Grammar}
 
 pub record LanguageView : Type 0 where
   pub grammar : Grammar
   pub texts : List (List ℕ)
+  pub depth : ℕ

@@ -5,6 +5,7 @@ pub mod Prepared
 pub mod Parsing
 pub mod Ready
 pub mod Compiled
+pub mod Facts
 pub mod Judged
 pub mod Placed
 pub mod Telling

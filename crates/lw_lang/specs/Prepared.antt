@@ -1,5 +1,5 @@
 -- What a language keeps, made from its grammar: its types, the tokens' kinds, and what its texts are parsed by.
-use Rattle.std.specs.Prelude.{ℕ, ◌≡◌}
+use Rattle.std.specs.Prelude.{◌≡◌}
 use Rattle.lw_grammar.specs.declared.grammar.Grammar.{Grammar}
 use Rattle.lw_grammar.specs.Kinds.{Kinds, AreKinds}
 use Rattle.lw_grammar.specs.KindTexts.{texts_of}
@@ -15,5 +15,4 @@ pub record IsPrepared (g : Grammar) (types : Types) (tokens : TokenKinds) (parse
   pub kinds : AreKinds g of
   pub lexicon : IsLexicon g of tokens.lexicon
   pub texts : tokens.texts ≡ texts_of of
-  pub depth : ℕ
-  pub parses : ParsesFaultless g of depth parser
+  pub parses : ParsesFaultless g of parser.k parser

@@ -5,16 +5,14 @@ ghost use Rattle.lw_load.specs.declared.limits.TheConstants.{LARGEST_GRAMMAR};
 ghost use Rattle.lw_load.specs.Standing.{Stands};
 ghost use Rattle.lw_grammar.specs.WellFormed.{IsWellFormed};
 ghost use Rattle.lw_gramcheck.specs.Judging.{IsFaultless};
-ghost use Rattle.lw_terminals.specs.Numbered.{AreNumberedKindsOf};
 ghost use Rattle.lw_terminals.specs.TokenSets.{IsTokenSetOf, HasTokens};
 ghost use Rattle.lw_lang.specs.Compiled.{HoldsGrammar, IsClear, HasTables, Causes, GrammarCauses, IsBehindTokens, CountsStore, CountsPatterns, KeepsPatterns};
 ghost use Rattle.lw_lang.specs.declared.fault.CompileFault.TheVariants.{NoMemory as no_memory};
-ghost use Rattle.lw_look.specs.Supplied.{IsSupplied};
 ghost use Rattle.lw_lookahead.specs.Tables.{AreTables};
 ghost use Rattle.lw_parse.specs.Parsers.{ParsesFaultless};
+ghost use Rattle.lw_lang.specs.Facts.{AreReadingFactsOf};
 ghost use Rattle.lw_lang.specs.Prepared.{IsPrepared};
 ghost use Rattle.lw_grammar.specs.Kinds.{Kinds, AreKinds};
-ghost use Rattle.lw_kinds.specs.LexiconKnown.{IsKnownLexicon};
 ghost use Rattle.lw_lang.specs.ToldTerms.{CanBeTold, IsToldOr};
 ghost use Rattle.lw_lang.specs.ToldLooks.{CanLookBeTold, IsLookToldOr};
 ghost use Rattle.lw_types.specs.Inferred.{AreTypesOf};
@@ -22,6 +20,7 @@ ghost use Rattle.lw_grammar.specs.KindTexts.{AreKindTexts};
 ghost use Rattle.lw_grammar.specs.Size.{size};
 
 use crate::entry::entry;
+use crate::facts::ReadingFacts;
 use crate::fault::CompileFault;
 use crate::judging::judge_files;
 use crate::language::Language;
@@ -30,13 +29,12 @@ use crate::told_term::told_term;
 use lw_base::{Name, NoMemory};
 use lw_grammar::Grammar;
 use lw_io::{Patterns, Store};
-use lw_kinds::lexicon::Lexicon;
 use lw_lexer::LexerTables;
 use lw_load::load;
 use lw_lookahead::{LookFault, Tables, tables};
 use lw_matchers::TokenSet;
 use lw_parse::Parser;
-use lw_terminals::{NumberedKinds, TermFault, token_set};
+use lw_terminals::{TermFault, token_set};
 use lw_types::Types;
 use std::alloc::Global;
 
@@ -60,6 +58,7 @@ pub fn compile<F: Store, P: Patterns>(
     // What is compiled is what the files say, and none of the conditions holds.
     ensures holds { IfOk result (λ language. IfSome (F.files store.old) (λ files. HoldsGrammar files root.now language.grammar)) }
     ensures clear { IfOk result (λ language. IsClear language.grammar k) }
+    ensures depth { IfOk result (λ language. language.depth ≡ k) }
     ensures tokens { IfOk result (λ language. HasTokens language.grammar (P.listed patterns.old)) }
     ensures fits { IfOk result (λ language. size language.grammar ≤ LARGEST_GRAMMAR) }
     ensures texts { IfOk result (λ language. AreKindTexts language.grammar language.texts) }
@@ -91,6 +90,7 @@ fn build<P: Patterns>(
     requires most { k ≤ 3 }
     ensures grammar { IfOk result (λ language. language.grammar ≡ grammar) }
     ensures clear { IfOk result (λ language. IsClear language.grammar k) }
+    ensures depth { IfOk result (λ language. language.depth ≡ k) }
     ensures tokens { IfOk result (λ language. HasTokens language.grammar (P.listed patterns.old)) }
     ensures texts { IfOk result (λ language. AreKindTexts language.grammar language.texts) }
     ensures fault { IfErr result (GrammarCauses grammar texts.now k (P.last_refused patterns.new)) }
@@ -121,21 +121,16 @@ fn build_faultless<P: Patterns>(
     requires most { k ≤ 3 }
     ensures grammar { IfOk result (λ language. language.grammar ≡ grammar) }
     ensures clear { IfOk result (λ language. IsClear language.grammar k) }
+    ensures depth { IfOk result (λ language. language.depth ≡ k) }
     ensures tokens { IfOk result (λ language. HasTokens language.grammar (P.listed patterns.old)) }
     ensures texts { IfOk result (λ language. AreKindTexts language.grammar language.texts) }
     ensures fault { IfErr result (GrammarCauses grammar texts.now k (P.last_refused patterns.new)) }
     ensures patterns { CountsPatterns (P.count patterns.old) (P.count patterns.new) result }
     ensures last { KeepsPatterns (P.last_refused patterns.old) (P.last_refused patterns.new) result }
 {
-    let numbered = NumberedKinds::of(alloc, &grammar)?;
-    match token_set(
-        alloc,
-        &grammar,
-        &numbered.numbers,
-        &numbered.kinds,
-        patterns,
-    ) {
-        Ok(tokens) => build_sound(alloc, grammar, types, texts, k, &numbered, tokens),
+    let facts = ReadingFacts::of(alloc, &grammar, &types)?;
+    match token_set(alloc, &grammar, types.numbers(), &facts.kinds, patterns) {
+        Ok(tokens) => build_sound(alloc, grammar, types, texts, k, &facts, tokens),
         Err(fault) => Err(fault_of(grammar, texts, fault)),
     }
 }
@@ -159,7 +154,7 @@ fn build_sound(
     types: Types,
     texts: &[Name],
     k: u8,
-    numbered: &NumberedKinds,
+    facts: &ReadingFacts,
     tokens: TokenSet,
 ) -> Result<Language, CompileFault>
     requires faultless { IsFaultless grammar }
@@ -169,34 +164,17 @@ fn build_sound(
     requires formed { IsWellFormed grammar }
     requires filled { HasFilledChoices grammar }
     requires most { k ≤ 3 }
-    requires numbered { AreNumberedKindsOf grammar numbered.now }
-    requires tokens { IsTokenSetOf grammar [] numbered.now.kinds tokens }
+    requires facts { AreReadingFactsOf grammar facts.now }
+    requires tokens { IsTokenSetOf grammar [] facts.now.kinds tokens }
     ensures grammar { IfOk result (λ language. language.grammar ≡ grammar) }
     ensures clear { IfOk result (λ language. IsClear language.grammar k) }
+    ensures depth { IfOk result (λ language. language.depth ≡ k) }
     ensures texts { IfOk result (λ language. AreKindTexts language.grammar language.texts) }
     ensures fault { IfErr result (IsBehindTokens grammar texts.now k) }
 {
-    match tables(alloc, lexicon(&grammar, numbered), k as usize) {
-        Ok(tables) => language_of(alloc, grammar, types, k, numbered, tokens, tables),
+    match tables(alloc, facts.lexicon(&grammar, &types), k as usize) {
+        Ok(tables) => language_of(alloc, grammar, types, k, facts, tokens, tables),
         Err(fault) => Err(look_fault_of(grammar, texts, k, fault)),
-    }
-}
-
-// What the names of a grammar without faults mean.
-fn lexicon<'a>(g: &'a Grammar, numbered: &'a NumberedKinds) -> Lexicon<'a>
-    requires numbered { AreNumberedKindsOf g.now numbered.now }
-    requires faultless { IsFaultless g.now }
-    requires formed { IsWellFormed g.now }
-    requires filled { HasFilledChoices g.now }
-    ensures lexicon { IsKnownLexicon result }
-    ensures grammar { result.g.now ≡ g.now }
-    ensures supplied { (kinds : Kinds) → AreKinds result.g.now kinds → IsSupplied result.g.now kinds }
-{
-    Lexicon {
-        g,
-        numbers: &numbered.numbers,
-        name_rules: &numbered.name_rules,
-        kinds: &numbered.kinds,
     }
 }
 
@@ -218,7 +196,7 @@ fn language_of(
     grammar: Grammar,
     types: Types,
     k: u8,
-    numbered: &NumberedKinds,
+    facts: &ReadingFacts,
     tokens: TokenSet,
     tables: Tables,
 ) -> Result<Language, CompileFault>
@@ -228,16 +206,17 @@ fn language_of(
     requires most { k ≤ 3 }
     requires formed { IsWellFormed grammar }
     requires filled { HasFilledChoices grammar }
-    requires numbered { AreNumberedKindsOf grammar numbered.now }
-    requires tokens { IsTokenSetOf grammar [] numbered.now.kinds tokens }
+    requires facts { AreReadingFactsOf grammar facts.now }
+    requires tokens { IsTokenSetOf grammar [] facts.now.kinds tokens }
     requires has { HasTables grammar k }
     requires tables { (kinds : Kinds) → AreKinds grammar kinds → AreTables grammar kinds k tables }
     ensures grammar { IfOk result (λ language. language.grammar ≡ grammar) }
     ensures clear { IfOk result (λ language. IsClear language.grammar k) }
+    ensures depth { IfOk result (λ language. language.depth ≡ k) }
     ensures texts { IfOk result (λ language. AreKindTexts language.grammar language.texts) }
     ensures fault { IfErr result (λ fault. fault ≡ no_memory) }
 {
-    match parser_of(alloc, &grammar, k, numbered, tables) {
+    match parser_of(alloc, &grammar, &types, k, facts, tables) {
         Ok(parser) => ready(alloc, grammar, types, tokens, parser),
         Err(NoMemory) => Err(CompileFault::NoMemory),
     }
@@ -252,7 +231,7 @@ fn ready(
     parser: Parser,
 ) -> Result<Language, CompileFault>
     requires prepared { IsPrepared grammar types tokens parser }
-    ensures language { IfOk result (λ language. language ≡ record { grammar = grammar; texts = tokens.texts }) }
+    ensures language { IfOk result (λ language. language ≡ record { grammar = grammar; texts = tokens.texts; depth = parser.k }) }
     ensures texts { IfOk result (λ language. AreKindTexts language.grammar language.texts) }
     ensures fault { IfErr result (λ fault. fault ≡ no_memory) }
 {
@@ -266,23 +245,33 @@ fn ready(
 fn parser_of(
     alloc: Global,
     g: &Grammar,
+    types: &Types,
     k: u8,
-    numbered: &NumberedKinds,
+    facts: &ReadingFacts,
     tables: Tables,
 ) -> Result<Parser, NoMemory>
     requires faultless { IsFaultless g.now }
+    requires typed { AreTypesOf g.now types.now }
     requires fits { size g.now ≤ LARGEST_GRAMMAR }
     requires most { k ≤ 3 }
     requires formed { IsWellFormed g.now }
     requires filled { HasFilledChoices g.now }
-    requires numbered { AreNumberedKindsOf g.now numbered.now }
+    requires facts { AreReadingFactsOf g.now facts.now }
     requires tables { (kinds : Kinds) → AreKinds g.now kinds → AreTables g.now kinds k tables }
     ensures { (kinds : Kinds) → AreKinds g.now kinds → IfOk result (ParsesFaultless g.now kinds k) }
 {
     match entry(g) {
         Some(rule) => {
-            let nodes = numbered.nodes.as_slice();
-            Parser::of(alloc, lexicon(g, numbered), nodes, tables, k as usize, rule)
+            let nodes = types.nodes();
+            Parser::of(
+                alloc,
+                facts.lexicon(g, types),
+                &facts.reading,
+                nodes,
+                tables,
+                k as usize,
+                rule,
+            )
         }
         None => unreachable!(),
     }

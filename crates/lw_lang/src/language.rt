@@ -28,8 +28,8 @@ use lw_types::Types;
 use std::alloc::Global;
 use std::marker::Model;
 
-/// A grammar made ready to read texts. It is seen as its grammar, and the texts by which messages name
-/// its kinds.
+/// A grammar made ready to read texts. It is seen as its grammar, the texts by which messages name its kinds, and how many kinds its
+/// tables look ahead.
 pub struct Language {
     grammar: Grammar,
     types: Types,
@@ -77,7 +77,7 @@ impl Language {
         parser: Parser,
     ) -> Language
         requires { IsPrepared grammar types tokens parser }
-        ensures { result ≡ record { grammar = grammar; texts = tokens.texts } }
+        ensures { result ≡ record { grammar = grammar; texts = tokens.texts; depth = parser.k } }
     {
         Language {
             grammar,
@@ -110,16 +110,17 @@ impl Language {
         &self.tokens
     }
 
-    /// By what the next kinds of a text choose a way.
+    /// By what the next kinds of a text choose a way. The tables are for windows of as many kinds as were asked for when it was compiled.
     pub fn look(&self) -> &Tables
-        ensures { (kinds : Kinds) × AreKinds self.now.grammar kinds × (k : ℕ) × TellWays self.now.grammar kinds k (table_parts result.now) }
+        ensures { (kinds : Kinds) × AreKinds self.now.grammar kinds × TellWays self.now.grammar kinds self.now.depth (table_parts result.now) }
     {
         self.parser.tables()
     }
 
     /// What its texts are parsed by.
     pub fn parser(&self) -> &Parser
-        ensures { (kinds : Kinds) × AreKinds self.now.grammar kinds × (k : ℕ) × ParsesFaultless self.now.grammar kinds k result.now }
+        ensures parses { (kinds : Kinds) × AreKinds self.now.grammar kinds × (k : ℕ) × ParsesFaultless self.now.grammar kinds k result.now }
+        ensures depth { result.now.k ≡ self.now.depth }
     {
         &self.parser
     }

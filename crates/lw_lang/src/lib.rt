@@ -3,7 +3,7 @@
 //! [`compile`] loads the root file of a grammar with all that it imports through a store (`lw_load`), and answers the
 //! [`Language`] of what the files say together, or the one cause why there is none. [`Language::read`] says what a text
 //! reads as, with its tree or its one fault, exactly as `specs/Reading.antt` of `lw_reading` does. A language is seen as its
-//! grammar and the texts by which messages name its kinds.
+//! grammar, the texts by which messages name its kinds, and how many kinds its tables look ahead: as many as were asked for.
 //!
 //! Any grammar is loaded, and judged (`lw_gramcheck`): where something is wrong with it, all faults of the first phase that has
 //! any are told, each by the path of its file and the position there (`lw_lang::told`). Of one without a fault the set of tokens is
@@ -31,6 +31,7 @@
 
 mod compiler;
 mod entry;
+mod facts;
 mod fault;
 mod judging;
 mod language;

@@ -12,8 +12,8 @@
 //! [`MOST_STRINGS`](crate::points::MOST_STRINGS) strings; that they hold exactly the windows of each way; and for
 //! other grammars the first choice that is in conflict, the least pair of its ways and the string that they share
 //! which is printed first. No grammar is in conflict that has too many strings. The greatest number of strings is
-//! 200,000. [`Tables::choose`] is the way that a window comes next at, and none exactly where it comes next at no
-//! way.
+//! 200,000 ([`limit_of_strings`]). [`Tables::choose`] is the way that a window comes next at, and none exactly where
+//! it comes next at no way.
 //!
 //! Once the heads of all ways are found, tables are made by one look-up for each, in expected constant time. A choice in conflict takes one
 //! more for each head of the second way, and only those heads are printed that both ways have. To choose takes no memory and expected
@@ -29,10 +29,12 @@ mod conflict;
 mod entries;
 mod fault;
 mod kept;
+mod laws;
 mod making;
 pub mod points;
 mod printed;
 
 pub use fault::{Conflict, LookFault};
 pub use kept::Tables;
+pub use laws::limit_of_strings;
 pub use making::tables;

@@ -72,17 +72,19 @@ impl Model for Parser {
 }
 
 impl Parser {
-    /// That of a grammar whose names these are. A flag for each rule says whether it makes nodes; the tables are for windows of `k` kinds; the
-    /// number is that of the entry rule. An error is want of memory.
+    /// That of a grammar whose names these are, and whose rules can read this. A flag for each rule says whether it makes nodes; the tables
+    /// are for windows of `k` kinds; the number is that of the entry rule. An error is want of memory.
     pub fn of(
         alloc: Global,
         lexicon: Lexicon<'_>,
+        reading: &Reading,
         nodes: &[bool],
         tables: Tables,
         k: usize,
         entry: RuleId,
     ) -> Result<Parser, NoMemory>
         requires known { IsKnownLexicon lexicon }
+        requires read { IsReadingOf lexicon.g.now reading.now }
         requires told { AreNodeRules lexicon.g.now nodes.now }
         requires supplied { (kinds : Kinds) → AreKinds lexicon.g.now kinds → IsSupplied lexicon.g.now kinds }
         requires small { size lexicon.g.now ≤ 65535 }
@@ -90,8 +92,7 @@ impl Parser {
         ensures { (kinds : Kinds) (rule : Rule) → AreKinds lexicon.entry.g.now kinds → AreTables lexicon.entry.g.now kinds k tables →
             IsEntry lexicon.entry.g.now entry.0 rule → IfOk result (IsParserOf lexicon.entry.g.now kinds k) }
     {
-        let reading = Reading::of(alloc, lexicon.g, lexicon.numbers, lexicon.name_rules)?;
-        let program = Program::of(alloc, lexicon, &reading, nodes)?;
+        let program = Program::of(alloc, lexicon, reading, nodes)?;
         let begins = Begins::of(alloc, lexicon, &program, nodes)?;
         let recipes = Recipes::of(alloc, lexicon)?;
         Ok(Parser {

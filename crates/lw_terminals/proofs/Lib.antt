@@ -10,7 +10,6 @@ pub mod SourceSteps
 pub mod Tried
 pub mod Unlisted
 pub mod Zips
-pub mod ToldEnds
 pub mod CallForms
 pub mod Calling
 pub mod DraftLemmas

@@ -1,6 +1,5 @@
 pub mod KindFaults
 pub mod Limits
-pub mod Numbered
 pub mod Sources
 pub mod Taken
 pub mod TokenSets

@@ -10,7 +10,7 @@ use Rattle.lw_complete.proofs.completion.offers.Goals as goal
 pub read_front-requires : goal.read_front-requires
 read_front-requires c =
     let (of, lexicon, typed) = c.requires.known in
-    let (tasks, rule, parsed, entry) = parsed_by c.args.typing.now c.parser-parser.result.now c.parser-parser.ensures of typed.are_kinds in
+    let (tasks, rule, parsed, entry) = parsed_by c.args.typing.now c.parser-parser.result.now c.parser-parser.ensures.parses of typed.are_kinds in
     (grammar_of c.args.typing.now, of, tasks, rule, parsed.program, entry, typed.of_kinds)
 
 pub of-requires-clause-cut : goal.of-requires-clause-cut
@@ -24,7 +24,7 @@ of-requires-clause-places c = let (of, lexicon, typed) = c.requires.known in pla
 pub keywords-requires : goal.keywords-requires
 keywords-requires c =
     let (of, lexicon, typed) = c.requires.known in
-    let (tasks, rule, parsed, entry) = parsed_by c.args.typing.now c.parser-parser.result.now c.parser-parser.ensures of typed.are_kinds in
+    let (tasks, rule, parsed, entry) = parsed_by c.args.typing.now c.parser-parser.result.now c.parser-parser.ensures.parses of typed.are_kinds in
     let readings = c.in_ok-fronts.ensures (grammar_of c.args.typing.now) of tasks rule parsed.program entry typed.of_kinds in
     let made = c.in_ok-recutter.ensures in
     let cuts : CutsBehind lexicon c.args.typing.now c.in_ok-recutter.recutter =
@@ -35,7 +35,7 @@ pub names-requires-clause-known : goal.names-requires-clause-known
 names-requires-clause-known c =
     let typing = c.args.typing.now in
     let (of, lexicon, typed) = c.requires.known in
-    let (tasks, rule, parsed, entry) = parsed_by typing c.parser-parser.result.now c.parser-parser.ensures of typed.are_kinds in
+    let (tasks, rule, parsed, entry) = parsed_by typing c.parser-parser.result.now c.parser-parser.ensures.parses of typed.are_kinds in
     let readings = c.in_ok-fronts.ensures (grammar_of typing) of tasks rule parsed.program entry typed.of_kinds in
     let made = c.in_ok-recutter.ensures in
     let cuts : CutsBehind lexicon typing c.in_ok-recutter.recutter =
@@ -51,7 +51,7 @@ pub returns-clause-exact : goal.returns-clause-exact
 returns-clause-exact c of lexicon trees address typed here =
     let typing = c.args.typing.now in
     let g = grammar_of typing in
-    let (tasks, rule, parsed, entry) = parsed_by typing c.parser-parser.result.now c.parser-parser.ensures of typed.are_kinds in
+    let (tasks, rule, parsed, entry) = parsed_by typing c.parser-parser.result.now c.parser-parser.ensures.parses of typed.are_kinds in
     let readings = c.in_ok-fronts.ensures g of tasks rule parsed.program entry typed.of_kinds in
     let made = c.in_ok-recutter.ensures in
     let cuts : CutsBehind lexicon typing c.in_ok-recutter.recutter =

@@ -16,7 +16,7 @@ pub tree_of-requires-clause-follows : goal.tree_of-requires-clause-follows
 tree_of-requires-clause-follows c =
     let g = grammar_of c.args.typing.now in
     let (lexicon, m, is_blank, meant, (x, follows)) = c.requires in
-    let (kinds, are, k, faultless) = c.parser.ensures in
+    let (kinds, are, k, faultless) = c.parser.ensures.parses in
     let same : c.in_ok-tokens.tokens.items ≡ c.args.blank.now.tokens.items = c.in_ok-tokens.ensures.items ∙ c.as_slice.ensures.value in (
       g,
       m,
@@ -32,7 +32,7 @@ pub returns : goal.returns
 returns c m meant (x, follows) =
     let g = grammar_of c.args.typing.now in
     let text = c.args.blank.now.text in
-    let (kinds, are, k, faultless) = c.parser.ensures in
+    let (kinds, are, k, faultless) = c.parser.ensures.parses in
     let same : c.in_ok-tokens.tokens.items ≡ c.args.blank.now.tokens.items = c.in_ok-tokens.ensures.items ∙ c.as_slice.ensures.value in
     IfOk-weaker c.tree_of.result (IsOpenedTree g text m (visible c.in_ok-tokens.tokens.items) c.in_ok-tokens.tokens.items)
     (IsTreeOfBlank c.args.typing.now c.args.blank.now m) (λ tree is.

@@ -15,11 +15,11 @@ token_set-requires-clause-few g c = few c.args.grammar c.requires.fits
 
 pub build_sound-requires-clause-tokens : goal.build_sound-requires-clause-tokens
 build_sound-requires-clause-tokens g c =
-    set_unlisted c.args.grammar c.in_ok-numbered.numbered.kinds c.in_ok-numbered.ensures.kinds _ c.in-Ok.tokens c.in-Ok.ensures.made
+    set_unlisted c.args.grammar c.in_ok-facts.facts.kinds c.in_ok-facts.ensures.kinds _ c.in-Ok.tokens c.in-Ok.ensures.made
 
 pub returns-in-Ok-clause-tokens : goal.returns-in-Ok-clause-tokens
 returns-in-Ok-clause-tokens g c =
-    let has = has_tokens c.args.grammar c.in_ok-numbered.numbered.kinds c.in_ok-numbered.ensures.kinds _ c.in-Ok.tokens c.in-Ok.ensures.made in
+    let has = has_tokens c.args.grammar c.in_ok-facts.facts.kinds c.in_ok-facts.ensures.kinds _ c.in-Ok.tokens c.in-Ok.ensures.made in
     built_tokens c.args.grammar _ has c.build_sound.result c.build_sound.ensures.grammar
 
 pub returns-in-Ok-clause-fault : goal.returns-in-Ok-clause-fault
@@ -30,11 +30,11 @@ returns-in-Ok-clause-patterns g c = sound_counts c.args.grammar c.args.texts.now
 
 pub fault_of-requires-clause-told : goal.fault_of-requires-clause-told
 fault_of-requires-clause-told g c =
-    can_be_told c.args.grammar c.args.texts.now c.requires.stand _ c.in_ok-numbered.numbered.kinds c.in_ok-numbered.ensures.kinds _ c.in-Err.fault c.in-Err.ensures.fault
+    can_be_told c.args.grammar c.args.texts.now c.requires.stand _ c.in_ok-facts.facts.kinds c.in_ok-facts.ensures.kinds _ c.in-Err.fault c.in-Err.ensures.fault
 
 pub returns-in-Err-clause-fault : goal.returns-in-Err-clause-fault
 returns-in-Err-clause-fault g c =
-    told_causes c.args.grammar c.args.texts.now c.in-Err.fault c.args.k c.in_ok-numbered.numbered.kinds c.in_ok-numbered.ensures.kinds c.requires.faultless _ _ c.in-Err.ensures.fault
+    told_causes c.args.grammar c.args.texts.now c.in-Err.fault c.args.k c.in_ok-facts.facts.kinds c.in_ok-facts.ensures.kinds c.requires.faultless _ _ c.in-Err.ensures.fault
     c.fault_of.result c.fault_of.ensures
 
 pub returns-in-Err-clause-patterns : goal.returns-in-Err-clause-patterns
@@ -45,11 +45,11 @@ pub returns-in-Err-clause-last : goal.returns-in-Err-clause-last
 returns-in-Err-clause-last g c =
     told_keeps c.args.grammar c.args.texts.now TokenKinds LanguageView _ _ c.in-Err.fault c.fault_of.result c.fault_of.ensures c.in-Err.ensures.last
 
-pub returns-in_err-numbered-clause-fault : goal.returns-in_err-numbered-clause-fault
-returns-in_err-numbered-clause-fault g c =
+pub returns-in_err-facts-clause-fault : goal.returns-in_err-facts-clause-fault
+returns-in_err-facts-clause-fault g c =
     let p = err_from_is_err_and c.from_residual.result c.from_residual.ensures.1 in
     want_causes c.args.grammar c.args.texts.now c.args.k _ c.from_residual.result p.0 p.1 p.2
 
-pub returns-in_err-numbered-clause-patterns : goal.returns-in_err-numbered-clause-patterns
-returns-in_err-numbered-clause-patterns g c =
+pub returns-in_err-facts-clause-patterns : goal.returns-in_err-facts-clause-patterns
+returns-in_err-facts-clause-patterns g c =
     let p = err_from_is_err_and c.from_residual.result c.from_residual.ensures.1 in want_counts _ c.from_residual.result p.0 p.1 p.2

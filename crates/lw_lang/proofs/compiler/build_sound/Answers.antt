@@ -7,7 +7,7 @@ use Rattle.lw_lang.proofs.ToldLemmas.{look_causes, language_causes}
 use Rattle.lw_lang.proofs.compiler.build_sound.Goals as goal
 
 pub tables-requires-clause-told : goal.tables-requires-clause-told
-tables-requires-clause-told c = subst NodesAreTold (sym c.lexicon.ensures.grammar) (nodes_told c.args.grammar c.args.numbered.now.nodes.items c.requires.numbered.nodes)
+tables-requires-clause-told c = subst NodesAreTold (sym c.lexicon.ensures.grammar) (nodes_told c.args.grammar c.args.types.rules.nodes.items c.requires.typed.rules.nodes)
 
 pub language_of-requires-clause-has : goal.language_of-requires-clause-has
 language_of-requires-clause-has c =
@@ -26,7 +26,7 @@ pub returns-in-Err-clause-fault : goal.returns-in-Err-clause-fault
 returns-in-Err-clause-fault c =
     let cause = has_cause c.args.grammar _ c.lexicon.ensures.grammar c.requires.tokens.of c.requires.tokens.are c.args.k c.in-Err.fault c.in-Err.ensures.fault in
     look_causes c.args.grammar c.args.texts.now c.args.k
-    (sound_tokens c.args.grammar c.args.numbered.now.kinds c.requires.numbered.kinds c.requires.faultless c.args.tokens c.requires.tokens)
+    (sound_tokens c.args.grammar c.args.facts.now.kinds c.requires.facts.kinds c.requires.faultless c.args.tokens c.requires.tokens)
     c.requires.tokens.of c.requires.tokens.are c.in-Err.fault cause c.look_fault_of.result c.look_fault_of.ensures
 
 pub returns-in-Ok-clause-fault : goal.returns-in-Ok-clause-fault
