@@ -8,7 +8,6 @@ pub mod Turning
 pub mod Visiting
 pub mod ReferenceStarts
 pub mod Marked
-pub mod Worked
 pub mod Gives
 pub mod Told
 pub mod EmptyBy
