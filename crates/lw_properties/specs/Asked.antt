@@ -12,6 +12,7 @@ use Rattle.lw_numbers.specs.Tables.{AreNumbersOf}
 use Rattle.lw_numbers.specs.Kinship.{AreNodeRules, AreSubtypesOf}
 use Rattle.lw_flow.specs.Recorded.{HasNumberOf}
 use Rattle.lw_properties.specs.Known.{AreAttributesOf}
+use Rattle.lw_properties.specs.Typed.{AreTextTypes}
 use Rattle.lw_properties.specs.declared.known.Known.{Known}
 use Rattle.lw_properties.specs.declared.questions.Question.{Question}
 use Rattle.lw_properties.specs.declared.questions.Question.TheVariants.{Lacks, Misfits, IsRefused, IsNotAbove}
@@ -21,7 +22,8 @@ pub record IsKnownIn (known : Known) : Type 0 where
   pub numbers : AreNumbersOf known.g.now known.numbers.now
   pub nodes : AreNodeRules known.g.now known.nodes.now
   pub subtypes : AreSubtypesOf known.g.now known.subtypes.now
-  pub attributes : AreAttributesOf known.g.now known.attributes
+  pub texts : AreTextTypes known.g.now known.texts.now
+  pub attributes : AreAttributesOf known.g.now known.attributes.now
 
 module _ (g : Grammar) where
   -- the declared type lacks the property

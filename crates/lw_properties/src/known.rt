@@ -11,5 +11,7 @@ pub(crate) struct Known<'g> {
     pub(crate) numbers: &'g Numbers,
     pub(crate) nodes: &'g [bool],
     pub(crate) subtypes: &'g Subtypes,
-    pub(crate) attributes: Attributes<'g>,
+    /// Which types are those of data type rules.
+    pub(crate) texts: &'g [bool],
+    pub(crate) attributes: &'g Attributes<'g>,
 }
