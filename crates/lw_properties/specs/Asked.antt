@@ -23,7 +23,7 @@ pub record IsKnownIn (known : Known) : Type 0 where
   pub nodes : AreNodeRules known.g.now known.nodes.now
   pub subtypes : AreSubtypesOf known.g.now known.subtypes.now
   pub texts : AreTextTypes known.g.now known.texts.now
-  pub attributes : AreAttributesOf known.g.now known.attributes.now
+  pub attributes : AreAttributesOf known.g.now known.attributes
 
 module _ (g : Grammar) where
   -- the declared type lacks the property

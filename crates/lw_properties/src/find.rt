@@ -53,7 +53,7 @@ pub fn find_property_faults<'g>(
         nodes,
         subtypes,
         texts: texts.as_slice(),
-        attributes: &attributes,
+        attributes,
     };
     find_at(alloc, &known, places.as_slice(), found)
 }

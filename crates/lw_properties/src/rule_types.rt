@@ -1,5 +1,5 @@
 // Which types rules have.
-ghost use Rattle.std.specs.Prelude.{ℕ, ◌≡◌, ◌↔◌, Some, IsTrue, IfOk, length, option_map};
+ghost use Rattle.std.specs.Prelude.{ℕ, ◌≡◌, ◌↔◌, Some, true, IsTrue, IfOk, length, slice_get, option_map};
 ghost use Rattle.lw_grammar.specs.declared.grammar.Grammar.{Grammar};
 ghost use Rattle.lw_numbers.specs.Tables.{AreNumbersOf};
 ghost use Rattle.lw_numbers.specs.Kinship.{AreNodeRules};
@@ -44,9 +44,16 @@ pub fn is_marked(numbers: &Numbers, types: &[bool], name: &Name) -> bool
     ensures { (g : Grammar) → AreNumbersOf g numbers.now → IsTrue result ↔ IsMarked g types.now name.now }
 {
     match numbers.type_of(name) {
-        Some(id) => types.get(id.0 as usize) == Some(&true),
+        Some(id) => is_set(types, id.0 as usize),
         None => false,
     }
+}
+
+/// Whether the flag of this number is set.
+fn is_set(flags: &[bool], number: usize) -> bool
+    ensures { IsTrue result ↔ (slice_get flags.now number ≡ Some true) }
+{
+    flags.get(number) == Some(&true)
 }
 
 /// A flag for each type, by its number: it is that of a rule that makes nodes, or of one that makes none.
