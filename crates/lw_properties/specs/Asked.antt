@@ -1,5 +1,5 @@
 -- The code's own words of what is asked of types.
-use Rattle.std.specs.Prelude.{ℕ, ◌≡◌, List, Some, slice_get, Contains}
+use Rattle.std.specs.Prelude.{ℕ, List, Contains}
 use Rattle.lw_grammar.specs.declared.grammar.Grammar.{Grammar}
 use Rattle.lw_grammar.specs.declared.rule.Op.{Op}
 use Rattle.lw_grammar.specs.declared.rule.Value0.{Value0}

@@ -1,4 +1,4 @@
-use Rattle.std.proofs.Common.{◌⊎◌, List, Result, Ok, Err, OnOk, map, sym, subst}
+use Rattle.std.proofs.Common.{◌⊎◌, List, Result, Ok, Err, OnOk}
 use Rattle.lw_base.specs.declared.memory.NoMemory.{NoMemory}
 use Rattle.lw_faults.specs.Properties.{NotASubtype}
 use Rattle.lw_grammar.specs.declared.fault.GrammarFault.{GrammarFault}
