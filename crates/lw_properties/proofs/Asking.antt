@@ -1,5 +1,5 @@
 -- What holds of one of the types of some numbers, and of one of the parts of a value, number by number and part by part.
-use Rattle.std.proofs.Common.{◌≡◌, ℕ, ◌+◌, List, [], ◌∷◌, ◌++◌, Option, Some, None, Bool, true, false, not, take, Contains, MatchOption, Result, Ok, Err, IfOk, IsTrue, ◌↔◌, inl, inr, refl, sym, ap, ◌∙◌, subst, arith}
+use Rattle.std.proofs.Common.{◌≡◌, ℕ, List, [], ◌∷◌, ◌++◌, Option, Some, None, Bool, true, false, not, MatchOption, Result, Ok, Err, IfOk, IsTrue, ◌↔◌, inl, inr, refl, sym, ◌∙◌, subst, arith}
 use Rattle.lw_base.specs.declared.memory.NoMemory.{NoMemory}
 use Rattle.std.specs.Borrow.{Bor}
 use Rattle.std.specs.Option.{is_some}

@@ -1,7 +1,7 @@
 -- Which types are inferred, what is put into their properties, and what of it is mixed.
 use Rattle.std.proofs.Common.{◌≡◌, ◌≢◌, ◌⊎◌, ℕ, ◌<◌, List, [], ◌∷◌, Option, Some, None, Bool, true, false, not, length, get_or, slice_get, Contains, inl, inr, refl, sym, ap, ◌∙◌, subst, ◌↔◌, arith}
 use Rattle.std.proofs.lemmas.Bool.{true≢false, false≢true}
-use Rattle.std.proofs.lemmas.Option.{none-some, same_Some, slice_get_within, slice_get-get_or, get_or_from_slice_get}
+use Rattle.std.proofs.lemmas.Option.{slice_get_within, slice_get-get_or}
 use Rattle.lw_base.specs.declared.token.Span.{Span}
 use Rattle.lw_grammar.specs.declared.fault.GrammarFault.{GrammarFault}
 use Rattle.lw_grammar.specs.declared.grammar.Grammar.{Grammar}
@@ -10,7 +10,7 @@ use Rattle.lw_grammar.specs.declared.rule.RuleResult.{RuleResult}
 use Rattle.lw_grammar.specs.declared.rule.RuleResult.TheVariants.{Own, Returns, Gives, Infers}
 use Rattle.lw_grammar.specs.declared.rule.Action.{Action}
 use Rattle.lw_grammar.specs.Leaves.{Leaf, Keyword, Call, Assign, Act, leaves}
-use Rattle.lw_faults.specs.Steps.{Step, step}
+use Rattle.lw_faults.specs.Steps.{step}
 use Rattle.lw_grammar.specs.Written.{InfersHere, IsInferredType}
 use Rattle.lw_grammar.specs.Written as written
 use Rattle.lw_faults.specs.Properties.{is_list, PutsInto, MixedProperty}
@@ -20,8 +20,8 @@ use Rattle.lw_faults.specs.Finding.{Finds, OfSome, IsFaultOf}
 use Rattle.lw_faults.proofs.Joining.{told_fault_of}
 use Rattle.lw_flow.specs.declared.before.Before.{Before}
 use Rattle.lw_flow.specs.Recorded.{AreWaysOf}
-use Rattle.lw_properties.specs.Places.{Spot, StandsIn, StandsAt}
-use Rattle.lw_properties.specs.Mixing.{RuleInfers, InfersByResult, LeafInfers, InfersAt, Putting, putting, IsFree, PutBy, PutHere, PutAt, Key, key_of, other_key, at_of, IsMixedWith, MixedAt}
+use Rattle.lw_properties.specs.Places.{Spot, StandsAt}
+use Rattle.lw_properties.specs.Mixing.{RuleInfers, InfersByResult, LeafInfers, InfersAt, Putting, putting, IsFree, PutBy, PutHere, PutAt, Key, MixedAt}
 use Rattle.lw_properties.proofs.Apart.{at_its_place}
 use Rattle.lw_properties.proofs.Recording.{spot, comes, come_to, current_there, there_current}
 

@@ -7,6 +7,7 @@ pub mod Apart
 pub mod Knowing
 pub mod ValueKinds
 pub mod Looking
+pub mod Marking
 pub mod Asking
 pub mod Standing
 pub mod Found

@@ -1,5 +1,5 @@
 -- A search through the unions that members name, each looked into once: it finds out whether one of the members takes a value.
-use Rattle.std.proofs.Common.{◌≡◌, ℕ, zero, suc, List, [], ◌∷◌, ◌++◌, Contains, Some, slice_get, ◌⊎◌, inl, inr, refl, sym, ap, ◌∙◌, subst, arith}
+use Rattle.std.proofs.Common.{◌≡◌, ℕ, List, [], ◌∷◌, ◌++◌, Contains, Some, slice_get, ◌⊎◌, inl, inr, refl, sym, ap, ◌∙◌, subst, arith}
 use Rattle.std.proofs.lemmas.List.Elements.{Contains-append_left, Contains-append_right, Contains-append_cases, Contains-push, Contains-push_cases}
 use Rattle.std.proofs.lemmas.Option.{same_Some}
 use Rattle.lw_grammar.specs.declared.grammar.Grammar.{Grammar}
@@ -19,7 +19,8 @@ module _ (g : Grammar) where
   direct_takes (member.Literal text) (Plain q) is = subst (λ x. TakesKind g (member.Literal text) (Plain x)) (sym is) takes.literal
   direct_takes (member.Literal text) (TextsOf t) is = takes.literal_text
   direct_takes (member.Named name s) (NodesOf t) is = takes.node is
-  direct_takes (member.Named name s) (TextsOf t) is = subst (λ x. TakesKind g (member.Named name s) (TextsOf x)) (sym is) takes.text
+  direct_takes (member.Named name s) (TextsOf t) is = takes.text is takes.of_rule
+  direct_takes (member.Named name s) (Plain q) is = subst (λ x. TakesKind g (member.Named name s) (Plain x)) (sym is.0) (takes.text is.1 takes.string)
   direct_takes (member.Refers name s) (ReferencesTo wanted) is = takes.reference is
   direct_takes _ _ is = absurd is
 
@@ -130,7 +131,8 @@ module _ (g : Grammar) where
       none_takes same (takes.literal {text}) among = refuses (member.Literal text) among same refl
       none_takes same (takes.literal_text {text}) among = refuses (member.Literal text) among same tt
       none_takes same (takes.node {name} {s} below) among = refuses (member.Named name s) among same below
-      none_takes same (takes.text {name} {s}) among = refuses (member.Named name s) among same refl
+      none_takes same (takes.text {name} {s} of_texts takes.string) among = refuses (member.Named name s) among same (refl, of_texts)
+      none_takes same (takes.text {name} {s} of_texts takes.of_rule) among = refuses (member.Named name s) among same of_texts
       none_takes same (takes.reference {name} {s} below) among = refuses (member.Refers name s) among same below
       none_takes same (takes.union {name} {s} u union m meant inside does) among =
           none_takes same does (inr (u, union, (passed (member.Named name s) among).known u union meant, meant.first.there, inside))

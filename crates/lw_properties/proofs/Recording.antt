@@ -1,6 +1,5 @@
 -- What is told at the places of leaves is what the definitions of the faults tell.
-use Rattle.std.proofs.Common.{◌≡◌, ◌≢◌, ◌⊎◌, ℕ, List, [], ◌∷◌, Option, Some, None, Bool, true, false, slice_get, Contains, map, inl, inr, refl, sym, ap, ◌∙◌, subst, ◌↔◌}
-use Rattle.std.proofs.lemmas.Option.{none-some, same_Some}
+use Rattle.std.proofs.Common.{◌≡◌, ℕ, List, [], ◌∷◌, Option, Some, None, Bool, true, slice_get, Contains, inl, inr, refl, sym, ap, ◌∙◌, subst, ◌↔◌}
 use Rattle.lw_base.specs.declared.token.Span.{Span}
 use Rattle.lw_grammar.specs.declared.fault.GrammarFault.{GrammarFault}
 use Rattle.lw_grammar.specs.declared.grammar.Grammar.{Grammar}
@@ -16,7 +15,7 @@ use Rattle.lw_faults.specs.Finding.{OfSome, IsFaultOf}
 use Rattle.lw_faults.proofs.Joining.{told_fault_of}
 use Rattle.lw_flow.specs.declared.before.Before.{Before}
 use Rattle.lw_flow.specs.Recorded.{AreWaysOf, Somewhere, HasNumberOf}
-use Rattle.lw_properties.specs.Places.{Spot, StandsIn, StandsAt, IsComeTo}
+use Rattle.lw_properties.specs.Places.{Spot, StandsAt, IsComeTo}
 use Rattle.lw_properties.specs.Told.{UnknownPut, UnknownHere, UnknownAt, IsPutRefused, MisformedPut, MisformedHere, MisformedAt, NotBelowHere, NotBelowAt}
 
 abbrev pub spot : Rule → Leaf → Before → Spot

@@ -1,17 +1,17 @@
 -- A search through the interfaces above a type that looks into each once: what it meets first is first in the type's lineage.
-use Rattle.std.proofs.Common.{◌≡◌, ℕ, zero, suc, ◌+◌, ◌<◌, List, [], ◌∷◌, ◌++◌, Bool, true, false, map, Contains, Option, Some, None, slice_get, ◌⊎◌, inl, inr, refl, sym, ap, ap₂, ◌∙◌, subst, arith}
-use Rattle.std.specs.List.{flat_map, find}
+use Rattle.std.proofs.Common.{◌≡◌, ℕ, zero, suc, List, [], ◌∷◌, ◌++◌, Bool, map, Contains, Option, Some, None, slice_get, ◌⊎◌, inl, inr, refl, sym, ap, ap₂, ◌∙◌, subst, arith}
+use Rattle.std.specs.List.{find}
 use Rattle.std.specs.Option.{option_or}
 use Rattle.std.proofs.lemmas.List.{append-nil, append_assoc, map-append}
 use Rattle.std.proofs.lemmas.List.Concat.{flat_map-append}
 use Rattle.std.proofs.lemmas.List.Folds.{find-append}
-use Rattle.std.proofs.lemmas.List.Elements.{Contains-append_left, Contains-append_right, Contains-append_cases, Contains-push, Contains-push_cases}
+use Rattle.std.proofs.lemmas.List.Elements.{Contains-append_left, Contains-append_cases, Contains-push, Contains-push_cases}
 use Rattle.std.proofs.lemmas.Option.{none-some, same_Some}
 use Rattle.lw_grammar.specs.declared.grammar.Grammar.{Grammar}
 use Rattle.lw_grammar.specs.declared.declared_types.Interface.{Interface}
 use Rattle.lw_grammar.specs.declared.declared_types.Attribute.{Attribute}
 use Rattle.lw_grammar.specs.Named.{IsInterface}
-use Rattle.lw_grammar.proofs.FirstLemmas.{first_place, first_item}
+use Rattle.lw_grammar.proofs.FirstLemmas.{first_place}
 use Rattle.lw_faults.specs.Attributes.{Lineage, Lineages}
 use Rattle.lw_faults.specs.Attributes as above
 use Rattle.lw_properties.specs.Search.{names_above, attributes_of, SameFirsts, Follows}

@@ -1,5 +1,5 @@
 -- The code's own words of what is asked of types.
-use Rattle.std.specs.Prelude.{ℕ, ◌≡◌, List, Some, slice_get, Contains}
+use Rattle.std.specs.Prelude.{ℕ, List, Contains}
 use Rattle.lw_grammar.specs.declared.grammar.Grammar.{Grammar}
 use Rattle.lw_grammar.specs.declared.rule.Op.{Op}
 use Rattle.lw_grammar.specs.declared.rule.Value0.{Value0}
@@ -12,6 +12,7 @@ use Rattle.lw_numbers.specs.Tables.{AreNumbersOf}
 use Rattle.lw_numbers.specs.Kinship.{AreNodeRules, AreSubtypesOf}
 use Rattle.lw_flow.specs.Recorded.{HasNumberOf}
 use Rattle.lw_properties.specs.Known.{AreAttributesOf}
+use Rattle.lw_properties.specs.Typed.{AreTextTypes}
 use Rattle.lw_properties.specs.declared.known.Known.{Known}
 use Rattle.lw_properties.specs.declared.questions.Question.{Question}
 use Rattle.lw_properties.specs.declared.questions.Question.TheVariants.{Lacks, Misfits, IsRefused, IsNotAbove}
@@ -21,6 +22,7 @@ pub record IsKnownIn (known : Known) : Type 0 where
   pub numbers : AreNumbersOf known.g.now known.numbers.now
   pub nodes : AreNodeRules known.g.now known.nodes.now
   pub subtypes : AreSubtypesOf known.g.now known.subtypes.now
+  pub texts : AreTextTypes known.g.now known.texts.now
   pub attributes : AreAttributesOf known.g.now known.attributes
 
 module _ (g : Grammar) where

@@ -1,6 +1,5 @@
 -- The code's own words of what a value is, and of what a member takes by itself.
 use Rattle.std.specs.Prelude.{ℕ, ◌≡◌, List, Option, Some, None, Bool, true, false, Contains}
-use Rattle.lw_base.specs.declared.token.Span.{Span}
 use Rattle.lw_grammar.specs.declared.grammar.Grammar.{Grammar}
 use Rattle.lw_grammar.specs.declared.rule.RuleResult.{RuleResult}
 use Rattle.lw_grammar.specs.declared.rule.RuleResult.TheVariants.{Own, Returns, Gives, Infers}
@@ -10,7 +9,7 @@ use Rattle.lw_grammar.specs.declared.declared_types.Member.{Member}
 use Rattle.lw_grammar.specs.declared.declared_types.Member.TheVariants as member
 use Rattle.lw_grammar.specs.Named.{IsUnion}
 use Rattle.lw_grammar.specs.Subtypes.{IsSubtype}
-use Rattle.lw_faults.specs.Attributes.{Kind, Plain, TextsOf, NodesOf, ReferencesTo, TakesKind}
+use Rattle.lw_faults.specs.Attributes.{Kind, Plain, TextsOf, NodesOf, ReferencesTo, IsTypeOfTexts, TakesKind}
 use Rattle.lw_properties.specs.declared.kinds.ValueIs.{ValueIs}
 use Rattle.lw_properties.specs.declared.kinds.ValueIs.TheVariants as value
 
@@ -49,7 +48,8 @@ module _ (g : Grammar) where
   TakesDirectly (member.Literal text) (Plain q) = q ≡ Text
   TakesDirectly (member.Literal text) (TextsOf type_name) = Unit {0}
   TakesDirectly (member.Named name s) (NodesOf type_name) = IsSubtype g type_name name
-  TakesDirectly (member.Named name s) (TextsOf type_name) = type_name ≡ name
+  TakesDirectly (member.Named name s) (TextsOf type_name) = IsTypeOfTexts g name
+  TakesDirectly (member.Named name s) (Plain q) = (q ≡ Text) × IsTypeOfTexts g name
   TakesDirectly (member.Refers name s) (ReferencesTo wanted) = IsSubtype g wanted name
   TakesDirectly _ _ = ⊥
 

@@ -1,5 +1,5 @@
 -- The code's own words of the faults that are told at a leaf, from what is recorded there.
-use Rattle.std.specs.Prelude.{ℕ, ◌≡◌, ◌≢◌, ◌⊎◌, List, Option, Some, None, Bool}
+use Rattle.std.specs.Prelude.{ℕ, ◌≢◌, ◌⊎◌, List, Option, Some, None, Bool}
 use Rattle.lw_base.specs.declared.token.Span.{Span}
 use Rattle.lw_grammar.specs.declared.fault.GrammarFault.{GrammarFault}
 use Rattle.lw_grammar.specs.declared.grammar.Grammar.{Grammar}

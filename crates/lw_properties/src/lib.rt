@@ -33,6 +33,7 @@ mod mixed;
 mod places;
 mod puts;
 mod questions;
+mod rule_types;
 mod telling;
 mod unknown;
 
@@ -43,3 +44,4 @@ pub use inferred::inferred_types;
 pub use kinds::{ValueIs, kind_of, type_of};
 pub use lineage::lineage as lineage_of;
 pub use places::{Place, is_come_to, places as leaf_places};
+pub use rule_types::{is_marked, node_types, text_types};

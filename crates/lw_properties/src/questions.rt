@@ -168,13 +168,6 @@ fn refuses(
     requires { IsKnownIn known.now }
     ensures { IfOk result (λ so. IsTrue so ↔ IsRefusedKind known.now.g.now attribute.now (kind_of_value value.entry)) }
 {
-    let taken = takes(
-        alloc,
-        known.g,
-        known.numbers,
-        known.subtypes,
-        attribute.members.as_slice(),
-        value,
-    )?;
+    let taken = takes(alloc, known, attribute.members.as_slice(), value)?;
     Ok(!taken)
 }

@@ -10,6 +10,7 @@ use Rattle.lw_grammar.specs.declared.rule.Action.{Action}
 use Rattle.lw_grammar.specs.Leaves.{Leaf, Act}
 use Rattle.lw_flow.specs.declared.before.Before.{Before}
 use Rattle.lw_properties.specs.Places.{IsComeTo}
+use Rattle.lw_properties.proofs.Marking.{get_set_same, get_set_other}
 use Rattle.lw_types.specs.Sightings.{Sighting, sighting, sightings, put_by, SeenAtLeaf, Along}
 use Rattle.lw_types.specs.Sightings as along
 use Rattle.lw_types.specs.Having.{ArePutInto}
@@ -18,21 +19,6 @@ use Rattle.lw_types.specs.Gathered.{PutsIntoProperty, GathersSightings}
 use Rattle.lw_types.specs.Seeing.{AddsTo, Sees}
 use Rattle.lw_types.specs.declared.property_table.info.PropertyInfo.{PropertyInfo}
 use Rattle.lw_types.proofs.Putting.{puts_in}
-
--- ---- a list with one item changed
-
-module _ {A : Type 0} where
-  pub get_set_same : (xs : List A) (n : ℕ) (a b : A) → slice_get xs n ≡ Some b → slice_get (slice_set xs n a) n ≡ Some a
-  get_set_same [] n a b is = absurd (none-some b is)
-  get_set_same (x ∷ xs) zero a b is = refl
-  get_set_same (x ∷ xs) (suc n) a b is = get_set_same xs n a b is
-
-  pub get_set_other : (xs : List A) (n m : ℕ) (a : A) → m ≢ n → slice_get (slice_set xs n a) m ≡ slice_get xs m
-  get_set_other [] n m a apart = refl
-  get_set_other (x ∷ xs) zero zero a apart = absurd (apart refl)
-  get_set_other (x ∷ xs) zero (suc m) a apart = refl
-  get_set_other (x ∷ xs) (suc n) zero a apart = refl
-  get_set_other (x ∷ xs) (suc n) (suc m) a apart = get_set_other xs n m a (λ is. apart (ap suc is))
 
 -- ---- along two lists
 

@@ -2,20 +2,14 @@
 use Rattle.std.proofs.Common.{◌≡◌, ℕ, List, [], ◌∷◌, ◌++◌, Some, None, map, Contains, inl, inr, refl, sym, ap, ◌∙◌, subst}
 use Rattle.std.proofs.lemmas.List.{append_assoc, append-nil}
 use Rattle.std.proofs.lemmas.List.Elements.{Contains-push, Contains-push_cases, Contains-append_left}
-use Rattle.std.proofs.lemmas.Option.{none-some}
-use Rattle.lw_base.specs.declared.token.Span.{Span}
 use Rattle.lw_grammar.specs.declared.grammar.Grammar.{Grammar}
 use Rattle.lw_grammar.specs.declared.declared_types.Member.{Member}
 use Rattle.lw_grammar.specs.declared.declared_types.Member.TheVariants as member
 use Rattle.lw_grammar.specs.declared.declared_types.UnionDef.{UnionDef}
 use Rattle.lw_grammar.specs.declared.declared_types.ValueKind.{ValueKind}
 use Rattle.lw_grammar.specs.Leaves.{ValueLeaf}
-use Rattle.lw_grammar.specs.Named.{IsUnion}
-use Rattle.lw_numbers.specs.Numbering.{type_names}
-use Rattle.lw_flow.specs.Effects.{type_number}
-use Rattle.lw_flow.proofs.NumberLemmas.{has_place, of_type}
 use Rattle.lw_properties.specs.Kinds.{NamesUnion}
-use Rattle.lw_types.specs.Values.{PartGives, PartsGive, MemberGives, MembersGive, IsTextType, numbered, nodes_of}
+use Rattle.lw_types.specs.Values.{PartGives, PartsGive, TextGives, MemberGives, MembersGive}
 use Rattle.lw_types.specs.Values as give
 use Rattle.lw_types.proofs.Firsts.{front_cases, at_front, behind_front}
 
@@ -27,27 +21,14 @@ module _ (g : Grammar) where
   parts_more {more} part (give.more {parts} {first} {others} gave rest) gives =
       subst (PartsGive g _) (sym (append_assoc first others more)) (give.more gave (parts_more part rest gives))
 
-  -- ---- a name
-  pub text_numbered : {name : List ℕ} → IsTextType g name → (n : ℕ) × (type_number g name ≡ Some n)
-  text_numbered {name} is = has_place name (type_names g) (of_type g is.rule name is.among is.of_type)
-
-  module _ (name : List ℕ) (s : Span) (none : (u : ℕ) (union : UnionDef) → ¬ IsUnion g name u union) where
-    pub unnumbered : None ≡ type_number g name → MemberGives g (member.Named name s) []
-    unnumbered is =
-        subst (MemberGives g (member.Named name s)) (ap (numbered nodes_of) (sym is))
-        (give.nodes none (λ text. none-some (text_numbered text).0 (is ∙ (text_numbered text).1)))
-
-    pub of_nodes : (n : ℕ) → Some n ≡ type_number g name → ¬ IsTextType g name → MemberGives g (member.Named name s) (nodes_of n ∷ [])
-    of_nodes n is no_text = subst (MemberGives g (member.Named name s)) (ap (numbered nodes_of) (sym is)) (give.nodes none no_text)
-
   -- ---- members
   pub same_looked : {had now : List ℕ} {members : List Member} {values : List ValueKind} → ((u : ℕ) → Contains had u → Contains now u) →
       ((u : ℕ) → Contains now u → Contains had u) → MembersGive g had members values → MembersGive g now members values
   same_looked to from give.none = give.none
-  same_looked to from (give.value gives rest) = give.value gives (same_looked to from rest)
-  same_looked to from (give.again u union is was rest) = give.again u union is (to u was) (same_looked to from rest)
-  same_looked {had} {now} to from (give.union u union is fresh rest) =
-      give.union u union is (λ was. fresh (from u was))
+  same_looked to from (give.value text gives rest) = give.value text gives (same_looked to from rest)
+  same_looked to from (give.again u union is was text rest) = give.again u union is (to u was) text (same_looked to from rest)
+  same_looked {had} {now} to from (give.union u union is fresh text rest) =
+      give.union u union is (λ was. fresh (from u was)) text
       (same_looked (λ v has. elim (front_cases u had v has) [
         | inl this ↦ subst (Contains (u ∷ now)) this (at_front u now)
         | inr was ↦ behind_front u now v (to v was)
@@ -68,26 +49,27 @@ module _ (g : Grammar) where
     giving_as {waiting} {then_waiting} {looked} {then_looked} {values} {then_values} waits looks gives is =
         subst (IsGiving then_waiting then_looked) gives (subst (λ ls. IsGiving then_waiting ls values) looks (subst (λ ms. IsGiving ms looked values) waits is))
 
-    pub giving_value : (waiting : List Member) (looked : List ℕ) (values more : List ValueKind) (m : Member) → IsGiving (m ∷ waiting) looked values → MemberGives g m more →
-        IsGiving waiting looked (values ++ more)
-    giving_value waiting looked values more m is gives = record {
-      all = λ rest others. subst (MembersGive g [] members) (sym (append_assoc values more rest)) (is.all (more ++ rest) (give.value gives others));
+    pub giving_value : (waiting : List Member) (looked : List ℕ) (values text more : List ValueKind) (m : Member) → IsGiving (m ∷ waiting) looked values → TextGives g m text →
+        MemberGives g m more → IsGiving waiting looked ((values ++ text) ++ more)
+    giving_value waiting looked values text more m is says gives = record {
+      all = λ rest others. subst (MembersGive g [] members) (ap (λ xs. values ++ xs) (append_assoc text more rest) ∙ sym (append_assoc values text (more ++ rest)) ∙ sym (append_assoc (values ++ text) more rest))
+          (is.all ((text ++ more) ++ rest) (subst (MembersGive g looked (m ∷ waiting)) (sym (append_assoc text more rest)) (give.value says gives others)));
     }
 
-    enters : (waiting : List Member) (looked : List ℕ) (m : Member) (u : ℕ) (union : UnionDef) (rest : List ValueKind) → NamesUnion g m u union → ¬ Contains looked u →
-        MembersGive g (u ∷ looked) (union.members ++ waiting) rest → MembersGive g looked (m ∷ waiting) rest
-    enters waiting looked (member.Named name s) u union rest is fresh gives = give.union u union is fresh gives
-    enters waiting looked _ u union rest is fresh gives = absurd is
+    enters : (waiting : List Member) (looked : List ℕ) (m : Member) (u : ℕ) (union : UnionDef) (text rest : List ValueKind) → NamesUnion g m u union → ¬ Contains looked u →
+        TextGives g m text → MembersGive g (u ∷ looked) (union.members ++ waiting) rest → MembersGive g looked (m ∷ waiting) (text ++ rest)
+    enters waiting looked (member.Named name s) u union text rest is fresh says gives = give.union u union is fresh says gives
+    enters waiting looked _ u union text rest is fresh says gives = absurd is
 
-    passes : (waiting : List Member) (looked : List ℕ) (m : Member) (u : ℕ) (union : UnionDef) (rest : List ValueKind) → NamesUnion g m u union → Contains looked u →
-        MembersGive g looked waiting rest → MembersGive g looked (m ∷ waiting) rest
-    passes waiting looked (member.Named name s) u union rest is was gives = give.again u union is was gives
-    passes waiting looked _ u union rest is was gives = absurd is
+    passes : (waiting : List Member) (looked : List ℕ) (m : Member) (u : ℕ) (union : UnionDef) (text rest : List ValueKind) → NamesUnion g m u union → Contains looked u →
+        TextGives g m text → MembersGive g looked waiting rest → MembersGive g looked (m ∷ waiting) (text ++ rest)
+    passes waiting looked (member.Named name s) u union text rest is was says gives = give.again u union is was says gives
+    passes waiting looked _ u union text rest is was says gives = absurd is
 
-    pub giving_enters : (waiting : List Member) (looked : List ℕ) (values : List ValueKind) (m : Member) (u : ℕ) (union : UnionDef) → IsGiving (m ∷ waiting) looked values →
-        NamesUnion g m u union → ¬ Contains looked u → IsGiving (union.members ++ waiting) (looked ++ u ∷ []) values
-    giving_enters waiting looked values m u union is names fresh = record {
-      all = λ rest gives. is.all rest (enters waiting looked m u union rest names fresh
+    pub giving_enters : (waiting : List Member) (looked : List ℕ) (values text : List ValueKind) (m : Member) (u : ℕ) (union : UnionDef) → IsGiving (m ∷ waiting) looked values →
+        TextGives g m text → NamesUnion g m u union → ¬ Contains looked u → IsGiving (union.members ++ waiting) (looked ++ u ∷ []) (values ++ text)
+    giving_enters waiting looked values text m u union is says names fresh = record {
+      all = λ rest gives. subst (MembersGive g [] members) (sym (append_assoc values text rest)) (is.all (text ++ rest) (enters waiting looked m u union text rest names fresh says
           (same_looked (λ v has. elim (Contains-push_cases looked u v has) [
             | inl was ↦ behind_front u looked v was
             | inr this ↦ subst (Contains (u ∷ looked)) this (at_front u looked)
@@ -95,12 +77,14 @@ module _ (g : Grammar) where
           (λ v has. elim (front_cases u looked v has) [
             | inl this ↦ subst (Contains (looked ++ u ∷ [])) this (Contains-push looked u)
             | inr was ↦ Contains-append_left looked (u ∷ []) v was
-          ]) gives));
+          ]) gives)));
     }
 
-    pub giving_passes : (waiting : List Member) (looked : List ℕ) (values : List ValueKind) (m : Member) (u : ℕ) (union : UnionDef) → IsGiving (m ∷ waiting) looked values →
-        NamesUnion g m u union → Contains looked u → IsGiving waiting looked values
-    giving_passes waiting looked values m u union is names was = record { all = λ rest gives. is.all rest (passes waiting looked m u union rest names was gives) }
+    pub giving_passes : (waiting : List Member) (looked : List ℕ) (values text : List ValueKind) (m : Member) (u : ℕ) (union : UnionDef) → IsGiving (m ∷ waiting) looked values →
+        TextGives g m text → NamesUnion g m u union → Contains looked u → IsGiving waiting looked (values ++ text)
+    giving_passes waiting looked values text m u union is says names was = record {
+      all = λ rest gives. subst (MembersGive g [] members) (sym (append_assoc values text rest)) (is.all (text ++ rest) (passes waiting looked m u union text rest names was says gives));
+    }
 
     pub giving_ends : (looked : List ℕ) (values : List ValueKind) → IsGiving [] looked values → MembersGive g [] members values
     giving_ends looked values is = subst (MembersGive g [] members) (append-nil values) (is.all [] give.none)

@@ -30,7 +30,7 @@ use Rattle.lw_properties.specs.Mixing.{IsFree}
 use Rattle.lw_properties.specs.Search.{attributes_of}
 use Rattle.lw_properties.proofs.Apart.{meant_apart}
 use Rattle.lw_types.specs.FirstSeen.{FirstSeen}
-use Rattle.lw_types.specs.Values.{PartGives, PartsGive, AssignmentGives, MemberGives, MembersGive, values_of_kind}
+use Rattle.lw_types.specs.Values.{PartGives, PartsGive, AssignmentGives, TextGives, MemberGives, MembersGive, values_of_kind}
 use Rattle.lw_types.specs.Values as give
 use Rattle.lw_types.specs.Sightings.{Sighting, SeenAtLeaf, Along, SeenInRule}
 use Rattle.lw_types.specs.Sightings as along
@@ -123,26 +123,33 @@ module _ (g : Grammar) where
   one_member give.plain give.plain = refl
   one_member give.literal give.literal = refl
   one_member give.references give.references = refl
-  one_member (give.texts none text) (give.texts _ _) = refl
-  one_member (give.texts none text) (give.nodes _ no_text) = absurd (no_text text)
-  one_member (give.nodes none no_text) (give.texts _ text) = absurd (no_text text)
+  one_member (give.no_nodes none text) (give.no_nodes _ _) = refl
+  one_member (give.no_nodes none text) (give.nodes _ no_text) = absurd (no_text text)
+  one_member (give.nodes none no_text) (give.no_nodes _ text) = absurd (no_text text)
   one_member (give.nodes none no_text) (give.nodes _ _) = refl
+
+  one_text : {m : Member} {a b : List ValueKind} → TextGives g m a → TextGives g m b → a ≡ b
+  one_text (give.text is) (give.text _) = refl
+  one_text (give.text is) (give.no_text none) = absurd (none is)
+  one_text (give.no_text none) (give.text is) = absurd (none is)
+  one_text (give.no_text none) (give.no_text _) = refl
 
   pub one_members : {looked : List ℕ} {members : List Member} {a b : List ValueKind} → MembersGive g looked members a → MembersGive g looked members b → a ≡ b
   one_members give.none give.none = refl
-  one_members (give.value first rest) (give.value second others) = ap₂ (λ xs ys. xs ++ ys) (one_member first second) (one_members rest others)
-  one_members (give.value first rest) (give.union u union is _ _) = absurd (no_union first u union is)
-  one_members (give.value first rest) (give.again u union is _ _) = absurd (no_union first u union is)
-  one_members (give.union u union is _ _) (give.value first rest) = absurd (no_union first u union is)
-  one_members (give.again u union is _ _) (give.value first rest) = absurd (no_union first u union is)
-  one_members {looked} (give.union {members} u union is fresh rest) (give.union {values = others} v other was _ rest') =
+  one_members (give.value text first rest) (give.value said second others) =
+      ap₂ (λ xs ys. xs ++ ys) (one_text text said) (ap₂ (λ xs ys. xs ++ ys) (one_member first second) (one_members rest others))
+  one_members (give.value text first rest) (give.union u union is _ _ _) = absurd (no_union first u union is)
+  one_members (give.value text first rest) (give.again u union is _ _ _) = absurd (no_union first u union is)
+  one_members (give.union u union is _ _ _) (give.value text first rest) = absurd (no_union first u union is)
+  one_members (give.again u union is _ _ _) (give.value text first rest) = absurd (no_union first u union is)
+  one_members {looked} (give.union {members} u union is fresh text rest) (give.union {values = others} v other was _ said rest') =
       let turned : MembersGive g (u ∷ looked) (union.members ++ members) others =
       subst (λ (x : UnionDef). MembersGive g (u ∷ looked) (x.members ++ members) others) (first_item was.first is.first)
       (subst (λ n. MembersGive g (n ∷ looked) (other.members ++ members) others) (first_place was.first is.first) rest') in
-      one_members rest turned
-  one_members {looked} (give.union u union is fresh _) (give.again v other was has _) = absurd (fresh (subst (Contains looked) (first_place was.first is.first) has))
-  one_members {looked} (give.again u union is has _) (give.union v other was fresh _) = absurd (fresh (subst (Contains looked) (first_place is.first was.first) has))
-  one_members (give.again u union is has rest) (give.again v other was _ rest') = one_members rest rest'
+      ap₂ (λ xs ys. xs ++ ys) (one_text text said) (one_members rest turned)
+  one_members {looked} (give.union u union is fresh _ _) (give.again v other was has _ _) = absurd (fresh (subst (Contains looked) (first_place was.first is.first) has))
+  one_members {looked} (give.again u union is has _ _) (give.union v other was fresh _ _) = absurd (fresh (subst (Contains looked) (first_place is.first was.first) has))
+  one_members (give.again u union is has text rest) (give.again v other was _ said rest') = ap₂ (λ xs ys. xs ++ ys) (one_text text said) (one_members rest rest')
 
   one_declared : (attributes : List Attribute) {had : List ℕ} {a b : List PropertyInfo} → AreDeclaredIn g attributes had a → AreDeclaredIn g attributes had b → a ≡ b
   one_declared attributes (have.none none) (have.none _) = refl

@@ -8,11 +8,12 @@ use Rattle.lw_grammar.specs.declared.declared_types.UnionDef.{UnionDef}
 use Rattle.lw_grammar.specs.Named.{IsInterface, IsUnion, declared_interface, declared_union}
 use Rattle.lw_grammar.specs.Subtypes.{by_union}
 use Rattle.lw_grammar.proofs.Every.{differ, first_here, first_later, meant, not_meant}
+use Rattle.lw_faults.specs.Attributes.{IsTypeOfTexts}
 use Rattle.lw_faults.specs.Attributes as above
 use Rattle.lw_faults.specs.Worked.{no_place}
 use Rattle.lw_flow.specs.declared.before.Before.{Before}
 use Rattle.lw_types.specs.FirstSeen as seen
-use Rattle.lw_types.specs.Values.{IsTextType, MemberGives, MembersGive, nodes_of, refs_to}
+use Rattle.lw_types.specs.Values.{MembersGive, nodes_of, refs_to}
 use Rattle.lw_types.specs.Values as give
 use Rattle.lw_types.specs.Having.{AreDeclaredProperties, ArePropertiesOf}
 use Rattle.lw_types.specs.Having as have
@@ -39,7 +40,7 @@ any_no_interface : (i : ℕ) (own : Interface) → ¬ IsInterface shapes (codes 
 any_no_interface i own =
     not_meant declared_interface declared_union (codes "Any") shapes.interfaces shapes.unions i own (differ (codes "Base") (codes "Any") refl, (differ (codes "Shape") (codes "Any") refl, tt))
 
-no_texts : (name : List ℕ) → ¬ IsTextType shapes name
+no_texts : (name : List ℕ) → ¬ IsTypeOfTexts shapes name
 no_texts name text = not_in_none text.rule text.among
 
 pub base_has : AreDeclaredProperties shapes (codes "Base") (property 0 false (Plain Text ∷ []) ∷ [])
@@ -47,13 +48,15 @@ base_has = record {
   lineage = base ∷ [];
   all = above.interface 0 base is_base (not_in_none 0) above.none;
   declared =
-      have.more _ (Plain Text ∷ []) refl refl refl (give.value give.plain give.none) (seen.new (not_in_none (Plain Text)) seen.none) (have.none refl);
+      have.more _ (Plain Text ∷ []) refl refl refl (give.value (give.no_text (λ none. none)) give.plain give.none) (seen.new (not_in_none (Plain Text)) seen.none) (have.none refl);
 }
 
 -- `Any` stands for its members, and for itself only once
 parts_give : MembersGive shapes [] (Named (codes "Any") no_place ∷ []) (nodes_of 0 ∷ [])
 parts_give =
-    give.union 0 any is_any (not_in_none 0) (give.value (give.nodes base_no_union (no_texts (codes "Base"))) (give.again 0 any is_any (at_front 0 []) give.none))
+    give.union 0 any is_any (not_in_none 0) (give.no_text (no_texts (codes "Any")))
+    (give.value (give.no_text (no_texts (codes "Base"))) (give.nodes base_no_union (λ text. no_texts (codes "Base") text.texts))
+    (give.again 0 any is_any (at_front 0 []) (give.no_text (no_texts (codes "Any"))) give.none))
 
 -- the first interface is not the second
 not_shape : ¬ Contains {X = ℕ} (1 ∷ []) 0
@@ -67,7 +70,7 @@ shape_has = record {
       (above.more (above.interface 0 base is_base not_shape above.none) above.none);
   declared =
       have.more _ (nodes_of 0 ∷ []) refl refl refl parts_give (seen.new (not_in_none (nodes_of 0)) seen.none)
-      (have.more _ (refs_to 0 ∷ []) refl refl refl (give.value give.references give.none) (seen.new (not_in_none (refs_to 0)) seen.none) (have.none refl));
+      (have.more _ (refs_to 0 ∷ []) refl refl refl (give.value (give.no_text (λ none. none)) give.references give.none) (seen.new (not_in_none (refs_to 0)) seen.none) (have.none refl));
 }
 
 pub any_has_none : (rows : List (List Before)) → ArePropertiesOf shapes rows 2 []

@@ -1,20 +1,17 @@
 -- The code's own words of what it knows of a grammar, and of what is put in at leaves.
 use Rattle.std.specs.Prelude.{ℕ, ◌≡◌, ◌<◌, ◌⊎◌, ◌↔◌, List, [], ◌∷◌, ◌++◌, Option, Some, None, Bool, true, option_map, length, slice_get}
 use Rattle.lw_grammar.specs.declared.grammar.Grammar.{Grammar}
-use Rattle.lw_grammar.specs.declared.rule.Rule.{Rule}
 use Rattle.lw_grammar.specs.declared.declared_types.Interface.{Interface}
 use Rattle.lw_grammar.specs.declared.declared_types.Member.{Member}
 use Rattle.lw_grammar.specs.declared.declared_types.UnionDef.{UnionDef}
 use Rattle.lw_grammar.specs.Named.{IsInterface}
-use Rattle.lw_grammar.specs.Subtypes.{HasType}
 use Rattle.lw_numbers.specs.Numbering.{type_names}
 use Rattle.lw_numbers.specs.Tables.{AreNumbersOf}
 use Rattle.lw_numbers.specs.Kinship.{AreNodeRules}
 use Rattle.lw_flow.specs.declared.before.Before.{Before}
-use Rattle.lw_flow.specs.Effects.{type_number}
 use Rattle.lw_properties.specs.Kinds.{NamesUnion}
 use Rattle.lw_properties.specs.Mixing.{IsFree}
-use Rattle.lw_types.specs.Values.{IsTextType}
+use Rattle.lw_properties.specs.Typed.{AreTextTypes, AreNodeTypes}
 use Rattle.lw_types.specs.Sightings.{Sighting, SeenInRules, sightings}
 use Rattle.lw_types.specs.Having.{AreDeclaredProperties}
 use Rattle.lw_types.specs.Gathered.{GathersSightings}
@@ -30,32 +27,17 @@ list_of (Some x) = x ∷ []
 -- ---- flags of types, by their numbers
 
 module _ (g : Grammar) where
-  -- a flag for each type: texts have it, and nodes have not
-  pub record AreTextTypes (flags : List Bool) : Type 0 where
-    pub all : length flags ≡ length (type_names g)
-    pub exact : (n : ℕ) (type_name : List ℕ) → type_number g type_name ≡ Some n → IsTextType g type_name ↔ (slice_get flags n ≡ Some true)
-
   -- a flag for each type: it is inferred and not declared
   pub record AreFreeTypes (flags : List Bool) : Type 0 where
     pub all : length flags ≡ length (type_names g)
     pub exact : (n : ℕ) (type_name : List ℕ) → slice_get (type_names g) n ≡ Some type_name → IsFree g type_name ↔ (slice_get flags n ≡ Some true)
-
-  -- the type of a rule has this number
-  abbrev pub HasTypeNumber : Rule → ℕ → Type 0
-  HasTypeNumber rule n = (type_name : List ℕ) × HasType g rule type_name × (type_number g type_name ≡ Some n)
-
-  -- a flag for each type: it is that of one of the first rules whose own flag is this one
-  pub record AreTypesOfRules (nodes : List Bool) (makes : Bool) (count : ℕ) (flags : List Bool) : Type 0 where
-    pub all : length flags ≡ length (type_names g)
-    pub exact : (n : ℕ) →
-        (slice_get flags n ≡ Some true)
-        ↔ ((r : ℕ) × (rule : Rule) × (r < count) × (slice_get g.rules r ≡ Some rule) × (slice_get nodes r ≡ Some makes) × HasTypeNumber rule n)
 
 -- what is known is so of the grammar
 pub record IsPropertySource (source : Source) : Type 0 where
   pub numbers : AreNumbersOf source.g.now source.numbers.now
   pub nodes : AreNodeRules source.g.now source.nodes.now
   pub texts : AreTextTypes source.g.now source.texts.now
+  pub made : AreNodeTypes source.g.now source.made.now
 
 abbrev pub NamesNoUnion : Grammar → Member → Type 0
 NamesNoUnion g m = (u : ℕ) (union : UnionDef) → ¬ NamesUnion g m u union

@@ -37,7 +37,6 @@ mod parts;
 mod seeing;
 mod source;
 mod table;
-mod texts;
 mod value;
 
 pub use info::PropertyInfo;

@@ -13,11 +13,11 @@ use crate::property_table::free::free_types;
 use crate::property_table::gathering::Gathering;
 use crate::property_table::seeing::gather;
 use crate::property_table::source::Source;
-use crate::property_table::texts::text_types;
 use lw_base::{Name, NoMemory, TypeId};
 use lw_flow::Ways;
 use lw_grammar::Grammar;
 use lw_numbers::{Declares, Numbers};
+use lw_properties::{node_types, text_types};
 use std::alloc::Global;
 use std::marker::Model;
 
@@ -52,12 +52,14 @@ impl PropertyTable {
         ensures { IfOk result (ArePropertyTableOf g.now) }
     {
         let texts = text_types(alloc, g, numbers, nodes)?;
+        let made = node_types(alloc, g, numbers, nodes)?;
         let free = free_types(alloc, g, numbers, ways)?;
         let source = Source {
             g,
             numbers,
             nodes,
             texts: texts.as_slice(),
+            made: made.as_slice(),
         };
         let gatherings = gather(alloc, &source, ways, free.as_slice())?;
         let types = properties(alloc, &source, free.as_slice(), gatherings.as_slice())?;

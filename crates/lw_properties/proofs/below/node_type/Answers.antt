@@ -1,8 +1,7 @@
-use Rattle.std.proofs.Common.{◌≡◌, true, false, length, get_or, Some, sym, ap, ◌∙◌, arith}
+use Rattle.std.proofs.Common.{true, false, get_or, Some, sym, ap, ◌∙◌, arith}
 use Rattle.std.proofs.lemmas.Bool.{true≢false}
 use Rattle.std.proofs.lemmas.Option.{none-some, same_Some, slice_get_within, slice_get-get_or}
 use Rattle.lw_grammar.specs.Named.{declared_rule, declared_terminal}
-use Rattle.lw_grammar.specs.Nodes.{MakesNodes}
 use Rattle.lw_numbers.specs.Numbering as numbered
 use Rattle.lw_properties.proofs.Apart.{meant_apart}
 use Rattle.lw_properties.proofs.ValueKinds.{node_called, called_node, no_node_called}

@@ -1,4 +1,4 @@
-use Rattle.std.proofs.Common.{map, take, sym, ap, ◌∙◌, subst, arith}
+use Rattle.std.proofs.Common.{map, take, sym, ap, subst, arith}
 use Rattle.std.proofs.lemmas.List.{take_all}
 use Rattle.lw_properties.specs.Mixing.{putting_of, AreFirstPuts}
 use Rattle.lw_properties.proofs.Found.{read_more}

@@ -1,4 +1,4 @@
-use Rattle.std.proofs.Common.{[], map, subst}
+use Rattle.std.proofs.Common.{map, subst}
 use Rattle.lw_faults.specs.Finding.{Finds, OfSome}
 use Rattle.lw_properties.specs.Places.{spot_of}
 use Rattle.lw_properties.specs.Mixing.{RuleInfers}

@@ -1,4 +1,4 @@
-use Rattle.lw_faults.proofs.Joining.{Finds-begin, Finds-more}
+use Rattle.lw_faults.proofs.Joining.{Finds-more}
 use Rattle.lw_properties.specs.Mixing.{RuleInfers}
 use Rattle.lw_properties.proofs.inferred.put_results.Goals as goal
 

@@ -1,4 +1,4 @@
-use Rattle.std.proofs.Common.{◌≡◌, true, false, length, get_or, slice_get, Some, sym, ap, ◌∙◌, subst, arith}
+use Rattle.std.proofs.Common.{◌≡◌, true, false, get_or, Some, sym, ap, ◌∙◌, subst, arith}
 use Rattle.lw_grammar.specs.Leaves.{Calls}
 use Rattle.lw_grammar.specs.Nodes.{MakesNodes}
 use Rattle.std.proofs.lemmas.Option.{none-some, same_Some, slice_get_within, slice_get-get_or}

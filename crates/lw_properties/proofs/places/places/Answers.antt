@@ -1,6 +1,5 @@
 use Rattle.std.proofs.Common.{[], get_or, length, map, Some, slice_get, sym, ap, ◌∙◌, subst, arith}
-use Rattle.std.proofs.lemmas.Option.{same_Some, slice_get-get_or}
-use Rattle.lw_grammar.specs.Leaves.{leaves}
+use Rattle.std.proofs.lemmas.Option.{slice_get-get_or}
 use Rattle.lw_faults.specs.Finding.{Finds}
 use Rattle.lw_properties.specs.Places.{spot_of}
 use Rattle.lw_properties.proofs.Standing.{ComesBefore, none_comes, one_comes, all_come}

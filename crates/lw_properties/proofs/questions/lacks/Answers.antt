@@ -1,6 +1,3 @@
-use Rattle.std.proofs.Common.{◌≡◌, Bool, true, false, Option, Some, None, not, MatchOption, refl, sym, ap, ◌∙◌}
-use Rattle.std.specs.Option.{is_some}
-use Rattle.std.proofs.lemmas.Bool.{true≢false, not-true, not-false}
 use Rattle.lw_properties.proofs.Asking.{ruled_out, none_told}
 use Rattle.lw_properties.proofs.questions.lacks.Goals as goal
 

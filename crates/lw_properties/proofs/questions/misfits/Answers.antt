@@ -1,4 +1,3 @@
-use Rattle.std.proofs.Common.{refl}
 use Rattle.std.proofs.lemmas.Bool.{false≢true}
 use Rattle.lw_properties.proofs.Asking.{told_again, ruled_out, misfits_known}
 use Rattle.lw_properties.proofs.questions.misfits.Goals as goal

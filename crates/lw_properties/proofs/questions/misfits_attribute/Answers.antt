@@ -1,5 +1,4 @@
 use Rattle.std.proofs.Common.{refl, sym, subst}
-use Rattle.lw_grammar.specs.declared.rule.Op.TheVariants.{One, Add, Flag}
 use Rattle.lw_faults.specs.Properties.{MisfitsAttribute}
 use Rattle.lw_faults.specs.Properties as property
 use Rattle.lw_properties.proofs.Asking.{told_again, flag_misfits, one_misfits, add_misfits, misfits_one, misfits_add}

@@ -1,7 +1,6 @@
-use Rattle.std.proofs.Common.{[], ◌∷◌, ◌++◌, ◌+◌, map, take, sym, ap, ◌∙◌, subst, arith}
+use Rattle.std.proofs.Common.{[], ◌∷◌, ◌++◌, map, take, sym, ap, ◌∙◌, subst, arith}
 use Rattle.std.proofs.lemmas.List.{take_more, take_all}
 use Rattle.lw_properties.specs.Search.{AreFirsts, attributes_of}
-use Rattle.lw_properties.specs.Known.{AreAttributesOf}
 use Rattle.lw_properties.proofs.Knowing.{KnowsOf, knows_more, knows_all}
 use Rattle.lw_properties.proofs.attributes.Attributes.of.Goals as goal
 

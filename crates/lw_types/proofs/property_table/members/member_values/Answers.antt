@@ -32,9 +32,10 @@ loop-member-preserved-in-Continue-branch-3 c =
     let into = c.in_ok-insert-in-Some-union_named in
     let told = newly old.looked.keys c.insert.new.self.keys u.number into.field-0 into.ensures.added into.ensures.keys c.if-branch.true in
     let here = on_top (λ m. m.now) old.waiting.items c.pop.new.self.items m c.in-Some.ensures.items in
-    let entered = giving_enters g members left old.looked.keys old.values.items m.now u.number u.union.now (giving_as g members here refl refl old.invariant) u.ensures
+    let text = list_of c.text_value.result in
+    let entered = giving_enters g members left old.looked.keys old.values.items text m.now u.number u.union.now (giving_as g members here refl refl old.invariant) c.text_value.ensures u.ensures
     (λ has. false≢true (sym told.0 ∙ in_stands old.looked.keys u.number has)) in
-    giving_as g members (ap (λ ms. ms ++ left) (sym c.as_slice.ensures) ∙ sym c.in_ok-put_members-in-Some-union_named.ensures) (sym told.1) refl entered
+    giving_as g members (ap (λ ms. ms ++ left) (sym c.as_slice.ensures) ∙ sym c.in_ok-put_members-in-Some-union_named.ensures) (sym told.1) (sym c.in_ok-put_value.ensures) entered
 
 pub loop-member-preserved-else-branch : goal.loop-member-preserved-else-branch
 loop-member-preserved-else-branch c =
@@ -47,8 +48,8 @@ loop-member-preserved-else-branch c =
     let into = c.in_ok-insert-in-Some-union_named in
     let told = not_newly old.looked.keys c.insert.new.self.keys u.number into.field-0 into.ensures.added into.ensures.keys c.if-branch.false in
     let here = on_top (λ m. m.now) old.waiting.items c.pop.new.self.items m c.in-Some.ensures.items in
-    giving_as g members refl (sym told.1) refl
-    (giving_passes g members left old.looked.keys old.values.items m.now u.number u.union.now (giving_as g members here refl refl old.invariant) u.ensures told.0)
+    giving_as g members refl (sym told.1) (sym c.in_ok-put_value.ensures)
+    (giving_passes g members left old.looked.keys old.values.items (list_of c.text_value.result) m.now u.number u.union.now (giving_as g members here refl refl old.invariant) c.text_value.ensures u.ensures told.0)
 
 pub loop-member-preserved : goal.loop-member-preserved
 loop-member-preserved c =
@@ -58,8 +59,10 @@ loop-member-preserved c =
     let m = c.in-Some.member in
     let left = reverse (map (λ m. m.now) c.pop.new.self.items) in
     let here = on_top (λ m. m.now) old.waiting.items c.pop.new.self.items m c.in-Some.ensures.items in
-    giving_as g members refl refl (sym c.in_ok-put_value-in-None.ensures)
-    (giving_value g members left old.looked.keys old.values.items (list_of c.member_value.result) m.now (giving_as g members here refl refl old.invariant) c.member_value.ensures)
+    let text = list_of c.text_value.result in
+    let more = list_of c.member_value.result in
+    giving_as g members refl refl (ap (λ xs. xs ++ more) (sym c.in_ok-put_value.ensures) ∙ sym c.in_ok-put_value-in-None.ensures)
+    (giving_value g members left old.looked.keys old.values.items text more m.now (giving_as g members here refl refl old.invariant) c.text_value.ensures c.member_value.ensures)
 
 pub returns : goal.returns
 returns c =

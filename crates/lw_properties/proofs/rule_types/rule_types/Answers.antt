@@ -2,10 +2,10 @@ use Rattle.std.proofs.Common.{◌≡◌, ◌+◌, ◌<◌, length, slice_get, ge
 use Rattle.std.proofs.lemmas.Option.{none-some, same_Some, slice_get_within, slice_get-get_or, get_or_from_slice_get}
 use Rattle.lw_numbers.specs.Numbering.{type_names}
 use Rattle.lw_flow.proofs.NumberLemmas.{same_place}
-use Rattle.lw_types.specs.Seeing.{AreTypesOfRules}
-use Rattle.lw_types.proofs.TypeFlags.{types_passed, types_marked, same_bool, apart_bool}
-use Rattle.lw_types.proofs.property_table.texts.rule_types.Goals as goal
-use Rattle.lw_types.proofs.property_table.texts.rule_types.Goals.{then-nodes-number+in-Some, then-nodes-number+in_default, else-nodes-number}
+use Rattle.lw_properties.specs.Typed.{AreTypesOfRules}
+use Rattle.lw_properties.proofs.Marking.{types_passed, types_marked, same_bool, apart_bool}
+use Rattle.lw_properties.proofs.rule_types.rule_types.Goals as goal
+use Rattle.lw_properties.proofs.rule_types.rule_types.Goals.{then-nodes-number+in-Some, then-nodes-number+in_default, else-nodes-number}
 
 pub index_mut-requires : goal.index_mut-requires
 index_mut-requires c =

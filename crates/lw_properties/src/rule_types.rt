@@ -1,18 +1,18 @@
-// Which types are those of texts.
-ghost use Rattle.std.specs.Prelude.{ℕ, ◌≡◌, ◌↔◌, ◌&&◌, Some, IfOk, length, not, option_map};
+// Which types rules have.
+ghost use Rattle.std.specs.Prelude.{ℕ, ◌≡◌, ◌↔◌, Some, true, IsTrue, IfOk, length, slice_get, option_map};
 ghost use Rattle.lw_grammar.specs.declared.grammar.Grammar.{Grammar};
 ghost use Rattle.lw_numbers.specs.Tables.{AreNumbersOf};
 ghost use Rattle.lw_numbers.specs.Kinship.{AreNodeRules};
-ghost use Rattle.lw_types.specs.Seeing.{AreTextTypes, AreTypesOfRules, HasTypeNumber};
+ghost use Rattle.lw_properties.specs.Typed.{AreTextTypes, AreNodeTypes, AreTypesOfRules, HasTypeNumber, IsMarked};
 
-use lw_base::{NoMemory, TypeId};
+use crate::kinds::type_of;
+use lw_base::{Name, NoMemory, TypeId};
 use lw_grammar::{Grammar, Rule};
 use lw_numbers::Numbers;
-use lw_properties::type_of;
 use std::alloc::Global;
 
-/// A flag for each type, by its number: it is that of a data type rule, and of no rule that makes nodes.
-pub(crate) fn text_types(
+/// A flag for each type, by its number: it is that of a data type rule.
+pub fn text_types(
     alloc: Global,
     g: &Grammar,
     numbers: &Numbers,
@@ -20,24 +20,40 @@ pub(crate) fn text_types(
 ) -> Result<Vec<bool>, NoMemory>
     requires numbers { AreNumbersOf g.now numbers.now }
     requires nodes { AreNodeRules g.now nodes.now }
-    ensures { IfOk result (λ texts. AreTextTypes g.now texts.items) }
+    ensures { IfOk result (λ types. AreTextTypes g.now types.items) }
 {
-    let readers = rule_types(alloc, g, numbers, nodes, false)?;
-    let makers = rule_types(alloc, g, numbers, nodes, true)?;
-    let reads = readers.as_slice();
-    let makes = makers.as_slice();
-    let mut texts = Vec::new(alloc);
-    for number in 0..reads.len() {
-        texts.push(is_text(reads[number], makes[number]))?;
-    }
-    Ok(texts)
+    rule_types(alloc, g, numbers, nodes, false)
 }
 
-/// Whether texts are read and no nodes made.
-fn is_text(reads: bool, makes: bool) -> bool
-    ensures { result ≡ (reads && not makes) }
+/// A flag for each type, by its number: it is that of a rule that makes nodes.
+pub fn node_types(
+    alloc: Global,
+    g: &Grammar,
+    numbers: &Numbers,
+    nodes: &[bool],
+) -> Result<Vec<bool>, NoMemory>
+    requires numbers { AreNumbersOf g.now numbers.now }
+    requires nodes { AreNodeRules g.now nodes.now }
+    ensures { IfOk result (λ types. AreNodeTypes g.now types.items) }
 {
-    reads && !makes
+    rule_types(alloc, g, numbers, nodes, true)
+}
+
+/// Whether the flag of the type of this name is set, in expected constant time.
+pub fn is_marked(numbers: &Numbers, types: &[bool], name: &Name) -> bool
+    ensures { (g : Grammar) → AreNumbersOf g numbers.now → IsTrue result ↔ IsMarked g types.now name.now }
+{
+    match numbers.type_of(name) {
+        Some(id) => is_set(types, id.0 as usize),
+        None => false,
+    }
+}
+
+/// Whether the flag of this number is set.
+fn is_set(flags: &[bool], number: usize) -> bool
+    ensures { IsTrue result ↔ (slice_get flags.now number ≡ Some true) }
+{
+    flags.get(number) == Some(&true)
 }
 
 /// A flag for each type, by its number: it is that of a rule that makes nodes, or of one that makes none.
