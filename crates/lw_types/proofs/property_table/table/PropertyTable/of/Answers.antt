@@ -11,6 +11,6 @@ returns c =
     let free = c.in_ok-free.free.items in
     let gatherings = c.in_ok-gatherings.gatherings.items in
     let table = map (λ (v : Vec PropertyInfo Global). v.items) c.in_ok-types.types.items in
-    let gathered = subst (λ wanted. AreGathered g rows wanted gatherings) c.as_slice-2.ensures.value c.in_ok-gatherings.ensures in
-    let seen = subst (λ gs. AreSeenProperties g gs (length c.args.numbers.now.types) table) c.as_slice-4.ensures.value c.in_ok-types.ensures in
+    let gathered = subst (λ wanted. AreGathered g rows wanted gatherings) c.as_slice-3.ensures.value c.in_ok-gatherings.ensures in
+    let seen = subst (λ gs. AreSeenProperties g gs (length c.args.numbers.now.types) table) c.as_slice-5.ensures.value c.in_ok-types.ensures in
     table_told g rows c.requires.ways free c.in_ok-free.ensures gatherings gathered table (subst (λ n. AreSeenProperties g gatherings n table) (ap length c.requires.numbers.types) seen)
