@@ -8,7 +8,8 @@
 //! Any grammar is loaded, and judged (`lw_gramcheck`): where something is wrong with it, all faults of the first phase that has
 //! any are told, each by the path of its file and the position there (`lw_lang::told`). Of one without a fault the set of tokens is
 //! made (`lw_terminals`), and then it is found out whether the next kinds of tokens tell the ways of its choices apart
-//! (`lw_lookahead`); why not is told in the same way. What has passed all of this is made ready: by the tables its rules are
+//! (`lw_lookahead`); why not is told in the same way. Its kinds of tokens and what its rules can read are found once
+//! for all of this, beside its types, and lent. What has passed all of this is made ready: by the tables its rules are
 //! parsed (`lw_parse`), and nothing of that is made anew for a text. Who asks more of a text than its reading cuts it into tokens himself
 //! ([`Language::cut`]) and is lent what texts are parsed by ([`Language::parser`]).
 //!
