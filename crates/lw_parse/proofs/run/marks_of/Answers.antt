@@ -1,12 +1,12 @@
 -- The entry rule is entered; each turn is one of the parser's; where nothing can be done or nothing is left, the run ends.
-use Rattle.std.proofs.Common.{◌≡◌, ◌+◌, [], Some, map, reverse, slice_get, sym, ap, ◌∙◌, subst, arith}
-use Rattle.std.proofs.lemmas.List.{nil_from_length}
+use Rattle.std.proofs.Common.{◌≡◌, ◌+◌, ◌++◌, [], Some, length, map, reverse, slice_get, sym, ap, ◌∙◌, subst, inl, inr, arith}
+use Rattle.std.proofs.lemmas.List.{nil_from_length, length-append}
 use Rattle.std.proofs.lemmas.Option.{MatchOption-at_none}
 use Rattle.std.specs.Prelude.{vec_len}
 use Rattle.lw_program.specs.declared.instr.Instr.TheVariants.{Call}
 use Rattle.lw_viable.specs.Moves.{left}
-use Rattle.lw_parse.specs.Deciding.{IsDecided, IsStepBy, places_of, unread_behind}
-use Rattle.lw_parse.specs.Running.{Entered, NotEntered}
+use Rattle.lw_parse.specs.Deciding.{IsDecided, IsStepBy, marks_in, places_of, unread_behind}
+use Rattle.lw_parse.specs.Running.{Entered, NotEntered, RunState}
 use Rattle.lw_parse.proofs.Decided.{stacked}
 use Rattle.lw_parse.proofs.Runs.{IsRunning, popped, began, run_begins, run_starts, run_goes_on, run_stuck, run_ends}
 use Rattle.lw_parse.proofs.run.marks_of.Goals as goal
@@ -59,3 +59,15 @@ turns-preserved c = λ g kinds k is.
     subst (IsRunning g kinds k c.args.parser.now is (map (λ kind. kind.0) c.args.seen.now)) (sym c.in_ok-turn-2.ensures)
     (run_goes_on g kinds k c.args.parser.now is (c.turns.invariant g kinds k is)
     (popped run.parser.now unread run.marks.items run.to_do.items c.pop.new.self.items place c.in-Some-pop.ensures.items) turns)
+
+pub turns-smaller : goal.turns-smaller
+turns-smaller c =
+    let old = c.turns.run.marks in
+    let new = c.turn.new.self.marks in
+    let left = marks_in c.in-Some-2.turn in
+    let more : length new.items ≡ length (old.items ++ left) = ap (λ (s : RunState). length s.marks) c.in_ok-turn-2.ensures in
+    let longer = length-append old.items left in
+    elim c.in_ok-without_mark.ensures [
+      | inl (less, none) ↦ omega (arith, more, longer, old.ok.0, new.ok.0, less, none, c.len-before.ensures, c.len.ensures)
+      | inr (same, one) ↦ omega (arith, more, longer, old.ok.0, new.ok.0, same, one, c.len-before.ensures, c.len.ensures)
+    ]
