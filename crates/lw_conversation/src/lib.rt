@@ -35,5 +35,7 @@ pub use error_code::{
     INVALID_PARAMS, INVALID_REQUEST, METHOD_NOT_FOUND, PARSE_ERROR, REQUEST_FAILED,
     SERVER_NOT_INITIALIZED,
 };
-pub use laws::{edits_are_in_order, one_outcome, sessions_stay_current};
+pub use laws::{
+    edits_are_in_order, one_end, one_outcome, sessions_stay_current, some_edit, some_file, some_reply,
+};
 pub use phase::Phase;
