@@ -12,3 +12,5 @@ pub mod SomeEdit
 pub mod SomePlace
 pub mod SomeMention
 pub mod SomeReply
+pub mod SomeShape
+pub mod SomeRename

@@ -66,7 +66,7 @@ after_front (x ∷ xs) (y ∷ ys) = by (cases y x) (after_front xs ys)
     by (inl same) (inr other) = inr (λ rest is. other rest (let all = is in cc))
     by (inr apart) tail = inr (λ rest is. apart (let all = is in cc))
 
-utf8_or_not : (bytes : List ℕ) → Decided (IsUtf8 bytes)
+pub utf8_or_not : (bytes : List ℕ) → Decided (IsUtf8 bytes)
 utf8_or_not bytes = by (is_utf8 bytes) refl
   where
     by : (b : Bool) → is_utf8 bytes ≡ b → Decided (IsUtf8 bytes)

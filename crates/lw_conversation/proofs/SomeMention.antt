@@ -79,7 +79,22 @@ one_or_other a b = by (same_text a.0 b.0) (same_number a.1 b.1)
     by (inr apart) number = inr (λ one. apart (ap (λ (x : List ℕ × ℕ). x.0) one))
     by (inl is) (inr apart) = inr (λ one. apart (ap (λ (x : List ℕ × ℕ). x.1) one))
 
+pub contained : {X : Type 0} (xs : List X) (i : ℕ) (x : X) → slice_get xs i ≡ Some x → Contains xs x
+contained xs i x at =
+    let within = slice_get_within xs i x at in
+    (i, within, same_Some _ x (sym (slice_get-get_or xs i x within) ∙ at))
+
 -- ---- trees
+
+module _ (g : Grammar) where
+  outwards : (text : List ℕ) (tree : Parts) → Reads g text (Whole tree) → ContainersComeFirst tree
+  outwards text =
+      marks.of_text g text ContainersComeFirst (λ m seen tokens tree is. (tree_encloses is.grown tokens tree.name tree is.parts).0)
+
+  pub owners : (text : List ℕ) (tree : Parts) → Reads g text (Whole tree) → All (λ r. r.owner.0 < length tree.nodes) tree.refs
+  owners text =
+      marks.of_text g text (λ tree. All (λ r. r.owner.0 < length tree.nodes) tree.refs)
+      (λ m seen tokens tree is. tree_owns is.grown tokens tree.name tree is.parts)
 
 module _ (g : Grammar) (tells : TellsTypes g) (addresses : List (List ℕ)) (texts : Texts) (readable : AreReadable g addresses texts) where
   pub record HasTrees : Type 0 where
@@ -119,29 +134,15 @@ module _ (g : Grammar) (tells : TellsTypes g) (addresses : List (List ℕ)) (tex
     stand_among : StandAmong addresses trees
     stand_among address tree is = let of = text_of address tree is in (readable address of.text of.there).0
 
-    outwards : (text : List ℕ) (tree : Parts) → Reads g text (Whole tree) → ContainersComeFirst tree
-    outwards text =
-        marks.of_text g text ContainersComeFirst (λ m seen tokens tree is. (tree_encloses is.grown tokens tree.name tree is.parts).0)
-
-    pub owners : (text : List ℕ) (tree : Parts) → Reads g text (Whole tree) → All (λ r. r.owner.0 < length tree.nodes) tree.refs
-    owners text =
-        marks.of_text g text (λ tree. All (λ r. r.owner.0 < length tree.nodes) tree.refs)
-        (λ m seen tokens tree is. tree_owns is.grown tokens tree.name tree is.parts)
-
     abbrev Leads : List ℕ → Parts → Reference → Link → Type 0
     Leads address tree r l = LinksTo (IsNumberBelow g) trees address tree r l
 
     pub some_link : (address : List ℕ) (tree : Parts) → trees address ≡ Some tree → (r : Reference) → Contains tree.refs r → (l : Link) × Leads address tree r l
     some_link address tree is r has =
         let of = text_of address tree is in
-        link addresses trees stand_among (IsNumberBelow g) tells address tree (outwards of.text tree of.reads) r
+        link addresses trees stand_among (IsNumberBelow g) tells address tree (outwards g of.text tree of.reads) r
         (subst (λ (x : Reference). x.owner.0 < length tree.nodes) has.2
-        (All-get_or (λ (x : Reference). x.owner.0 < length tree.nodes) tree.refs has.0 r has.1 (owners of.text tree of.reads)))
-
-    contained : {X : Type 0} (xs : List X) (i : ℕ) (x : X) → slice_get xs i ≡ Some x → Contains xs x
-    contained xs i x at =
-        let within = slice_get_within xs i x at in
-        (i, within, same_Some _ x (sym (slice_get-get_or xs i x within) ∙ at))
+        (All-get_or (λ (x : Reference). x.owner.0 < length tree.nodes) tree.refs has.0 r has.1 (owners g of.text tree of.reads)))
 
     -- ---- what is meant
     pub some_meant : (address : List ℕ) (offset : ℕ) → (l : Link) × IsMeantAt (IsNumberBelow g) trees address offset l
