@@ -1,5 +1,5 @@
 -- Opening and editing a document has an outcome.
-use Rattle.std.proofs.Common.{◌≡◌, ◌<◌, ◌≤◌, ℕ, ℤ, List, All, Result, Ok, Err, Some, length, inl, inr, ◌⊎◌, sym, subst}
+use Rattle.std.proofs.Common.{◌≡◌, ℕ, ℤ, List, All, Result, Ok, Err, Some, length, inl, inr, ◌⊎◌}
 use Rattle.std.specs.FinMap.{get}
 use Rattle.std.specs.Str.{IsUtf8}
 use Rattle.std.proofs.lemmas.Bool.{cases_lt}

@@ -1,7 +1,7 @@
 -- What is found of a file, and what becomes of documents whose files are read or have changed, whatever the store answers.
-use Rattle.std.proofs.Common.{◌≡◌, ◌≢◌, ℕ, ◌<◌, ◌≤◌, List, [], ◌∷◌, ◌++◌, All, Bool, true, false, Contains, Option, Some, None, codes, inl, inr, ◌⊎◌, sym, refl, ap, ◌∙◌, subst, true≢false, arith, IfSome}
+use Rattle.std.proofs.Common.{◌≡◌, ◌≢◌, ℕ, ◌≤◌, List, [], ◌∷◌, ◌++◌, Bool, true, false, Contains, Option, Some, None, codes, inl, inr, ◌⊎◌, sym, refl, ap, ◌∙◌, subst, true≢false, arith, IfSome}
 use Rattle.std.specs.Str.{IsUtf8, is_utf8}
-use Rattle.std.specs.FinMap.{contains_key, get, insert, len, remove}
+use Rattle.std.specs.FinMap.{contains_key, get, len, remove}
 use Rattle.std.proofs.lemmas.Bool.{cases_lt}
 use Rattle.std.proofs.lemmas.List.{append_cancel_left}
 use Rattle.std.proofs.lemmas.List.Elements.{All-append, All-cons}
@@ -25,7 +25,7 @@ use Rattle.lw_machine.specs.Readable.{HaveReadableTexts, IsReadable}
 use Rattle.lw_machine.specs.Settling as settling
 use Rattle.lw_machine.specs.Settling.{Agree, Differ, IsSettled, Settles, SettlesAt}
 use Rattle.lw_machine.specs.Telling.{TellsTypes}
-use Rattle.lw_machine.specs.Validity.{HaveLinksAndLists, IsValid}
+use Rattle.lw_machine.specs.Validity.{IsValid}
 use Rattle.lw_machine.proofs.Decisions.{compared, one_list, one_list_of_links}
 use Rattle.lw_machine.proofs.Finite.{Decided}
 use Rattle.lw_machine.proofs.FirstOf.{validated_at}
@@ -300,7 +300,7 @@ module _ (g : Grammar) (tells : TellsTypes g) where
           ]
           by asked given Absent finds memory utf8 = elim (held_or_not m address) [
             | inl held ↦ let end = some_removal m valid readable address held.0 held.1 in
-              (asked, end.0, end.1, watching.gone finds end.2, given, removal_readable m address end.0 end.1 end.2 readable)
+                (asked, end.0, end.1, watching.gone finds end.2, given, removal_readable m address end.0 end.1 end.2 readable)
             | inr none ↦ (asked, m, [], watching.never_there finds none, given, readable)
           ]
           by asked given NotUtf8 finds memory utf8 = (asked, m, _, watching.not_text finds, given, readable)
@@ -326,7 +326,7 @@ module _ (g : Grammar) (tells : TellsTypes g) where
               let end = some_loading m valid readable address in (end.0, end.1, end.2, watching.loads stays shut end.3, end.4, end.5)
           by (inr shut) (inl gone) = elim (held_or_not m address) [
             | inl held ↦ let end = some_removal m valid readable address held.0 held.1 in
-              ([], end.0, end.1, watching.removed gone shut end.2, none_given answers found, removal_readable m address end.0 end.1 end.2 readable)
+                ([], end.0, end.1, watching.removed gone shut end.2, none_given answers found, removal_readable m address end.0 end.1 end.2 readable)
             | inr none ↦ ([], m, [], watching.not_held gone none, none_given answers found, readable)
           ]
 

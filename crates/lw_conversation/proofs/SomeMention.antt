@@ -1,13 +1,11 @@
 -- What is meant at an offset of a document, where its name stands and where it is mentioned, where each text can be read.
-use Rattle.std.proofs.Common.{◌≡◌, ◌≢◌, ◌<◌, ◌≤◌, ℕ, List, [], ◌∷◌, All, AllPairs, Bool, true, false, Contains, Option, Some, None, length, slice_get, Less, inl, inr, ◌⊎◌, refl, sym, ap, ap₂, ◌∙◌, subst, true≢false, arith}
+use Rattle.std.proofs.Common.{◌≡◌, ◌<◌, ℕ, List, All, Bool, true, false, Contains, Option, Some, None, length, slice_get, Less, inl, inr, ◌⊎◌, refl, sym, ap, ◌∙◌, subst, true≢false, arith}
 use Rattle.std.proofs.lemmas.Bool.{cases_order}
 use Rattle.std.proofs.lemmas.List.Elements.{All-get_or}
 use Rattle.std.proofs.lemmas.Option.{same_Some, none-some, slice_get_within, slice_get-get_or}
 use Rattle.lw_base.specs.declared.numbers.NodeId.{NodeId}
-use Rattle.lw_base.specs.declared.numbers.RefId.{RefId}
 use Rattle.lw_base.specs.declared.token.Span.{Span}
 use Rattle.lw_grammar.specs.declared.grammar.Grammar.{Grammar}
-use Rattle.lw_tree.specs.declared.issue.Issue.{Issue}
 use Rattle.lw_tree.specs.declared.node.Reference.{Reference}
 use Rattle.lw_tree.specs.Parts.{Parts, name_of}
 use Rattle.lw_reading.specs.Reading.{Reads}
@@ -19,7 +17,6 @@ use Rattle.lw_reading.proofs.OfTexts as marks
 use Rattle.lw_scoping.specs.Firsts.{IsFirstIn, found}
 use Rattle.lw_scoping.specs.Links.{Fits, Link, LinksTo, Trees, own, out, nowhere}
 use Rattle.lw_scoping.specs.Outward.{ContainersComeFirst}
-use Rattle.lw_scoping.specs.Symbols.{IsNamedNode}
 use Rattle.lw_scoping.proofs.Once.{one_target}
 use Rattle.lw_link_rules.specs.Links as of_text
 use Rattle.lw_link_rules.specs.Links.{AreTreesOfTexts, IsNumberBelow, IsTreeOfText, Texts}
@@ -183,8 +180,7 @@ module _ (g : Grammar) (tells : TellsTypes g) (addresses : List (List ℕ)) (tex
           record { tree = tree; is_tree = is; text = r.name; named = first.does.1.named; here = refl },
         )
     name_of_target address tree r target l is (out {place = place} none fits least) to =
-        subst HasName (same_Some place target to)
-        (
+        subst HasName (same_Some place target to) (
           record { address = place.0; span = fits.3.1.span },
           record { tree = fits.0; is_tree = fits.1; text = r.name; named = fits.3.1.named; here = refl },
         )

@@ -2,8 +2,6 @@
 use Rattle.std.proofs.Common.{◌≡◌, ◌<◌, ◌≤◌, ℕ, List, Option, Some, None, length, slice_get, inl, inr, ◌⊎◌, refl, sym, ap, ◌∙◌, subst, arith}
 use Rattle.std.proofs.lemmas.Bool.{cases_lt}
 use Rattle.std.proofs.lemmas.Option.{same_Some, none-some, slice_get_within}
-use Rattle.lw_base.specs.declared.numbers.NodeId.{NodeId}
-use Rattle.lw_base.specs.declared.numbers.RefId.{RefId}
 use Rattle.lw_base.specs.declared.token.Span.{Span}
 use Rattle.lw_machine.proofs.Comparing.{same_number}
 use Rattle.lw_machine.proofs.Finite.{Decided, Least, below, is_below, least}

@@ -1,12 +1,11 @@
 -- A rename has an outcome: nothing is meant there, or a document is spoiled, or a reference is rebound, the first of each in their order, or all is kept.
-use Rattle.std.proofs.Common.{◌≡◌, ◌≢◌, ◌<◌, ◌≤◌, ℕ, zero, suc, List, [], ◌∷◌, All, AllPairs, Contains, Option, Some, None, Result, Ok, Err, Less, get_or, length, option_map, option_and_then, slice_get, Bool, inl, inr, ◌⊎◌, refl, sym, ap, ◌∙◌, subst, arith}
+use Rattle.std.proofs.Common.{◌≡◌, ◌≢◌, ◌<◌, ◌≤◌, ℕ, zero, suc, List, [], ◌∷◌, AllPairs, Contains, true, Option, Some, None, Result, Ok, Err, Less, length, option_map, option_and_then, slice_get, Bool, inl, inr, ◌⊎◌, refl, sym, ap, ◌∙◌, subst, arith}
 use Rattle.std.specs.Prelude.{◌↔◌, ◌==◌, if◌then◌else◌}
-use Rattle.std.specs.List.{AllZip}
 use Rattle.std.specs.Str.{IsUtf8}
 use Rattle.std.proofs.lemmas.Bool.{cases_lt}
 use Rattle.std.proofs.lemmas.Bool.Decides.{Decides-eqb}
 use Rattle.std.proofs.lemmas.List.Elements.{All-get_or}
-use Rattle.std.proofs.lemmas.Option.{same_Some, none-some, slice_get_within, slice_get-get_or}
+use Rattle.std.proofs.lemmas.Option.{same_Some, none-some, slice_get_within}
 use Rattle.std.proofs.lemmas.Slice.Zip.{AllZip-long}
 use Rattle.lw_base.specs.declared.numbers.PropId.{PropId}
 use Rattle.lw_base.specs.declared.numbers.TypeId.{TypeId}
@@ -20,7 +19,7 @@ use Rattle.lw_reading.specs.Reading.{Reads}
 use Rattle.lw_reading.specs.declared.parsed.Parsed.{Parsed}
 use Rattle.lw_reading.specs.declared.parsed.Parsed.TheVariants.{Whole, Broken}
 use Rattle.lw_reading.proofs.OneReading.{one_reading}
-use Rattle.lw_scoping.specs.Links.{AreLinksOver, Link, LinksTo, Trees, treeless, whole}
+use Rattle.lw_scoping.specs.Links.{AreLinksOver, Link, Trees, treeless, whole}
 use Rattle.lw_link_rules.specs.Links as of_text
 use Rattle.lw_link_rules.specs.Links.{AreLinks, AreTreesOfTexts, IsNumberBelow, IsTreeOfText, Texts}
 use Rattle.lw_machine.specs.Readable.{AreReadable, IsReadable}
@@ -29,7 +28,8 @@ use Rattle.lw_machine.proofs.Comparing.{Compared, compared, before, same, after,
 use Rattle.lw_machine.proofs.Existing.{links_and_list}
 use Rattle.lw_machine.proofs.Finite.{Decided, here, here_or_there, nothing, some, there}
 use Rattle.lw_machine.proofs.Sorting.{in_order}
-use Rattle.lw_places.specs.Mentions.{AreMentionsOf, IsMeantAt, Mention, MentionPrecedes, by_address, by_start, by_end}
+use Rattle.lw_places.specs.Mentions as mention
+use Rattle.lw_places.specs.Mentions.{AreMentionsOf, IsMeantAt, IsMentionOf, Mention, MentionPrecedes, by_address, by_start, by_end}
 use Rattle.lw_places.specs.Renamed as renaming
 use Rattle.lw_places.specs.Renamed.{AreRenamed, CannotBeRead, IsKeptAt, IsRebound, IsRenamed, IsSpoiledAt, LinksStay, NothingIsMeant, Refusal, NotParsed, NoName, Rebound, Shape}
 use Rattle.lw_places.specs.Replacing.{renamed_texts, replaced, spans_at}
@@ -38,7 +38,7 @@ use Rattle.lw_places.proofs.Untouched.{untouched}
 use Rattle.lw_places.proofs.Written.{turned_shape}
 use Rattle.lw_conversation.specs.Outcomes.{ReadsTexts}
 use Rattle.lw_conversation.proofs.SomeFile.{utf8_or_not}
-use Rattle.lw_conversation.proofs.SomeMention.{contained, owners, some_meant, meant_named, some_mentions, some_trees}
+use Rattle.lw_conversation.proofs.SomeMention.{contained, owners, some_meant, meant_named, some_mentions, some_trees, text_of}
 use Rattle.lw_conversation.proofs.SomeShape.{past, shape_told, told_option, told_pair}
 
 -- ---- orders
@@ -398,3 +398,69 @@ module _ (g : Grammar) (one_way : IsReadOneWay g) (tells : TellsTypes g) where
             others = λ b less. all_links kept sorted.0 (λ c has. (sorted.1 c).1 has) (λ c. order c a ≡ Less) sooner b less;
           }),
         )
+
+  -- ---- what a rename comes to
+  module _ (addresses : List (List ℕ)) (texts : Texts) (readable : AreReadable g addresses texts) (reads : ReadsTexts g) (new address : List ℕ) (offset : ℕ) where
+    abbrev Comes : Type 0
+    Comes = (outcome : Result (List Mention) Refusal) × IsRenamed g texts address offset new outcome
+
+    module _ (trees : Trees) (are_trees : AreTreesOfTexts g texts trees) (target : List ℕ × ℕ) where
+      tree_there : (m : Mention) → IsMentionOf (IsNumberBelow g) trees true target m → (tree : Parts) × (trees m.address ≡ Some tree)
+      tree_there m (mention.used uses_it) = (uses_it.tree, uses_it.is_tree)
+      tree_there m (mention.declared counts name) = (name.tree, ap trees name.here ∙ name.is_tree)
+
+      module _ (mentions : List Mention) (are : AreMentionsOf (IsNumberBelow g) trees true target mentions) where
+        judged : (m : Mention) → Contains mentions m →
+            IsKeptAt g texts (renamed_texts new mentions texts) m.address ⊎ IsSpoiled texts reads (renamed_texts new mentions texts) m.address
+        judged m has =
+            let tree = tree_there m ((are.exact m).0 has) in
+            let at = text_of g tells addresses texts readable trees are_trees m.address tree.0 tree.1 in
+            kept_or_spoiled texts reads (renamed_texts new mentions texts) m.address at.text (replaced new at.text (spans_at m.address mentions)) tree.0 at.there
+            at.reads (ap (option_map (λ text. replaced new text (spans_at m.address mentions))) at.there)
+
+        comes : IsMeantAt (IsNumberBelow g) trees address offset (Some target) → Comes
+        comes meant = by (all_kept_or texts reads (renamed_texts new mentions texts) mentions are.ordered judged)
+          where
+            is : AreRenamed g texts address offset mentions
+            is = record { trees = trees; are_trees = are_trees; target = target; meant = meant; are_mentions = are }
+
+            by : AllKept texts reads (renamed_texts new mentions texts) mentions ⊎ FirstSpoiled texts reads (renamed_texts new mentions texts) mentions → Comes
+            by (inl kept) = all_kept addresses texts readable reads new mentions address offset is kept
+            by (inr (m, refusal, has, spoiled, sooner)) = (Err refusal, renaming.refused is has spoiled sooner)
+
+    pub some_renaming : Comes
+    some_renaming =
+        let all = some_trees g tells addresses texts readable in
+        by all.trees all.are_trees (some_meant g tells addresses texts readable all.trees all.are_trees address offset)
+      where
+        by : (trees : Trees) (are_trees : AreTreesOfTexts g texts trees) → ((l : Link) × IsMeantAt (IsNumberBelow g) trees address offset l) → Comes
+        by trees are_trees (None, meant) = (Err NoName, renaming.no_name (record { trees = trees; are_trees = are_trees; none = meant }))
+        by trees are_trees (Some target, meant) =
+            let named = meant_named g tells addresses texts readable trees are_trees address offset target meant in
+            let mentions = some_mentions g tells addresses texts readable trees are_trees target true named in
+            comes trees are_trees target mentions.0 mentions.1 meant
+
+-- ---- what a reference is that is rebound
+
+-- a link is that of a reference of a tree
+pub record IsLinked (g : Grammar) (texts : Texts) (address : List ℕ) (i : ℕ) : Type 0 where
+  pub text : List ℕ
+  pub there : texts address ≡ Some text
+  pub tree : Parts
+  pub reads : Reads g text (Whole tree)
+  pub r : Reference
+  pub at : slice_get tree.refs i ≡ Some r
+
+pub linked : (g : Grammar) (texts : Texts) (address : List ℕ) (i : ℕ) (x : Link) (links : List Link) → AreLinks g texts address links → slice_get links i ≡ Some x →
+    IsLinked g texts address i
+linked g texts address i x links are led = by links (texts address) (are.trees address) refl (are.are_trees address) refl are.are_links led
+  where
+    by : (links : List Link) (o : Option (List ℕ)) (p : Option Parts) → texts address ≡ o → IsTreeOfText g o p → are.trees address ≡ p →
+        AreLinksOver (IsNumberBelow g) are.trees address links → slice_get links i ≡ Some x → IsLinked g texts address i
+    by links o p there is at (treeless absent) led = absurd (let within = slice_get_within [] i x led in omega (arith, within))
+    by links o p there of_text.no_text at (whole {tree = tree} is zip) led = absurd (none-some tree (sym at ∙ is))
+    by links o p there (of_text.broken reads) at (whole {tree = tree} is zip) led = absurd (none-some tree (sym at ∙ is))
+    by links o p there (of_text.whole {text = t} {tree = u} reads) at (whole {tree = tree} {links = ls} is zip) led =
+        let within = slice_get_within ls i x led in
+        let r = some_at tree.refs i (omega (arith, within, AllZip-long _ tree.refs ls zip)) in
+        record { text = t; there = there; tree = tree; reads = subst (λ (y : Parts). Reads g t (Whole y)) (same_Some u tree (sym at ∙ is)) reads; r = r.0; at = r.1 }

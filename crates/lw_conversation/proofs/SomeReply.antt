@@ -1,6 +1,6 @@
 -- A question has a reply: what is asked for has places, and each of them a position in its text.
-use Rattle.std.proofs.Common.{◌≡◌, ◌+◌, ◌<◌, ℕ, List, [], ◌∷◌, ◌++◌, AllPairs, Bool, true, false, Contains, Option, Some, None, Result, Ok, Err, codes, decimal, length, map, option_map, slice_get, Less, inl, inr, ◌⊎◌, refl, sym, ap, ◌∙◌, subst, arith}
-use Rattle.std.specs.Prelude.{◌↔◌, if◌then◌else◌}
+use Rattle.std.proofs.Common.{◌≡◌, ◌<◌, ℕ, List, [], ◌∷◌, Bool, true, false, Contains, Option, Some, None, Result, Ok, Err, length, option_map, Less, inl, inr, ◌⊎◌, refl, sym, ap, ◌∙◌, subst, arith}
+use Rattle.std.specs.Prelude.{if◌then◌else◌}
 use Rattle.std.specs.List.{AllZip}
 use Rattle.std.specs.FinMap.{get, keys}
 use Rattle.std.specs.Str.{IsUtf8, bytes_eq}
@@ -22,8 +22,9 @@ use Rattle.lw_places.specs.Asked.{AreReferences, IsDefinition}
 use Rattle.lw_places.specs.Mentions as mention
 use Rattle.lw_places.specs.Mentions.{AreMentionsOf, AreReferencesAt, IsDefinitionAt, IsMentionOf, IsNameHere, IsUseHere, Mention}
 use Rattle.lw_places.specs.Offers.{AreOffers, IsOffer, Offer, OfferPrecedes, by_kind, by_label}
-use Rattle.lw_reading.specs.Reading.{Reads}
-use Rattle.lw_reading.specs.declared.parsed.Parsed.TheVariants.{Whole}
+use Rattle.lw_places.specs.Renamed as rename
+use Rattle.lw_places.specs.Renamed.{IsRenamed, Refusal}
+use Rattle.lw_reading.specs.Laws.{IsReadOneWay}
 use Rattle.lw_rpc.specs.declared.message.Id.{Id}
 use Rattle.lw_rpc.specs.declared.reply.CompletionItem.{CompletionItem}
 use Rattle.lw_rpc.specs.declared.reply.FileEdits.{FileEdits}
@@ -34,13 +35,14 @@ use Rattle.lw_rpc.specs.declared.reply.Reply.{Reply}
 use Rattle.lw_rpc.specs.declared.reply.Reply.TheVariants.{Done, Error}
 use Rattle.lw_rpc.specs.declared.reply.TextEdit.{TextEdit}
 use Rattle.lw_scoping.specs.Links.{Trees}
-use Rattle.lw_text.specs.Offset.{IsOffset}
 use Rattle.lw_text.specs.declared.place.Pos.{Pos}
 use Rattle.lw_text.specs.declared.units.Encoding.TheVariants.{Utf16}
 use Rattle.lw_text.proofs.Offsets.{IsOffset-some}
 use Rattle.lw_conversation.specs.Asking as ask
-use Rattle.lw_conversation.specs.Asking.{AreEditsOf, IsAskedAt, IsEditOf, IsItemOf, IsLocationOf, TellsCompletion, TellsDefinition, TellsReferences, by_document, with_mention}
-use Rattle.lw_conversation.specs.Outcomes.{TellsOffers}
+use Rattle.lw_conversation.specs.Asking.{AreEditsOf, IsAskedAt, IsEditOf, IsItemOf, IsLocationOf, IsRefusalText, TellsCompletion, TellsDefinition, TellsReferences, TellsRename, by_document, with_mention}
+use Rattle.lw_conversation.specs.Outcomes.{ReadsTexts, TellsOffers}
+use Rattle.lw_conversation.specs.declared.error_code.TheConstants.{REQUEST_FAILED}
+use Rattle.lw_conversation.proofs.SomeRename.{linked, some_renaming}
 use Rattle.lw_conversation.proofs.SomeMention.{some_definition, some_references, text_of}
 
 -- ---- places in texts
@@ -274,3 +276,34 @@ module _ (g : Grammar) (tells : TellsTypes g) (m : Documents) (readable : HaveRe
             some_items g (present_texts m) address text offset (told is.document offset is.held) (readable address is.document is.held).utf8 offers.offers
             offers.each in
             (Offers items.0, ask.offered is offers.are items.1)
+
+    -- ---- renames
+    refusal_told : (offset : ℕ) (new : List ℕ) {refusal : Refusal} → IsRenamed g (present_texts m) address offset new (Err refusal) →
+        (text : List ℕ) × IsRefusalText g (present_texts m) refusal text
+    refusal_told offset new (rename.no_name none) = (_, ask.no_name)
+    refusal_told offset new (rename.refused are has (rename.unreadable there cannot) sooner) = (_, ask.not_parsed)
+    refusal_told offset new (rename.refused are has (rename.reshaped was reads is utf8 read unlike) sooner) = (_, ask.shape)
+    refusal_told offset new (rename.rebound {a = a} {i = i} {before = x} are kept is) =
+        let at = linked g (present_texts m) a i x is.was is.were is.led in
+        let place = some_position at.text at.r.span.start (present_utf8 a at.text at.there) in
+        (_, ask.rebound at.there at.reads at.at place.1)
+
+    renamed_have_texts : (offset : ℕ) (new : List ℕ) (mentions : List Mention) → IsRenamed g (present_texts m) address offset new (Ok mentions) → (x : Mention) →
+        Contains mentions x → HasPresentText x.address
+    renamed_have_texts offset new mentions (rename.renamed are kept stay) x has =
+        mention_has_text are.trees are.are_trees true are.target x ((are.are_mentions.exact x).0 has)
+
+    pub some_rename_told : IsReadOneWay g → ReadsTexts g → (id : Id) (new : List ℕ) → (reply : Reply) × TellsRename g m id address at new reply
+    some_rename_told one_way reads id new = by asked_at
+      where
+        tell : (offset : ℕ) → IsAskedAt g m address at offset →
+            ((outcome : Result (List Mention) Refusal) × IsRenamed g (present_texts m) address offset new outcome) → (reply : Reply) × TellsRename g m id address at new reply
+        tell offset is (Err refusal, refused) =
+            let text = refusal_told offset new refused in (Error (Some id) REQUEST_FAILED text.0, ask.refused is refused text.1)
+        tell offset is (Ok mentions, renames) =
+            let files = some_file_edits (present_texts m) present_utf8 new mentions (renamed_have_texts offset new mentions renames) in
+            (Done id (Edits files.0), ask.renames is renames files.1)
+
+        by : IsThere → (reply : Reply) × TellsRename g m id address at new reply
+        by (not_held none) = (_, ask.not_held none)
+        by (held offset is) = tell offset is (some_renaming g one_way tells (keys m) (present_texts m) present_readable reads new address offset)

@@ -2,7 +2,7 @@
 use Rattle.std.proofs.Common.{◌≡◌, ◌<◌, ◌≤◌, ◌+◌, ℕ, zero, suc, List, [], ◌∷◌, Option, Some, None, length, map, option_map, option_and_then, slice_get, inl, inr, ◌⊎◌, refl, sym, ap, ◌∙◌, subst, arith}
 use Rattle.std.specs.Prelude.{◌==◌, if◌then◌else◌}
 use Rattle.std.proofs.lemmas.Bool.{cases_lt}
-use Rattle.std.proofs.lemmas.Option.{same_Some, none-some, slice_get_within}
+use Rattle.std.proofs.lemmas.Option.{same_Some, slice_get_within}
 use Rattle.lw_base.specs.declared.numbers.NodeId.{NodeId}
 use Rattle.lw_base.specs.declared.numbers.PropId.{PropId}
 use Rattle.lw_base.specs.declared.numbers.RefId.{RefId}
@@ -141,13 +141,13 @@ module _ (g : Grammar) (one other : Parts) where
 
   references_told : (n : ℕ) → Decided ((i : ℕ) → refers_as one n i ≡ refers_as other n i)
   references_told n = elim (below_told (λ i. refers_as one n i ≡ refers_as other n i)
-    (λ i. told_option (told_pair told_prop told_type) (refers_as one n i) (refers_as other n i)) (length one.refs + length other.refs)) [
-    | inl all ↦ inl (λ i. elim (cases_lt i (length one.refs + length other.refs)) [
-      | inl lt ↦ all i lt
-      | inr far ↦ past one n i (omega (arith, far)) ∙ sym (past other n i (omega (arith, far)))
-    ])
-    | inr not ↦ inr (λ all. not (λ i lt. all i))
-  ]
+      (λ i. told_option (told_pair told_prop told_type) (refers_as one n i) (refers_as other n i)) (length one.refs + length other.refs)) [
+        | inl all ↦ inl (λ i. elim (cases_lt i (length one.refs + length other.refs)) [
+          | inl lt ↦ all i lt
+          | inr far ↦ past one n i (omega (arith, far)) ∙ sym (past other n i (omega (arith, far)))
+        ])
+        | inr not ↦ inr (λ all. not (λ i lt. all i))
+      ]
 
   alike_told : (n : ℕ) → Decided (IsAlikeAt g one other n)
   alike_told n =

@@ -10,13 +10,14 @@ ghost use Rattle.lw_machine.specs.Validity.{AreCurrent, IsValid};
 ghost use Rattle.lw_reading.specs.Laws.{IsReadOneWay};
 ghost use Rattle.lw_rpc.specs.Replies.{HasOrderedEdits};
 ghost use Rattle.lw_rpc.specs.declared.file_change.FileChange.{FileChange};
+ghost use Rattle.lw_rpc.specs.declared.message.Id.{Id};
 ghost use Rattle.lw_rpc.specs.declared.message.Message.{Message};
 ghost use Rattle.lw_rpc.specs.declared.reply.Outcome.{Outcome};
 ghost use Rattle.lw_rpc.specs.declared.reply.Reply.{Reply};
 ghost use Rattle.lw_text.specs.declared.change.Change.{Change};
 ghost use Rattle.lw_text.specs.declared.place.Pos.{Pos};
 ghost use Rattle.lw_conversation.specs.Answered.{Answered};
-ghost use Rattle.lw_conversation.specs.Asking.{TellsCompletion, TellsDefinition, TellsReferences};
+ghost use Rattle.lw_conversation.specs.Asking.{TellsCompletion, TellsDefinition, TellsReferences, TellsRename};
 ghost use Rattle.lw_conversation.specs.Closing.{ClosesDocument};
 ghost use Rattle.lw_conversation.specs.Editing.{EditsDocument};
 ghost use Rattle.lw_conversation.specs.Ending.{Lives};
@@ -68,29 +69,24 @@ pub fn one_end()
     ensures one { (phase last other : Phase) (bodies : List (List ℕ)) (e f : Ended) → Lives phase bodies last e → Lives phase bodies other f → (last ≡ other) × (e ≡ f) }
 {}
 
-/// An edit has an outcome, and so has the opening of a document, where all texts are UTF-8.
-pub fn some_edit()
+/// Each message has an outcome, so that no definition of one is empty. A document is opened and edited somehow whatever it is, where texts are UTF-8. By a grammar
+/// whose subtypes are told, a closing of a document has an outcome, whatever the store answers, and so have a question for a definition and one for references. By
+/// one by which each text reads as something, in one way, so have changes of files and a rename. What may be written at a place has one where it can be told which
+/// of finitely many offers are.
+pub fn some_outcome()
     ensures opens { (m : Documents) (address : List ℕ) (version : ℤ) (text : List ℕ) → (n : Documents) × (replies : List Reply) × OpensDocument m address version text n replies }
     ensures edits { (m : Documents) → ((address : List ℕ) (d : Document) → get m address ≡ Some d → IsUtf8 d.text) → (address : List ℕ) (version : ℤ) (changes : List Change) →
         All (λ c. IsUtf8 c.text) changes → (n : Documents) × (replies : List Reply) × EditsDocument m address version changes n replies }
-{}
-
-/// By a grammar whose subtypes are told, a closing of a document that may be read has an outcome, whatever the store answers. So have changes of files, by a
-/// grammar by which each text reads as something, in one way.
-pub fn some_file()
     ensures closes { (g : Grammar) → TellsTypes g → (answers : Answers) → AreFound answers → (m : Documents) → IsValid g m → HaveReadableTexts g m → (address : List ℕ) →
         (asked : List Asked) × (n : Documents) × (replies : List Reply) × ClosesDocument g m address asked n replies × AreGiven answers asked }
     ensures sees { (g : Grammar) → TellsTypes g → (answers : Answers) → AreFound answers → ReadsTexts g → IsReadOneWay g → (m : Documents) (changes : List FileChange) →
         IsValid g m → HaveReadableTexts g m → (asked : List Asked) × (n : Documents) × (replies : List Reply) × SeesChanges g m changes asked n replies × AreGiven answers asked }
-{}
-
-/// By a grammar whose subtypes are told, a question has a reply over documents that can be read. What may be written at a place has one where it can be told
-/// which of finitely many offers are.
-pub fn some_reply()
     ensures definition { (g : Grammar) → TellsTypes g → (m : Documents) → HaveReadablePresentTexts g m → (address : List ℕ) (at : Pos) →
         (outcome : Outcome) × TellsDefinition g m address at outcome }
     ensures references { (g : Grammar) → TellsTypes g → (m : Documents) → HaveReadablePresentTexts g m → (address : List ℕ) (at : Pos) (declaration : Bool) →
         (outcome : Outcome) × TellsReferences g m address at declaration outcome }
+    ensures rename { (g : Grammar) → TellsTypes g → (m : Documents) → HaveReadablePresentTexts g m → (address : List ℕ) (at : Pos) → IsReadOneWay g → ReadsTexts g →
+        (id : Id) (new : List ℕ) → (reply : Reply) × TellsRename g m id address at new reply }
     ensures completion { (g : Grammar) → TellsTypes g → (m : Documents) → HaveReadablePresentTexts g m → (address : List ℕ) (at : Pos) →
         ((d : Document) (offset : ℕ) → get m address ≡ Some d → TellsOffers g (present_texts m) address d.text offset) →
         (outcome : Outcome) × TellsCompletion g m address at outcome }
