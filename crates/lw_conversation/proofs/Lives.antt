@@ -1,5 +1,5 @@
 -- A session ends as its phases say, and they say one end of any bodies.
-use Rattle.std.proofs.Common.{◌≡◌, ◌≢◌, ℕ, List, [], ◌∷◌, Bool, true, false, not, ◌&&◌, Some, None, inl, inr, ◌⊎◌, sym, refl, ap, ◌∙◌, subst, subst₂}
+use Rattle.std.proofs.Common.{◌≡◌, ◌≢◌, ℕ, List, [], ◌∷◌, ◌++◌, Bool, true, false, not, ◌&&◌, Some, None, inl, inr, ◌⊎◌, sym, refl, ap, ◌∙◌, subst, subst₂}
 use Rattle.std.specs.Prelude.{if◌then◌else◌}
 use Rattle.lw_grammar.specs.declared.grammar.Grammar.{Grammar}
 use Rattle.lw_rpc.specs.Messages.{message_of}
@@ -135,6 +135,36 @@ one_end phase first second bodies e f (ending.exits is) (ending.goes_on other re
 one_end phase first second bodies e f (ending.goes_on other rest) (ending.exits is) = absurd (other is)
 one_end phase first second bodies e f (ending.goes_on {body = b} {others = bs} other rest) (ending.goes_on also more) =
     one_end (phase_behind phase (gate phase (message_of b))) first second bs e f rest more
+
+-- ---- what stands behind `exit`
+
+-- changes nothing
+pub lives_more : (phase last : Phase) (bodies others : List (List ℕ)) (ended : Ended) → ended ≢ No → Lives phase bodies last ended →
+    Lives phase (bodies ++ others) last ended
+lives_more phase last bodies others ended over ending.waits = absurd (over refl)
+lives_more phase last bodies others ended over (ending.exits is) = ending.exits is
+lives_more phase last bodies others ended over (ending.goes_on {body = b} {others = bs} other rest) =
+    ending.goes_on other (lives_more (phase_behind phase (gate phase (message_of b))) last bs others ended over rest)
+
+module _ (g : Grammar) where
+  pub serves_more : (s t : Standing) (bodies others : List (List ℕ)) (asked : List (List Asked)) (replies : List Reply) (ended : Ended) → ended ≢ No →
+      Serves g s bodies asked t replies ended → Serves g s (bodies ++ others) asked t replies ended
+  serves_more s t bodies others asked replies ended over waits = absurd (over refl)
+  serves_more s t bodies others asked replies ended over (ends does is) = ends does is
+  serves_more s t bodies others asked replies ended over (goes_on {t = v} {others = bs} {more = hs} {replies = r} does rest) =
+      goes_on does (serves_more v t bs others hs r ended over rest)
+
+  -- so it may be left out
+  pub serves_less : (bodies others : List (List ℕ)) (s t : Standing) (last : Phase) (end : Ended) (asked : List (List Asked)) (replies : List Reply) (ended : Ended) →
+      end ≢ No → Lives s.phase bodies last end → Serves g s (bodies ++ others) asked t replies ended → Serves g s bodies asked t replies ended
+  serves_less [] others s t last end asked replies ended over lives serves = absurd (over (one_end s.phase last s.phase [] end No lives ending.waits).1)
+  serves_less (b ∷ bs) others s t last end asked replies ended over lives (ends does is) = ends does is
+  serves_less (b ∷ bs) others s t last end asked replies ended over (ending.exits is) (goes_on {t = v} {asked = h} {first = f} does rest) =
+      absurd (no_exit g s (message_of b) (of_gate_built g s (message_of b) h v f No does).1 is)
+  serves_less (b ∷ bs) others s t last end asked replies ended over (ending.goes_on other lives) (goes_on {t = v} {asked = h} {more = hs} {first = f} {replies = r} does rest) =
+      goes_on does
+      (serves_less bs others v t last end hs r ended over
+      (subst (λ p. Lives p bs last end) (sym (of_gate_built g s (message_of b) h v f No does).0) lives) rest)
 
 -- the phase behind bodies, and the end
 abbrev HasEnd : Phase → List (List ℕ) → Type 0
