@@ -80,14 +80,14 @@ module _ (g : Grammar) (one_way : IsReadOneWay g) where
   loading_valid m address asked n replies (watching.too_long finds) valid = valid
   loading_valid m address asked n replies (watching.failed finds) valid = valid
 
-  change_valid : (m : Documents) (address : List ℕ) (kind : FileChangeKind) (asked : List Asked) (n : Documents) (replies : List Reply) →
+  pub change_valid : (m : Documents) (address : List ℕ) (kind : FileChangeKind) (asked : List Asked) (n : Documents) (replies : List Reply) →
       SeesChange g m address kind asked n replies → IsValid g m → IsValid g n
   change_valid m address kind asked n replies (watching.is_open here) valid = valid
   change_valid m address kind asked n replies (watching.loads stays shut loads) valid = loading_valid m address asked n replies loads valid
   change_valid m address kind asked n replies (watching.removed gone shut removes) valid = removal_valid m address n replies removes valid
   change_valid m address kind asked n replies (watching.not_held gone none) valid = valid
 
-  changes_valid : (m : Documents) (changes : List FileChange) (asked : List Asked) (n : Documents) (replies : List Reply) → SeesChanges g m changes asked n replies →
+  pub changes_valid : (m : Documents) (changes : List FileChange) (asked : List Asked) (n : Documents) (replies : List Reply) → SeesChanges g m changes asked n replies →
       IsValid g m → IsValid g n
   changes_valid m changes asked n replies watching.none valid = valid
   changes_valid m changes asked n replies (watching.change {n = k} {c = c} {others = cs} {asked = a} {more = b} {first = f} {rest = r} saw rest) valid =

@@ -6,3 +6,12 @@ pub mod OneFile
 pub mod OneOutcome
 pub mod Current
 pub mod Ordered
+pub mod Lives
+pub mod SomeFile
+pub mod SomeEdit
+pub mod SomePlace
+pub mod SomeMention
+pub mod SomeReply
+pub mod SomeShape
+pub mod SomeRename
+pub mod SomeAnswer

@@ -12,3 +12,5 @@ pub mod Effects
 pub mod Answered
 pub mod Sessions
 pub mod Laws
+pub mod Ending
+pub mod Outcomes

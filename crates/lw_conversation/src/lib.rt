@@ -14,6 +14,8 @@
 //! - `Removing.antt`: a document goes out, and the list that was told of it is cleared (`Publishing.antt`: a list
 //!   as a reply).
 //! - `Answered.antt`: both together, and what may stand where memory is refused at a message.
+//! - `Ending.antt`: how a session is over, by its bodies and its two facts alone.
+//! - `Outcomes.antt`: what is asked of a grammar, a store and texts, so that each message has an outcome.
 //! - `Sessions.antt`: the build stands behind every message once `initialize` was answered, and so on through all
 //!   bodies up to `exit`.
 //!
@@ -22,7 +24,8 @@
 //! addresses ([`edits_are_in_order`]). Two laws are of a grammar by which a text is read in one way. What a session
 //! does is settled by its bodies and by what the store answers, or by its files where no read failed
 //! ([`one_outcome`]). Once `initialize` was answered with a result, nothing is left to do behind a message
-//! ([`sessions_stay_current`]).
+//! ([`sessions_stay_current`]). A session ends as its phases say, and in one way ([`one_end`]). Each message has an
+//! outcome, where what it asks about can be told ([`some_outcome`]).
 #![tactic(auto)]
 
 mod ended;
@@ -35,5 +38,5 @@ pub use error_code::{
     INVALID_PARAMS, INVALID_REQUEST, METHOD_NOT_FOUND, PARSE_ERROR, REQUEST_FAILED,
     SERVER_NOT_INITIALIZED,
 };
-pub use laws::{edits_are_in_order, one_outcome, sessions_stay_current};
+pub use laws::{edits_are_in_order, one_end, one_outcome, sessions_stay_current, some_outcome};
 pub use phase::Phase;
