@@ -14,3 +14,4 @@ pub mod SomeMention
 pub mod SomeReply
 pub mod SomeShape
 pub mod SomeRename
+pub mod SomeAnswer

@@ -110,7 +110,7 @@ module _ (answers : Answers) (found : AreFound answers) where
     pub memory : answer ≢ NoMemory
     pub utf8 : (text : List ℕ) → answer ≡ Text text → IsUtf8 text
 
-  none_given : AreGiven answers []
+  pub none_given : AreGiven answers []
   none_given k d inside = absurd (omega (arith, inside))
 
   pub some_found : (address : List ℕ) → IsFound address

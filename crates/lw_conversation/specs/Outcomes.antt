@@ -1,15 +1,20 @@
 -- What is asked of a grammar, of a store and of what a message brings, so that each message has an outcome.
 -- Language Server Protocol 3.17, "Base Protocol": all text is UTF-8; "Request Message": a server answers each request.
-use Rattle.std.specs.Prelude.{ℕ, ◌≡◌, ◌≢◌, ◌⊎◌, List, All, Contains}
+use Rattle.std.specs.Prelude.{ℕ, ◌≡◌, ◌≢◌, ◌⊎◌, List, All, Contains, Some}
+use Rattle.std.specs.FinMap.{get}
 use Rattle.std.specs.Str.{IsUtf8}
 use Rattle.lw_grammar.specs.declared.grammar.Grammar.{Grammar}
 use Rattle.lw_grammar.specs.Kinds.{AreKinds, Kinds}
 use Rattle.lw_io.specs.declared.store.Found.{Found}
 use Rattle.lw_io.specs.declared.store.Found.TheVariants.{Text, NoMemory}
 use Rattle.lw_link_rules.specs.Links.{AreTreesOfTexts, Texts}
+use Rattle.lw_machine.specs.Documents.{Document, Documents, present_texts}
+use Rattle.lw_machine.specs.Validity.{HaveSameContent}
 use Rattle.lw_places.specs.Offers.{IsOffer, Offer}
 use Rattle.lw_reading.specs.Reading.{Reads}
 use Rattle.lw_reading.specs.declared.parsed.Parsed.{Parsed}
+use Rattle.lw_rpc.specs.declared.message.Message.{Message}
+use Rattle.lw_rpc.specs.declared.message.Message.TheVariants.{DidChange}
 use Rattle.lw_scoping.specs.Links.{Trees}
 use Rattle.lw_tokens.specs.Lexicon.{IsLexicon, Lexicon}
 use Rattle.lw_conversation.specs.Reading.{Asked}
@@ -29,6 +34,16 @@ pub record TellsOffers (g : Grammar) (texts : Texts) (address text : List ℕ) (
   pub some : List Offer
   pub told : (offer : Offer) → Contains some offer → IsOffer g of lexicon trees address text offset offer ⊎ (¬ IsOffer g of lexicon trees address text offset offer)
   pub no_others : (offer : Offer) → IsOffer g of lexicon trees address text offset offer → Contains some offer
+
+-- so it is at each offset of these documents, whatever of them is built
+abbrev pub TellsAllOffers : Grammar → Documents → Type 0
+TellsAllOffers g m = (n : Documents) → HaveSameContent m n → (address : List ℕ) (d : Document) (offset : ℕ) → get n address ≡ Some d →
+    TellsOffers g (present_texts n) address d.text offset
+
+-- the texts that a message puts into a document are UTF-8
+abbrev pub BringsTexts : Message → Type 0
+BringsTexts (DidChange address version changes) = All (λ c. IsUtf8 c.text) changes
+BringsTexts _ = Unit {0}
 
 -- what a store answers for the file at each path
 abbrev pub Answers : Type 0

@@ -23,7 +23,7 @@ ghost use Rattle.lw_conversation.specs.Editing.{EditsDocument};
 ghost use Rattle.lw_conversation.specs.Ending.{Lives};
 ghost use Rattle.lw_conversation.specs.Laws.{AreSettledByFiles};
 ghost use Rattle.lw_conversation.specs.Opening.{OpensDocument};
-ghost use Rattle.lw_conversation.specs.Outcomes.{Answers, AreFound, AreGiven, ReadsTexts, TellsOffers};
+ghost use Rattle.lw_conversation.specs.Outcomes.{Answers, AreFound, AreGiven, BringsTexts, ReadsTexts, TellsAllOffers, TellsOffers};
 ghost use Rattle.lw_conversation.specs.Reading.{Asked};
 ghost use Rattle.lw_conversation.specs.Sessions.{Serves};
 ghost use Rattle.lw_conversation.specs.Standing.{Standing, beginning};
@@ -69,11 +69,12 @@ pub fn one_end()
     ensures one { (phase last other : Phase) (bodies : List (List ℕ)) (e f : Ended) → Lives phase bodies last e → Lives phase bodies other f → (last ≡ other) × (e ≡ f) }
 {}
 
-/// Each message has an outcome, so that no definition of one is empty. A document is opened and edited somehow whatever it is, where texts are UTF-8. By a grammar
-/// whose subtypes are told, a closing of a document has an outcome, whatever the store answers, and so have a question for a definition and one for references. By
-/// one by which each text reads as something, in one way, so have changes of files and a rename. What may be written at a place has one where it can be told which
-/// of finitely many offers are.
+/// Each message has an outcome, so that no definition of one is empty. The documents are valid and can be read, and the store may answer anything. The grammar tells its
+/// subtypes, and each text reads as something by it, in one way. It can be told of finitely many offers which are. Each part asks for some of this alone.
 pub fn some_outcome()
+    ensures message { (g : Grammar) → TellsTypes g → ReadsTexts g → IsReadOneWay g → (answers : Answers) → AreFound answers → (s : Standing) → IsValid g s.documents →
+        HaveReadableTexts g s.documents → TellsAllOffers g s.documents → (m : Message) → BringsTexts m →
+        (asked : List Asked) × (t : Standing) × (replies : List Reply) × (ended : Ended) × Answered g s m asked t replies ended × AreGiven answers asked }
     ensures opens { (m : Documents) (address : List ℕ) (version : ℤ) (text : List ℕ) → (n : Documents) × (replies : List Reply) × OpensDocument m address version text n replies }
     ensures edits { (m : Documents) → ((address : List ℕ) (d : Document) → get m address ≡ Some d → IsUtf8 d.text) → (address : List ℕ) (version : ℤ) (changes : List Change) →
         All (λ c. IsUtf8 c.text) changes → (n : Documents) × (replies : List Reply) × EditsDocument m address version changes n replies }
