@@ -67,7 +67,7 @@ turns-smaller c =
     let left = marks_in c.in-Some-2.turn in
     let more : length new.items ≡ length (old.items ++ left) = ap (λ (s : RunState). length s.marks) c.in_ok-turn-2.ensures in
     let longer = length-append old.items left in
-    elim c.in_ok-without_mark.ensures [
+    elim c.in_ok-quiet.ensures [
       | inl (less, none) ↦ omega (arith, more, longer, old.ok.0, new.ok.0, less, none, c.len-before.ensures, c.len.ensures)
       | inr (same, one) ↦ omega (arith, more, longer, old.ok.0, new.ok.0, same, one, c.len-before.ensures, c.len.ensures)
     ]

@@ -13,4 +13,4 @@ invariant-turns l = (g : Grammar) (kinds : Kinds) (k : ℕ) (is : IsParserOf g k
 
 -- a mark that is left, and else a turn without one
 abbrev pub decreases-turns : goal.decreases-turns
-decreases-turns l = (2 ^ 64 - vec_len l.run.marks) * 2 ^ 64 + (2 ^ 64 - l.quiet)
+decreases-turns l = (2 ^ 64 - vec_len l.run.marks) * (2 ^ 64 + 1) + (2 ^ 64 - l.quiet)
