@@ -46,8 +46,12 @@ pub fn load<F: Store>(alloc: Global, root: &Name, store: &mut F) -> Result<Loade
     'walking: while let Some(path) = walk.waiting.pop() {
         walk.visit(alloc, path, store)?;
     }
-    Ok(Loaded {
-        grammar: walk.whole,
-        texts: walk.texts,
-    })
+    let Walk {
+        whole: grammar,
+        texts,
+        seen: _,
+        waiting: _,
+        size: _,
+    } = walk;
+    Ok(Loaded { grammar, texts })
 }
