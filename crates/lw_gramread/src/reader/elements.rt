@@ -3,7 +3,7 @@ ghost use Rattle.std.specs.Prelude.{◌≡◌, ◌+◌, ◌<◌, ◌≤◌, [], 
 ghost use Rattle.lw_gramread.specs.Steps.{ReadsAs};
 ghost use Rattle.lw_gramread.specs.Spans.{covering, choice_of, group_of, span_of};
 ghost use Rattle.lw_gramread.specs.ValueSteps.{values_inside};
-ghost use Rattle.lw_gramread.specs.ElementSteps.{choice, rows, row, elements, element_in, part_in, choice_inside, begins_element, plain_part, word_part, assigned, marked, action, put_of, put_operator};
+ghost use Rattle.lw_gramread.specs.ElementSteps.{choice, rows, row, elements, element_in, part_in, choice_inside, begins_element, plain_part, word_part, assigned, marked, marked_maybe, marked_many, marked_some, action, put_of, put_operator};
 
 use super::left::{Left, Spot, Stop};
 use super::values::{across, value};
@@ -181,18 +181,45 @@ fn marked(alloc: Global, left: &mut Left<'_>, part: Element, place: Span) -> Res
     ensures shorter { length left.new ≤ length left.old }
 {
     if left.sees(Symbol::Question) {
-        let mark = left.symbol(Symbol::Question, Spot::Rule)?;
-        return Ok(Element::Maybe(Boxed::new(alloc, part)?, across(place, mark)));
+        return maybe(alloc, left, part, place);
     }
     if left.sees(Symbol::Star) {
-        let mark = left.symbol(Symbol::Star, Spot::Rule)?;
-        return Ok(Element::Many(Boxed::new(alloc, part)?, across(place, mark)));
+        return many(alloc, left, part, place);
     }
     if left.sees(Symbol::Plus) {
-        let mark = left.symbol(Symbol::Plus, Spot::Rule)?;
-        return Ok(Element::Some1(Boxed::new(alloc, part)?, across(place, mark)));
+        return some(alloc, left, part, place);
     }
     Ok(part)
+}
+
+// '?', behind the part that it marks.
+fn maybe(alloc: Global, left: &mut Left<'_>, part: Element, place: Span) -> Result<Element, Stop>
+    ensures reads { ReadsAs (marked_maybe part place left.old) result left.new }
+    ensures shorter { length left.new ≤ length left.old }
+{
+    let part = Boxed::new(alloc, part)?;
+    let mark = left.symbol(Symbol::Question, Spot::Rule)?;
+    Ok(Element::Maybe(part, across(place, mark)))
+}
+
+// '*', behind the part that it marks.
+fn many(alloc: Global, left: &mut Left<'_>, part: Element, place: Span) -> Result<Element, Stop>
+    ensures reads { ReadsAs (marked_many part place left.old) result left.new }
+    ensures shorter { length left.new ≤ length left.old }
+{
+    let part = Boxed::new(alloc, part)?;
+    let mark = left.symbol(Symbol::Star, Spot::Rule)?;
+    Ok(Element::Many(part, across(place, mark)))
+}
+
+// '+', behind the part that it marks.
+fn some(alloc: Global, left: &mut Left<'_>, part: Element, place: Span) -> Result<Element, Stop>
+    ensures reads { ReadsAs (marked_some part place left.old) result left.new }
+    ensures shorter { length left.new ≤ length left.old }
+{
+    let part = Boxed::new(alloc, part)?;
+    let mark = left.symbol(Symbol::Plus, Spot::Rule)?;
+    Ok(Element::Some1(part, across(place, mark)))
 }
 
 // '{' ('infer' Word | Word) ('.' Feature ('=' | '+=') 'current')? '}'
