@@ -46,12 +46,5 @@ pub fn load<F: Store>(alloc: Global, root: &Name, store: &mut F) -> Result<Loade
     'walking: while let Some(path) = walk.waiting.pop() {
         walk.visit(alloc, path, store)?;
     }
-    let Walk {
-        whole: grammar,
-        texts,
-        seen: _,
-        waiting: _,
-        size: _,
-    } = walk;
-    Ok(Loaded { grammar, texts })
+    Ok(walk.into_loaded())
 }

@@ -13,6 +13,7 @@ ghost use Rattle.lw_load.specs.Walking.{Adds, BeginsWalk, Goes};
 use crate::fault::LoadFault;
 use crate::join::join;
 use crate::limits::LARGEST_GRAMMAR;
+use crate::loader::Loaded;
 use crate::opening::{Opened, open};
 use crate::paths::{import_path, walked};
 use crate::size::size_of;
@@ -107,6 +108,20 @@ impl Walk {
         }
         let file = open(alloc, path, store)?;
         self.add(alloc, file)
+    }
+
+    /// What was loaded.
+    pub(crate) fn into_loaded(self) -> Loaded
+        ensures { result ≡ record { grammar = self.whole; texts = self.texts } }
+    {
+        let Walk {
+            whole: grammar,
+            texts,
+            seen: _,
+            waiting: _,
+            size: _,
+        } = self;
+        Loaded { grammar, texts }
     }
 
     /// Puts the file behind those that were loaded, where they are not too large with it.
