@@ -1,7 +1,7 @@
-use Rattle.std.proofs.Common.{sym, subst, ◌∙◌}
+use Rattle.std.proofs.Common.{IfSome, subst, ◌∙◌}
 use Rattle.std.proofs.lemmas.Result.{err_from_is_err_and}
 use Rattle.lw_load.specs.declared.walk.Walk.{Walk}
-use Rattle.lw_load.specs.Opening.{IsFound}
+use Rattle.lw_load.specs.Opening.{IsFound, CannotLoad}
 use Rattle.lw_load.proofs.Denied.{too_large_told, too_large_counts}
 use Rattle.lw_load.proofs.walk.Walk.begin.Goals as goal
 
@@ -9,8 +9,11 @@ pub returns-in_err-add-clause-fault : goal.returns-in_err-add-clause-fault
 returns-in_err-add-clause-fault g c =
     let p = err_from_is_err_and c.from_residual-in_err-add.result c.from_residual-in_err-add.ensures.1 in
     let is = subst (λ path. IsFound (g.F.Store.files c.args.store.now) path c.in_ok-file.file) c.in_ok-copy.ensures c.in_ok-file.ensures.found in
+    let told = g.F.Store.files c.args.store.now in
+    let found = c.in_err-add.field-0.0 in
     rw (p.1, p.2)
-    (too_large_told (g.F.Store.files c.args.store.now) 0 c.args.root.now c.in_ok-file.file c.in_err-add.field-0.0 is (rw (sym c.in_ok-walk.ensures.size) c.in_err-add.ensures.fault))
+    (subst (λ size. IfSome told (λ files. CannotLoad files size c.args.root.now found)) c.in_ok-walk.ensures.size
+    (too_large_told told c.in_ok-walk.walk.size c.args.root.now c.in_ok-file.file found is c.in_err-add.ensures.fault))
 
 pub returns-in_err-add-clause-store : goal.returns-in_err-add-clause-store
 returns-in_err-add-clause-store g c =
