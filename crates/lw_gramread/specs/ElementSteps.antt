@@ -38,11 +38,21 @@ action = do
   infers ← takes_reserved word.Infer
   action_behind opened infers
 
+-- behind a part, the sign that marks it
+abbrev pub marked_maybe : Element → Span → Reading Element
+marked_maybe part place = symbol sign.Question spot.Rule >>= (λ m. pure (element.Maybe part (across place m)))
+
+abbrev pub marked_many : Element → Span → Reading Element
+marked_many part place = symbol sign.Star spot.Rule >>= (λ m. pure (element.Many part (across place m)))
+
+abbrev pub marked_some : Element → Span → Reading Element
+marked_some part place = symbol sign.Plus spot.Rule >>= (λ m. pure (element.Some1 part (across place m)))
+
 unfoldable pub marked : Element → Span → Reading Element
 marked part place = λ ts.
-    if sees sign.Question ts then (symbol sign.Question spot.Rule >>= (λ m. pure (element.Maybe part (across place m)))) ts
-    else if sees sign.Star ts then (symbol sign.Star spot.Rule >>= (λ m. pure (element.Many part (across place m)))) ts
-    else if sees sign.Plus ts then (symbol sign.Plus spot.Rule >>= (λ m. pure (element.Some1 part (across place m)))) ts
+    if sees sign.Question ts then marked_maybe part place ts
+    else if sees sign.Star ts then marked_many part place ts
+    else if sees sign.Plus ts then marked_some part place ts
     else pure part ts
 
 abbrev pub begins_element : List Lexeme → Bool

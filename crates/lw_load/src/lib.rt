@@ -17,13 +17,14 @@
 //! imports. The count of the store rises exactly where the store failed.
 //!
 //! Of a grammar that is loaded it promises that it has a file, and that it is not larger than [`LARGEST_GRAMMAR`].
-//! Each choice in a terminal has a part, and no rule stands where a terminal stands (`lw_grammar::formed`). Each
+//! [`limit_of_grammars`] says which number that is: 65,535. Each choice in a terminal has a part, and no rule stands where a terminal stands (`lw_grammar::formed`). Each
 //! choice in a rule has a part, too. Each place in the grammar is in the text of its file, so that whoever finds
 //! something wrong can tell where.
 #![tactic(auto)]
 
 mod fault;
 mod join;
+mod laws;
 mod limits;
 mod loader;
 mod opening;
@@ -32,5 +33,6 @@ mod size;
 mod walk;
 
 pub use fault::LoadFault;
+pub use laws::limit_of_grammars;
 pub use limits::LARGEST_GRAMMAR;
 pub use loader::{Loaded, load};

@@ -46,8 +46,5 @@ pub fn load<F: Store>(alloc: Global, root: &Name, store: &mut F) -> Result<Loade
     'walking: while let Some(path) = walk.waiting.pop() {
         walk.visit(alloc, path, store)?;
     }
-    Ok(Loaded {
-        grammar: walk.whole,
-        texts: walk.texts,
-    })
+    Ok(walk.into_loaded())
 }

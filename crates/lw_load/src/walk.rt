@@ -4,7 +4,7 @@ ghost use Rattle.lw_grammar.specs.Size.{size};
 ghost use Rattle.lw_gramread.specs.Syntax.{bare_grammar};
 ghost use Rattle.lw_load.specs.declared.limits.TheConstants.{LARGEST_GRAMMAR};
 ghost use Rattle.lw_load.specs.declared.fault.LoadFault.TheVariants.{TooLarge as too_large, NoMemory as no_memory};
-ghost use Rattle.lw_load.specs.Paths.{import_path};
+ghost use Rattle.lw_load.specs.Paths.{import_path, walked};
 ghost use Rattle.lw_load.specs.Loading.{with_file};
 ghost use Rattle.lw_load.specs.LoadFaults.{CountsLoad};
 ghost use Rattle.lw_load.specs.Opening.{CannotLoad};
@@ -13,6 +13,7 @@ ghost use Rattle.lw_load.specs.Walking.{Adds, BeginsWalk, Goes};
 use crate::fault::LoadFault;
 use crate::join::join;
 use crate::limits::LARGEST_GRAMMAR;
+use crate::loader::Loaded;
 use crate::opening::{Opened, open};
 use crate::paths::{import_path, walked};
 use crate::size::size_of;
@@ -23,7 +24,6 @@ use lw_io::Store;
 use std::alloc::Global;
 
 /// How far a walk has come.
-#[derive(Drop)]
 pub(crate) struct Walk {
     /// What the files that were loaded say together.
     pub(crate) whole: Grammar,
@@ -35,6 +35,19 @@ pub(crate) struct Walk {
     pub(crate) waiting: Vec<Name>,
     /// How large the files are together.
     pub(crate) size: usize,
+}
+
+impl Drop for Walk {
+    // In one place, so that whoever drops such a value sees one call and not the drops of all its parts.
+    fn drop(self) {
+        let Walk {
+            whole: _,
+            texts: _,
+            seen: _,
+            waiting: _,
+            size: _,
+        } = self;
+    }
 }
 
 impl Walk {
@@ -49,17 +62,30 @@ impl Walk {
         ensures store { CountsLoad (F.count store.old) (F.count store.new) result }
         ensures files { F.files store.new ≡ F.files store.old }
     {
-        let mut seen = IndexSet::new(alloc);
-        mark(&mut seen, walked(alloc, root)?)?;
         let file = open(alloc, root.copy(alloc)?, store)?;
+        let mut walk = Walk::empty(alloc, root, &file.says.name)?;
+        walk.add(alloc, file)?;
+        Ok(walk)
+    }
+
+    /// A walk that is about to load the root, whose grammar has this name.
+    fn empty(alloc: Global, root: &Name, name: &Name) -> Result<Walk, NoMemory>
+        ensures whole { IfOk result (λ walk. walk.whole ≡ bare_grammar name.now []) }
+        ensures texts { IfOk result (λ walk. walk.texts ≡ []) }
+        ensures seen { IfOk result (λ walk. walk.seen.keys ≡ walked root.now ∷ []) }
+        ensures waiting { IfOk result (λ walk. walk.waiting.items ≡ []) }
+        ensures size { IfOk result (λ walk. walk.size ≡ 0) }
+    {
+        let whole = bare(alloc, name)?;
+        let path = walked(alloc, root)?;
         let mut walk = Walk {
-            whole: bare(alloc, &file.says.name)?,
+            whole,
             texts: Items::new(alloc),
-            seen,
+            seen: IndexSet::new(alloc),
             waiting: Vec::new(alloc),
             size: 0,
         };
-        walk.add(alloc, file)?;
+        mark(&mut walk.seen, path)?;
         Ok(walk)
     }
 
@@ -82,6 +108,20 @@ impl Walk {
         }
         let file = open(alloc, path, store)?;
         self.add(alloc, file)
+    }
+
+    /// What was loaded.
+    pub(crate) fn into_loaded(self) -> Loaded
+        ensures { result ≡ record { grammar = self.whole; texts = self.texts } }
+    {
+        let Walk {
+            whole: grammar,
+            texts,
+            seen: _,
+            waiting: _,
+            size: _,
+        } = self;
+        Loaded { grammar, texts }
     }
 
     /// Puts the file behind those that were loaded, where they are not too large with it.

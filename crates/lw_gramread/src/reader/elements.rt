@@ -3,7 +3,7 @@ ghost use Rattle.std.specs.Prelude.{◌≡◌, ◌+◌, ◌<◌, ◌≤◌, [], 
 ghost use Rattle.lw_gramread.specs.Steps.{ReadsAs};
 ghost use Rattle.lw_gramread.specs.Spans.{covering, choice_of, group_of, span_of};
 ghost use Rattle.lw_gramread.specs.ValueSteps.{values_inside};
-ghost use Rattle.lw_gramread.specs.ElementSteps.{choice, rows, row, elements, element_in, part_in, choice_inside, begins_element, plain_part, word_part, assigned, marked, action, put_of, put_operator};
+ghost use Rattle.lw_gramread.specs.ElementSteps.{rows, row, elements, element_in, part_in, choice_inside, begins_element, plain_part, word_part, assigned, marked, marked_maybe, marked_many, marked_some, action, put_of, put_operator};
 
 use super::left::{Left, Spot, Stop};
 use super::values::{across, value};
@@ -13,20 +13,10 @@ use lw_gramlex::Symbol;
 use lw_grammar::{Action, Element, Op};
 use std::alloc::Global;
 
-/// Seq ('|' Seq)*
-#[cycle(choices)]
-#[tactic(auto, unfolding(crate::specs::ElementSteps::choice))]
-pub(crate) fn choice(alloc: Global, left: &mut Left<'_>, depth: usize) -> Result<Element, Stop>
-    ensures reads { ReadsAs (choice (values_inside depth) (choice_inside depth) left.old) result left.new }
-    ensures shorter { length left.new ≤ length left.old }
-{
-    let rows = rows(alloc, left, depth)?;
-    Ok(choice_of(rows))
-}
-
+/// Seq ('|' Seq)*, each by itself.
 #[cycle(choices)]
 #[tactic(auto, unfolding(crate::specs::ElementSteps::rows))]
-fn rows(alloc: Global, left: &mut Left<'_>, depth: usize) -> Result<Items<Element>, Stop>
+pub(crate) fn rows(alloc: Global, left: &mut Left<'_>, depth: usize) -> Result<Items<Element>, Stop>
     ensures reads { ReadsAs (rows (values_inside depth) (choice_inside depth) left.old) result left.new }
     ensures shorter { length left.new ≤ length left.old }
 {
@@ -98,7 +88,7 @@ fn part(alloc: Global, left: &mut Left<'_>, depth: usize) -> Result<(Element, Sp
 
 // '(' Choice ')', and where it stands with its parentheses.
 #[cycle(choices)]
-#[tactic(auto, unfolding(crate::specs::ElementSteps::choice_inside))]
+#[tactic(auto, unfolding(crate::specs::ElementSteps::choice_inside, crate::specs::ElementSteps::choice))]
 fn choice_inside(alloc: Global, left: &mut Left<'_>, depth: usize) -> Result<(Element, Span), Stop>
     ensures reads { ReadsAs (choice_inside depth left.old) result left.new }
     ensures shorter { length left.new ≤ length left.old }
@@ -108,9 +98,9 @@ fn choice_inside(alloc: Global, left: &mut Left<'_>, depth: usize) -> Result<(El
         return Err(Stop::TooDeep);
     }
     let open = left.symbol(Symbol::OpenParenthesis, Spot::Rule)?;
-    let inside = choice(alloc, left, depth - 1)?;
+    let rows = rows(alloc, left, depth - 1)?;
     let close = left.symbol(Symbol::CloseParenthesis, Spot::Rule)?;
-    Ok((inside, across(open, close)))
+    Ok((choice_of(rows), across(open, close)))
 }
 
 // Whether an element begins with the next token.
@@ -181,18 +171,45 @@ fn marked(alloc: Global, left: &mut Left<'_>, part: Element, place: Span) -> Res
     ensures shorter { length left.new ≤ length left.old }
 {
     if left.sees(Symbol::Question) {
-        let mark = left.symbol(Symbol::Question, Spot::Rule)?;
-        return Ok(Element::Maybe(Boxed::new(alloc, part)?, across(place, mark)));
+        return maybe(alloc, left, part, place);
     }
     if left.sees(Symbol::Star) {
-        let mark = left.symbol(Symbol::Star, Spot::Rule)?;
-        return Ok(Element::Many(Boxed::new(alloc, part)?, across(place, mark)));
+        return many(alloc, left, part, place);
     }
     if left.sees(Symbol::Plus) {
-        let mark = left.symbol(Symbol::Plus, Spot::Rule)?;
-        return Ok(Element::Some1(Boxed::new(alloc, part)?, across(place, mark)));
+        return some(alloc, left, part, place);
     }
     Ok(part)
+}
+
+// '?', behind the part that it marks.
+fn maybe(alloc: Global, left: &mut Left<'_>, part: Element, place: Span) -> Result<Element, Stop>
+    ensures reads { ReadsAs (marked_maybe part place left.old) result left.new }
+    ensures shorter { length left.new ≤ length left.old }
+{
+    let part = Boxed::new(alloc, part)?;
+    let mark = left.symbol(Symbol::Question, Spot::Rule)?;
+    Ok(Element::Maybe(part, across(place, mark)))
+}
+
+// '*', behind the part that it marks.
+fn many(alloc: Global, left: &mut Left<'_>, part: Element, place: Span) -> Result<Element, Stop>
+    ensures reads { ReadsAs (marked_many part place left.old) result left.new }
+    ensures shorter { length left.new ≤ length left.old }
+{
+    let part = Boxed::new(alloc, part)?;
+    let mark = left.symbol(Symbol::Star, Spot::Rule)?;
+    Ok(Element::Many(part, across(place, mark)))
+}
+
+// '+', behind the part that it marks.
+fn some(alloc: Global, left: &mut Left<'_>, part: Element, place: Span) -> Result<Element, Stop>
+    ensures reads { ReadsAs (marked_some part place left.old) result left.new }
+    ensures shorter { length left.new ≤ length left.old }
+{
+    let part = Boxed::new(alloc, part)?;
+    let mark = left.symbol(Symbol::Plus, Spot::Rule)?;
+    Ok(Element::Some1(part, across(place, mark)))
 }
 
 // '{' ('infer' Word | Word) ('.' Feature ('=' | '+=') 'current')? '}'
@@ -243,9 +260,9 @@ fn put_operator(left: &mut Left<'_>) -> Result<bool, Stop>
     Ok(false)
 }
 
-// Alternatives as one element: the element itself where it is one.
+/// Alternatives as one element: the element itself where it is one.
 #[tactic(auto, unfolding(crate::specs::Spans::choice_of))]
-fn choice_of(mut rows: Items<Element>) -> Element
+pub(crate) fn choice_of(mut rows: Items<Element>) -> Element
     ensures { result ≡ choice_of rows }
 {
     if rows.len() == 1 {

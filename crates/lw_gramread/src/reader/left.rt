@@ -14,7 +14,7 @@ use std::marker::Model;
 pub(crate) const DEEPEST: usize = 64;
 
 /// Why reading stopped. What is left begins with the token at which it did.
-#[derive(Clone, Copy, Debug, PartialEq, Eq)]
+#[derive(Clone, Copy)]
 pub(crate) enum Stop {
     /// The token cannot follow, or the file ends too early.
     Unexpected(Spot),
@@ -24,7 +24,7 @@ pub(crate) enum Stop {
 }
 
 /// What has been read where a token cannot follow, as far as the forms that are left out ask for it.
-#[derive(Clone, Copy, Debug, PartialEq, Eq)]
+#[derive(Clone, Copy)]
 pub(crate) enum Spot {
     Elsewhere,
     /// Directly behind the type of an attribute.

@@ -4,7 +4,7 @@ ghost use Rattle.lw_gramread.specs.Steps.{ReadsAs};
 ghost use Rattle.lw_gramread.specs.TypeSteps.{deepest};
 ghost use Rattle.lw_gramread.specs.RuleSteps.{rule, before_name, before_colon, rule_result};
 
-use super::elements::choice;
+use super::elements::{choice_of, rows};
 use super::left::{DEEPEST, Left, Spot, Stop};
 use crate::lexeme::Reserved;
 use lw_gramlex::Symbol;
@@ -12,7 +12,7 @@ use lw_grammar::{Rule, RuleResult};
 use std::alloc::Global;
 
 /// 'entry'? 'fragment'? Word ('returns' (Word | Primitive) | 'infers' Word)? ':' Choice ';'
-#[tactic(auto, unfolding(crate::specs::RuleSteps::rule, crate::specs::RuleSteps::rule_behind, crate::specs::RuleSteps::rule_tail))]
+#[tactic(auto, unfolding(crate::specs::RuleSteps::rule, crate::specs::RuleSteps::rule_behind, crate::specs::RuleSteps::rule_tail, crate::specs::ElementSteps::choice))]
 pub(crate) fn rule(alloc: Global, left: &mut Left<'_>) -> Result<Rule, Stop>
     ensures reads { ReadsAs (rule deepest left.old) result left.new }
     ensures shorter { length left.new ≤ length left.old }
@@ -24,7 +24,7 @@ pub(crate) fn rule(alloc: Global, left: &mut Left<'_>) -> Result<Rule, Stop>
     let (name, span) = left.name(alloc, before_name(begins_with_name))?;
     let result = rule_result(alloc, left)?;
     left.symbol(Symbol::Colon, before_colon(begins_with_name, &result))?;
-    let body = choice(alloc, left, DEEPEST)?;
+    let rows = rows(alloc, left, DEEPEST)?;
     left.symbol(Symbol::Semicolon, Spot::Rule)?;
     Ok(Rule {
         name,
@@ -33,7 +33,7 @@ pub(crate) fn rule(alloc: Global, left: &mut Left<'_>) -> Result<Rule, Stop>
         is_entry,
         is_fragment,
         result,
-        body,
+        body: choice_of(rows),
     })
 }
 

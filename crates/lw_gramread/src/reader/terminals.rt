@@ -3,7 +3,7 @@ ghost use Rattle.std.specs.Prelude.{◌≡◌, ◌+◌, ◌<◌, ◌≤◌, [], 
 ghost use Rattle.lw_gramread.specs.Steps.{ReadsAs};
 ghost use Rattle.lw_gramread.specs.TypeSteps.{deepest};
 ghost use Rattle.lw_gramread.specs.Spans.{term_choice_of, term_group_of};
-ghost use Rattle.lw_gramread.specs.TerminalSteps.{terminal, terminal_result, term_choice, term_rows, term_row, term_elements, term_element, term_part, terms_inside, begins_term, plain_term, literal_or_range, marked_term};
+ghost use Rattle.lw_gramread.specs.TerminalSteps.{terminal, terminal_result, term_rows, term_row, term_elements, term_element, term_part, terms_inside, begins_term, plain_term, literal_or_range, marked_term};
 
 use super::left::{DEEPEST, Left, Spot, Stop};
 use super::values::across;
@@ -14,7 +14,7 @@ use lw_grammar::{Primitive, TermElement, Terminal};
 use std::alloc::Global;
 
 /// ('fragment' Word | Word ('returns' Primitive)?) ':' TChoice ';', behind the word `terminal`.
-#[tactic(auto, unfolding(crate::specs::TerminalSteps::terminal, crate::specs::TerminalSteps::terminal_behind))]
+#[tactic(auto, unfolding(crate::specs::TerminalSteps::terminal, crate::specs::TerminalSteps::terminal_behind, crate::specs::TerminalSteps::term_choice))]
 pub(crate) fn terminal(
     alloc: Global,
     left: &mut Left<'_>,
@@ -27,7 +27,7 @@ pub(crate) fn terminal(
     let (name, span) = left.name(alloc, Spot::Terminal)?;
     let gives = terminal_result(left, is_fragment)?;
     left.symbol(Symbol::Colon, Spot::Terminal)?;
-    let body = choice(alloc, left, DEEPEST)?;
+    let rows = rows(alloc, left, DEEPEST)?;
     left.symbol(Symbol::Semicolon, Spot::Terminal)?;
     Ok(Terminal {
         name,
@@ -36,7 +36,7 @@ pub(crate) fn terminal(
         is_hidden,
         is_fragment,
         gives,
-        body,
+        body: choice_of(rows),
     })
 }
 
@@ -52,17 +52,7 @@ fn terminal_result(left: &mut Left<'_>, is_fragment: bool) -> Result<Primitive, 
     Ok(Primitive::Text)
 }
 
-// TSeq ('|' TSeq)*
-#[cycle(terms)]
-#[tactic(auto, unfolding(crate::specs::TerminalSteps::term_choice))]
-fn choice(alloc: Global, left: &mut Left<'_>, depth: usize) -> Result<TermElement, Stop>
-    ensures reads { ReadsAs (term_choice (terms_inside depth) left.old) result left.new }
-    ensures shorter { length left.new ≤ length left.old }
-{
-    let rows = rows(alloc, left, depth)?;
-    Ok(choice_of(rows))
-}
-
+// TSeq ('|' TSeq)*, each by itself.
 #[cycle(terms)]
 #[tactic(auto, unfolding(crate::specs::TerminalSteps::term_rows))]
 fn rows(alloc: Global, left: &mut Left<'_>, depth: usize) -> Result<Items<TermElement>, Stop>
@@ -133,7 +123,7 @@ fn part(alloc: Global, left: &mut Left<'_>, depth: usize) -> Result<TermElement,
 }
 
 #[cycle(terms)]
-#[tactic(auto, unfolding(crate::specs::TerminalSteps::terms_inside))]
+#[tactic(auto, unfolding(crate::specs::TerminalSteps::terms_inside, crate::specs::TerminalSteps::term_choice))]
 fn choice_inside(alloc: Global, left: &mut Left<'_>, depth: usize) -> Result<TermElement, Stop>
     ensures reads { ReadsAs (terms_inside depth left.old) result left.new }
     ensures shorter { length left.new ≤ length left.old }
@@ -143,9 +133,9 @@ fn choice_inside(alloc: Global, left: &mut Left<'_>, depth: usize) -> Result<Ter
         return Err(Stop::TooDeep);
     }
     left.skip();
-    let inside = choice(alloc, left, depth - 1)?;
+    let rows = rows(alloc, left, depth - 1)?;
     left.symbol(Symbol::CloseParenthesis, Spot::Terminal)?;
-    Ok(inside)
+    Ok(choice_of(rows))
 }
 
 // Whether an element begins with the next token.

@@ -77,15 +77,15 @@ returns-in_err-visit-clause-nothing g c =
 pub returns-clause-loads : goal.returns-clause-loads
 returns-clause-loads g c =
     let over = nil_from_length c.walking.walk.waiting.items (omega (arith, c.in_default.ensures.cases.0, c.walking.walk.waiting.ok.0)) in
-    IfSome_then (g.F.Store.files c.args.store.now) c.walking.invariant.way (λ files way. way_ends files c.args.root.now c.walking.walk way over)
+    rw c.into_loaded.ensures (IfSome_then (g.F.Store.files c.args.store.now) c.walking.invariant.way (λ files way. way_ends files c.args.root.now c.walking.walk way over))
 
 pub returns-clause-only : goal.returns-clause-only
 returns-clause-only g c =
     let over = nil_from_length c.walking.walk.waiting.items (omega (arith, c.in_default.ensures.cases.0, c.walking.walk.waiting.ok.0)) in
-    IfSome_then (g.F.Store.files c.args.store.now) c.walking.invariant.way (λ files way. way_only files c.args.root.now c.walking.walk way over)
+    rw c.into_loaded.ensures (IfSome_then (g.F.Store.files c.args.store.now) c.walking.invariant.way (λ files way. way_only files c.args.root.now c.walking.walk way over))
 
 pub returns-clause-formed : goal.returns-clause-formed
-returns-clause-formed g c = c.walking.invariant.keeps.formed.formed
+returns-clause-formed g c = rw c.into_loaded.ensures c.walking.invariant.keeps.formed.formed
 
 pub returns-clause-filled : goal.returns-clause-filled
-returns-clause-filled g c = c.walking.invariant.keeps.formed.filled
+returns-clause-filled g c = rw c.into_loaded.ensures c.walking.invariant.keeps.formed.filled

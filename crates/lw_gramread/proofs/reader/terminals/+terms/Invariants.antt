@@ -5,26 +5,23 @@ use Rattle.lw_gramread.specs.TerminalSteps.{begins_term, term_element, term_elem
 use Rattle.lw_gramread.proofs.Loops.{Gathering}
 use Rattle.lw_gramread.proofs.reader.terminals.+terms.Given as goal
 
-abbrev pub decreases-choice : goal.decreases-choice
-decreases-choice l = 7 * l.depth + 6
-
 abbrev pub decreases-rows : goal.decreases-rows
-decreases-rows l = 7 * l.depth + 5
+decreases-rows l = 6 * l.depth + 5
 
 abbrev pub decreases-row : goal.decreases-row
-decreases-row l = 7 * l.depth + 4
+decreases-row l = 6 * l.depth + 4
 
 abbrev pub decreases-elements : goal.decreases-elements
-decreases-elements l = 7 * l.depth + 3
+decreases-elements l = 6 * l.depth + 3
 
 abbrev pub decreases-element : goal.decreases-element
-decreases-element l = 7 * l.depth + 2
+decreases-element l = 6 * l.depth + 2
 
 abbrev pub decreases-part : goal.decreases-part
-decreases-part l = 7 * l.depth + 1
+decreases-part l = 6 * l.depth + 1
 
 abbrev pub decreases-choice_inside : goal.decreases-choice_inside
-decreases-choice_inside l = 7 * l.depth
+decreases-choice_inside l = 6 * l.depth
 
 abbrev pub invariant-rows-more : goal.invariant-rows-more
 invariant-rows-more l = record {
