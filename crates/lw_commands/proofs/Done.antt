@@ -6,14 +6,14 @@ use Rattle.lw_frame.specs.declared.fault.FrameFault.{FrameFault}
 use Rattle.lw_frame.specs.declared.limits.TheConstants.{LONGEST_SESSION}
 use Rattle.lw_frame.proofs.Growing.{bodies_stay, fault_stays}
 use Rattle.lw_grammar.specs.declared.grammar.Grammar.{Grammar}
-use Rattle.lw_lang.specs.Compiled.{HoldsGrammar, IsClear}
 use Rattle.lw_conversation.specs.Reading.{AreOfFiles, Asked}
-use Rattle.lw_conversation.specs.Standing.{Standing, beginning}
-use Rattle.lw_conversation.specs.Sessions as session
+use Rattle.lw_conversation.specs.Ending.{Lives}
+use Rattle.lw_conversation.specs.Standing.{Standing, beginning, unborn}
 use Rattle.lw_conversation.specs.Sessions.{Serves, framed}
 use Rattle.lw_conversation.specs.declared.ended.Ended.{Ended}
 use Rattle.lw_conversation.specs.declared.ended.Ended.TheVariants.{No, Clean, Early}
 use Rattle.lw_conversation.specs.Laws.{AreSettledByFiles}
+use Rattle.lw_conversation.proofs.Lives.{lives, lives_more, one_end, serves_less, serves_more}
 use Rattle.lw_io.specs.Store.{file_at}
 use Rattle.lw_rpc.specs.declared.reply.Reply.{Reply}
 use Rattle.lw_commands.specs.declared.report.Verdict.{Verdict}
@@ -22,16 +22,17 @@ use Rattle.lw_commands.specs.declared.stop.Stop.{Stop}
 use Rattle.lw_commands.specs.declared.stop.Stop.TheVariants as stop
 use Rattle.lw_load.specs.Loading.{Files}
 use Rattle.lw_reading.specs.Laws.{IsReadOneWay}
+use Rattle.lw_commands.specs.Accepted.{IsAccepted}
 use Rattle.lw_commands.specs.Run.{Faults, NoneRose, Work, Ends, ServesAll}
 use Rattle.lw_commands.specs.Serving as serving
-use Rattle.lw_commands.specs.Serving.{Talked, OfGrammar, WithNamed, ServeComesTo, ServeDone, IsSession, WentWrong}
+use Rattle.lw_commands.specs.Serving.{Talked, OfGrammar, WithNamed, ServeComesTo, ServeDone, AreReplies, IsSession, WentWrong}
 use Rattle.lw_commands.specs.Named.{AreFileTexts, IsFirstUnread}
 use Rattle.lw_commands.specs.declared.named.FileFault.{FileFault}
 use Rattle.lw_commands.specs.declared.named.FileFault.TheVariants as file
 use Rattle.lw_commands.specs.Stops.{EndsWith, TheSource, TheSink, TheStore}
 use Rattle.lw_commands.proofs.Ends.{CountsAll, if_told, only_memory}
 use Rattle.lw_lang.proofs.OneWay.{one_way}
-use Rattle.lw_commands.proofs.Grammars.{same_grammar}
+use Rattle.lw_commands.proofs.Grammars.{same_accepted}
 use Rattle.lw_commands.proofs.NoneFailed.{none_failed}
 use Rattle.lw_commands.proofs.NamedTexts.{same_named, no_unread, not_absent, not_bytes, not_long_text}
 
@@ -48,83 +49,110 @@ fronts (x ∷ xs) (y ∷ ys) r s e =
     by (inl longer) head = let tail = longer.1 in let whole : y ∷ ys ≡ x ∷ xs ++ longer.0 = cc in inl (longer.0, whole)
     by (inr longer) head = let tail = longer.1 in let whole : x ∷ xs ≡ y ∷ ys ++ longer.0 = cc in inr (longer.0, whole, longer.2)
 
--- what stands behind `exit` changes nothing
-Serves-more : (g : Grammar) (s t : Standing) (bodies others : List (List ℕ)) (asked : List (List Asked)) (replies : List Reply) (ended : Ended) → ended ≢ No →
-    Serves g s bodies asked t replies ended → Serves g s (bodies ++ others) asked t replies ended
-Serves-more g s t bodies others asked replies ended over session.waits = absurd (over refl)
-Serves-more g s t bodies others asked replies ended over (session.ends handles is) = session.ends handles is
-Serves-more g s t bodies others asked replies ended over (session.goes_on handles later) = session.goes_on handles (Serves-more g _ t _ others _ _ ended over later)
+module _ (g : Grammar) (files : Files) (named : List (List ℕ × List ℕ)) (held taken : List ℕ) (is : IsSession held taken) where
+  -- how bodies of the session end, by what they came to
+  ends_as : (took : List ℕ) (t : Standing) (reads : List (List Asked)) (replies : List Reply) (ended : Ended) →
+      Serves g (beginning named) (bodies_of took) reads t replies ended → Lives unborn (bodies_of took) t.phase ended
+  ends_as took t reads replies ended serves = lives g (beginning named) t (bodies_of took) reads replies ended serves
 
-module _ (g : Grammar) (settled : AreSettledByFiles g) (files : Files) (named : List (List ℕ × List ℕ)) (held : List ℕ) (replies : List Reply) (is : IsSession g files named held replies) where
+  -- the session is over, by these replies
+  abbrev EndsBy : List Reply → Ended → Type 0
+  EndsBy replies ended = (Clean ≡ ended) × AreReplies g files named taken replies
+
   -- what bodies of more bytes than the session come to
-  longer : (taken : List ℕ) (more : List ℕ) → taken ≡ is.taken ++ more → (t : Standing) (reads : List (List Asked)) (others : List Reply) (ended : Ended) → All (AreOfFiles files) reads →
-      Serves g (beginning named) (bodies_of taken) reads t others ended → (replies ≡ others) × (Clean ≡ ended)
-  longer taken more same t reads others ended fit serves =
-      let stay = bodies_stay is.taken more in
-      let all : bodies_of taken ≡ bodies_of is.taken ++ stay.0 = ap bodies_of same ∙ stay.1 in
-      let one = settled files (beginning named) is.standing t (bodies_of taken) is.asked reads replies others Clean ended is.answered fit
-      (subst (λ bodies. Serves g (beginning named) bodies is.asked is.standing replies Clean) (sym all) (Serves-more g (beginning named) is.standing (bodies_of is.taken) stay.0 is.asked replies Clean (λ e. cc) is.serves)) serves in
-      (one.1, one.2)
+  longer : (took more : List ℕ) → took ≡ taken ++ more → (t : Standing) (reads : List (List Asked)) (replies : List Reply) (ended : Ended) → All (AreOfFiles files) reads →
+      Serves g (beginning named) (bodies_of took) reads t replies ended → EndsBy replies ended
+  longer took more same t reads replies ended fit serves =
+      let stay = bodies_stay taken more in
+      let all : bodies_of took ≡ bodies_of taken ++ stay.0 = ap bodies_of same ∙ stay.1 in
+      let end : Clean ≡ ended =
+      (one_end unborn is.last t.phase (bodies_of took) Clean ended
+      (subst (λ bodies. Lives unborn bodies is.last Clean) (sym all) (lives_more unborn is.last (bodies_of taken) stay.0 Clean (λ e. cc) is.ends))
+      (ends_as took t reads replies ended serves)).1 in
+      let whole : Serves g (beginning named) (bodies_of taken ++ stay.0) reads t replies Clean =
+      subst (λ bodies. Serves g (beginning named) bodies reads t replies Clean) all
+      (subst (λ e. Serves g (beginning named) (bodies_of took) reads t replies e) (sym end) serves) in (
+        end,
+        record {
+          standing = t;
+          asked = reads;
+          serves = serves_less g (bodies_of taken) stay.0 (beginning named) t is.last Clean reads replies Clean (λ e. cc) is.ends whole;
+          answered = fit;
+        },
+      )
 
   -- and of fewer, where they come to an end
-  shorter : (taken : List ℕ) (more : List ℕ) → is.taken ≡ taken ++ more → (t : Standing) (reads : List (List Asked)) (others : List Reply) (ended : Ended) → ended ≢ No → All (AreOfFiles files) reads →
-      Serves g (beginning named) (bodies_of taken) reads t others ended → (replies ≡ others) × (Clean ≡ ended)
-  shorter taken more same t reads others ended over fit serves =
-      let stay = bodies_stay taken more in
-      let all : bodies_of is.taken ≡ bodies_of taken ++ stay.0 = ap bodies_of same ∙ stay.1 in
-      let one = settled files (beginning named) is.standing t (bodies_of is.taken) is.asked reads replies others Clean ended is.answered fit is.serves
-      (subst (λ bodies. Serves g (beginning named) bodies reads t others ended) (sym all) (Serves-more g (beginning named) t (bodies_of taken) stay.0 reads others ended over serves)) in
-      (one.1, one.2)
+  shorter : (took more : List ℕ) → taken ≡ took ++ more → (t : Standing) (reads : List (List Asked)) (replies : List Reply) (ended : Ended) → ended ≢ No →
+      All (AreOfFiles files) reads → Serves g (beginning named) (bodies_of took) reads t replies ended → EndsBy replies ended
+  shorter took more same t reads replies ended over fit serves =
+      let stay = bodies_stay took more in
+      let all : bodies_of taken ≡ bodies_of took ++ stay.0 = ap bodies_of same ∙ stay.1 in
+      let end : Clean ≡ ended =
+      (one_end unborn is.last t.phase (bodies_of taken) Clean ended is.ends
+      (subst (λ bodies. Lives unborn bodies t.phase ended) (sym all)
+      (lives_more unborn t.phase (bodies_of took) stay.0 ended over (ends_as took t reads replies ended serves)))).1 in
+      let whole = serves_more g (beginning named) t (bodies_of took) stay.0 reads replies ended over serves in (
+        end,
+        record {
+          standing = t;
+          asked = reads;
+          serves =
+              subst (λ e. Serves g (beginning named) (bodies_of taken) reads t replies e) (sym end)
+              (subst (λ bodies. Serves g (beginning named) bodies reads t replies ended) (sym all) whole);
+          answered = fit;
+        },
+      )
 
   -- bytes that were taken, and what is left
-  module _ (taken left : List ℕ) (parts : held ≡ taken ++ left) (t : Standing) (reads : List (List Asked)) (others : List Reply) (fit : All (AreOfFiles files) reads) where
-    both : is.taken ++ is.rest ≡ taken ++ left
+  module _ (took left : List ℕ) (parts : held ≡ took ++ left) (t : Standing) (reads : List (List Asked)) (replies : List Reply) (fit : All (AreOfFiles files) reads) where
+    both : taken ++ is.rest ≡ took ++ left
     both = sym is.parts ∙ parts
 
-    pub same_end : (ended : Ended) → ended ≢ No → Serves g (beginning named) (bodies_of taken) reads t others ended → (replies ≡ others) × (Clean ≡ ended)
-    same_end ended over serves = by (fronts is.taken taken is.rest left both)
+    pub same_end : (ended : Ended) → ended ≢ No → Serves g (beginning named) (bodies_of took) reads t replies ended → EndsBy replies ended
+    same_end ended over serves = by (fronts taken took is.rest left both)
       where
-        by : ((m : List ℕ) × (taken ≡ is.taken ++ m)) ⊎ ((m : List ℕ) × (is.taken ≡ taken ++ m) × (left ≡ m ++ is.rest)) → (replies ≡ others) × (Clean ≡ ended)
-        by (inl more) = longer taken more.0 more.1 t reads others ended fit serves
-        by (inr more) = shorter taken more.0 more.1 t reads others ended over fit serves
+        by : ((m : List ℕ) × (took ≡ taken ++ m)) ⊎ ((m : List ℕ) × (taken ≡ took ++ m) × (left ≡ m ++ is.rest)) → EndsBy replies ended
+        by (inl more) = longer took more.0 more.1 t reads replies ended fit serves
+        by (inr more) = shorter took more.0 more.1 t reads replies ended over fit serves
 
     -- a session that goes on is shorter
-    pub goes_on : Serves g (beginning named) (bodies_of taken) reads t others No → (m : List ℕ) × (is.taken ≡ taken ++ m) × (left ≡ m ++ is.rest)
-    goes_on serves = by (fronts is.taken taken is.rest left both)
+    pub goes_on : Serves g (beginning named) (bodies_of took) reads t replies No → (m : List ℕ) × (taken ≡ took ++ m) × (left ≡ m ++ is.rest)
+    goes_on serves = by (fronts taken took is.rest left both)
       where
-        by : ((m : List ℕ) × (taken ≡ is.taken ++ m)) ⊎ ((m : List ℕ) × (is.taken ≡ taken ++ m) × (left ≡ m ++ is.rest)) → (m : List ℕ) × (is.taken ≡ taken ++ m) × (left ≡ m ++ is.rest)
-        by (inl more) = absurd (let end = (longer taken more.0 more.1 t reads others No fit serves).1 in cc)
+        by : ((m : List ℕ) × (took ≡ taken ++ m)) ⊎ ((m : List ℕ) × (taken ≡ took ++ m) × (left ≡ m ++ is.rest)) → (m : List ℕ) × (taken ≡ took ++ m) × (left ≡ m ++ is.rest)
+        by (inl more) = absurd (let end = (longer took more.0 more.1 t reads replies No fit serves).0 in cc)
         by (inr more) = more
 
     -- so something is left, and there is no fault for good
-    pub not_over : Serves g (beginning named) (bodies_of taken) reads t others No → left ≡ [] → ⊥
+    pub not_over : Serves g (beginning named) (bodies_of took) reads t replies No → left ≡ [] → ⊥
     not_over serves none = by (goes_on serves)
       where
         nothing : (m : List ℕ) → left ≡ m ++ is.rest → m ≡ []
         nothing [] e = refl
         nothing (x ∷ m) e = let empty : [] ≡ x ∷ m ++ is.rest = sym none ∙ e in cc
 
-        by : (m : List ℕ) × (is.taken ≡ taken ++ m) × (left ≡ m ++ is.rest) → ⊥
+        by : (m : List ℕ) × (taken ≡ took ++ m) × (left ≡ m ++ is.rest) → ⊥
         by more =
-            let all : taken ≡ is.taken ++ [] = sym (append-nil is.taken ∙ more.1 ∙ ap (λ m. taken ++ m) (nothing more.0 more.2) ∙ append-nil taken) in
-            let end = (longer taken [] all t reads others No fit serves).1 in cc
+            let all : took ≡ taken ++ [] = sym (append-nil taken ∙ more.1 ∙ ap (λ m. took ++ m) (nothing more.0 more.2) ∙ append-nil took) in
+            let end = (longer took [] all t reads replies No fit serves).0 in cc
 
-    pub not_faulty : Serves g (beginning named) (bodies_of taken) reads t others No → (found : FrameFault) → fault_of taken false ≡ Some found → ⊥
+    pub not_faulty : Serves g (beginning named) (bodies_of took) reads t replies No → (found : FrameFault) → fault_of took false ≡ Some found → ⊥
     not_faulty serves found fault = by (goes_on serves)
       where
-        by : (m : List ℕ) × (is.taken ≡ taken ++ m) × (left ≡ m ++ is.rest) → ⊥
+        by : (m : List ℕ) × (taken ≡ took ++ m) × (left ≡ m ++ is.rest) → ⊥
         by more =
-            let stays = fault_stays taken more.0 found fault in
-            let all : bodies_of taken ≡ bodies_of is.taken = sym (ap bodies_of more.1 ∙ stays.0) in
-            let end = (settled files (beginning named) is.standing t (bodies_of is.taken) is.asked reads replies others Clean No is.answered fit is.serves
-            (subst (λ bodies. Serves g (beginning named) bodies reads t others No) all serves)).2 in
+            let stays = fault_stays took more.0 found fault in
+            let all : bodies_of took ≡ bodies_of taken = sym (ap bodies_of more.1 ∙ stays.0) in
+            let end =
+            (one_end unborn is.last t.phase (bodies_of taken) Clean No is.ends
+            (subst (λ bodies. Lives unborn bodies t.phase No) all (ends_as took t reads replies No serves))).1 in
             cc
 
-    pub not_too_long : Serves g (beginning named) (bodies_of taken) reads t others No → length taken ≡ LONGEST_SESSION → ⊥
+    pub not_too_long : Serves g (beginning named) (bodies_of took) reads t replies No → length took ≡ LONGEST_SESSION → ⊥
     not_too_long serves long = by (goes_on serves)
       where
-        by : (m : List ℕ) × (is.taken ≡ taken ++ m) × (left ≡ m ++ is.rest) → ⊥
-        by more = absurd (omega (arith, is.short, long, ap length more.1, length-append taken more.0))
+        by : (m : List ℕ) × (taken ≡ took ++ m) × (left ≡ m ++ is.rest) → ⊥
+        by more = absurd (omega (arith, is.short, long, ap length more.1, length-append took more.0))
 
 -- what is left of the bytes that were held
 left_of : (held : List ℕ) (after : Option (List ℕ)) (taken : List ℕ) → Consumes (Some held) after taken → (left : List ℕ) × (held ≡ taken ++ left) × (after ≡ Some left)
@@ -134,12 +162,13 @@ left_of held (Some left) taken consumed = (left, consumed, refl)
 at_end_of : (after : Option (List ℕ)) (left : List ℕ) → after ≡ Some left → IsAtEnd after → left ≡ []
 at_end_of after left is ended = subst IsAtEnd is ended
 
-module _ (files : Files) (path : List ℕ) (paths : List (List ℕ)) (k : ℕ) (refused after old new : Option (List ℕ)) (held : List ℕ) (faults : Faults) (g : Grammar) (holds : HoldsGrammar files path g) (clear : IsClear g k)
-    (settled : AreSettledByFiles g) (none : NoneRose faults) (named : List (List ℕ × List ℕ)) (are : AreFileTexts files paths named) (replies : List Reply) (is : IsSession g files named held replies) where
+module _ (files : Files) (path : List ℕ) (paths : List (List ℕ)) (k : ℕ) (refused after old new : Option (List ℕ)) (held : List ℕ) (faults : Faults) (g : Grammar)
+    (accepted : IsAccepted files path k g) (settled : AreSettledByFiles g) (none : NoneRose faults) (named : List (List ℕ × List ℕ)) (are : AreFileTexts files paths named)
+    (taken : List ℕ) (is : IsSession held taken) where
   -- a fact of the session over the texts that the files hold is one of this session
   fact_of : (P : Grammar → List (List ℕ × List ℕ) → Type 0) → OfGrammar files path k (λ g. WithNamed files paths (P g)) → P g named
   fact_of P o =
-      let fact = subst (λ h. WithNamed files paths (P h)) (same_grammar files path g holds o.grammar o.holds) o.fact in
+      let fact = subst (λ h. WithNamed files paths (P h)) (same_accepted files path k g accepted o.grammar o.holds) o.fact in
       subst (P g) (same_named files paths fact.0 named fact.1 are) fact.2
 
   -- none of the files is unread, unless the store failed
@@ -149,54 +178,60 @@ module _ (files : Files) (path : List ℕ) (paths : List (List ℕ)) (k : ℕ) (
   all_read (file.NotUtf8 p) o counts = no_unread files paths named are (file.NotUtf8 p) o.fact (λ text fits. not_bytes (file_at files p) text fits)
   all_read (file.TooLong p) o counts = no_unread files paths named are (file.TooLong p) o.fact (λ text fits. not_long_text (file_at files p) text fits)
 
-  module _ (taken : List ℕ) (ended : Ended) (talked : Talked g (Some files) named (Some held) after old new faults.store taken ended) where
-    left : (left : List ℕ) × (held ≡ taken ++ left) × (after ≡ Some left)
-    left = left_of held after taken talked.consumed
+  module _ (took : List ℕ) (ended : Ended) (talked : Talked g (Some files) named (Some held) after old new faults.store took ended) where
+    left : (left : List ℕ) × (held ≡ took ++ left) × (after ≡ Some left)
+    left = left_of held after took talked.consumed
 
     -- none of its reads failed
     fits : All (AreOfFiles files) talked.asked
     fits = none_failed files faults.store talked.asked (none TheStore) talked.answered talked.counted
 
-    end_is : ended ≢ No → (replies ≡ talked.replies) × (Clean ≡ ended)
-    end_is over = same_end g settled files named held replies is taken left.0 left.1 talked.standing talked.asked talked.replies fits ended over talked.serves
+    end_is : ended ≢ No → (Clean ≡ ended) × AreReplies g files named taken talked.replies
+    end_is over = same_end g files named held taken is took left.0 left.1 talked.standing talked.asked talked.replies fits ended over talked.serves
 
     module _ (still : ended ≡ No) where
-      serves_on : Serves g (beginning named) (bodies_of taken) talked.asked talked.standing talked.replies No
-      serves_on = subst (λ e. Serves g (beginning named) (bodies_of taken) talked.asked talked.standing talked.replies e) still talked.serves
+      serves_on : Serves g (beginning named) (bodies_of took) talked.asked talked.standing talked.replies No
+      serves_on = subst (λ e. Serves g (beginning named) (bodies_of took) talked.asked talked.standing talked.replies e) still talked.serves
 
       not_at_end : IsAtEnd after → ⊥
-      not_at_end over = not_over g settled files named held replies is taken left.0 left.1 talked.standing talked.asked talked.replies fits serves_on (at_end_of after left.0 left.2 over)
+      not_at_end over = not_over g files named held taken is took left.0 left.1 talked.standing talked.asked talked.replies fits serves_on (at_end_of after left.0 left.2 over)
 
-      no_fault : (found : FrameFault) → fault_of taken false ≡ Some found → ⊥
-      no_fault = not_faulty g settled files named held replies is taken left.0 left.1 talked.standing talked.asked talked.replies fits serves_on
+      no_fault : (found : FrameFault) → fault_of took false ≡ Some found → ⊥
+      no_fault = not_faulty g files named held taken is took left.0 left.1 talked.standing talked.asked talked.replies fits serves_on
 
-      not_long : length taken ≡ LONGEST_SESSION → ⊥
-      not_long = not_too_long g settled files named held replies is taken left.0 left.1 talked.standing talked.asked talked.replies fits serves_on
+      not_long : length took ≡ LONGEST_SESSION → ⊥
+      not_long = not_too_long g files named held taken is took left.0 left.1 talked.standing talked.asked talked.replies fits serves_on
 
-  clean : serving.Exited g (Some files) named (Some held) after old new faults.store Clean → ServeDone replies old new 0
-  clean fact = serving.clean (subst (λ rs. Appends old new (framed rs)) (sym (end_is fact.0 Clean fact.1 (λ e. cc)).0) fact.1.written)
+  clean : serving.Exited g (Some files) named (Some held) after old new faults.store Clean → ServeDone g files named taken old new 0
+  clean fact =
+      let end = (end_is fact.0 Clean fact.1 (λ e. cc)).1 in
+      serving.clean fact.1.replies end
+      (λ others also.
+      (settled files (beginning named) also.standing end.standing (bodies_of taken) also.asked end.asked others fact.1.replies Clean Clean also.answered end.answered
+      also.serves end.serves).1)
+      fact.1.written
 
   broken : serving.Exited g (Some files) named (Some held) after old new faults.store Early ⊎ serving.RanOut g (Some files) named (Some held) after old new faults.store → ⊥
-  broken (inl fact) = let same = (end_is fact.0 Early fact.1 (λ e. cc)).1 in cc
+  broken (inl fact) = let same = (end_is fact.0 Early fact.1 (λ e. cc)).0 in cc
   broken (inr fact) = not_at_end fact.0 No fact.1 refl fact.2
 
   wrong : (found : FrameFault) → WentWrong g (Some files) named (Some held) after old new faults.store found → ⊥
-  wrong found (taken, talked, inl fault) = no_fault taken No talked refl found fault
-  wrong found (taken, talked, inr over) = not_at_end taken No talked refl over.0
+  wrong found (took, talked, inl fault) = no_fault took No talked refl found fault
+  wrong found (took, talked, inr over) = not_at_end took No talked refl over.0
 
   module _ (code : ℕ) where
-    at_code : {n : ℕ} → code ≡ n → ServeDone replies old new n → ServeDone replies old new code
-    at_code is done = subst (ServeDone replies old new) (sym is) done
+    at_code : {n : ℕ} → code ≡ n → ServeDone g files named taken old new n → ServeDone g files named taken old new code
+    at_code is done = subst (ServeDone g files named taken old new) (sym is) done
 
     pub session_done : (outcome : Result Verdict Stop) → EndsWith outcome code → ServeComesTo files path paths k refused (Some held) after old new faults.store outcome → CountsAll faults outcome →
-        ServeDone replies old new code
+        ServeDone g files named taken old new code
     session_done (Ok Whole) is came counts = at_code is (clean (fact_of (λ g named. serving.Exited g (Some files) named (Some held) after old new faults.store Clean) came))
     session_done (Ok Broken) is came counts =
         absurd (broken (fact_of (λ g named. serving.Exited g (Some files) named (Some held) after old new faults.store Early ⊎ serving.RanOut g (Some files) named (Some held) after old new faults.store) came))
     session_done (Err e) (inr seven) came counts = at_code seven serving.no_memory
     session_done (Err stop.Words) (inl is) came counts = absurd came.fact.2
     session_done (Err (stop.Grammar found)) (inl is) came counts =
-        at_code (is ∙ only_memory files path k refused faults g holds clear none found came.0 counts) serving.no_memory
+        at_code (is ∙ only_memory files path k refused faults g accepted none found came.0 counts) serving.no_memory
     session_done (Err (stop.File found)) (inl is) came counts = absurd (all_read found came.0 counts)
     session_done (Err stop.Read) (inl is) came counts = absurd (none TheSource (counts TheSource).rose)
     session_done (Err stop.Write) (inl is) came counts = absurd (none TheSink (counts TheSink).rose)
@@ -211,8 +246,8 @@ pub serves_all : ((g : Grammar) → IsReadOneWay g → AreSettledByFiles g) → 
 serves_all settled words w notes failures code ends path paths k is = if_told w.files (λ files. by files w.left.0) (ends.comes_to.serve path paths k is)
   where
     by : (files : Files) (before : Option (List ℕ)) → ServeComesTo files path paths k w.refused before w.left.1 w.written.0 w.written.1 w.faults.store ends.outcome →
-        IfSome before (λ held. (g : Grammar) (named : List (List ℕ × List ℕ)) (replies : List Reply) → HoldsGrammar files path g → IsClear g k → AreFileTexts files paths named → IsSession g files named held replies →
-        NoneRose w.faults → ServeDone replies w.written.0 w.written.1 code)
+        IfSome before (λ held. (g : Grammar) (named : List (List ℕ × List ℕ)) (taken : List ℕ) → IsAccepted files path k g → AreFileTexts files paths named →
+        IsSession held taken → NoneRose w.faults → ServeDone g files named taken w.written.0 w.written.1 code)
     by files None came = tt
-    by files (Some held) came = λ g named replies holds clear are is none.
-        session_done files path paths k w.refused w.left.1 w.written.0 w.written.1 held w.faults g holds clear (settled g (one_way g k clear)) none named are replies is code ends.outcome ends.status came ends.comes_to.counts
+    by files (Some held) came = λ g named taken accepted are is none.
+        session_done files path paths k w.refused w.left.1 w.written.0 w.written.1 held w.faults g accepted (settled g (one_way g k accepted.clear)) none named are taken is code ends.outcome ends.status came ends.comes_to.counts

@@ -21,13 +21,14 @@ use Rattle.lw_lookahead.specs.declared.fault.LookFault.{LookFault}
 use Rattle.lw_lang.specs.ToldLooks.{IsLookToldAs}
 use Rattle.lw_lang.specs.ToldLooks as told_as
 use Rattle.lw_lang.specs.declared.told_look.ToldLookFault.{ToldLookFault}
-use Rattle.lw_lang.specs.Compiled.{HoldsGrammar, IsClear, IsNotLoaded, HasNoTokens, HasNoTables, Causes}
+use Rattle.lw_lang.specs.Compiled.{IsClear, IsNotLoaded, HasNoTokens, HasNoTables, Causes}
 use Rattle.lw_lang.specs.declared.fault.CompileFault.{CompileFault}
 use Rattle.lw_lang.specs.declared.fault.CompileFault.TheVariants as fault
 use Rattle.lw_commands.specs.declared.report.Verdict.{Verdict}
 use Rattle.lw_commands.specs.declared.report.Verdict.TheVariants.{Whole, Broken}
 use Rattle.lw_commands.specs.declared.stop.Stop.{Stop}
 use Rattle.lw_commands.specs.declared.stop.Stop.TheVariants as stop
+use Rattle.lw_commands.specs.Accepted.{IsAccepted}
 use Rattle.lw_commands.specs.Checked.{Checked, ok_line}
 use Rattle.lw_commands.specs.Checking as checking
 use Rattle.lw_load.specs.Loading.{Files}
@@ -35,7 +36,7 @@ use Rattle.lw_commands.specs.Checking.{CheckComesTo, CheckDone, most_read}
 use Rattle.lw_commands.specs.Run.{Faults, NoneRose, count_of, CountsRun, Work, Ends, ChecksAll}
 use Rattle.lw_commands.specs.Serving.{CountsSession}
 use Rattle.lw_commands.specs.Stops.{Object, TheSource, TheSink, TheStore, ThePatterns, Counts, EndsWith, fault_code, load_code}
-use Rattle.lw_commands.proofs.Grammars.{same_grammar}
+use Rattle.lw_commands.proofs.Grammars.{same_accepted}
 
 -- the counts of all objects, by an outcome
 abbrev pub CountsAll : Faults → Result Verdict Stop → Type 0
@@ -62,15 +63,19 @@ unasked count (Err (stop.Frames found)) counts = ([], counts)
 unasked count (Err stop.Limit) counts = ([], counts)
 
 -- where the path holds a grammar that is built and nothing fails, memory alone can be wanting
-module _ (files : Files) (path : List ℕ) (k : ℕ) (refused : Option (List ℕ)) (faults : Faults) (g : Grammar) (holds : HoldsGrammar files path g) (clear : IsClear g k) (none : NoneRose faults) where
+module _ (files : Files) (path : List ℕ) (k : ℕ) (refused : Option (List ℕ)) (faults : Faults) (g : Grammar)
+    (accepted : IsAccepted files path k g) (none : NoneRose faults) where
+  abbrev clear : IsClear g k
+  clear = accepted.clear
+
   -- it is loaded, unless the store failed
   loaded : (found : LoadFault) → IsNotLoaded files path found → CountsAll faults (Err (stop.Grammar (fault.Load found))) → load_code found ≡ 7
-  loaded (loading.Absent p) cause counts = absurd (cause.nothing tt holds.loaded holds.loads)
-  loaded (loading.NotUtf8 p) cause counts = absurd (cause.nothing tt holds.loaded holds.loads)
-  loaded (loading.TooLong p) cause counts = absurd (cause.nothing tt holds.loaded holds.loads)
+  loaded (loading.Absent p) cause counts = absurd (cause.nothing tt accepted.loaded accepted.loads)
+  loaded (loading.NotUtf8 p) cause counts = absurd (cause.nothing tt accepted.loaded accepted.loads)
+  loaded (loading.TooLong p) cause counts = absurd (cause.nothing tt accepted.loaded accepted.loads)
   loaded (loading.StoreFault p) cause counts = absurd (none TheStore (counts TheStore).rose)
-  loaded (loading.Read p found at) cause counts = absurd (cause.nothing tt holds.loaded holds.loads)
-  loaded (loading.TooLarge p) cause counts = absurd (cause.nothing tt holds.loaded holds.loads)
+  loaded (loading.Read p found at) cause counts = absurd (cause.nothing tt accepted.loaded accepted.loads)
+  loaded (loading.TooLarge p) cause counts = absurd (cause.nothing tt accepted.loaded accepted.loads)
   loaded loading.NoMemory cause counts = refl
 
   -- it has a set of tokens, unless a pattern was refused
@@ -106,15 +111,15 @@ module _ (files : Files) (path : List ℕ) (k : ℕ) (refused : Option (List ℕ
   pub only_memory : (found : CompileFault) → Causes files path k refused found → CountsAll faults (Err (stop.Grammar found)) → fault_code found ≡ 7
   only_memory (fault.Load found) cause counts = loaded found cause counts
   only_memory (fault.Faults told) cause counts =
-      absurd (faultless cause.1.loaded.texts told (subst (λ h. AreAllTold h cause.1.loaded.texts told) (same_grammar files path g holds cause.0 cause.1) cause.2))
+      absurd (faultless cause.1.loaded.texts told (subst (λ h. AreAllTold h cause.1.loaded.texts told) (same_accepted files path k g accepted cause.0 cause.1) cause.2))
   only_memory (fault.Term told) cause counts =
       absurd
       (with_tokens cause.1.loaded.texts told
-      (subst (λ h. HasNoTokens h cause.1.loaded.texts refused told) (same_grammar files path g holds cause.0 cause.1) cause.2) counts)
+      (subst (λ h. HasNoTokens h cause.1.loaded.texts refused told) (same_accepted files path k g accepted cause.0 cause.1) cause.2) counts)
   only_memory (fault.Look told) cause counts =
       absurd
       (with_tables cause.1.loaded.texts told
-      (subst (λ h. HasNoTables h cause.1.loaded.texts k told) (same_grammar files path g holds cause.0 cause.1) cause.2))
+      (subst (λ h. HasNoTables h cause.1.loaded.texts k told) (same_accepted files path k g accepted cause.0 cause.1) cause.2))
   only_memory fault.NoMemory cause counts = refl
 
   -- a document is read to its end
@@ -126,7 +131,7 @@ module _ (files : Files) (path : List ℕ) (k : ℕ) (refused : Option (List ℕ
     at_code is done = subst (CheckDone g held old new) (sym is) done
 
     prints : (output : List ℕ) → checking.Prints files path k held output → Checked g (take most_read held) output
-    prints output p = subst (λ h. Checked h (take most_read held) output) (same_grammar files path g holds p.grammar p.holds) p.printed
+    prints output p = subst (λ h. Checked h (take most_read held) output) (same_accepted files path k g accepted p.grammar p.holds) p.printed
 
     pub document_done : (outcome : Result Verdict Stop) → EndsWith outcome code → CheckComesTo files path k held refused after old new outcome → CountsAll faults outcome → IsDone
     document_done (Ok Whole) is came counts = at_code is (checking.whole (prints ok_line came.0) came.2)
@@ -151,6 +156,6 @@ pub checks_all : (words : List (List ℕ)) (w : Work) (notes : Option (List ℕ)
 checks_all words w notes failures code ends path k is =
     if_told w.files
     (λ files. if_told w.left.0
-    (λ held came g holds clear none.
-    document_done files path k w.refused w.faults g holds clear none held w.left.1 w.written.0 w.written.1 code ends.outcome ends.status came ends.comes_to.counts))
+    (λ held came g accepted none.
+    document_done files path k w.refused w.faults g accepted none held w.left.1 w.written.0 w.written.1 code ends.outcome ends.status came ends.comes_to.counts))
     (ends.comes_to.check path k is).1

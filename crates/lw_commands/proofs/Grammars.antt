@@ -9,11 +9,13 @@ use Rattle.lw_conversation.specs.Standing.{Standing, beginning}
 use Rattle.lw_conversation.specs.declared.ended.Ended.{Ended}
 use Rattle.lw_load.specs.Loading.{Files}
 use Rattle.lw_rpc.specs.declared.reply.Reply.{Reply}
+use Rattle.lw_commands.specs.Accepted.{IsAccepted}
 use Rattle.lw_commands.specs.Serving.{HasOneOutcome}
 
--- whatever grammar the path holds is the one that it holds
-pub same_grammar : (files : Files) (path : List ℕ) (g : Grammar) → HoldsGrammar files path g → (h : Grammar) → HoldsGrammar files path h → h ≡ g
-same_grammar files path g holds h other = sym other.same ∙ ap (λ l. l.grammar) (holds.only other.loaded other.loads) ∙ holds.same
+-- whatever grammar the path holds is the one that is accepted there
+pub same_accepted : (files : Files) (path : List ℕ) (k : ℕ) (g : Grammar) → IsAccepted files path k g → (h : Grammar) → HoldsGrammar files path h → h ≡ g
+same_accepted files path k g accepted h other =
+    sym other.same ∙ ap (λ l. l.grammar) (sym (other.only accepted.loaded accepted.loads)) ∙ accepted.same
 
 -- what a session comes to is settled by what the store answers
 abbrev pub AreSettledByAnswers : Grammar → Type 0

@@ -15,12 +15,13 @@ use Rattle.lw_commands.specs.declared.report.Verdict.{Verdict}
 use Rattle.lw_commands.specs.declared.report.Verdict.TheVariants.{Whole, Broken}
 use Rattle.lw_commands.specs.declared.stop.Stop.{Stop}
 use Rattle.lw_commands.specs.declared.stop.Stop.TheVariants as stop
+use Rattle.lw_commands.specs.Accepted.{IsAccepted}
 use Rattle.lw_commands.specs.Making as making
 use Rattle.lw_commands.specs.Making.{MakeComesTo, MakeDone, Sums, SumsUp}
 use Rattle.lw_commands.specs.Run.{Faults, NoneRose, Work, Ends, MakesAll}
 use Rattle.lw_commands.specs.Stops.{EndsWith, TheSink}
 use Rattle.lw_commands.proofs.Ends.{CountsAll, if_told, only_memory}
-use Rattle.lw_commands.proofs.Grammars.{same_grammar}
+use Rattle.lw_commands.proofs.Grammars.{same_accepted}
 
 -- whoever makes so many documents by this grammar comes to one summary
 abbrev pub HasOneSummary : Grammar → ℕ → Type 0
@@ -68,18 +69,18 @@ makes_told (Some files) path k count refused old new g holds clear one m lists s
 
 -- ---- by its status
 
-module _ (files : Files) (path : List ℕ) (k count : ℕ) (refused old new : Option (List ℕ)) (faults : Faults) (g : Grammar) (holds : HoldsGrammar files path g) (clear : IsClear g k) (none : NoneRose faults)
+module _ (files : Files) (path : List ℕ) (k count : ℕ) (refused old new : Option (List ℕ)) (faults : Faults) (g : Grammar) (accepted : IsAccepted files path k g) (none : NoneRose faults)
     (code : ℕ) where
   at_code : {n : ℕ} → code ≡ n → MakeDone g count old new n → MakeDone g count old new code
   at_code is done = subst (MakeDone g count old new) (sym is) done
 
   pub summary_done : (outcome : Result Verdict Stop) → EndsWith outcome code → MakeComesTo files path k count refused old new outcome → CountsAll faults outcome → MakeDone g count old new code
   summary_done (Ok Whole) is came counts =
-      at_code is (making.whole came.0 (subst (λ h. Sums h count came.0) (same_grammar files path g holds came.1.grammar came.1.holds) came.1.printed) came.2)
+      at_code is (making.whole came.0 (subst (λ h. Sums h count came.0) (same_accepted files path k g accepted came.1.grammar came.1.holds) came.1.printed) came.2)
   summary_done (Ok Broken) is came counts = absurd came
   summary_done (Err e) (inr seven) came counts = at_code seven making.no_memory
   summary_done (Err stop.Words) (inl is) came counts = absurd came
-  summary_done (Err (stop.Grammar found)) (inl is) came counts = at_code (is ∙ only_memory files path k refused faults g holds clear none found came.0 counts) making.no_memory
+  summary_done (Err (stop.Grammar found)) (inl is) came counts = at_code (is ∙ only_memory files path k refused faults g accepted none found came.0 counts) making.no_memory
   summary_done (Err (stop.File found)) (inl is) came counts = absurd came
   summary_done (Err stop.Read) (inl is) came counts = absurd came
   summary_done (Err stop.Write) (inl is) came counts = absurd (none TheSink (counts TheSink).rose)
@@ -90,6 +91,6 @@ module _ (files : Files) (path : List ℕ) (k count : ℕ) (refused old new : Op
 pub makes_all : (words : List (List ℕ)) (w : Work) (notes : Option (List ℕ) × Option (List ℕ)) (failures : ℕ × ℕ) (code : ℕ) → Ends words w notes failures code → MakesAll words w code
 makes_all words w notes failures code ends path count k is =
     if_told w.files
-    (λ files came g holds clear none.
-    summary_done files path k count w.refused w.written.0 w.written.1 w.faults g holds clear none code ends.outcome ends.status came ends.comes_to.counts)
+    (λ files came g accepted none.
+    summary_done files path k count w.refused w.written.0 w.written.1 w.faults g accepted none code ends.outcome ends.status came ends.comes_to.counts)
     (ends.comes_to.make path count k is).2

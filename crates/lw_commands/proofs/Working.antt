@@ -12,6 +12,7 @@ use Rattle.lw_commands.specs.declared.report.Verdict.{Verdict}
 use Rattle.lw_commands.specs.declared.report.Verdict.TheVariants.{Whole, Broken}
 use Rattle.lw_commands.specs.declared.stop.Stop.{Stop}
 use Rattle.lw_commands.specs.declared.stop.Stop.TheVariants as stop
+use Rattle.lw_commands.specs.Accepted.{HasGrammar}
 use Rattle.lw_commands.specs.Checked.{ok_line}
 use Rattle.lw_commands.specs.Reports.{IsReport, IsVerdict}
 use Rattle.lw_load.specs.Loading.{Files}
@@ -39,15 +40,15 @@ module _ (files : Files) (path : List ℕ) (k : ℕ) (held : List ℕ) (refused 
   unbuilt fault.NoMemory cause unread keeps = inl (reads_nothing (Some held) after unread, keeps)
 
   -- where the document is not read nothing is printed
-  unread : (e : Stop) → StopsReading (Some held) after e → Keeps old new → CheckComesTo files path k held refused after old new (Err e)
-  unread stop.Words stops keeps = absurd stops
-  unread (stop.Grammar found) stops keeps = absurd stops
-  unread (stop.File found) stops keeps = absurd stops
-  unread stop.Read stops keeps = (stops, keeps)
-  unread stop.Write stops keeps = absurd stops
-  unread stop.Memory stops keeps = inl (stops, keeps)
-  unread (stop.Frames found) stops keeps = absurd stops
-  unread stop.Limit stops keeps = absurd stops
+  unread : HasGrammar files path k → (e : Stop) → StopsReading (Some held) after e → Keeps old new → CheckComesTo files path k held refused after old new (Err e)
+  unread has stop.Words stops keeps = absurd stops
+  unread has (stop.Grammar found) stops keeps = absurd stops
+  unread has (stop.File found) stops keeps = absurd stops
+  unread has stop.Read stops keeps = (has, stops, keeps)
+  unread has stop.Write stops keeps = absurd stops
+  unread has stop.Memory stops keeps = inl (stops, keeps)
+  unread has (stop.Frames found) stops keeps = absurd stops
+  unread has stop.Limit stops keeps = absurd stops
 
 pub works_unbuilt : (told : Option Files) (left : Option (List ℕ)) (path : List ℕ) (k : ℕ) (refused old : Option (List ℕ)) (found : CompileFault) (r : Result Verdict Stop) →
     IfSome told (λ files. Causes files path k refused found) → IsErrAnd r (λ e. e ≡ stop_of_fault found) →
@@ -58,13 +59,14 @@ works_unbuilt (Some files) (Some held) path k refused old found (Ok verdict) cau
 works_unbuilt (Some files) (Some held) path k refused old found (Err e) cause is =
     subst (λ s. CheckComesTo files path k held refused (Some held) old old (Err s)) (sym is) (unbuilt files path k held refused (Some held) old old found cause refl (Keeps-refl old))
 
-pub works_unread : (told : Option Files) (left after : Option (List ℕ)) (path : List ℕ) (k : ℕ) (refused old : Option (List ℕ)) (e : Stop) (r : Result Verdict Stop) → StopsReading left after e →
-    IsErrAnd r (λ s. s ≡ e) → IfSome told (λ files. IfSome left (λ held. CheckComesTo files path k held refused after old old r))
-works_unread None left after path k refused old e r stops is = tt
-works_unread (Some files) None after path k refused old e r stops is = tt
-works_unread (Some files) (Some held) after path k refused old e (Ok verdict) stops is = absurd is
-works_unread (Some files) (Some held) after path k refused old e (Err s) stops is =
-    subst (λ s. CheckComesTo files path k held refused after old old (Err s)) (sym is) (unread files path k held refused after old old e stops (Keeps-refl old))
+pub works_unread : (told : Option Files) (left after : Option (List ℕ)) (path : List ℕ) (k : ℕ) (refused old : Option (List ℕ)) (g : Grammar) (e : Stop) (r : Result Verdict Stop) →
+    IfSome told (λ files. HoldsGrammar files path g) → IsClear g k → StopsReading left after e → IsErrAnd r (λ s. s ≡ e) → IfSome told (λ files. IfSome left (λ held. CheckComesTo files path k held refused after old old r))
+works_unread None left after path k refused old g e r holds clear stops is = tt
+works_unread (Some files) None after path k refused old g e r holds clear stops is = tt
+works_unread (Some files) (Some held) after path k refused old g e (Ok verdict) holds clear stops is = absurd is
+works_unread (Some files) (Some held) after path k refused old g e (Err s) holds clear stops is =
+    subst (λ s. CheckComesTo files path k held refused after old old (Err s)) (sym is)
+    (unread files path k held refused after old old (record { grammar = g; holds = holds; clear = clear }) e stops (Keeps-refl old))
 
 -- ---- printing
 

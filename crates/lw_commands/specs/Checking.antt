@@ -10,6 +10,7 @@ use Rattle.lw_commands.specs.declared.report.Verdict.{Verdict}
 use Rattle.lw_commands.specs.declared.report.Verdict.TheVariants.{Whole, Broken}
 use Rattle.lw_commands.specs.declared.stop.Stop.{Stop}
 use Rattle.lw_commands.specs.declared.stop.Stop.TheVariants.{Words, Grammar, File, Read, Write, Memory, Frames, Limit}
+use Rattle.lw_commands.specs.Accepted.{HasGrammar}
 use Rattle.lw_commands.specs.Checked.{Checked, ok_line}
 
 -- how many bytes of a document are read at most: one more than it may have
@@ -55,14 +56,14 @@ module _ (files : Files) (path : List ℕ) (k : ℕ) (held : List ℕ) where
     abbrev pub StopsShort : Type 0
     StopsShort = (ReadsPart (Some held) after × Keeps old new) ⊎ (ReadsDocument held after × WritesSome old new)
 
-    -- what was read and printed, and the cause of a fault of the grammar
+    -- What was read and printed, and the cause of a fault of the grammar. The source is read behind the grammar: where that is not built, no read failed.
     abbrev pub CheckComesTo : Result Verdict Stop → Type 0
     CheckComesTo (Ok Whole) = Prints ok_line × ReadsDocument held after × Appends old new ok_line
     CheckComesTo (Ok Broken) = (output : List ℕ) × Prints output × (output ≢ ok_line) × ReadsDocument held after × Appends old new output
     CheckComesTo (Err Words) = ⊥
     CheckComesTo (Err (Grammar found)) = Causes files path k refused found × Keeps (Some held) after × Keeps old new
     CheckComesTo (Err (File found)) = ⊥
-    CheckComesTo (Err Read) = TakesFewer (Some held) after most_read × Keeps old new
+    CheckComesTo (Err Read) = HasGrammar files path k × TakesFewer (Some held) after most_read × Keeps old new
     CheckComesTo (Err Write) = ReadsDocument held after × WritesSome old new
     CheckComesTo (Err Memory) = StopsShort
     CheckComesTo (Err (Frames found)) = ⊥

@@ -1,20 +1,19 @@
 -- How a run ends: what its work came to, and the status, the counts of faults and the note by which that is told.
-use Rattle.std.specs.Prelude.{ℕ, ◌≡◌, ◌≢◌, ◌⊎◌, List, Option, Result, Err, IfSome, MatchOption}
+use Rattle.std.specs.Prelude.{ℕ, ◌≡◌, ◌≢◌, ◌<◌, ◌⊎◌, List, Option, Result, Err, IfErr, IfSome, MatchOption}
 use Rattle.std.specs.Io.KnownBytes.{Keeps}
 use Rattle.lw_grammar.specs.declared.grammar.Grammar as plain
 use Rattle.lw_io.specs.Causes.{Rose}
-use Rattle.lw_lang.specs.Compiled.{HoldsGrammar, IsClear}
-use Rattle.lw_rpc.specs.declared.reply.Reply.{Reply}
 use Rattle.lw_commands.specs.declared.report.Verdict.{Verdict}
 use Rattle.lw_commands.specs.declared.stop.Stop.{Stop}
 use Rattle.lw_commands.specs.declared.stop.Stop.TheVariants.{Words, Memory}
 use Rattle.lw_load.specs.Loading.{Files}
+use Rattle.lw_commands.specs.Accepted.{IsAccepted}
 use Rattle.lw_commands.specs.Checking.{CheckComesTo, CheckDone, IsCaused}
 use Rattle.lw_commands.specs.Notes.{NotesOutcome, NotesOutcomePart}
 use Rattle.lw_commands.specs.Making.{MakeComesTo, MakeDone}
 use Rattle.lw_commands.specs.Named.{AreFileTexts}
 use Rattle.lw_commands.specs.Serving.{CountsSession, ServeComesTo, ServeDone, IsSession}
-use Rattle.lw_commands.specs.Stops.{Object, TheSource, TheSink, TheStore, ThePatterns, Counts, EndsWith}
+use Rattle.lw_commands.specs.Stops.{Object, TheSource, TheSink, TheStore, ThePatterns, Counts, EndsWith, code_of}
 use Rattle.lw_command_line.specs.Words.{IsCheck, IsServe, IsMake, IsNoCommand, NamesFile}
 
 -- how often each object had failed, before the run and behind it
@@ -67,7 +66,8 @@ module _ (words : List (List ℕ)) (w : Work) where
 
   -- The notes before the run and behind it, and how often they had failed. The status is that of the outcome. The path is that of the grammar that the words name,
   -- unless memory was refused while they were read. Where the notes did not fail and there was memory,
-  -- the line of the outcome was noted, and whatever fails no more than a front of it.
+  -- the line of the outcome was noted, and whatever fails no more than a front of it. Where the notes failed, as their count tells, there was memory for them, and the
+  -- status is that of the stop.
   pub record Ends (notes : Option (List ℕ) × Option (List ℕ)) (failures : ℕ × ℕ) (code : ℕ) : Type 0 where
     pub outcome : Result Verdict Stop
     pub comes_to : ComesTo outcome
@@ -75,23 +75,24 @@ module _ (words : List (List ℕ)) (w : Work) where
     pub path : Option (List ℕ)
     pub named : (outcome ≡ Err Memory) ⊎ MatchOption path (IsNoCommand words) (λ p. (k : ℕ) × NamesFile words p k)
     pub noted : code ≢ 7 → ¬ Rose failures.0 failures.1 → NotesOutcome path outcome notes.0 notes.1
+    pub unnoted : failures.0 < failures.1 → IfErr outcome (λ found. code ≡ code_of found)
     pub noted_part : NotesOutcomePart path outcome notes.0 notes.1
 
-  -- where the grammar is built and nothing fails, the document is read and its line is written, or memory was refused
+  -- where the grammar is accepted and nothing fails, the document is read and its line is written, or memory was refused
   abbrev pub ChecksAll : ℕ → Type 0
-  ChecksAll code = (path : List ℕ) (k : ℕ) → IsCheck words path k → IfSome w.files (λ files. IfSome w.left.0 (λ held. (g : plain.Grammar) → HoldsGrammar files path g → IsClear g k →
+  ChecksAll code = (path : List ℕ) (k : ℕ) → IsCheck words path k → IfSome w.files (λ files. IfSome w.left.0 (λ held. (g : plain.Grammar) → IsAccepted files path k g →
       NoneRose w.faults → CheckDone g held w.written.0 w.written.1 code))
 
-  -- and where the files that are named are texts, and what the source holds begins with a session over them that ends with `exit` behind `shutdown`, it is answered
-  -- whole, or memory was refused
+  -- and where the files that are named are texts, and what the source holds begins with a session that ends with `exit` behind `shutdown`, it is answered whole, or
+  -- memory was refused
   abbrev pub ServesAll : ℕ → Type 0
   ServesAll code = (path : List ℕ) (paths : List (List ℕ)) (k : ℕ) → IsServe words path paths k → IfSome w.files (λ files. IfSome w.left.0 (λ held. (g : plain.Grammar)
-      (named : List (List ℕ × List ℕ)) (replies : List Reply) → HoldsGrammar files path g → IsClear g k → AreFileTexts files paths named → IsSession g files named held replies →
-      NoneRose w.faults → ServeDone replies w.written.0 w.written.1 code))
+      (named : List (List ℕ × List ℕ)) (taken : List ℕ) → IsAccepted files path k g → AreFileTexts files paths named → IsSession held taken → NoneRose w.faults →
+      ServeDone g files named taken w.written.0 w.written.1 code))
 
   -- and the summary is written, or memory was refused
   abbrev pub MakesAll : ℕ → Type 0
-  MakesAll code = (path : List ℕ) (count k : ℕ) → IsMake words path count k → IfSome w.files (λ files. (g : plain.Grammar) → HoldsGrammar files path g → IsClear g k →
+  MakesAll code = (path : List ℕ) (count k : ℕ) → IsMake words path count k → IfSome w.files (λ files. (g : plain.Grammar) → IsAccepted files path k g →
       NoneRose w.faults → MakeDone g count w.written.0 w.written.1 code)
 
   -- all that is claimed of a run

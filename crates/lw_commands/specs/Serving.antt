@@ -11,9 +11,11 @@ use Rattle.lw_lang.specs.Compiled.{HoldsGrammar, IsClear, Causes}
 use Rattle.lw_rpc.specs.declared.reply.Reply.{Reply}
 use Rattle.lw_conversation.specs.Reading.{AreAnswered, AreOfFiles, Asked}
 use Rattle.lw_conversation.specs.Sessions.{Serves, count_after, framed}
-use Rattle.lw_conversation.specs.Standing.{Standing, beginning}
+use Rattle.lw_conversation.specs.Ending.{Lives}
+use Rattle.lw_conversation.specs.Standing.{Standing, beginning, unborn}
 use Rattle.lw_conversation.specs.declared.ended.Ended.{Ended}
 use Rattle.lw_conversation.specs.declared.ended.Ended.TheVariants.{No, Clean, Early}
+use Rattle.lw_conversation.specs.declared.phase.Phase.{Phase}
 use Rattle.lw_commands.specs.declared.report.Verdict.{Verdict}
 use Rattle.lw_commands.specs.declared.report.Verdict.TheVariants.{Whole, Broken}
 use Rattle.lw_commands.specs.declared.stop.Stop.{Stop}
@@ -151,19 +153,24 @@ module _ (files : Files) (path : List ℕ) (paths : List (List ℕ)) (k : ℕ) (
       Keeps old new ⊎ OfGrammar files path k (λ g. WithNamed files paths (λ named. TalkedSome g (Some files) named before after old new))
   ServeComesTo outcome = OfGrammar files path k (λ g. WithNamed files paths (λ named. Conversed g (Some files) named before after old new count outcome))
 
--- What the source holds begins with a session over the texts that are named: frames up to an `exit` that comes after `shutdown`, fewer bytes of them than may be
--- taken, and these are the replies to them where the store answers by its files.
-pub record IsSession (g : plain.Grammar) (files : Files) (named : List (List ℕ × List ℕ)) (held : List ℕ) (replies : List Reply) : Type 0 where
-  pub taken : List ℕ
+-- These bytes are a session: what the source holds begins with them, there are fewer of them than may be taken, and by the phases of the gate the first `exit` among
+-- their bodies comes behind `shutdown`.
+pub record IsSession (held taken : List ℕ) : Type 0 where
   pub rest : List ℕ
-  pub standing : Standing
-  pub asked : List (List Asked)
   pub parts : held ≡ taken ++ rest
   pub short : length taken < LONGEST_SESSION
+  pub last : Phase
+  pub ends : Lives unborn (bodies_of taken) last Clean
+
+-- the replies to these bytes of a session over the texts that are named, where the store answers by its files
+pub record AreReplies (g : plain.Grammar) (files : Files) (named : List (List ℕ × List ℕ)) (taken : List ℕ) (replies : List Reply) : Type 0 where
+  pub standing : Standing
+  pub asked : List (List Asked)
   pub serves : Serves g (beginning named) (bodies_of taken) asked standing replies Clean
   pub answered : All (AreOfFiles files) asked
 
--- such a session is answered whole, where nothing fails and there is memory
-pub data ServeDone (replies : List Reply) (old new : Option (List ℕ)) : ℕ → Type 0 where
-  clean : Appends old new (framed replies) → ServeDone replies old new 0
-  no_memory : ServeDone replies old new 7
+-- such a session is answered whole, by the only replies to it, where nothing fails and there is memory
+pub data ServeDone (g : plain.Grammar) (files : Files) (named : List (List ℕ × List ℕ)) (taken : List ℕ) (old new : Option (List ℕ)) : ℕ → Type 0 where
+  clean : (replies : List Reply) → AreReplies g files named taken replies → ((others : List Reply) → AreReplies g files named taken others → others ≡ replies) →
+      Appends old new (framed replies) → ServeDone g files named taken old new 0
+  no_memory : ServeDone g files named taken old new 7

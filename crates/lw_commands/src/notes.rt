@@ -1,5 +1,5 @@
 // The notes: why a run stopped.
-ghost use Rattle.std.specs.Prelude.{◌≡◌, ◌++◌, IfOk, IfSome, IsTrue, codes, string_bytes};
+ghost use Rattle.std.specs.Prelude.{◌≡◌, ◌++◌, ◌<◌, IfOk, IfSome, IsTrue, codes, string_bytes};
 ghost use Rattle.std.specs.Fmt.{decimal};
 ghost use Rattle.std.specs.Option.{option_copied};
 ghost use Rattle.lw_io.specs.Causes.{Rose};
@@ -31,6 +31,7 @@ pub(crate) fn note<N: Sink>(
 ) -> bool
     ensures noted { IsTrue result → ¬ Rose (N.count notes.old) (N.count notes.new)
         → NotesStop (option_copied grammar.entry) stop.now (N.written notes.old) (N.written notes.new) }
+    ensures unnoted { N.count notes.old < N.count notes.new → IsTrue result }
     ensures part { NotesPart (option_copied grammar.entry) stop.now (N.written notes.old) (N.written notes.new) }
 {
     match stop_line(alloc, grammar, stop) {

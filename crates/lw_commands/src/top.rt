@@ -1,5 +1,5 @@
 // The top call: what the words name is done, and how it ended is told.
-ghost use Rattle.std.specs.Prelude.{ℕ, ◌≡◌, ◌≢◌, ◌⊎◌, List, MatchOption, IfOk, IfErr, IfSome, Err, OnOk, OnErr, take, string_bytes};
+ghost use Rattle.std.specs.Prelude.{ℕ, ◌≡◌, ◌≢◌, ◌<◌, ◌⊎◌, List, MatchOption, IfOk, IfErr, IfSome, Err, OnOk, OnErr, take, string_bytes};
 ghost use Rattle.std.specs.Option.{option_copied};
 ghost use Rattle.std.specs.Io.KnownBytes.{Appends};
 ghost use Rattle.lw_io.specs.Causes.{Rose};
@@ -9,7 +9,7 @@ ghost use Rattle.lw_commands.specs.Notes.{NotesOutcome, NotesOutcomePart};
 ghost use Rattle.lw_commands.specs.Reports.{IsReport};
 ghost use Rattle.lw_commands.specs.Run.{ComesTo, Runs};
 ghost use Rattle.lw_command_line.specs.Words.{IsCommand, IsNoCommand, NamesFile};
-ghost use Rattle.lw_commands.specs.Stops.{Counts, EndsWith, TheSource, TheSink, TheStore, ThePatterns};
+ghost use Rattle.lw_commands.specs.Stops.{Counts, EndsWith, code_of, TheSource, TheSink, TheStore, ThePatterns};
 
 use crate::desk::Desk;
 use crate::making::make;
@@ -101,6 +101,7 @@ fn finish<N: Sink>(
     ensures ends { EndsWith outcome result.code }
     ensures noted { result.code ≢ 7 → ¬ Rose (N.count notes.old) (N.count notes.new)
         → NotesOutcome (option_copied grammar.entry) outcome (N.written notes.old) (N.written notes.new) }
+    ensures unnoted { N.count notes.old < N.count notes.new → IfErr outcome (λ stop. result.code ≡ code_of stop) }
     ensures part { NotesOutcomePart (option_copied grammar.entry) outcome (N.written notes.old) (N.written notes.new) }
 {
     let stop = match outcome {

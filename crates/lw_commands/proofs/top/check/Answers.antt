@@ -26,7 +26,8 @@ returns-in_err-language-clause-works g c = works_unbuilt _ _ _ _ _ _ c.in_err-la
 
 pub returns-in_err-report-clause-works : goal.returns-in_err-report-clause-works
 returns-in_err-report-clause-works g c =
-    works_unread _ _ _ _ _ _ _ c.in_err-report.field-0.0 c.from_residual-in_err-report.result c.in_err-report.ensures.stopped c.from_residual-in_err-report.ensures.1
+    works_unread _ _ _ _ _ _ _ c.in_ok-language.language.grammar c.in_err-report.field-0.0 c.from_residual-in_err-report.result
+    c.in_ok-language.ensures.holds c.in_ok-language.ensures.clear c.in_err-report.ensures.stopped c.from_residual-in_err-report.ensures.1
 
 pub returns-in_err-report-clause-cause : goal.returns-in_err-report-clause-cause
 returns-in_err-report-clause-cause g c =

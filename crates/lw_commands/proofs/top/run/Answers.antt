@@ -14,6 +14,7 @@ returns-in-Err g c =
       path = None;
       named = inl refl;
       noted = c.finish.ensures.noted;
+      unnoted = c.finish.ensures.unnoted;
       noted_part = c.finish.ensures.part;
     })
 
@@ -26,5 +27,6 @@ returns g c =
       path = option_copied c.grammar_of-grammar.result;
       named = inr (named c.args.words.now c.grammar_of-grammar.result (c.grammar_of-grammar.ensures c.args.words.now c.in-Ok.ensures));
       noted = c.finish-2.ensures.noted;
+      unnoted = c.finish-2.ensures.unnoted;
       noted_part = c.finish-2.ensures.part;
     })
