@@ -1,5 +1,5 @@
 -- The values of parts and of members, one after the other.
-use Rattle.std.proofs.Common.{◌≡◌, ℕ, List, [], ◌∷◌, ◌++◌, Some, None, map, Contains, inl, inr, refl, sym, ap, ◌∙◌, subst}
+use Rattle.std.proofs.Common.{◌≡◌, ℕ, List, [], ◌∷◌, ◌++◌, map, Contains, inl, inr, refl, sym, ap, ◌∙◌, subst}
 use Rattle.std.proofs.lemmas.List.{append_assoc, append-nil}
 use Rattle.std.proofs.lemmas.List.Elements.{Contains-push, Contains-push_cases, Contains-append_left}
 use Rattle.lw_grammar.specs.declared.grammar.Grammar.{Grammar}
@@ -25,10 +25,10 @@ module _ (g : Grammar) where
   pub same_looked : {had now : List ℕ} {members : List Member} {values : List ValueKind} → ((u : ℕ) → Contains had u → Contains now u) →
       ((u : ℕ) → Contains now u → Contains had u) → MembersGive g had members values → MembersGive g now members values
   same_looked to from give.none = give.none
-  same_looked to from (give.value text gives rest) = give.value text gives (same_looked to from rest)
-  same_looked to from (give.again u union is was text rest) = give.again u union is (to u was) text (same_looked to from rest)
-  same_looked {had} {now} to from (give.union u union is fresh text rest) =
-      give.union u union is (λ was. fresh (from u was)) text
+  same_looked to from (give.value says gives rest) = give.value says gives (same_looked to from rest)
+  same_looked to from (give.again u union is was says rest) = give.again u union is (to u was) says (same_looked to from rest)
+  same_looked {had} {now} to from (give.union u union is fresh says rest) =
+      give.union u union is (λ was. fresh (from u was)) says
       (same_looked (λ v has. elim (front_cases u had v has) [
         | inl this ↦ subst (Contains (u ∷ now)) this (at_front u now)
         | inr was ↦ behind_front u now v (to v was)
@@ -52,8 +52,9 @@ module _ (g : Grammar) where
     pub giving_value : (waiting : List Member) (looked : List ℕ) (values text more : List ValueKind) (m : Member) → IsGiving (m ∷ waiting) looked values → TextGives g m text →
         MemberGives g m more → IsGiving waiting looked ((values ++ text) ++ more)
     giving_value waiting looked values text more m is says gives = record {
-      all = λ rest others. subst (MembersGive g [] members) (ap (λ xs. values ++ xs) (append_assoc text more rest) ∙ sym (append_assoc values text (more ++ rest)) ∙ sym (append_assoc (values ++ text) more rest))
-          (is.all ((text ++ more) ++ rest) (subst (MembersGive g looked (m ∷ waiting)) (sym (append_assoc text more rest)) (give.value says gives others)));
+      all = λ rest others.
+          subst (MembersGive g [] members) (sym (append_assoc values (text ++ more) rest) ∙ ap (λ xs. xs ++ rest) (sym (append_assoc values text more)))
+          (is.all ((text ++ more) ++ rest) (give.value says gives others));
     }
 
     enters : (waiting : List Member) (looked : List ℕ) (m : Member) (u : ℕ) (union : UnionDef) (text rest : List ValueKind) → NamesUnion g m u union → ¬ Contains looked u →

@@ -181,7 +181,7 @@ base_declares : AreDeclaredProperties pairs (codes "Base") (property 0 false (Pl
 base_declares = record {
   lineage = base ∷ [];
   all = kind.interface 0 base is_base (not_in_none 0) kind.none;
-  declared = have.more name_attribute (Plain Text ∷ []) (found []) (ap (position (bytes_eq (codes "name"))) property_numbers) refl (give.value give.plain give.none)
+  declared = have.more name_attribute (Plain Text ∷ []) (found []) (ap (position (bytes_eq (codes "name"))) property_numbers) refl (give.value (give.no_text (λ none. none)) give.plain give.none)
       (seen.new (not_in_none (Plain Text)) seen.none) (have.none (found (0 ∷ [])));
 }
 

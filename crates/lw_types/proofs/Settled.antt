@@ -116,7 +116,7 @@ module _ (g : Grammar) where
 
   -- ---- what is declared
   no_union : {name : List ℕ} {s : Span} {values : List ValueKind} → MemberGives g (member.Named name s) values → (u : ℕ) (union : UnionDef) → ¬ IsUnion g name u union
-  no_union (give.texts none text) = none
+  no_union (give.no_nodes none text) = none
   no_union (give.nodes none no_text) = none
 
   one_member : {m : Member} {a b : List ValueKind} → MemberGives g m a → MemberGives g m b → a ≡ b
@@ -136,20 +136,20 @@ module _ (g : Grammar) where
 
   pub one_members : {looked : List ℕ} {members : List Member} {a b : List ValueKind} → MembersGive g looked members a → MembersGive g looked members b → a ≡ b
   one_members give.none give.none = refl
-  one_members (give.value text first rest) (give.value said second others) =
-      ap₂ (λ xs ys. xs ++ ys) (one_text text said) (ap₂ (λ xs ys. xs ++ ys) (one_member first second) (one_members rest others))
-  one_members (give.value text first rest) (give.union u union is _ _ _) = absurd (no_union first u union is)
-  one_members (give.value text first rest) (give.again u union is _ _ _) = absurd (no_union first u union is)
-  one_members (give.union u union is _ _ _) (give.value text first rest) = absurd (no_union first u union is)
-  one_members (give.again u union is _ _ _) (give.value text first rest) = absurd (no_union first u union is)
-  one_members {looked} (give.union {members} u union is fresh text rest) (give.union {values = others} v other was _ said rest') =
+  one_members (give.value says first rest) (give.value said second others) =
+      ap₂ (λ xs ys. xs ++ ys) (ap₂ (λ xs ys. xs ++ ys) (one_text says said) (one_member first second)) (one_members rest others)
+  one_members (give.value says first rest) (give.union u union is _ _ _) = absurd (no_union first u union is)
+  one_members (give.value says first rest) (give.again u union is _ _ _) = absurd (no_union first u union is)
+  one_members (give.union u union is _ _ _) (give.value says first rest) = absurd (no_union first u union is)
+  one_members (give.again u union is _ _ _) (give.value says first rest) = absurd (no_union first u union is)
+  one_members {looked} (give.union {members} u union is fresh says rest) (give.union {values = others} v other was _ said rest') =
       let turned : MembersGive g (u ∷ looked) (union.members ++ members) others =
       subst (λ (x : UnionDef). MembersGive g (u ∷ looked) (x.members ++ members) others) (first_item was.first is.first)
       (subst (λ n. MembersGive g (n ∷ looked) (other.members ++ members) others) (first_place was.first is.first) rest') in
-      ap₂ (λ xs ys. xs ++ ys) (one_text text said) (one_members rest turned)
+      ap₂ (λ xs ys. xs ++ ys) (one_text says said) (one_members rest turned)
   one_members {looked} (give.union u union is fresh _ _) (give.again v other was has _ _) = absurd (fresh (subst (Contains looked) (first_place was.first is.first) has))
   one_members {looked} (give.again u union is has _ _) (give.union v other was fresh _ _) = absurd (fresh (subst (Contains looked) (first_place is.first was.first) has))
-  one_members (give.again u union is has text rest) (give.again v other was _ said rest') = ap₂ (λ xs ys. xs ++ ys) (one_text text said) (one_members rest rest')
+  one_members (give.again u union is has says rest) (give.again v other was _ said rest') = ap₂ (λ xs ys. xs ++ ys) (one_text says said) (one_members rest rest')
 
   one_declared : (attributes : List Attribute) {had : List ℕ} {a b : List PropertyInfo} → AreDeclaredIn g attributes had a → AreDeclaredIn g attributes had b → a ≡ b
   one_declared attributes (have.none none) (have.none _) = refl

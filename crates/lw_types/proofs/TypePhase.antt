@@ -1,5 +1,5 @@
 -- What is found one kind after the other are all faults of the phase.
-use Rattle.std.proofs.Common.{ℕ, ◌≡◌, ◌≢◌, List, [], ◌⊎◌, ◌↔◌, inl, inr, Contains, refl, sym, subst, arith}
+use Rattle.std.proofs.Common.{ℕ, ◌≡◌, List, [], ◌⊎◌, inl, inr, Contains, refl, sym, subst, arith}
 use Rattle.lw_base.specs.declared.token.Span.{Span}
 use Rattle.lw_grammar.specs.declared.fault.GrammarFault.{GrammarFault}
 use Rattle.lw_grammar.specs.declared.grammar.Grammar.{Grammar}

@@ -1,4 +1,4 @@
-use Rattle.std.proofs.Common.{ℕ, ◌≡◌, ◌∙◌, subst, arith}
+use Rattle.std.proofs.Common.{◌≡◌, ◌∙◌, subst, arith}
 use Rattle.lw_types.specs.Sets.{AreSetsOf}
 use Rattle.lw_types.proofs.SetLemmas.{none_done, one_done}
 use Rattle.lw_types.proofs.sets.subtype_sets.Goals as goal

@@ -6,14 +6,14 @@ returns-then-is_marked c =
     let g = c.args.source.now.g.now in
     let name = c.args.name.now in
     let read = c.is_marked.ensures g c.requires.numbers in
-    let made = c.is_marked-2.ensures g c.requires.numbers in
+    let made = c.is_marked-then-is_marked.ensures g c.requires.numbers in
     let texts = c.requires.texts name in
     let nodes = c.requires.made name in (
       λ so. record {
         texts = texts.1 (read.0 c.if-is_marked.true);
-        no_nodes = λ is. refuted c.is_marked-2.result made.0 made.1 so (nodes.0 is);
+        no_nodes = λ is. refuted c.is_marked-then-is_marked.result made.0 made.1 so (nodes.0 is);
       },
-      λ is. refutes c.is_marked-2.result made.0 made.1 (λ marked. is.no_nodes (nodes.1 marked)),
+      λ is. refutes c.is_marked-then-is_marked.result made.0 made.1 (λ marked. is.no_nodes (nodes.1 marked)),
     )
 
 pub returns-else-is_marked : goal.returns-else-is_marked

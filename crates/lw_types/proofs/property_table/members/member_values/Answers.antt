@@ -9,8 +9,8 @@ use Rattle.lw_types.specs.Seeing.{list_of}
 use Rattle.lw_types.proofs.Giving.{giving_as, giving_value, giving_enters, giving_passes, giving_ends}
 use Rattle.lw_types.proofs.property_table.members.member_values.Goals as goal
 
-pub loop-member-smaller-in-Continue-branch-3 : goal.loop-member-smaller-in-Continue-branch-3
-loop-member-smaller-in-Continue-branch-3 c =
+pub loop-member-smaller-in-Continue-branch-4 : goal.loop-member-smaller-in-Continue-branch-4
+loop-member-smaller-in-Continue-branch-4 c =
     let u = c.in-Some-union_named in
     let g = c.args.source.now.g.now in
     let into = c.in_ok-insert-in-Some-union_named in
@@ -21,8 +21,8 @@ loop-member-smaller-in-Continue-branch-3 c =
     let members = ap length c.as_slice.ensures in
     omega (arith, fewer, members, simp (length-reverse, length-map, length-append) at put, simp (length-append) at popped)
 
-pub loop-member-preserved-in-Continue-branch-3 : goal.loop-member-preserved-in-Continue-branch-3
-loop-member-preserved-in-Continue-branch-3 c =
+pub loop-member-preserved-in-Continue-branch-4 : goal.loop-member-preserved-in-Continue-branch-4
+loop-member-preserved-in-Continue-branch-4 c =
     let g = c.args.source.now.g.now in
     let members = c.args.members.now in
     let old = c.loop-member in

@@ -1,4 +1,4 @@
-use Rattle.std.proofs.Common.{ℕ, ◌≡◌, ◌<◌, Some, length, sym, ap, ◌∙◌, subst}
+use Rattle.std.proofs.Common.{Some, length, sym, ap, ◌∙◌, subst}
 use Rattle.std.proofs.lemmas.Option.{slice_get-get_or}
 use Rattle.lw_types.specs.Sets.{AreSetsOf}
 use Rattle.lw_types.proofs.SetLemmas.{numbers_below}
