@@ -46,7 +46,7 @@ fn type_attributes<'g>(
     alloc: Global,
     g: &'g Grammar,
     numbers: &Numbers,
-    name: &Name,
+    name: &'g Name,
 ) -> Result<Firsts<'g>, NoMemory>
     requires { AreNumbersOf g.now numbers.now }
     ensures { IfOk result (λ firsts. ServesFor g.now name.now firsts.by_name.entries) }
