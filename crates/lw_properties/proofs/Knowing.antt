@@ -107,6 +107,29 @@ none_found p (y ∷ xs) is i x there same = by (bytes_eq y.name p) refl (none_fo
     by false e later zero there = bytes_apart y.name p e (ap (λ (a : Attribute). a.name) (same_Some y x there) ∙ same)
     by false e later (suc i) there = later (sym (ap (λ t. cond t (Some y) (find (is_named p) xs)) e) ∙ is) i x there same
 
+-- ---- entries that are held in another form
+
+module _ {V W : Type 0} (firsts_of : V → W) where
+  lookup_mapped : (test : List ℕ → Bool) (entries : List (List ℕ × V)) → lookup test (map (λ e. (e.0, firsts_of e.1)) entries) ≡ option_map firsts_of (lookup test entries)
+  lookup_mapped test [] = refl
+  lookup_mapped test (e ∷ entries) = by (test e.0) (lookup_mapped test entries)
+    where
+      by : (t : Bool) → lookup test (map (λ e. (e.0, firsts_of e.1)) entries) ≡ option_map firsts_of (lookup test entries) →
+          cond t (Some (firsts_of e.1)) (lookup test (map (λ e. (e.0, firsts_of e.1)) entries)) ≡ option_map firsts_of (cond t (Some e.1) (lookup test entries))
+      by true later = refl
+      by false later = later
+
+  pub put_mapped : (entries then : List (List ℕ × V)) (v : V) (key : List ℕ) →
+      ((q : List ℕ) → lookup (bytes_eq q) then ≡ cond (bytes_eq key q) (Some v) (lookup (bytes_eq q) entries)) → (q : List ℕ) →
+      lookup (bytes_eq q) (map (λ e. (e.0, firsts_of e.1)) then) ≡ cond (bytes_eq key q) (Some (firsts_of v)) (lookup (bytes_eq q) (map (λ e. (e.0, firsts_of e.1)) entries))
+  put_mapped entries then v key updates q =
+      lookup_mapped (bytes_eq q) then ∙ ap (option_map firsts_of) (updates q) ∙ by (bytes_eq key q)
+      ∙ ap (λ o. cond (bytes_eq key q) (Some (firsts_of v)) o) (sym (lookup_mapped (bytes_eq q) entries))
+    where
+      by : (t : Bool) → option_map firsts_of (cond t (Some v) (lookup (bytes_eq q) entries)) ≡ cond t (Some (firsts_of v)) (option_map firsts_of (lookup (bytes_eq q) entries))
+      by true = refl
+      by false = refl
+
 module _ (g : Grammar) where
   serves : (type_name p : List ℕ) (firsts : List (List ℕ × Bor Attribute)) → ServesFor g type_name firsts →
       MatchOption (lookup (bytes_eq p) firsts) (HasNoAttribute g type_name p) (λ a. HasAttribute g type_name p a.now)
@@ -175,32 +198,12 @@ module _ (g : Grammar) where
 
   -- ---- the same, where the entries are held in another form
   module _ {V : Type 0} (firsts_of : V → Firsts) where
-    lookup_mapped : (test : List ℕ → Bool) (entries : List (List ℕ × V)) → lookup test (map (λ e. (e.0, firsts_of e.1)) entries) ≡ option_map firsts_of (lookup test entries)
-    lookup_mapped test [] = refl
-    lookup_mapped test (e ∷ entries) = by (test e.0) (lookup_mapped test entries)
-      where
-        by : (t : Bool) → lookup test (map (λ e. (e.0, firsts_of e.1)) entries) ≡ option_map firsts_of (lookup test entries) →
-            cond t (Some (firsts_of e.1)) (lookup test (map (λ e. (e.0, firsts_of e.1)) entries)) ≡ option_map firsts_of (cond t (Some e.1) (lookup test entries))
-        by true later = refl
-        by false later = later
-
     pub known_none : (entries : List (List ℕ × V)) (type_name p : List ℕ) → None ≡ lookup (bytes_eq type_name) entries →
         known_attribute (map (λ e. (e.0, firsts_of e.1)) entries) type_name p ≡ None
     known_none entries type_name p is =
-        ap (option_and_then (λ of_type. lookup (bytes_eq p) of_type)) (lookup_mapped (bytes_eq type_name) entries ∙ ap (option_map firsts_of) (sym is))
+        ap (option_and_then (λ of_type. lookup (bytes_eq p) of_type)) (lookup_mapped firsts_of (bytes_eq type_name) entries ∙ ap (option_map firsts_of) (sym is))
 
     pub known_some : (entries : List (List ℕ × V)) (type_name p : List ℕ) (v : V) → Some v ≡ lookup (bytes_eq type_name) entries →
         known_attribute (map (λ e. (e.0, firsts_of e.1)) entries) type_name p ≡ lookup (bytes_eq p) (firsts_of v)
     known_some entries type_name p v is =
-        ap (option_and_then (λ of_type. lookup (bytes_eq p) of_type)) (lookup_mapped (bytes_eq type_name) entries ∙ ap (option_map firsts_of) (sym is))
-
-    pub put_mapped : (entries then : List (List ℕ × V)) (v : V) (key : List ℕ) →
-        ((q : List ℕ) → lookup (bytes_eq q) then ≡ cond (bytes_eq key q) (Some v) (lookup (bytes_eq q) entries)) → (q : List ℕ) →
-        lookup (bytes_eq q) (map (λ e. (e.0, firsts_of e.1)) then) ≡ cond (bytes_eq key q) (Some (firsts_of v)) (lookup (bytes_eq q) (map (λ e. (e.0, firsts_of e.1)) entries))
-    put_mapped entries then v key updates q =
-        lookup_mapped (bytes_eq q) then ∙ ap (option_map firsts_of) (updates q) ∙ by (bytes_eq key q)
-        ∙ ap (λ o. cond (bytes_eq key q) (Some (firsts_of v)) o) (sym (lookup_mapped (bytes_eq q) entries))
-      where
-        by : (t : Bool) → option_map firsts_of (cond t (Some v) (lookup (bytes_eq q) entries)) ≡ cond t (Some (firsts_of v)) (option_map firsts_of (lookup (bytes_eq q) entries))
-        by true = refl
-        by false = refl
+        ap (option_and_then (λ of_type. lookup (bytes_eq p) of_type)) (lookup_mapped firsts_of (bytes_eq type_name) entries ∙ ap (option_map firsts_of) (sym is))

@@ -112,7 +112,7 @@ impl<'g> Attributes<'g> {
 
     /// These are those of the type of this name.
     fn put(&mut self, alloc: Global, name: &Name, firsts: Firsts<'g>) -> Result<(), NoMemory>
-        ensures { OnOk result ((q : List ℕ) → lookup (bytes_eq q) self.new ≡ cond (bytes_eq name.now q) (Some firsts.by_name.entries) (lookup (bytes_eq q) self.old)) }
+        ensures { OnOk result ((q : List ℕ) → lookup (bytes_eq q) self.new ≡ cond (bytes_eq name.now q) (Some firsts.entry.by_name.entries) (lookup (bytes_eq q) self.old)) }
     {
         let key = name.copy(alloc)?;
         self.known.insert(key, firsts)?;
