@@ -25,7 +25,7 @@ use Rattle.lw_gramcheck.specs.BadSites.{is_cross, IsUncallable, IsBadSite, HasBa
 use Rattle.lw_gramcheck.proofs.MeaningLemmas.{one_rule, one_terminal, never_both, no_rule, no_terminal}
 
 -- the name stands in the text
-is_written : How → Bool
+abbrev is_written : How → Bool
 is_written ByName = false
 is_written _ = true
 
