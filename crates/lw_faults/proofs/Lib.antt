@@ -20,6 +20,7 @@ pub mod CircularCallsWorked
 pub mod NodeLemmas
 pub mod EntriesWorked
 pub mod DataTypesWorked
+pub mod TextsWorked
 pub mod AssignLemmas
 pub mod BadCallsWorked
 pub mod AssignmentsWorked

@@ -4,12 +4,14 @@ ghost use Rattle.lw_base.specs.declared.token.Span.{Span};
 ghost use Rattle.lw_grammar.specs.declared.rule.Element.TheVariants.{Call, Assign, Act, Group, Maybe, Many};
 ghost use Rattle.lw_grammar.specs.declared.rule.Op.TheVariants.{One, Add, Flag};
 ghost use Rattle.lw_grammar.specs.declared.rule.Value0.TheVariants as value;
-ghost use Rattle.lw_grammar.specs.declared.rule.RuleResult.TheVariants.{Returns, Gives, Infers};
-ghost use Rattle.lw_grammar.specs.declared.terminal.Primitive.TheVariants.{Text, Boolean};
+ghost use Rattle.lw_grammar.specs.declared.rule.RuleResult.TheVariants.{Own, Returns, Gives, Infers};
+ghost use Rattle.lw_grammar.specs.declared.terminal.Primitive.TheVariants.{Text, Number, Boolean};
 ghost use Rattle.lw_grammar.specs.declared.terminal.TermElement.TheVariants as term;
 ghost use Rattle.lw_grammar.specs.declared.declared_types.Member.TheVariants.{Named, Plain, Refers, Literal};
 ghost use Rattle.lw_grammar.specs.declared.fault.GrammarFault.{GrammarFault};
 ghost use Rattle.lw_grammar.specs.declared.grammar.Grammar.{Grammar};
+ghost use Rattle.lw_faults.specs.Attributes.{TakesKind};
+ghost use Rattle.lw_faults.specs.Attributes as kind;
 ghost use Rattle.lw_faults.specs.Derivations.{LeftRecursion, ReadsNothing, RepeatsNothing, NeverEnds};
 ghost use Rattle.lw_faults.specs.Faults.{IsTypeFault, IsCheckFault, AreTypeFaults, AreCheckFaults};
 ghost use Rattle.lw_faults.specs.Worked.{StandsAlone, StandsNowhere, place, no_place, left_recursive, right_recursive, x_id, calling_b, alone, repeating, a_a, endless, keyword_of, makes_b, takes_b, two_parts, action_and_word, acts_in_fragment, with_node, node_behind, node_before, node_and_word, puts, with_attribute, extending_type, united, x_by, calls_id, i_reference, with_endless, twice, unknown_twice, making_s, types_alone, extends, a_extending, b_extending, union_of, fragment_calling, terminal_calling, of_rules, plain_rule, in_file, a_entry, b_entry, entry_fragment, id_element, resulting, with_terminal, calling_terminal, crossing, assigning, y_id, node_rule, fragment_rule, x_value, behind_a, beside_interface, makes_declared, by_its_name, many_rules, naming_terminal};
@@ -102,6 +104,15 @@ pub fn property_forms()
     ensures text_for_reference { StandsAlone (WrongPropertyForm (with_attribute false (Refers (codes "I") no_place) (x_by One calls_id (place 51 55)))) 0 (place 51 55) (codes "x") }
     ensures reference_for_text { StandsAlone (WrongPropertyForm (with_attribute false (Plain Text) (x_by One i_reference (place 55 63)))) 0 (place 55 63) (codes "x") }
     ensures reference { (s : Span) → StandsNowhere (WrongPropertyForm (with_attribute false (Refers (codes "I") no_place) (x_by One i_reference s))) }
+{}
+
+/// A member that names the type of a data type rule takes every text, as `string` does, and so does a union that has such a member.
+pub fn members_of_texts()
+    ensures string { TakesKind (resulting Own [] id_element) (Named (codes "A") no_place) (kind.Plain Text) }
+    ensures of_rule { (type_name : List ℕ) → TakesKind (resulting Own [] id_element) (Named (codes "A") no_place) (kind.TextsOf type_name) }
+    ensures number { ¬ TakesKind (resulting Own [] id_element) (Named (codes "A") no_place) (kind.Plain Number) }
+    ensures node { ¬ TakesKind (resulting Own [] x_id) (Named (codes "A") no_place) (kind.Plain Text) }
+    ensures union { TakesKind (resulting Own (union_of (Named (codes "A") no_place) ∷ []) id_element) (Named (codes "U") no_place) (kind.Plain Text) }
 {}
 
 /// A property of an inferred type is a list each time that something is put into it, or never. Of an unknown type that is not asked.
