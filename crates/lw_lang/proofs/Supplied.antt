@@ -148,4 +148,4 @@ module _ (g : Grammar) where
       (kinds : Kinds) → AreKinds g kinds → IsSupplied g kinds
   is_supplied types typed facts are faultless formed filled kinds kinds_are =
       supplied g kinds kinds_are (nodes_told g types.rules.nodes.items typed.rules.nodes)
-      (lacks_nothing g faultless.types faultless.checks formed (reading_told types typed facts.reading are.reading) (choices_have_parts filled))
+      (lacks_nothing g faultless.types faultless.checks (reading_told types typed facts.reading are.reading) (choices_have_parts filled))
