@@ -25,6 +25,7 @@ pub mod AssignLemmas
 pub mod BadCallsWorked
 pub mod AssignmentsWorked
 pub mod NamesWorked
+pub mod DeclaredOnce
 pub mod NameRulesWorked
 pub mod SizesWorked
 pub mod Joining

@@ -53,15 +53,15 @@ module _ {X Y : Type 0} (declared_by : X → Declaration) (other_by : Y → Decl
 apart : {P : Type 0} (a b : List ℕ) → a ≢ b → a ≡ b → P
 apart a b differs same = absurd (differs same)
 
-module _ (name : List ℕ) where
+module _ (s : Span) (name : List ℕ) where
   abbrev G : Grammar
-  G = behind_a name
+  G = behind_a s name
 
   abbrev second : Rule
-  second = plain_rule name (place 25 26) y_id
+  second = plain_rule name s y_id
 
   abbrev IsSecond : Declaration → Type 0
-  IsSecond x = (name ≡ codes "A") × (x.file ≡ 0) × (x.span ≡ place 25 26) × (x.name ≡ name)
+  IsSecond x = (name ≡ codes "A") × (x.file ≡ 0) × (x.span ≡ s) × (x.name ≡ name)
 
   two_rules : (i j : ℕ) (first other : Rule) → i < j → slice_get G.rules i ≡ Some first → slice_get G.rules j ≡ Some other → first.name ≡ other.name →
       IsSecond (declared_rule other)
@@ -93,20 +93,20 @@ module _ (name : List ℕ) where
   only_again no_id (names.interface_ is) = absurd (none_again declared_interface declared_union G.unions is)
   only_again no_id (names.union_ is) = absurd (none_again declared_union declared_interface G.interfaces is)
 
-  only_second : name ≢ codes "ID" → (f : ℕ) (t : Span) (n : List ℕ) → Duplicate G f t n → (name ≡ codes "A") × (f ≡ 0) × (t ≡ place 25 26) × (n ≡ name)
+  only_second : name ≢ codes "ID" → (f : ℕ) (t : Span) (n : List ℕ) → Duplicate G f t n → (name ≡ codes "A") × (f ≡ 0) × (t ≡ s) × (n ≡ name)
   only_second no_id f t n (names.declared is) = only_again no_id is
   only_second no_id f t n (names.inferred _ (inl (k, interface, inside, _, _))) = absurd (omega (arith, inside))
   only_second no_id f t n (names.inferred _ (inr (k, union, inside, _, _))) = absurd (omega (arith, inside))
   only_second no_id f t n (names.attribute interface i j first other has _ _ _ _) = absurd (none_there interface has)
 
-pub rule : StandsAlone (Duplicate (behind_a (codes "A"))) 0 (place 25 26) (codes "A")
-rule = (
-  names.declared (names.rule_ (names.in_list 0 1 a_entry (second (codes "A")) (lit< tt) refl refl refl)),
-  λ f t n is. let found = only_second (codes "A") (differ _ _ refl) f t n is in (found.1, found.2, found.3),
+pub rule : (s : Span) → StandsAlone (Duplicate (behind_a s (codes "A"))) 0 s (codes "A")
+rule s = (
+  names.declared (names.rule_ (names.in_list 0 1 a_entry (second s (codes "A")) (lit< tt) refl refl refl)),
+  λ f t n is. let found = only_second s (codes "A") (differ _ _ refl) f t n is in (found.1, found.2, found.3),
 )
 
-pub other_rule : StandsNowhere (Duplicate (behind_a (codes "B")))
-other_rule f t n is = differ (codes "B") (codes "A") refl (only_second (codes "B") (differ _ _ refl) f t n is).0
+pub other_rule : (s : Span) → StandsNowhere (Duplicate (behind_a s (codes "B")))
+other_rule s f t n is = differ (codes "B") (codes "A") refl (only_second s (codes "B") (differ _ _ refl) f t n is).0
 
 -- ---- a type that is inferred and declared
 
