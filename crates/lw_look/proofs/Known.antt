@@ -96,10 +96,10 @@ module _ (g : Grammar) where
     never_both rule terminal has_rule has_terminal same = by (order (declared_rule rule) (declared_terminal terminal))
       where
         rule_again : ¬ StandsBefore (declared_rule rule) (declared_terminal terminal) → ⊥
-        rule_again no = no_duplicate _ _ _ (fault.declared (fault.rule_ (fault.across rule terminal has_rule has_terminal (sym same) no)))
+        rule_again behind = no_duplicate _ _ _ (fault.declared (fault.rule_ (fault.across rule terminal has_rule has_terminal (sym same) behind)))
 
         terminal_again : ¬ StandsBefore (declared_terminal terminal) (declared_rule rule) → ⊥
-        terminal_again no = no_duplicate _ _ _ (fault.declared (fault.terminal_ (fault.across terminal rule has_terminal has_rule same no)))
+        terminal_again behind = no_duplicate _ _ _ (fault.declared (fault.terminal_ (fault.across terminal rule has_terminal has_rule same behind)))
 
         by : StandsBefore (declared_rule rule) (declared_terminal terminal)
             ⊎ (StandsBefore (declared_terminal terminal) (declared_rule rule) ⊎ IsSamePlace (declared_rule rule) (declared_terminal terminal)) → ⊥
