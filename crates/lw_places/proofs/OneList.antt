@@ -22,7 +22,7 @@ use Rattle.lw_tokens.specs.Lexicon.{IsLexicon, Lexicon}
 use Rattle.lw_tokens.proofs.OnePattern.{one_lexicon}
 use Rattle.lw_tree.specs.declared.node.Reference.{Reference}
 use Rattle.lw_tree.specs.Parts.{Parts, SameTables}
-use Rattle.lw_places.specs.Offers.{AreOffers, IsOffer, IsOffered, LeadsSomewhere, Offer, OfferPrecedes, by_kind, by_label}
+use Rattle.lw_places.specs.Offers.{AreOffers, IsKnownNext, IsOffer, IsOffered, LeadsSomewhere, Offer, OfferPrecedes, by_kind, by_label}
 use Rattle.lw_places.specs.Offers as offer
 use Rattle.lw_places.specs.Starting.{IsFindable, ReferenceNext}
 use Rattle.lw_places.specs.Starting as start
@@ -97,16 +97,22 @@ module _ (g : Grammar) (of : Kinds) (lexicon : Lexicon) {trees others : Trees} (
   leads_too next name (offer.in_whole {tree} {r} has target) = offer.in_whole has (target_too g address tree r all target)
   leads_too next name (offer.in_front {tree} {r} none is target) = offer.in_front none is (target_too g address tree (renamed_to name r) all target)
 
+  known_too : (added : List Token) (name : List ℕ) → IsKnownNext g of lexicon trees address front rest tokens added name →
+      IsKnownNext g of lexicon others address front rest tokens added name
+  known_too added name (offer.meant is) = offer.meant (record { cut = is.cut; value = is.value })
+  known_too added name (offer.found is) =
+      offer.found (record { next = is.next; comes = is.comes; findable = findable_too is.next name is.findable })
+
   offered_too : (word : List ℕ) (x : Offer) → IsOffered g of lexicon trees address front rest tokens word x →
       IsOffered g of lexicon others address front rest tokens word x
   offered_too word x (offer.keyword begins is) = offer.keyword begins is
   offered_too word x (offer.name {n} begins is) =
       offer.name begins (record {
-        found = record { next = is.found.next; comes = is.found.comes; findable = findable_too is.found.next n is.found.findable };
         next = is.next;
         comes = is.comes;
         read = is.read;
         leads = leads_too is.next n is.leads;
+        known = known_too is.read.added n is.known;
       })
 
 -- ---- one list
