@@ -77,16 +77,21 @@ fits_over all below r place (tree, is, has, (type, named, under)) =
     let (other, there, same) = alike_in (all place.0) is in
     (other, there, subst (λ (xs : List ℕ). Contains xs place.1) (same_exports same) has, (type, same_named same named, under))
 
-target_too : (g : Grammar) {trees others : Trees} (address : List ℕ) (tree : Parts) (r : Reference) → HaveSameTables trees others →
+-- the trees of all other documents have the same tables in both
+abbrev pub HaveSameOthers : List ℕ → Trees → Trees → Type 0
+HaveSameOthers address trees others = (tree : Parts) → HaveSameTables (having_tree address tree trees) (having_tree address tree others)
+
+target_too : (g : Grammar) {trees others : Trees} (address : List ℕ) (tree : Parts) (r : Reference) → HaveSameOthers address trees others →
     HasTarget (IsNumberBelow g) trees address tree r → HasTarget (IsNumberBelow g) others address tree r
 target_too g address tree r all (target, leads) =
-    let alike = having_alike address tree all in (
+    let alike = all tree in (
       target,
       link_over (IsNumberBelow g) _ _ address tree tree r (λ n own. own) (fits_over alike (IsNumberBelow g) r)
           (fits_over (λ a. alike_back (alike a)) (IsNumberBelow g) r) (Some target) leads,
     )
 
-module _ (g : Grammar) (of : Kinds) (lexicon : Lexicon) {trees others : Trees} (address front rest : List ℕ) (tokens : List Token) (all : HaveSameTables trees others) where
+module _ (g : Grammar) (of : Kinds) (lexicon : Lexicon) {trees others : Trees} (address front rest : List ℕ) (tokens : List Token)
+    (all : HaveSameOthers address trees others) where
   findable_too : (next : ReferenceNext) (name : List ℕ) → IsFindable g of lexicon trees address front rest tokens next name →
       IsFindable g of lexicon others address front rest tokens next name
   findable_too next name (start.in_front {tree} {r} is target) = start.in_front is (target_too g address tree (renamed_to name r) all target)
@@ -103,7 +108,7 @@ module _ (g : Grammar) (of : Kinds) (lexicon : Lexicon) {trees others : Trees} (
   known_too added name (offer.found is) =
       offer.found (record { next = is.next; comes = is.comes; findable = findable_too is.next name is.findable })
 
-  offered_too : (word : List ℕ) (x : Offer) → IsOffered g of lexicon trees address front rest tokens word x →
+  pub offered_too : (word : List ℕ) (x : Offer) → IsOffered g of lexicon trees address front rest tokens word x →
       IsOffered g of lexicon others address front rest tokens word x
   offered_too word x (offer.keyword begins is) = offer.keyword begins is
   offered_too word x (offer.name {n} begins is) =
@@ -130,7 +135,7 @@ module _ (g : Grammar) (one_way : IsReadOneWay g) (texts : Texts) (address text 
         typed = is.typed;
         tokens = is.tokens;
         cut = is.cut;
-        offered = offered_too g _ _ address is.front is.rest is.tokens all is.word x is.offered;
+        offered = offered_too g _ _ address is.front is.rest is.tokens (λ tree. having_alike address tree all) is.word x is.offered;
       })
 
   held_too : (offers others : List Offer) → AreOffers g texts address text offset offers → AreOffers g texts address text offset others → (x : Offer) →
