@@ -86,7 +86,7 @@ module _ (g : Grammar) where
 
   -- ---- and each fault of names is a part
 
-  told_as : Declaration → GrammarFault
+  abbrev told_as : Declaration → GrammarFault
   told_as again = fault 4 again.file again.span again.name
 
   second_part : {again : Declaration} → IsSecondDeclaration g again → TellsSecond g (told_as again)

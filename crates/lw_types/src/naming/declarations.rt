@@ -78,7 +78,8 @@ impl KnownNames<'_> {
     {
         match self.numbers.called(self.g, name) {
             Called::Rule(place, _) => place == i,
-            Called::Terminal(..) | Called::Nothing => false,
+            Called::Terminal(..) => false,
+            Called::Nothing => false,
         }
     }
 }
@@ -126,7 +127,8 @@ impl KnownNames<'_> {
     {
         match self.numbers.called(self.g, name) {
             Called::Terminal(place, _) => place == i,
-            Called::Rule(..) | Called::Nothing => false,
+            Called::Rule(..) => false,
+            Called::Nothing => false,
         }
     }
 }
@@ -174,7 +176,8 @@ impl KnownNames<'_> {
     {
         match self.numbers.declared(self.g, name) {
             Declares::Interface(place, _) => place == i,
-            Declares::Union(..) | Declares::Nothing => false,
+            Declares::Union(..) => false,
+            Declares::Nothing => false,
         }
     }
 }
@@ -222,7 +225,8 @@ impl KnownNames<'_> {
     {
         match self.numbers.declared(self.g, name) {
             Declares::Union(place, _) => place == i,
-            Declares::Interface(..) | Declares::Nothing => false,
+            Declares::Interface(..) => false,
+            Declares::Nothing => false,
         }
     }
 }

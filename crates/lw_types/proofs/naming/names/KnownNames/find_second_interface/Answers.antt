@@ -1,4 +1,4 @@
-use Rattle.std.proofs.Common.{refl}
+use Rattle.std.proofs.Common.{refl, sym, ◌∙◌, true≢false}
 use Rattle.std.proofs.lemmas.Result.{on_ok_weaker}
 use Rattle.lw_grammar.specs.Named.{IsInterface, declared_interface, declared_union}
 use Rattle.lw_faults.specs.Faults.{fault}
@@ -19,4 +19,4 @@ returns c =
     let g = c.args.self.now.g.now in
     let x = c.args.interface.now in
     on_ok_weaker c.add.result
-    (Finds-where (¬ IsInterface g x.name c.args.i x) (fault 4 x.file x.span x.name) (λ is. c.if-means_interface.false (c.means_interface.ensures.1 (x, is)))) c.add.ensures
+    (Finds-where (¬ IsInterface g x.name c.args.i x) (fault 4 x.file x.span x.name) (λ is. true≢false (sym (c.means_interface.ensures.1 (x, is)) ∙ c.if-means_interface.false))) c.add.ensures
