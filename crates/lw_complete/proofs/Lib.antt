@@ -19,6 +19,7 @@ mod KeywordsCut
 mod KeywordsNext
 mod KindNumbers
 mod KnownNext
+mod MeantFound
 mod NamedFront
 mod NamedKnown
 mod NamedNext

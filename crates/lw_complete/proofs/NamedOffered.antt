@@ -6,6 +6,7 @@ use Rattle.lw_faults.specs.Finding.{Finds, OfSome}
 use Rattle.lw_grammar.specs.Kinds.{Kinds}
 use Rattle.lw_parse.specs.Parsers.{ParserParts}
 use Rattle.lw_program.specs.Says.{Task}
+use Rattle.lw_reading.specs.Laws.{IsReadOneWay}
 use Rattle.lw_reading.proofs.Listed.{mapped}
 use Rattle.lw_scoping.specs.Links.{Trees}
 use Rattle.lw_grammar.specs.Marks.{Mark}
@@ -28,7 +29,8 @@ use Rattle.lw_complete.specs.declared.known.Known.{Known}
 use Rattle.lw_complete.specs.declared.typing.Typing.{Typing}
 use Rattle.lw_complete.specs.Judged.{LeadsWhole, StandsWhole}
 use Rattle.lw_complete.specs.Starts.{BeginsAt, ComesAt, IsBlankName, IsNameFoundAt, IsKnownStart, IsOfferedBy, IsParsedBy, IsStartOf, LeadsInFront}
-use Rattle.lw_complete.specs.Typing.{grammar_of, kinds_before}
+use Rattle.lw_complete.specs.Typing.{IsTypedBy, grammar_of, kinds_before}
+use Rattle.lw_complete.proofs.MeantFound.{found_when_known}
 use Rattle.lw_complete.proofs.NamedFront.{leads_by}
 use Rattle.lw_complete.proofs.NamedNext.{IsStart, begins, reads_so}
 
@@ -121,7 +123,6 @@ module _ (typing : Typing) (of : Kinds) (lexicon : Lexicon) (tasks : List Task) 
         let (after, sentence) =
         reads_so typing of tasks parser parsed led.one.start.now (is_start led.one led.among) next at (kinds (visible is.added)) read.gives in
         record {
-          found = found;
           next = next;
           comes = at.comes;
           read = record {
@@ -136,6 +137,7 @@ module _ (typing : Typing) (of : Kinds) (lexicon : Lexicon) (tasks : List Task) 
             sentence = sentence;
           };
           leads = leads_there name next led.one led.among at led.judged leads led.whole;
+          known = offer.found found;
         }
 
     record Judgement (name : List ℕ) (next : ReferenceNext) (one : Known) : Type 0 where
@@ -197,10 +199,15 @@ module _ (typing : Typing) (of : Kinds) (lexicon : Lexicon) (tasks : List Task) 
           behind = subst (λ (s : ReferenceStart). PlacesGive (grammar_of typing) of tasks s.behind after) (sym same) b.behind;
         }
 
-    pub all_offered : (names : List (List ℕ)) → ((name : List ℕ) → Contains names name ↔ IsFound name) → (found : List (List ℕ)) →
+    is_found : IsTypedBy of lexicon typing → IsReadOneWay (grammar_of typing) → (name : List ℕ) → IsNext name → IsFound name
+    is_found typed one_way name is =
+        found_when_known (grammar_of typing) parsed.faultless.types parsed.faultless.checks one_way of lexicon typed.are_kinds typed.is_lexicon typing.front.now name
+        typing.rest.now typing.tokens.now is.read.added typed.cut is.read.cut is.read.some trees address is.next is.comes is.leads is.known
+
+    pub all_offered : IsTypedBy of lexicon typing → IsReadOneWay (grammar_of typing) → (names : List (List ℕ)) → ((name : List ℕ) → Contains names name ↔ IsFound name) → (found : List (List ℕ)) →
         ((name : List ℕ) → Contains found name ↔ (Contains names name × IsOffered name)) → (name : List ℕ) →
         Contains found name ↔ (BeginsBy typing.word.now name × IsNext name)
-    all_offered names are found exact name = (
+    all_offered typed one_way names are found exact name = (
       λ has. (let (among, is) = (exact name).0 has in (is.begins, offered_next name ((are name).0 among) is)),
-      λ (word, is). (exact name).1 ((are name).1 is.found, next_offered name word is),
+      λ (word, is). (exact name).1 ((are name).1 (is_found typed one_way name is), next_offered name word is),
     )

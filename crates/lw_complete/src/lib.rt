@@ -10,7 +10,8 @@
 //!
 //! It promises exactly what `lw_places::offers` defines: all that is offered, each once, and nothing else. Offers
 //! come in the order of labels and then of kinds ([`complete`]). Want of memory may take the place of the answer.
-//! The kinds of items are the numbers of the protocol ([`kinds_of_items`]).
+//! The kinds of items are the numbers of the protocol ([`kinds_of_items`]). Where the text with a name means it by its bytes, the name
+//! is among those that are found without it ([`a_name_that_is_meant_is_found`]).
 //!
 //! Names that are tried are those that would be found from one of the places where a cross-reference may come next: in the tree of what was
 //! read before, or in that of the whole text with the reference left blank, which is made once for each place, or among what other documents
@@ -26,6 +27,7 @@ mod item;
 mod judging;
 mod keywords;
 mod known;
+mod laws;
 mod names;
 mod sorted;
 mod starting;
@@ -35,3 +37,4 @@ mod written;
 
 pub use completion::complete;
 pub use item::{Item, KEYWORD_ITEM, REFERENCE_ITEM, kinds_of_items};
+pub use laws::a_name_that_is_meant_is_found;

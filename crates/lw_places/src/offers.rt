@@ -4,7 +4,8 @@
 //! `specs/Starting.antt` says which cross-references may come next, and what the trees are in which their names are looked for: that of the
 //! text before the word, and that of the whole text with the reference left blank. `specs/Offers.antt` says what is offered: a keyword that
 //! is one token there and with which some sentence goes on, and a name that is read there as a cross-reference and leads somewhere once it
-//! is written. Places are byte offsets, counted from zero.
+//! is written. Where the text with the name means something else by its bytes, the name is offered only if it is found without it. Places
+//! are byte offsets, counted from zero.
 //!
 //! There is no code here. Each function has an empty body, and its contract is a law that a reader would expect. By a
 //! grammar by which a text is read in one way, there is one list of offers at most ([`one_list`]). Of the names by

@@ -100,7 +100,7 @@ returns-clause-names c of lexicon tasks trees address read readings one_way amon
     (λ found. (name : List ℕ) → Contains found.items name ↔
     (BeginsBy typing.word.now name × IsNameNext g of lexicon trees address typing.front.now typing.rest.now typing.tokens.now name))
     (λ found exact.
-    all_offered typing of lexicon tasks parser read.parsed starts all trees address known are_starts are_known c.dedup.new.self.items
+    all_offered typing of lexicon tasks parser read.parsed starts all trees address known are_starts are_known read.typed one_way c.dedup.new.self.items
     (λ name. (λ has. (found_are name).0 ((same name).0 has), λ is. (same name).1 ((found_are name).1 is))) found.items exact)
     (c.offered.ensures.offered of lexicon tasks trees address read (record { tried = tried; one_way = one_way; among = among }))
 
