@@ -6,6 +6,8 @@ pub mod Wrong
 pub mod Attributes
 pub mod Rounds
 pub mod FirstSeen
+pub mod InOrder
+pub mod PutIn
 pub mod Values
 pub mod Sightings
 pub mod Having
