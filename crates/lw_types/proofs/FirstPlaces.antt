@@ -25,7 +25,7 @@ module _ {E P : Type 0} (Ahead : P → P → Type 0) (place_of : E → P) where
   ], ascends_both es fs one.1 two (λ d f has had. across d f (behind_front e es d has) had))
 
 module _ {E P X : Type 0} (Ahead : P → P → Type 0) (place_of : E → P) (item_of : E → X) where
-  stands : {had ys : List X} (es : List E) → FirstSeen had (map item_of es) ys → (x : X) → Contains ys x → (e : E) × Contains es e × (item_of e ≡ x)
+  stands : (es : List E) {had ys : List X} → FirstSeen had (map item_of es) ys → (x : X) → Contains ys x → (e : E) × Contains es e × (item_of e ≡ x)
   stands [] seen.none x has = absurd (not_in_none x has)
   stands (e ∷ es) (seen.again was rest) x has = let found = stands es rest x has in (found.0, behind_front e es found.0 found.1, found.2)
   stands (e ∷ es) (seen.new {ys} fresh rest) x has = elim (front_cases (item_of e) ys x has) [
@@ -33,13 +33,13 @@ module _ {E P X : Type 0} (Ahead : P → P → Type 0) (place_of : E → P) (ite
     | inr later ↦ let found = stands es rest x later in (found.0, behind_front e es found.0 found.1, found.2)
   ]
 
-  is_seen : {had ys : List X} (es : List E) → FirstSeen had (map item_of es) ys → (f : E) → Contains es f → Either had ys (item_of f)
+  is_seen : (es : List E) {had ys : List X} → FirstSeen had (map item_of es) ys → (f : E) → Contains es f → Either had ys (item_of f)
   is_seen [] seen.none f has = absurd (not_in_none f has)
-  is_seen {had} (e ∷ es) (seen.again was rest) f has = elim (front_cases e es f has) [
+  is_seen (e ∷ es) {had} (seen.again was rest) f has = elim (front_cases e es f has) [
     | inl is ↦ inl (subst (Contains had) (ap item_of is) was)
     | inr later ↦ is_seen es rest f later
   ]
-  is_seen {had} (e ∷ es) (seen.new {ys} fresh rest) f has = elim (front_cases e es f has) [
+  is_seen (e ∷ es) {had} (seen.new {ys} fresh rest) f has = elim (front_cases e es f has) [
     | inl is ↦ inr (subst (Contains (item_of e ∷ ys)) (ap item_of is) (at_front (item_of e) ys))
     | inr later ↦ elim (is_seen es rest f later) [
       | inl was ↦ elim (front_cases (item_of e) had (item_of f) was) [
@@ -68,18 +68,18 @@ module _ {E P X : Type 0} (Ahead : P → P → Type 0) (place_of : E → P) (ite
     | inr later ↦ ahead f later same
   ])
 
-  ordered : {had ys : List X} (es : List E) → FirstSeen had (map item_of es) ys → Ascends Ahead place_of es → (i j : ℕ) (x y : X) → i < j → slice_get ys i ≡ Some x →
+  ordered : (es : List E) {had ys : List X} → FirstSeen had (map item_of es) ys → Ascends Ahead place_of es → (i j : ℕ) (x y : X) → i < j → slice_get ys i ≡ Some x →
       slice_get ys j ≡ Some y → FirstAhead es x y
   ordered [] seen.none ascends i j x y below at_i at_j = absurd (none-some x at_i)
-  ordered {had} (e ∷ es) (seen.again {ys} was rest) ascends i j x y below at_i at_j =
+  ordered (e ∷ es) {had} (seen.again {ys} was rest) ascends i j x y below at_i at_j =
       further e es x y (λ same. not_had rest y (at_place ys j y at_j) (subst (Contains had) same was)) (ordered es rest ascends.1 i j x y below at_i at_j)
   ordered (e ∷ es) (seen.new fresh rest) ascends i zero x y below at_i at_j = absurd (omega (arith, below))
-  ordered {had} (e ∷ es) (seen.new {ys} fresh rest) ascends zero (suc j) x y below at_i at_j =
+  ordered (e ∷ es) {had} (seen.new {ys} fresh rest) ascends zero (suc j) x y below at_i at_j =
       (e, at_front e es, same_Some (item_of e) x at_i, λ f there same. elim (front_cases e es f there) [
         | inl is ↦ absurd (not_had rest y (at_place ys j y at_j) (subst (Contains (item_of e ∷ had)) (ap item_of is ∙ same) (at_front (item_of e) had)))
         | inr later ↦ ascends.0 f later
       ])
-  ordered {had} (e ∷ es) (seen.new {ys} fresh rest) ascends (suc i) (suc j) x y below at_i at_j =
+  ordered (e ∷ es) {had} (seen.new {ys} fresh rest) ascends (suc i) (suc j) x y below at_i at_j =
       further e es x y (λ same. not_had rest y (at_place ys j y at_j) (subst (Contains (item_of e ∷ had)) same (at_front (item_of e) had)))
       (ordered es rest ascends.1 i j x y (omega (arith, below)) at_i at_j)
 

@@ -12,7 +12,7 @@ use Rattle.lw_grammar.specs.declared.rule.Op.TheVariants.{One, Add, Flag}
 use Rattle.lw_grammar.specs.declared.rule.Rule.{Rule}
 use Rattle.lw_grammar.specs.declared.rule.Value0.{Value0}
 use Rattle.lw_grammar.specs.declared.rule.Action.{Action}
-use Rattle.lw_grammar.specs.declared.terminal.Primitive.TheVariants.{Boolean}
+use Rattle.lw_grammar.specs.declared.terminal.Primitive.TheVariants.{Text, Boolean}
 use Rattle.lw_grammar.specs.declared.declared_types.ValueKind.{ValueKind}
 use Rattle.lw_grammar.specs.declared.declared_types.ValueKind.TheVariants as of_kind
 use Rattle.lw_grammar.specs.Leaves as leaf
@@ -39,6 +39,10 @@ IsBelow i j = i < j
 
 abbrev pub with_number : ℕ → ValueKind → ℕ × ValueKind
 with_number k v = (k, v)
+
+-- what `?=` puts in
+abbrev boolean_at : ℕ × ValueKind
+boolean_at = (0, of_kind.Plain Boolean)
 
 -- ---- of one number
 
@@ -69,7 +73,7 @@ module _ (g : Grammar) where
 
   few : (k : ℕ) (kind : Kind) → Ascends IsBelow number_of (map (with_number k) (values_of_kind g kind))
   few k (Plain primitive) = ascends_one IsBelow number_of (with_number k (of_kind.Plain primitive))
-  few k (TextsOf type_name) = ascends_one IsBelow number_of (with_number k (of_kind.Plain _))
+  few k (TextsOf type_name) = ascends_one IsBelow number_of (with_number k (of_kind.Plain Text))
   few k (NodesOf type_name) = few_numbered k nodes_of (type_number g type_name)
   few k (ReferencesTo wanted) = few_numbered k refs_to (type_number g wanted)
 
@@ -175,25 +179,27 @@ module _ (g : Grammar) where
           ascends = parts.ascends;
           sound = λ w has.
               let found = parts.sound w has in
-              subst (λ i. PutsValue g written (leaf.Assign p op v s) type_name p i w.1) (sym found.1)
+              let same : found.0 ≡ w.0 = omega (arith, found.1) in
+              subst (λ i. PutsValue g written (leaf.Assign p op v s) type_name p i w.1) same
               (put.part owner before found.2.0 found.2.1 is now not found.2.2 found.2.3 found.2.4);
-          complete = λ i w puts. parts.complete i w (from_part not puts);
+          complete = λ i w puts.
+              let same : 0 + i ≡ i = omega arith in subst (λ j. Contains parts.list (j, w)) same (parts.complete i w (from_part not puts));
         }
 
     flag_at : {values : List ValueKind} → values ≡ of_kind.Plain Boolean ∷ [] → IsBehind g owner before (step written (leaf.Assign p Flag v s)) →
         IsCurrentType g owner before type_name → AreValuesAt written (leaf.Assign p Flag v s) type_name p values
     flag_at {values} gives is now = record {
-      list = (0, of_kind.Plain Boolean) ∷ [];
+      list = boolean_at ∷ [];
       told = sym gives;
-      ascends = ascends_one IsBelow number_of (0, of_kind.Plain Boolean);
-      sound = λ w has. elim (front_cases (0, of_kind.Plain Boolean) [] w has) [
-        | inl same ↦ subst (λ x. PutsValue g written (leaf.Assign p Flag v s) type_name p x.0 x.1) same (put.flag owner before is now)
+      ascends = ascends_one IsBelow number_of boolean_at;
+      sound = λ w has. elim (front_cases boolean_at [] w has) [
+        | inl same ↦ subst (λ (x : ℕ × ValueKind). PutsValue g written (leaf.Assign p Flag v s) type_name p x.0 x.1) same (put.flag owner before is now)
         | inr later ↦ absurd (not_in_none w later)
       ];
       complete = λ i w puts.
           let found = from_flag puts in
-          subst (λ x. Contains ((0, of_kind.Plain Boolean) ∷ []) (x, w)) (sym found.0)
-          (subst (λ x. Contains ((0, of_kind.Plain Boolean) ∷ []) (0, x)) (sym found.1) (at_front (0, of_kind.Plain Boolean) []));
+          subst (λ x. Contains {X = ℕ × ValueKind} (boolean_at ∷ []) (x, w)) (sym found.0)
+          (subst (λ x. Contains {X = ℕ × ValueKind} (boolean_at ∷ []) (0, x)) (sym found.1) (at_front boolean_at []));
     }
 
     pub assigned_at : (op : Op) (values : List ValueKind) → AssignmentGives g op v values → IsBehind g owner before (step written (leaf.Assign p op v s)) →
@@ -230,14 +236,15 @@ has_node (x ∷ xs) n has = elim (front_cases x xs n has) [
 
 pub in_filter : (q : ℕ → Bool) (xs : List ℕ) (n : ℕ) → Contains (filter q xs) n → Contains xs n × (q n ≡ true)
 in_filter q [] n has = absurd (not_in_none n has)
-in_filter q (x ∷ xs) n has = by (q x) refl has
+in_filter q (x ∷ xs) n has = by (q x) refl has (in_filter q xs n)
   where
-    by : (b : Bool) → q x ≡ b → Contains (cond b (x ∷ filter q xs) (filter q xs)) n → Contains (x ∷ xs) n × (q n ≡ true)
-    by true e kept = elim (front_cases x (filter q xs) n kept) [
+    by : (b : Bool) → q x ≡ b → Contains (cond b (x ∷ filter q xs) (filter q xs)) n → (Contains (filter q xs) n → Contains xs n × (q n ≡ true)) →
+        Contains (x ∷ xs) n × (q n ≡ true)
+    by true e kept rest = elim (front_cases x (filter q xs) n kept) [
       | inl is ↦ (subst (Contains (x ∷ xs)) is (at_front x xs), subst (λ k. q k ≡ true) is e)
-      | inr later ↦ let found = in_filter q xs n later in (behind_front x xs n found.0, found.1)
+      | inr later ↦ let found = rest later in (behind_front x xs n found.0, found.1)
     ]
-    by false e kept = let found = in_filter q xs n kept in (behind_front x xs n found.0, found.1)
+    by false e kept rest = let found = rest kept in (behind_front x xs n found.0, found.1)
 
 pub to_filter : (q : ℕ → Bool) (xs : List ℕ) (n : ℕ) → Contains xs n → q n ≡ true → Contains (filter q xs) n
 to_filter q [] n has passes = absurd (not_in_none n has)

@@ -26,7 +26,7 @@ use Rattle.lw_properties.specs.Places.{IsComeTo}
 use Rattle.lw_types.specs.Values.{AssignmentGives, nodes_of}
 use Rattle.lw_types.specs.Sightings.{Sighting, sighting, sightings, one_of, prop_number, known_nodes, current_nodes, put_by, SeenAtLeaf}
 use Rattle.lw_types.specs.Sightings as along
-use Rattle.lw_types.specs.PutIn.{LeafPlace, IsWrittenAt, HasLeavesApart, Puts, PutsValue}
+use Rattle.lw_types.specs.PutIn.{LeafPlace, IsAhead, IsWrittenAt, HasLeavesApart, Puts, PutsValue}
 use Rattle.lw_types.specs.PutIn as put
 use Rattle.lw_types.proofs.Alike.{none_kept, one_kept, of_sightings, of_type}
 use Rattle.lw_types.proofs.Firsts.{at_front, behind_front, front_cases, not_in_none}
@@ -195,25 +195,27 @@ module _ (g : Grammar) {rows : List (List Before)} (ways : AreWaysOf g rows) (ap
         complete = λ place written other p {list} within there puts. absurd (none p list (puts_here within there puts));
       }
 
+      one_entry : (e : Entry) → IsEntry g type_name n e → e.place ≡ leaf_at w i → {found : List Sighting} → of_type n found ≡ e.sighting ∷ [] →
+          ((p : List ℕ) (list : Bool) → Puts g rule l type_name p list → e.name ≡ p) → Lists g type_name n (HereAlone w i) found (e ∷ [])
+      one_entry e is_entry here is alone = record {
+        told = sym is;
+        ascends = ascends_one IsAhead place_of e;
+        each = λ f has. elim (front_cases e [] f has) [
+          | inl same ↦ subst (λ (x : Entry). (x.place ≡ leaf_at w i) × IsEntry g type_name n x) same (here, is_entry)
+          | inr later ↦ absurd (not_in_none f later)
+        ];
+        complete = λ place written other p {list} within there also.
+            (e, at_front e [], here ∙ sym within, alone p list (puts_here within there also));
+      }
+
       one_here : {found : List Sighting} (name : List ℕ) (q : ℕ) (list : Bool) (values : List ValueKind) → of_type n found ≡ sighting n q list values ∷ [] →
           Puts g rule l type_name name list → prop_number g name ≡ Some q → AreValuesAt g rule l type_name name values →
           ((p : List ℕ) (list : Bool) → Puts g rule l type_name p list → name ≡ p) → (es : List Entry) × Lists g type_name n (HereAlone w i) found es
-      one_here name q list values is puts number these alone = (this ∷ [], record {
-        told = sym is;
-        ascends = ascends_one _ place_of this;
-        each = λ e has. elim (front_cases this [] e has) [
-          | inl same ↦ subst (λ x. (x.place ≡ leaf_at w i) × IsEntry g type_name n x) same (refl, is_entry)
-          | inr later ↦ absurd (not_in_none e later)
-        ];
-        complete = λ place written other p {list} within there also.
-            (this, at_front this [], sym within, alone p list (puts_here within there also));
-      })
-        where
-          abbrev this : Entry
-          this = record { place = leaf_at w i; name = name; sighting = sighting n q list values; values = these.list }
-
-          is_entry : IsEntry g type_name n this
-          is_entry = record { written = rule; leaf = l; there = written_here at; puts = puts; number = number; values = these; same = refl }
+      one_here name q list values is puts number these alone =
+          let this : Entry = record { place = leaf_at w i; name = name; sighting = sighting n q list values; values = these.list } in (
+            this ∷ [],
+            one_entry this (record { written = rule; leaf = l; there = written_here at; puts = puts; number = number; values = these; same = refl }) refl is alone,
+          )
 
     -- ---- each kind of leaf
 
@@ -224,9 +226,6 @@ module _ (g : Grammar) {rows : List (List Before)} (ways : AreWaysOf g rows) (ap
         by (has_number g rule (leaf.Assign p op v s) p (at_place g.rules w rule at.at_rule) (at_place (leaves rule.body) i (leaf.Assign p op v s) at.at_leaf) (at_front p []))
         (kept_cases n entry.current.items (ascending at))
       where
-        abbrev Wanted : Type 0
-        Wanted = (es : List Entry) × Lists g type_name n (HereAlone w i) (sightings entry.current.items (prop_number g p) (is_list op) values) es
-
         told : (q : ℕ) (numbers : List ℕ) → prop_number g p ≡ Some q → kept n entry.current.items ≡ numbers →
             of_type n (sightings entry.current.items (prop_number g p) (is_list op) values) ≡ map (λ of. sighting of q (is_list op) values) numbers
         told q numbers number same =
@@ -234,7 +233,7 @@ module _ (g : Grammar) {rows : List (List Before)} (ways : AreWaysOf g rows) (ap
             ∙ of_sightings n q (is_list op) values entry.current.items ∙ ap (map (λ of. sighting of q (is_list op) values)) same
 
         by : (q : ℕ) × (prop_number g p ≡ Some q) → (Contains entry.current.items n × (kept n entry.current.items ≡ n ∷ [])) ⊎ ((¬ Contains entry.current.items n) × (kept n entry.current.items ≡ [])) →
-            Wanted
+            (es : List Entry) × Lists g type_name n (HereAlone w i) (sightings entry.current.items (prop_number g p) (is_list op) values) es
         by (q, number) (inl (has, same)) =
             let way = is_current at type_name n named has in
             one_here at p q (is_list op) values (told q (n ∷ []) number same) (put.assigned way.0 way.1 way.2 way.3) number (assigned_at g op values gives way.2 way.3)

@@ -27,7 +27,7 @@ record AreLast {X : Type 0} (all : List X) (i : ℕ) (last : List X) : Type 0 wh
   at : (k : ℕ) (x : X) → slice_get last k ≡ Some x → slice_get all (i + k) ≡ Some x
 
 all_last : {X : Type 0} (all : List X) → AreLast all 0 all
-all_last all = record { ends = refl; at = λ k x is. is }
+all_last all = record { ends = omega arith; at = λ k x is. let same : k ≡ 0 + k = omega arith in subst (λ m. slice_get all m ≡ Some x) same is }
 
 one_less : {X : Type 0} {all last : List X} {i : ℕ} {x : X} → AreLast all i (x ∷ last) → AreLast all (suc i) last
 one_less {all} {last} {i} are = record {

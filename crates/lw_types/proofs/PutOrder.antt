@@ -11,14 +11,16 @@ use Rattle.lw_grammar.specs.declared.grammar.Grammar.{Grammar}
 use Rattle.lw_grammar.specs.declared.rule.Rule.{Rule}
 use Rattle.lw_grammar.specs.declared.declared_types.ValueKind.{ValueKind}
 use Rattle.lw_grammar.specs.Leaves.{Leaf, leaves}
-use Rattle.lw_numbers.specs.Numbering.{property_names}
+use Rattle.lw_numbers.specs.Numbering.{property_names, type_names}
+use Rattle.lw_flow.specs.declared.before.Before.{Before}
+use Rattle.lw_flow.specs.Recorded.{AreWaysOf}
 use Rattle.lw_types.specs.FirstSeen.{FirstSeen}
 use Rattle.lw_types.specs.FirstSeen as seen
 use Rattle.lw_types.specs.InOrder.{AreInOrder}
 use Rattle.lw_types.specs.Sightings.{Sighting, prop_number}
-use Rattle.lw_types.specs.Having.{is_new, values_put_in, ArePutInto}
+use Rattle.lw_types.specs.Having.{is_new, values_put_in, ArePutInto, AreInferredProperties}
 use Rattle.lw_types.specs.Having as have
-use Rattle.lw_types.specs.PutIn.{LeafPlace, ValuePlace, IsAhead, IsValueAhead, IsWrittenAt, Puts, PutsValue, IsPutInAt, IsValueAt, IsPropertyPutIn, ArePropertiesPutIn}
+use Rattle.lw_types.specs.PutIn.{LeafPlace, ValuePlace, IsAhead, IsValueAhead, IsWrittenAt, HasLeavesApart, Puts, PutsValue, IsPutInAt, IsValueAt, IsPropertyPutIn, ArePropertiesPutIn}
 use Rattle.lw_types.specs.PutIn as put
 use Rattle.lw_types.specs.declared.property_table.info.PropertyInfo.{PropertyInfo}
 use Rattle.lw_types.proofs.Firsts.{at_front, behind_front, front_cases, not_in_none}
@@ -27,6 +29,10 @@ use Rattle.lw_types.proofs.Putting.{found_passes, none_passes}
 use Rattle.lw_types.proofs.OnePlace.{property_names_it}
 use Rattle.lw_types.proofs.NumberedValues.{number_of, value_of, IsBelow}
 use Rattle.lw_types.proofs.Located.{Entry, place_of, sighting_of, IsEntry, HasEntry, Lists}
+use Rattle.lw_types.proofs.PlacedRules.{all_lists}
+
+abbrev of_number : ℕ → List Sighting → List Sighting
+of_number q = filter (λ (s : Sighting). s.prop == q)
 
 abbrev prop_of : Entry → ℕ
 prop_of e = e.sighting.prop
@@ -92,20 +98,20 @@ puts_of (put.node owner before into _ is puts _ _) = (_, put.acted owner before 
 
 had_has : (had : List ℕ) (n : ℕ) → is_new had n ≡ false → Contains had n
 had_has [] n was = absurd (true≢false was)
-had_has (m ∷ had) n was = by (nat_eq n m) refl was
+had_has (m ∷ had) n was = by (nat_eq n m) refl was (had_has had n)
   where
-    by : (b : Bool) → nat_eq n m ≡ b → not (b || list_any (nat_eq n) had) ≡ false → Contains (m ∷ had) n
-    by true e is = subst (Contains (m ∷ had)) (sym (eqb-true n m e)) (at_front m had)
-    by false e is = behind_front m had n (had_has had n is)
+    by : (b : Bool) → nat_eq n m ≡ b → not (b || list_any (nat_eq n) had) ≡ false → (is_new had n ≡ false → Contains had n) → Contains (m ∷ had) n
+    by true e is later = subst (Contains (m ∷ had)) (sym (eqb-true n m e)) (at_front m had)
+    by false e is later = behind_front m had n (later is)
 
 new_not : (had : List ℕ) (n : ℕ) → is_new had n ≡ true → ¬ Contains had n
 new_not [] n new has = not_in_none n has
-new_not (m ∷ had) n new has = by (nat_eq n m) refl new (front_cases m had n has)
+new_not (m ∷ had) n new has = by (nat_eq n m) refl new (front_cases m had n has) (new_not had n)
   where
-    by : (b : Bool) → nat_eq n m ≡ b → not (b || list_any (nat_eq n) had) ≡ true → (m ≡ n) ⊎ Contains had n → ⊥
-    by true e is either = true≢false (sym is)
-    by false e is (inl same) = true≢false (sym (eq-eqb n m (sym same)) ∙ e)
-    by false e is (inr later) = new_not had n is later
+    by : (b : Bool) → nat_eq n m ≡ b → not (b || list_any (nat_eq n) had) ≡ true → (m ≡ n) ⊎ Contains had n → (is_new had n ≡ true → ¬ Contains had n) → ⊥
+    by true e is either later = true≢false (sym is)
+    by false e is (inl same) later = true≢false (sym (eq-eqb n m (sym same)) ∙ e)
+    by false e is (inr behind) later = later is behind
 
 -- ---- the properties, by what is seen
 
@@ -127,10 +133,10 @@ seen_now has (seen.new fresh _) = absurd (fresh has)
 one_first : (had : List ℕ) (seen : List Sighting) (first : Sighting) {ys : List ℕ} → find (λ s. is_new had s.prop) seen ≡ Some first →
     FirstSeen (first.prop ∷ had) (map prop_in seen) ys → FirstSeen had (map prop_in seen) (first.prop ∷ ys)
 one_first had [] first is rest = absurd (none-some first is)
-one_first had (s ∷ others) first {ys} is rest = by (is_new had s.prop) refl is (one_first had others first)
+one_first had (s ∷ others) first {ys} is rest = by (is_new had s.prop) refl is (λ zs. one_first had others first {ys = zs})
   where
     by : (b : Bool) → is_new had s.prop ≡ b → cond b (Some s) (find (λ (x : Sighting). is_new had x.prop) others) ≡ Some first →
-        ({zs : List ℕ} → find (λ (x : Sighting). is_new had x.prop) others ≡ Some first → FirstSeen (first.prop ∷ had) (map prop_in others) zs →
+        ((zs : List ℕ) → find (λ (x : Sighting). is_new had x.prop) others ≡ Some first → FirstSeen (first.prop ∷ had) (map prop_in others) zs →
         FirstSeen had (map prop_in others) (first.prop ∷ zs)) →
         FirstSeen had (s.prop ∷ map prop_in others) (first.prop ∷ ys)
     by true new here later =
@@ -141,7 +147,7 @@ one_first had (s ∷ others) first {ys} is rest = by (is_new had s.prop) refl is
         (seen_now (subst (Contains (first.prop ∷ had)) (sym same) (at_front first.prop had)) rest)))
     by false old there later =
         let was = had_has had s.prop old in
-        seen.again was (later there (seen_now (behind_front first.prop had s.prop was) rest))
+        seen.again was (later ys there (seen_now (behind_front first.prop had s.prop was) rest))
 
 first_props : (seen : List Sighting) {had : List ℕ} {infos : List PropertyInfo} → ArePutInto seen had infos → FirstSeen had (map prop_in seen) (map number_in infos)
 first_props seen {had} (have.none none) = all_had had seen none
@@ -207,16 +213,16 @@ not_both one other (inr below) (inr above) = omega (arith, below.1, above.1)
 abbrev IsFirstEntry : List Entry → ℕ → Entry → Type 0
 IsFirstEntry es q e = (f : Entry) → Contains es f → prop_of f ≡ q → ¬ IsAhead f.place e.place
 
+abbrev FindsFirst : ℕ → Sighting → List Entry → Type 0
+FindsFirst q s es = (e : Entry) × Contains es e × (e.sighting ≡ s) × IsFirstEntry es q e
+
 first_entry : (es : List Entry) (q : ℕ) (s : Sighting) → Ascends IsAhead place_of es → find (λ x. x.prop == q) (map sighting_of es) ≡ Some s →
-    (e : Entry) × Contains es e × (e.sighting ≡ s) × IsFirstEntry es q e
+    FindsFirst q s es
 first_entry [] q s ascends is = absurd (none-some s is)
 first_entry (d ∷ es) q s ascends is = by (prop_of d == q) refl is (first_entry es q s ascends.1)
   where
-    abbrev Wanted : List Entry → Type 0
-    Wanted all = (e : Entry) × Contains all e × (e.sighting ≡ s) × IsFirstEntry all q e
-
     by : (b : Bool) → (prop_of d == q) ≡ b → cond b (Some d.sighting) (find (λ (x : Sighting). x.prop == q) (map sighting_of es)) ≡ Some s →
-        (find (λ (x : Sighting). x.prop == q) (map sighting_of es) ≡ Some s → Wanted es) → Wanted (d ∷ es)
+        (find (λ (x : Sighting). x.prop == q) (map sighting_of es) ≡ Some s → FindsFirst q s es) → FindsFirst q s (d ∷ es)
     by true e here later = (d, at_front d es, same_Some d.sighting s here, λ f has _. elim (front_cases d es f has) [
       | inl is ↦ λ ahead. let same = subst (λ x. IsAhead x.place d.place) (sym is) ahead in not_both d.place d.place same same
       | inr behind ↦ not_both d.place f.place (ascends.0 f behind)
@@ -229,7 +235,7 @@ first_entry (d ∷ es) q s ascends is = by (prop_of d == q) refl is (first_entry
 
 module _ (g : Grammar) (type_name : List ℕ) (n : ℕ) (es : List Entry) (ascends : Ascends IsAhead place_of es)
     (each : (e : Entry) → Contains es e → IsEntry g type_name n e)
-    (complete : (place : LeafPlace) (written : Rule) (l : Leaf) (p : List ℕ) {list : Bool} → IsWrittenAt g place written l → Puts g written l type_name p list →
+    (complete : (place : LeafPlace) (written : Rule) (l : Leaf) (p : List ℕ) (list : Bool) → IsWrittenAt g place written l → Puts g written l type_name p list →
     HasEntry g type_name n es place p) where
   -- an entry has the name of its number
   abbrev name_of : ℕ → List ℕ
@@ -253,7 +259,7 @@ module _ (g : Grammar) (type_name : List ℕ) (n : ℕ) (es : List Entry) (ascen
       }
 
   entry_at : (place : LeafPlace) (p : List ℕ) → IsPutInAt g type_name place p → HasEntry g type_name n es place p
-  entry_at place p is = complete place is.written is.leaf p is.there is.puts
+  entry_at place p is = complete place is.written is.leaf p is.list is.there is.puts
 
   -- ---- the values of a property
 
@@ -267,11 +273,8 @@ module _ (g : Grammar) (type_name : List ℕ) (n : ℕ) (es : List Entry) (ascen
           let is = are e (at_front e fs) in
           placed_values e.place e.values ∙ ap (map value_of) (sym is.same) ∙ is.values.told
 
-      abbrev put_later : List Sighting
-      put_later = filter (λ (s : Sighting). s.prop == q) (map sighting_of fs)
-
-      by : (b : Bool) → map placed_value (all_placed q fs) ≡ flat_map (λ (s : Sighting). s.values) put_later →
-          map placed_value (cond b (placed_of e ++ all_placed q fs) (all_placed q fs)) ≡ flat_map (λ (s : Sighting). s.values) (cond b (e.sighting ∷ put_later) put_later)
+      by : (b : Bool) → map placed_value (all_placed q fs) ≡ flat_map (λ (s : Sighting). s.values) (of_number q (map sighting_of fs)) →
+          map placed_value (cond b (placed_of e ++ all_placed q fs) (all_placed q fs)) ≡ flat_map (λ (s : Sighting). s.values) (cond b (e.sighting ∷ of_number q (map sighting_of fs)) (of_number q (map sighting_of fs)))
       by true rest = map-append placed_value (placed_of e) (all_placed q fs) ∙ ap₂ (λ xs ys. xs ++ ys) of_one rest
       by false rest = rest
 
@@ -345,7 +348,8 @@ module _ (g : Grammar) (type_name : List ℕ) (n : ℕ) (es : List Entry) (ascen
     value_complete : (place : ValuePlace) (v : ValueKind) → IsValueAt g type_name p place v →
         (x : Placed) × Contains (all_placed q es) x × (value_place x ≡ place) × (placed_value x ≡ v)
     value_complete place v at =
-        let found = complete place.at at.written at.leaf p at.there (puts_of at.puts).1 in
+        let also = puts_of at.puts in
+        let found = complete place.at at.written at.leaf p also.0 at.there also.1 in
         let e = found.0 in
         let is = each e found.1 in
         let there : IsWrittenAt g place.at is.written is.leaf = subst (λ x. IsWrittenAt g x is.written is.leaf) found.2 is.there in
@@ -378,12 +382,12 @@ module _ (g : Grammar) (type_name : List ℕ) (n : ℕ) (es : List Entry) (ascen
       exact = λ p. (
         λ has.
             let found = at_map name_of numbers p has in
-            let there = (are.exact found.1).0 (has_at found.0 found.1 found.2) in
+            let there = (are.exact found.1).0 (has_at numbers found.0 found.1 found.2) in
             (there.0, put_in_at there.1.0 there.0 p there.1.1 there.1.2 (sym (named_so there.1.0 there.1.1) ∙ ap name_of there.1.3 ∙ found.3)),
         λ there.
             let e = entry_at there.0 p there.1 in
             let has = (are.exact (prop_of e.0)).1 (there.0, (e.0, e.1, e.2, refl)) in
-            let at = at_of (prop_of e.0) has in
+            let at = at_of numbers (prop_of e.0) has in
             subst (Contains (map name_of numbers)) (named_so e.0 e.1 ∙ e.3) (map_has name_of numbers at.0 (prop_of e.0) at.1),
       );
       ordered = λ i j x y below at_i at_j.
@@ -393,7 +397,7 @@ module _ (g : Grammar) (type_name : List ℕ) (n : ℕ) (es : List Entry) (ascen
           let e = found.1 in
           (found.0, put_in_at e.0 found.0 x e.1 e.2 (sym (named_so e.0 e.1) ∙ ap name_of e.3 ∙ one.2), λ place there.
               let f = entry_at place y there in
-              let d = by_number other.0 (has_at j other.0 other.1) in
+              let d = by_number other.0 (has_at numbers j other.0 other.1) in
               let same : f.0.name ≡ d.0.name = f.3 ∙ sym other.2 ∙ ap name_of (sym d.2) ∙ named_so d.0 d.1 in
               found.2 place (f.0, f.1, f.2, same_number f.0 d.0 f.1 d.1 same ∙ d.2));
     }
@@ -439,3 +443,13 @@ module _ (g : Grammar) (type_name : List ℕ) (n : ℕ) (es : List Entry) (ascen
       all = same_count number_in infos ∙ same_count name_of (map number_in infos);
       each = told_so;
     }
+
+-- where the rows say what may come before leaves, and leaves stand apart
+pub inferred_put_in : (g : Grammar) {rows : List (List Before)} → AreWaysOf g rows → HasLeavesApart g → (type_name : List ℕ) (n : ℕ) (infos : List PropertyInfo) →
+    slice_get (type_names g) n ≡ Some type_name → AreInferredProperties g rows n infos → ArePropertiesPutIn g type_name infos
+inferred_put_in g ways apart type_name n infos named are =
+    let listed = all_lists g ways apart type_name n named are.in_rules in
+    let lists = listed.1 in
+    are_put_in g type_name n listed.0 lists.ascends (λ e has. (lists.each e has).1)
+    (λ place written l p list there puts. let least : 0 ≤ place.rule = omega arith in lists.complete place written l p least there puts) infos
+    (subst (λ seen. ArePutInto seen [] infos) (sym lists.told) are.put_into)
