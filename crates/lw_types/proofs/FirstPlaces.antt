@@ -19,10 +19,13 @@ module _ {E P : Type 0} (Ahead : P → P → Type 0) (place_of : E → P) where
 
   pub ascends_both : (es fs : List E) → Ascends es → Ascends fs → ((e f : E) → Contains es e → Contains fs f → Ahead (place_of e) (place_of f)) → Ascends (es ++ fs)
   ascends_both [] fs one two across = two
-  ascends_both (e ∷ es) fs one two across = (λ f has. elim (Contains-append_cases es fs f has) [
-    | inl within ↦ one.0 f within
-    | inr later ↦ across e f (at_front e es) later
-  ], ascends_both es fs one.1 two (λ d f has had. across d f (behind_front e es d has) had))
+  ascends_both (e ∷ es) fs one two across = (
+    λ f has. elim (Contains-append_cases es fs f has) [
+      | inl within ↦ one.0 f within
+      | inr later ↦ across e f (at_front e es) later
+    ],
+    ascends_both es fs one.1 two (λ d f has had. across d f (behind_front e es d has) had),
+  )
 
 module _ {E P X : Type 0} (Ahead : P → P → Type 0) (place_of : E → P) (item_of : E → X) where
   stands : (es : List E) {had ys : List X} → FirstSeen had (map item_of es) ys → (x : X) → Contains ys x → (e : E) × Contains es e × (item_of e ≡ x)
@@ -63,10 +66,15 @@ module _ {E P X : Type 0} (Ahead : P → P → Type 0) (place_of : E → P) (ite
 
   -- one more in front, which the second is not
   further : (d : E) (es : List E) (x y : X) → ¬ (item_of d ≡ y) → FirstAhead es x y → FirstAhead (d ∷ es) x y
-  further d es x y apart (e, has, is, ahead) = (e, behind_front d es e has, is, λ f there same. elim (front_cases d es f there) [
-    | inl this ↦ absurd (apart (ap item_of this ∙ same))
-    | inr later ↦ ahead f later same
-  ])
+  further d es x y apart (e, has, is, ahead) = (
+    e,
+    behind_front d es e has,
+    is,
+    λ f there same. elim (front_cases d es f there) [
+      | inl this ↦ absurd (apart (ap item_of this ∙ same))
+      | inr later ↦ ahead f later same
+    ],
+  )
 
   ordered : (es : List E) {had ys : List X} → FirstSeen had (map item_of es) ys → Ascends Ahead place_of es → (i j : ℕ) (x y : X) → i < j → slice_get ys i ≡ Some x →
       slice_get ys j ≡ Some y → FirstAhead es x y
@@ -74,11 +82,15 @@ module _ {E P X : Type 0} (Ahead : P → P → Type 0) (place_of : E → P) (ite
   ordered (e ∷ es) {had} (seen.again {ys} was rest) ascends i j x y below at_i at_j =
       further e es x y (λ same. not_had rest y (at_place ys j y at_j) (subst (Contains had) same was)) (ordered es rest ascends.1 i j x y below at_i at_j)
   ordered (e ∷ es) (seen.new fresh rest) ascends i zero x y below at_i at_j = absurd (omega (arith, below))
-  ordered (e ∷ es) {had} (seen.new {ys} fresh rest) ascends zero (suc j) x y below at_i at_j =
-      (e, at_front e es, same_Some (item_of e) x at_i, λ f there same. elim (front_cases e es f there) [
-        | inl is ↦ absurd (not_had rest y (at_place ys j y at_j) (subst (Contains (item_of e ∷ had)) (ap item_of is ∙ same) (at_front (item_of e) had)))
-        | inr later ↦ ascends.0 f later
-      ])
+  ordered (e ∷ es) {had} (seen.new {ys} fresh rest) ascends zero (suc j) x y below at_i at_j = (
+    e,
+    at_front e es,
+    same_Some (item_of e) x at_i,
+    λ f there same. elim (front_cases e es f there) [
+      | inl is ↦ absurd (not_had rest y (at_place ys j y at_j) (subst (Contains (item_of e ∷ had)) (ap item_of is ∙ same) (at_front (item_of e) had)))
+      | inr later ↦ ascends.0 f later
+    ],
+  )
   ordered (e ∷ es) {had} (seen.new {ys} fresh rest) ascends (suc i) (suc j) x y below at_i at_j =
       further e es x y (λ same. not_had rest y (at_place ys j y at_j) (subst (Contains (item_of e ∷ had)) same (at_front (item_of e) had)))
       (ordered es rest ascends.1 i j x y (omega (arith, below)) at_i at_j)
@@ -100,7 +112,10 @@ module _ {E P X : Type 0} (Ahead : P → P → Type 0) (place_of : E → P) (ite
             ],
       );
       ordered = λ i j x y below at_i at_j.
-          let found = ordered es first ascends i j x y below at_i at_j in
-          (place_of found.0, at_item found.0 x found.1 found.2, λ place there.
-              let other = complete place y there in subst (Ahead (place_of found.0)) other.2 (found.3 other.0 other.1 other.3));
+          let found = ordered es first ascends i j x y below at_i at_j in (
+            place_of found.0,
+            at_item found.0 x found.1 found.2,
+            λ place there.
+                let other = complete place y there in subst (Ahead (place_of found.0)) other.2 (found.3 other.0 other.1 other.3),
+          );
     }

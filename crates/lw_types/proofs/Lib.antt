@@ -17,6 +17,7 @@ pub mod Located
 pub mod PlacedLeaves
 pub mod PlacedRules
 pub mod PutOrder
+pub mod TypeTable
 pub mod InSets
 pub mod Putting
 pub mod Declaring

@@ -26,7 +26,7 @@ use Rattle.lw_properties.specs.Places.{IsComeTo}
 use Rattle.lw_types.specs.Values.{AssignmentGives, nodes_of}
 use Rattle.lw_types.specs.Sightings.{Sighting, sighting, sightings, one_of, prop_number, known_nodes, current_nodes, put_by, SeenAtLeaf}
 use Rattle.lw_types.specs.Sightings as along
-use Rattle.lw_types.specs.PutIn.{LeafPlace, IsAhead, IsWrittenAt, HasLeavesApart, Puts, PutsValue}
+use Rattle.lw_types.specs.PutIn.{LeafPlace, IsAhead, IsWrittenAt, MayPutIn, HasPlacesApart, Puts, PutsValue}
 use Rattle.lw_types.specs.PutIn as put
 use Rattle.lw_types.proofs.Alike.{none_kept, one_kept, of_sightings, of_type}
 use Rattle.lw_types.proofs.Firsts.{at_front, behind_front, front_cases, not_in_none}
@@ -87,16 +87,16 @@ from_node : {g : Grammar} {written : Rule} {a : Action} {t p : List ℕ} {i : �
     × (type_number g so_far ≡ Some i) × (value ≡ nodes_of i)
 from_node (put.node owner before _ so_far is _ now number) = (owner, before, so_far, is, now, number, refl)
 
-module _ (g : Grammar) {rows : List (List Before)} (ways : AreWaysOf g rows) (apart : HasLeavesApart g) where
+module _ (g : Grammar) {rows : List (List Before)} (ways : AreWaysOf g rows) (apart : HasPlacesApart g) where
   module _ {w i : ℕ} {rule : Rule} {l : Leaf} {entry : Before} (at : StandsThere g rows w i rule l entry) where
     written_here : IsWrittenAt g (leaf_at w i) rule l
     written_here = record { rule = at.at_rule; leaf = at.at_leaf }
 
     -- what is recorded of the leaf somewhere is recorded here
-    recorded : (passes : Before → Type 0) → Somewhere g rows passes (step rule l) → passes entry
-    recorded passes there =
+    recorded : MayPutIn l → (passes : Before → Type 0) → Somewhere g rows passes (step rule l) → passes entry
+    recorded may passes there =
         let same : leaf_at there.rule_number there.leaf_number ≡ leaf_at w i =
-        apart.one_place rule l (leaf_at there.rule_number there.leaf_number) (leaf_at w i) (record { rule = there.written; leaf = there.leaf }) written_here in
+        apart.one_place rule l (leaf_at there.rule_number there.leaf_number) (leaf_at w i) may (record { rule = there.written; leaf = there.leaf }) written_here in
         let this_rule : there.rule_number ≡ w = ap (λ (x : LeafPlace). x.rule) same in
         let this_leaf : there.leaf_number ≡ i = ap (λ (x : LeafPlace). x.leaf) same in
         let this_row : there.row ≡ at.row = same_Some there.row at.row (sym there.in_rows ∙ ap (slice_get rows) this_rule ∙ at.in_rows) in
@@ -117,9 +117,9 @@ module _ (g : Grammar) {rows : List (List Before)} (ways : AreWaysOf g rows) (ap
       does = does;
     }
 
-    come : (owner : Rule) (before : List Step) → IsBehind g owner before (step rule l) → IsComeTo entry
-    come owner [] is = inl (recorded (λ x. x.first ≡ true) ((ways.first (step rule l)).1 (owner, is)))
-    come owner (x ∷ xs) is = inr (recorded (λ x. x.behind ≡ true) ((ways.behind (step rule l)).1 (owner, x ∷ xs, is, not_none)))
+    come : MayPutIn l → (owner : Rule) (before : List Step) → IsBehind g owner before (step rule l) → IsComeTo entry
+    come may owner [] is = inl (recorded may (λ x. x.first ≡ true) ((ways.first (step rule l)).1 (owner, is)))
+    come may owner (x ∷ xs) is = inr (recorded may (λ x. x.behind ≡ true) ((ways.behind (step rule l)).1 (owner, x ∷ xs, is, not_none)))
       where
         not_none : x ∷ xs ≢ []
         not_none same = cc
@@ -133,11 +133,11 @@ module _ (g : Grammar) {rows : List (List Before)} (ways : AreWaysOf g rows) (ap
     is_current t m named has =
         (ways.current (step rule l) t).0 (somewhere (λ x. HasNumberOf g t x.current.items) (record { number = m; named = named; among = has }))
 
-    has_current : (t : List ℕ) (m : ℕ) → slice_get (type_names g) m ≡ Some t → (owner : Rule) (before : List Step) → IsBehind g owner before (step rule l) →
+    has_current : MayPutIn l → (t : List ℕ) (m : ℕ) → slice_get (type_names g) m ≡ Some t → (owner : Rule) (before : List Step) → IsBehind g owner before (step rule l) →
         IsCurrentType g owner before t → Contains entry.current.items m
-    has_current t m named owner before is now =
+    has_current may t m named owner before is now =
         let has : HasNumberOf g t entry.current.items =
-        recorded (λ x. HasNumberOf g t x.current.items) ((ways.current (step rule l) t).1 (owner, before, is, now)) in
+        recorded may (λ x. HasNumberOf g t x.current.items) ((ways.current (step rule l) t).1 (owner, before, is, now)) in
         subst (Contains entry.current.items) (one_number g t has.number m has.named named) has.among
 
     ascending : AllPairs (λ a b. a < b) entry.current.items
@@ -163,7 +163,7 @@ module _ (g : Grammar) {rows : List (List Before)} (ways : AreWaysOf g rows) (ap
       complete = λ k v is.
           let way = from_node is in
           let named = number_names g way.2 k way.5 in
-          let has = has_current at way.2 k named way.0 way.1 way.3 way.4 in
+          let has = has_current at tt way.2 k named way.0 way.1 way.3 way.4 in
           subst (λ x. Contains (map node_of (filter known entry.current.items)) (k, x)) (sym way.6)
           (has_node (filter known entry.current.items) k
           (to_filter known entry.current.items k has (lt-ltb k (length (type_names g)) (slice_get_within (type_names g) k way.2 named))));
@@ -239,7 +239,7 @@ module _ (g : Grammar) {rows : List (List Before)} (ways : AreWaysOf g rows) (ap
             one_here at p q (is_list op) values (told q (n ∷ []) number same) (put.assigned way.0 way.1 way.2 way.3) number (assigned_at g op values gives way.2 way.3)
             (λ other list puts. assigned_name puts)
         by (q, number) (inr (none, same)) =
-            ([], nothing_here at (λ other list puts. let way = assigned_current puts in none (has_current at type_name n named way.0 way.1 way.2 way.3)) (told q [] number same))
+            ([], nothing_here at (λ other list puts. let way = assigned_current puts in none (has_current at tt type_name n named way.0 way.1 way.2 way.3)) (told q [] number same))
 
     acted_here : {w i : ℕ} {rule : Rule} {entry : Before} {a : Action} → IsComeTo entry → StandsThere g rows w i rule (leaf.Act a) entry →
         (es : List Entry) × Lists g type_name n (HereAlone w i) (put_by g entry a a.put) es
@@ -268,11 +268,13 @@ module _ (g : Grammar) {rows : List (List Before)} (ways : AreWaysOf g rows) (ap
                 (subst (λ x. Puts g rule (leaf.Act a) x into.0 into.1) name_is (put.acted way.0 way.1 into way.2 puts)) number
                 (subst (λ x. AreValuesAt g rule (leaf.Act a) x into.0 (current_nodes g entry)) name_is (nodes_at at into puts))
                 (λ p list also. let other = acted_put also in ap (λ (x : List ℕ × Bool). x.0) (same_Some into other.0 (sym puts ∙ other.1)) ∙ other.3)
-            at_number (q, number) (inr (same, not)) =
-                ([], nothing_here at (λ p list also.
-                    let other = acted_put also in
-                    not (same_Some t n (sym type_is ∙ ap (type_number g) other.2 ∙ number_told g type_name n named)))
-                (ap (of_type n) (told q number) ∙ ap (λ b. cond b (sighting t q into.1 (current_nodes g entry) ∷ []) []) same))
+            at_number (q, number) (inr (same, not)) = (
+              [],
+              nothing_here at (λ p list also.
+                  let other = acted_put also in
+                  not (same_Some t n (sym type_is ∙ ap (type_number g) other.2 ∙ number_told g type_name n named)))
+                  (ap (of_type n) (told q number) ∙ ap (λ b. cond b (sighting t q into.1 (current_nodes g entry) ∷ []) []) same),
+            )
 
         by : (o : Option (List ℕ × Bool)) → a.put ≡ o → (es : List Entry) × Lists g type_name n (HereAlone w i) (put_by g entry a o) es
         by None puts = ([], nothing_here at (λ p list also. let other = acted_put also in none-some other.0 (sym puts ∙ other.1)) refl)
@@ -285,6 +287,6 @@ module _ (g : Grammar) {rows : List (List Before)} (ways : AreWaysOf g rows) (ap
         (es : List Entry) × Lists g type_name n (HereAlone w i) found es
     leaf_lists (along.assigned {op} values gives) at = assigned_here op values gives at
     leaf_lists (along.acted reached) at = acted_here reached at
-    leaf_lists (along.not_come_to none) at = ([], nothing_here at (λ p list puts. let way = acted_put puts in none (come at way.4 way.5 way.6)) refl)
+    leaf_lists (along.not_come_to none) at = ([], nothing_here at (λ p list puts. let way = acted_put puts in none (come at tt way.4 way.5 way.6)) refl)
     leaf_lists along.called at = ([], nothing_here at (λ p list puts. no_call puts) refl)
     leaf_lists along.keyword at = ([], nothing_here at (λ p list puts. no_keyword puts) refl)

@@ -10,7 +10,7 @@ use Rattle.lw_flow.specs.declared.before.Before.{Before}
 use Rattle.lw_flow.specs.Recorded.{AreWaysOf}
 use Rattle.lw_types.specs.Sightings.{Sighting, SeenAtLeaf, Along, SeenInRule, SeenInRules}
 use Rattle.lw_types.specs.Sightings as along
-use Rattle.lw_types.specs.PutIn.{LeafPlace, IsAhead, IsWrittenAt, HasLeavesApart}
+use Rattle.lw_types.specs.PutIn.{LeafPlace, IsAhead, IsWrittenAt, HasPlacesApart}
 use Rattle.lw_types.proofs.Located.{Entry, leaf_at, Lists, joined, none_listed}
 use Rattle.lw_types.proofs.PlacedLeaves.{StandsThere, leaf_lists}
 
@@ -38,7 +38,7 @@ one_less {all} {last} {i} are = record {
 the_first : {X : Type 0} {all last : List X} {i : ℕ} {x : X} → AreLast all i (x ∷ last) → slice_get all i ≡ Some x
 the_first {all} {i} {x} are = subst (λ m. slice_get all m ≡ Some x) (omega arith) (are.at 0 x refl)
 
-module _ (g : Grammar) {rows : List (List Before)} (ways : AreWaysOf g rows) (apart : HasLeavesApart g) (type_name : List ℕ) (n : ℕ)
+module _ (g : Grammar) {rows : List (List Before)} (ways : AreWaysOf g rows) (apart : HasPlacesApart g) (type_name : List ℕ) (n : ℕ)
     (named : slice_get (type_names g) n ≡ Some type_name) where
   module _ (w : ℕ) (rule : Rule) (row : List Before) (at_rule : slice_get g.rules w ≡ Some rule) (in_rows : slice_get rows w ≡ Some row) where
     no_more : (i : ℕ) → length (leaves rule.body) ≡ i + 0 → (place : LeafPlace) (written : Rule) (l : Leaf) → IsFromLeaf w i place → ¬ IsWrittenAt g place written l

@@ -20,7 +20,7 @@ use Rattle.lw_types.specs.InOrder.{AreInOrder}
 use Rattle.lw_types.specs.Sightings.{Sighting, prop_number}
 use Rattle.lw_types.specs.Having.{is_new, values_put_in, ArePutInto, AreInferredProperties}
 use Rattle.lw_types.specs.Having as have
-use Rattle.lw_types.specs.PutIn.{LeafPlace, ValuePlace, IsAhead, IsValueAhead, IsWrittenAt, HasLeavesApart, Puts, PutsValue, IsPutInAt, IsValueAt, IsPropertyPutIn, ArePropertiesPutIn}
+use Rattle.lw_types.specs.PutIn.{LeafPlace, ValuePlace, IsAhead, IsValueAhead, IsWrittenAt, HasPlacesApart, Puts, PutsValue, IsPutInAt, IsValueAt, IsPropertyPutIn, ArePropertiesPutIn}
 use Rattle.lw_types.specs.PutIn as put
 use Rattle.lw_types.specs.declared.property_table.info.PropertyInfo.{PropertyInfo}
 use Rattle.lw_types.proofs.Firsts.{at_front, behind_front, front_cases, not_in_none}
@@ -223,15 +223,25 @@ first_entry (d ∷ es) q s ascends is = by (prop_of d == q) refl is (first_entry
   where
     by : (b : Bool) → (prop_of d == q) ≡ b → cond b (Some d.sighting) (find (λ (x : Sighting). x.prop == q) (map sighting_of es)) ≡ Some s →
         (find (λ (x : Sighting). x.prop == q) (map sighting_of es) ≡ Some s → FindsFirst q s es) → FindsFirst q s (d ∷ es)
-    by true e here later = (d, at_front d es, same_Some d.sighting s here, λ f has _. elim (front_cases d es f has) [
-      | inl is ↦ λ ahead. let same = subst (λ x. IsAhead x.place d.place) (sym is) ahead in not_both d.place d.place same same
-      | inr behind ↦ not_both d.place f.place (ascends.0 f behind)
-    ])
+    by true e here later = (
+      d,
+      at_front d es,
+      same_Some d.sighting s here,
+      λ f has _. elim (front_cases d es f has) [
+        | inl is ↦ λ ahead. let same = subst (λ x. IsAhead x.place d.place) (sym is) ahead in not_both d.place d.place same same
+        | inr behind ↦ not_both d.place f.place (ascends.0 f behind)
+      ],
+    )
     by false e there later =
-        let found = later there in (found.0, behind_front d es found.0 found.1, found.2, λ f has same. elim (front_cases d es f has) [
-          | inl is ↦ absurd (true≢false (sym (eq-eqb (prop_of d) q (ap prop_of is ∙ same)) ∙ e))
-          | inr behind ↦ found.3 f behind same
-        ])
+        let found = later there in (
+          found.0,
+          behind_front d es found.0 found.1,
+          found.2,
+          λ f has same. elim (front_cases d es f has) [
+            | inl is ↦ absurd (true≢false (sym (eq-eqb (prop_of d) q (ap prop_of is ∙ same)) ∙ e))
+            | inr behind ↦ found.3 f behind same
+          ],
+        )
 
 module _ (g : Grammar) (type_name : List ℕ) (n : ℕ) (es : List Entry) (ascends : Ascends IsAhead place_of es)
     (each : (e : Entry) → Contains es e → IsEntry g type_name n e)
@@ -394,12 +404,15 @@ module _ (g : Grammar) (type_name : List ℕ) (n : ℕ) (es : List Entry) (ascen
           let one = at_mapped name_of numbers i x at_i in
           let other = at_mapped name_of numbers j y at_j in
           let found = are.ordered i j one.0 other.0 below one.1 other.1 in
-          let e = found.1 in
-          (found.0, put_in_at e.0 found.0 x e.1 e.2 (sym (named_so e.0 e.1) ∙ ap name_of e.3 ∙ one.2), λ place there.
-              let f = entry_at place y there in
-              let d = by_number other.0 (has_at numbers j other.0 other.1) in
-              let same : f.0.name ≡ d.0.name = f.3 ∙ sym other.2 ∙ ap name_of (sym d.2) ∙ named_so d.0 d.1 in
-              found.2 place (f.0, f.1, f.2, same_number f.0 d.0 f.1 d.1 same ∙ d.2));
+          let e = found.1 in (
+            found.0,
+            put_in_at e.0 found.0 x e.1 e.2 (sym (named_so e.0 e.1) ∙ ap name_of e.3 ∙ one.2),
+            λ place there.
+                let f = entry_at place y there in
+                let d = by_number other.0 (has_at numbers j other.0 other.1) in
+                let same : f.0.name ≡ d.0.name = f.3 ∙ sym other.2 ∙ ap name_of (sym d.2) ∙ named_so d.0 d.1 in
+                found.2 place (f.0, f.1, f.2, same_number f.0 d.0 f.1 d.1 same ∙ d.2),
+          );
     }
 
   module _ (infos : List PropertyInfo) (put_into : ArePutInto (map sighting_of es) [] infos) where
@@ -444,8 +457,8 @@ module _ (g : Grammar) (type_name : List ℕ) (n : ℕ) (es : List Entry) (ascen
       each = told_so;
     }
 
--- where the rows say what may come before leaves, and leaves stand apart
-pub inferred_put_in : (g : Grammar) {rows : List (List Before)} → AreWaysOf g rows → HasLeavesApart g → (type_name : List ℕ) (n : ℕ) (infos : List PropertyInfo) →
+-- where the rows say what may come before leaves, and places are apart
+pub inferred_put_in : (g : Grammar) {rows : List (List Before)} → AreWaysOf g rows → HasPlacesApart g → (type_name : List ℕ) (n : ℕ) (infos : List PropertyInfo) →
     slice_get (type_names g) n ≡ Some type_name → AreInferredProperties g rows n infos → ArePropertiesPutIn g type_name infos
 inferred_put_in g ways apart type_name n infos named are =
     let listed = all_lists g ways apart type_name n named are.in_rules in

@@ -11,6 +11,7 @@ pub mod PutIn
 pub mod Values
 pub mod Sightings
 pub mod Having
+pub mod TypeProperties
 pub mod Gathered
 pub mod Seeing
 pub mod Worked

@@ -38,15 +38,22 @@ pub record ValuePlace : Type 0 where
 abbrev pub IsValueAhead : ValuePlace → ValuePlace → Type 0
 IsValueAhead one other = IsAhead one.at other.at ⊎ ((one.at ≡ other.at) × (one.value < other.value))
 
+-- an assignment, or an action
+abbrev pub MayPutIn : Leaf → Type 0
+MayPutIn (leaf.Keyword text s) = ⊥
+MayPutIn (leaf.Call name s) = ⊥
+MayPutIn (leaf.Assign p op v s) = Unit {0}
+MayPutIn (leaf.Act a) = Unit {0}
+
 module _ (g : Grammar) where
   -- the leaf is written there, in this rule
   pub record IsWrittenAt (place : LeafPlace) (written : Rule) (l : Leaf) : Type 0 where
     pub rule : slice_get g.rules place.rule ≡ Some written
     pub leaf : slice_get (leaves written.body) place.leaf ≡ Some l
 
-  -- No leaf is written at two places. In a grammar that is read from files this is so, since the spans of leaves differ.
-  pub record HasLeavesApart : Type 0 where
-    pub one_place : (written : Rule) (l : Leaf) (one other : LeafPlace) → IsWrittenAt one written l → IsWrittenAt other written l → one ≡ other
+  -- No assignment or action is written at two places. In a grammar that is read from files this is so, since their spans differ.
+  pub record HasPlacesApart : Type 0 where
+    pub one_place : (written : Rule) (l : Leaf) (one other : LeafPlace) → MayPutIn l → IsWrittenAt one written l → IsWrittenAt other written l → one ≡ other
 
   -- `Puts rule l type p list`: the leaf l of the rule puts something into the property p of the type, at the end of a list or not. An assignment
   -- puts it into each type that is current where some way comes to it, an action into its own.
