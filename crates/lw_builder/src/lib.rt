@@ -17,7 +17,8 @@
 //!
 //! A mark takes constant time, but for the texts that it copies and for the end of a node, which is linear in the
 //! values of the node. Nothing recurses. The only error is want of memory. It is answered, too, where there would
-//! be 2^32 nodes or 2^32 references.
+//! be 2^32 nodes or 2^32 references, which a tree has no numbers for. A short text can come to so many, where each of
+//! many fragments calls another twice and the last has an action: a node is made each time that this is read.
 //!
 //! In a folder of its own stands:
 //!
