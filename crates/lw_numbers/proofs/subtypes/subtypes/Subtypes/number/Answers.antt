@@ -1,4 +1,4 @@
-use Rattle.std.proofs.Common.{sym, ap, ◌∙◌, slice_get}
+use Rattle.std.proofs.Common.{ap, ◌∙◌, slice_get}
 use Rattle.lw_numbers.proofs.Reaching.{only_place}
 use Rattle.lw_numbers.proofs.subtypes.subtypes.Subtypes.number.Goals as goal
 
