@@ -49,10 +49,10 @@ use Rattle.lw_conversation.specs.declared.phase.Phase.{Phase}
 
 -- ---- mentions by their documents
 
-abbrev Ascends : List ℕ → List ℕ → Type 0
+abbrev pub Ascends : List ℕ → List ℕ → Type 0
 Ascends a b = slice_cmp nat_cmp a b ≡ Less
 
-abbrev keys : List (List ℕ × List Span) → List (List ℕ)
+abbrev pub keys : List (List ℕ × List Span) → List (List ℕ)
 keys files = map (λ f. f.0) files
 
 -- one mention more, before a document that comes no sooner
@@ -101,7 +101,7 @@ one_more m n files head precedes ordered =
     sooner (by_start same _) apart = absurd (apart (same ∙ sym head.same))
     sooner (by_end same _ _) apart = absurd (apart (same ∙ sym head.same))
 
-documents_in_order : (mentions : List Mention) → AllPairs MentionPrecedes mentions → AllPairs Ascends (keys (by_document mentions))
+pub documents_in_order : (mentions : List Mention) → AllPairs MentionPrecedes mentions → AllPairs Ascends (keys (by_document mentions))
 documents_in_order [] ordered = none
   where
     none : AllPairs Ascends []

@@ -13,3 +13,8 @@ pub mod OneRename
 pub mod Written
 mod OneList
 pub mod OneWord
+pub mod Rows
+pub mod SpansInRow
+pub mod TreeSpans
+pub mod Replaced
+pub mod MentionsApart

@@ -1,5 +1,6 @@
 // What a reader may expect of renames, whatever the grammar and the texts.
 ghost use Rattle.std.specs.Prelude.{◌≡◌, ◌≢◌, ℕ, List, [], ◌∷◌, Result, Ok, Some, Contains, codes};
+ghost use Rattle.lw_base.specs.declared.token.Span.{Span};
 ghost use Rattle.lw_grammar.specs.declared.grammar.Grammar.{Grammar};
 ghost use Rattle.lw_places.specs.Mentions.{Mention};
 ghost use Rattle.lw_reading.specs.Laws.{IsReadOneWay};
@@ -7,8 +8,9 @@ ghost use Rattle.lw_link_rules.specs.Links.{AreLinks, Texts};
 ghost use Rattle.lw_link_rules.specs.Worked.{letter_at, twins};
 ghost use Rattle.lw_scoping.specs.Links.{Link};
 ghost use Rattle.lw_tree.specs.Parts.{Parts};
-ghost use Rattle.lw_places.specs.Renamed.{IsRenamed, Refusal};
-ghost use Rattle.lw_places.specs.Replacing.{renamed_texts, replaced};
+ghost use Rattle.lw_places.specs.Cutting.{AreRenamedTexts, IsReplaced, StandInOrder};
+ghost use Rattle.lw_places.specs.Renamed.{AreRenamed, IsRenamed, Refusal};
+ghost use Rattle.lw_places.specs.Replacing.{renamed_texts, replaced, spans_at};
 ghost use Rattle.lw_places.specs.Shapes.{HaveSameShape, IsFirstUnlike};
 ghost use Rattle.lw_places.specs.Worked.{event_last, letter_in, longer_twins};
 
@@ -32,6 +34,23 @@ pub fn renames_rebind_nothing()
 pub fn only_texts_are_renamed()
     ensures { (g : Grammar) (texts others : Texts) → ((a : List ℕ) → texts a ≡ others a) → (address : List ℕ) (offset : ℕ) (new : List ℕ)
         (outcome : Result (List Mention) Refusal) → IsRenamed g texts address offset new outcome → IsRenamed g others address offset new outcome }
+{}
+
+/// Where spans of a text stand in order, one text results in which exactly they are replaced; the text that is made from the front is it. There is one such text at
+/// most in any case.
+pub fn what_stands_apart_is_replaced()
+    ensures one { (new : List ℕ) (spans : List Span) (text result other : List ℕ) → IsReplaced new spans text result → IsReplaced new spans text other → result ≡ other }
+    ensures made { (new text : List ℕ) (spans : List Span) → StandInOrder text spans → IsReplaced new spans text (replaced new text spans) }
+    ensures texts { (new : List ℕ) (mentions : List Mention) (texts after others : Texts) → AreRenamedTexts new mentions texts after →
+        AreRenamedTexts new mentions texts others → (address : List ℕ) → after address ≡ others address }
+{}
+
+/// The mentions that are renamed stand apart in each text, names against references too, whatever the grammar. So exactly they are replaced.
+pub fn mentions_stand_apart()
+    ensures apart { (g : Grammar) (texts : Texts) (asked : List ℕ) (offset : ℕ) (mentions : List Mention) → AreRenamed g texts asked offset mentions →
+        (address text : List ℕ) → texts address ≡ Some text → StandInOrder text (spans_at address mentions) }
+    ensures replaced { (g : Grammar) (texts : Texts) (asked : List ℕ) (offset : ℕ) (mentions : List Mention) → AreRenamed g texts asked offset mentions →
+        (new : List ℕ) → AreRenamedTexts new mentions texts (renamed_texts new mentions texts) }
 {}
 
 /// Each span is replaced, at the place where it stands as the text is before any is; one that is given twice is replaced once. The
