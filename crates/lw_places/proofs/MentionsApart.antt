@@ -21,7 +21,7 @@ use Rattle.lw_places.specs.Mentions.{AreMentionsOf, IsMentionOf, Mention, Mentio
 use Rattle.lw_places.specs.Cutting.{AreRenamedTexts, StandInOrder}
 use Rattle.lw_places.specs.Renamed.{AreRenamed}
 use Rattle.lw_places.specs.Replacing.{renamed_texts, spans_at}
-use Rattle.lw_places.proofs.Replaced.{some_texts}
+use Rattle.lw_places.proofs.Replaced.{all_of, some_texts}
 use Rattle.lw_places.proofs.Orders.{not_at_one}
 use Rattle.lw_places.proofs.Rows.{Apart, InRow, stand_apart, within}
 use Rattle.lw_places.proofs.SpansInRow.{root_in_row, spans_of}
@@ -71,15 +71,14 @@ module _ (address : List ℕ) where
   spans_has [] s (k, inside, is) = absurd (omega (arith, inside))
   spans_has (m ∷ ms) s has = by (bytes_eq m.address address) refl has (λ later. spans_has ms s later)
     where
-      Found : Type 0
-      Found = (k : Mention) × Contains (m ∷ ms) k × (k.address ≡ address) × (k.span ≡ s)
-
-      behind : (k : Mention) × Contains ms k × (k.address ≡ address) × (k.span ≡ s) → Found
+      behind : (k : Mention) × Contains ms k × (k.address ≡ address) × (k.span ≡ s) →
+          (k : Mention) × Contains (m ∷ ms) k × (k.address ≡ address) × (k.span ≡ s)
       behind found = (found.0, there m ms found.0 found.1, found.2, found.3)
 
       by : (b : Bool) → bytes_eq m.address address ≡ b →
           Contains (map (λ (k : Mention). k.span) (cond b (m ∷ filter (λ (k : Mention). bytes_eq k.address address) ms) (filter (λ (k : Mention). bytes_eq k.address address) ms))) s →
-          (Contains (spans_at address ms) s → (k : Mention) × Contains ms k × (k.address ≡ address) × (k.span ≡ s)) → Found
+          (Contains (spans_at address ms) s → (k : Mention) × Contains ms k × (k.address ≡ address) × (k.span ≡ s)) →
+          (k : Mention) × Contains (m ∷ ms) k × (k.address ≡ address) × (k.span ≡ s)
       by true is (zero, inside, same) rest = (m, the_first m ms, (bytes_eq-Decides m.address address).0 is, same)
       by true is (suc i, inside, same) rest = behind (rest (i, omega (arith, inside), same))
       by false is inside rest = behind (rest inside)
@@ -94,12 +93,14 @@ module _ (address : List ℕ) where
         (λ i j d low high. ordered (suc i) (suc j) d (omega (arith, low)) (omega (arith, high))))
       where
         first : (m.address ≡ address) → All (R m.span) (spans_at address ms)
-        first here s has =
+        first here =
+            all_of (R m.span) (spans_at address ms)
+            (λ s has.
             let found = spans_has ms s has in
             let place = found.1 in
             subst (λ (t : Span). R m.span t) found.3
             (each m found.0 (the_first m ms) (there m ms found.0 place) here found.2
-            (subst (λ (k : Mention). MentionPrecedes m k) place.2 (ordered 0 (suc place.0) found.0 (omega arith) (omega (arith, place.1)))))
+            (subst (λ (k : Mention). MentionPrecedes m k) place.2 (ordered 0 (suc place.0) found.0 (omega arith) (omega (arith, place.1))))))
 
         by : (b : Bool) → bytes_eq m.address address ≡ b → AllPairs R (spans_at address ms) → AllPairs R (spans_at address (m ∷ ms))
         by true is rest =
@@ -163,9 +164,10 @@ module _ (g : Grammar) (texts : Texts) (trees : Trees) (are : AreTreesOfTexts g 
 
     pub mentions_in_order : StandInOrder text (spans_at address mentions)
     mentions_in_order = record {
-      inside = λ s has.
+      inside = all_of (IsInText text) (spans_at address mentions)
+          (λ s has.
           let found = spans_has address mentions s has in
-          subst (λ (t : Span). IsInText text t) found.3 (in_text found.0 found.1 found.2);
+          subst (λ (t : Span). IsInText text t) found.3 (in_text found.0 found.1 found.2));
       apart = spans_pairs address (λ s t. s.end ≤ t.start) mentions
           (λ m k has also here there precedes.
           ends_first m k text (here ∙ sym there) (in_text m has here) (in_text k also there) (two_apart m k has also here there) precedes) are_mentions.ordered;

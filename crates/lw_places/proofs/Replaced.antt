@@ -1,12 +1,14 @@
 -- Where spans stand in order, one text results, which is made from the front.
-use Rattle.std.proofs.Common.{◌≡◌, ℕ, zero, suc, ◌+◌, ◌-◌, ◌<◌, ◌≤◌, List, [], ◌∷◌, ◌++◌, Bool, true, false, Option, Some, None, All, Contains, length, take, drop, slice_index_or, refl, sym, ap, subst, ◌∙◌, arith, append-nil, append_assoc, length-drop}
+use Rattle.std.proofs.Common.{◌≡◌, ℕ, zero, suc, ◌+◌, ◌-◌, ◌<◌, ◌≤◌, List, [], ◌∷◌, ◌++◌, Bool, true, false, Option, Some, None, All, Contains, length, take, drop, slice_index_or, refl, sym, ap, ap₂, subst, ◌∙◌, arith, append-nil, append_assoc, length-drop}
 use Rattle.std.specs.Prelude.{if◌then◌else◌, nat_lt}
 use Rattle.std.specs.List.{AllPairs}
 use Rattle.std.specs.Option.{option_map}
 use Rattle.std.proofs.Math.Seq.{take-append-add, drop-append-add, drop-append_seam}
 use Rattle.std.proofs.lemmas.Bool.Decides.{Decides-ltb}
 use Rattle.std.proofs.lemmas.List.{drop-drop, length-take-le, take-append-drop, take-append-le}
+use Rattle.std.proofs.lemmas.List.Elements.{All-contains, Contains-get_or}
 use Rattle.lw_base.specs.declared.token.Span.{Span}
+use Rattle.lw_base.proofs.Lists.{the_first, there}
 use Rattle.lw_link_rules.specs.Links.{Texts}
 use Rattle.lw_reading.specs.Within.{IsInText}
 use Rattle.lw_places.specs.Cutting.{Piece, Stays, Goes, joined_pieces, with_new, places_from, IsReplaced, StandInOrder, IsRenamedText, absent, present, AreRenamedTexts}
@@ -28,8 +30,9 @@ module _ (new : List ℕ) where
   one_more : (at : ℕ) (s : Span) (ss : List Span) (rest : List ℕ) → at ≤ s.start →
       replaced_from new at rest (s ∷ ss) ≡ take (s.start - at) rest ++ (new ++ replaced_from new s.end (drop (s.end - at) rest) ss)
   one_more at s ss rest up =
-      ap (λ (b : Bool). if b then replaced_from new at rest ss else take (s.start - at) rest ++ (new ++ replaced_from new s.end (drop (s.end - at) rest) ss))
+      ap (λ (b : Bool). if b then replaced_from new at rest ss else take (s.start - at) rest ++ new ++ replaced_from new s.end (drop (s.end - at) rest) ss)
       (not_below at s up (nat_lt s.start at) refl)
+      ∙ append_assoc (take (s.start - at) rest) new (replaced_from new s.end (drop (s.end - at) rest) ss)
 
   piece_first : (at : ℕ) (bytes rest : List ℕ) (spans : List Span) → FirstFrom (at + length bytes) spans →
       replaced_from new at (bytes ++ rest) spans ≡ bytes ++ replaced_from new (at + length bytes) rest spans
@@ -90,76 +93,83 @@ ends_below : (at to : ℕ) (spans : List Span) → Lies at to spans → at ≤ t
 ends_below at to [] lies = lies
 ends_below at to (s ∷ ss) lies = let rest = ends_below s.end to ss lies.2 in omega (arith, rest, lies.0, lies.1)
 
+abbrev span : ℕ → ℕ → Span
+span from to = record { start = from; end = to }
+
 record IsCutAt (at : ℕ) (text : List ℕ) (spans : List Span) : Type 0 where
   pieces : List Piece
   cut : joined_pieces pieces ≡ text
   exactly : places_from at pieces ≡ spans
 
-cuts : (at : ℕ) (text : List ℕ) (spans : List Span) → Lies at (at + length text) spans → IsCutAt at text spans
-cuts at text [] lies = record { pieces = Stays text ∷ []; cut = append-nil text; exactly = refl }
-cuts at text (s ∷ ss) lies = record { pieces = Stays front ∷ Goes gone ∷ rest.pieces; cut = whole; exactly = placed }
-  where
-    inside : s.end ≤ at + length text
-    inside = ends_below s.end (at + length text) ss lies.2
+module _ (at : ℕ) (text : List ℕ) (s : Span) where
+  abbrev front : List ℕ
+  front = take (s.start - at) text
 
-    front : List ℕ
-    front = take (s.start - at) text
+  abbrev behind_front : List ℕ
+  behind_front = drop (s.start - at) text
 
-    gone : List ℕ
-    gone = take (s.end - s.start) (drop (s.start - at) text)
+  abbrev gone : List ℕ
+  gone = take (s.end - s.start) behind_front
 
-    left : List ℕ
-    left = drop (s.end - s.start) (drop (s.start - at) text)
+  abbrev left : List ℕ
+  left = drop (s.end - s.start) behind_front
 
-    front_long : length front ≡ s.start - at
-    front_long = length-take-le (s.start - at) text (omega (arith, inside, lies.0, lies.1))
+  module _ (up : at ≤ s.start) (wide : s.start ≤ s.end) (inside : s.end ≤ at + length text) where
+    begins : at + length front ≡ s.start
+    begins = let long = length-take-le (s.start - at) text (omega (arith, inside, up, wide)) in omega (arith, long, up)
 
-    back_long : length (drop (s.start - at) text) ≡ length text - (s.start - at)
+    back_long : length behind_front ≡ length text - (s.start - at)
     back_long = length-drop (s.start - at) text
 
-    gone_long : length gone ≡ s.end - s.start
-    gone_long = length-take-le (s.end - s.start) (drop (s.start - at) text) (omega (arith, inside, lies.0, lies.1, back_long))
-
-    left_long : length left ≡ length (drop (s.start - at) text) - (s.end - s.start)
-    left_long = length-drop (s.end - s.start) (drop (s.start - at) text)
-
-    rest : IsCutAt s.end left ss
-    rest = cuts s.end left ss (subst (λ (to : ℕ). Lies s.end to ss) (let e : at + length text ≡ s.end + length left = omega (arith, inside, lies.0, lies.1, back_long, left_long) in e) lies.2)
-
-    whole : front ++ (gone ++ joined_pieces rest.pieces) ≡ text
-    whole =
-        ap (λ (xs : List ℕ). front ++ (gone ++ xs)) rest.cut
-        ∙ ap (λ (xs : List ℕ). front ++ xs) (take-append-drop (s.end - s.start) (drop (s.start - at) text)) ∙ take-append-drop (s.start - at) text
-
-    begins : at + length front ≡ s.start
-    begins = omega (arith, front_long, lies.0)
-
     ends : at + length front + length gone ≡ s.end
-    ends = omega (arith, begins, gone_long, lies.1)
+    ends = let long = length-take-le (s.end - s.start) behind_front (omega (arith, inside, up, wide, back_long)) in omega (arith, begins, long, wide)
 
-    placed : record { start = at + length front; end = at + length front + length gone } ∷ places_from (at + length front + length gone) rest.pieces ≡ s ∷ ss
-    placed =
-        (λ i. record { start = begins i; end = ends i } ∷ places_from (ends i) rest.pieces)
-        ∙ ap (λ (xs : List Span). s ∷ xs) rest.exactly
+    left_long : at + length text ≡ s.end + length left
+    left_long = let long = length-drop (s.end - s.start) behind_front in omega (arith, inside, up, wide, back_long, long)
 
-from_pairs : (at to : ℕ) (spans : List Span) → at ≤ to → All (λ s. (s.start ≤ s.end) × (s.end ≤ to)) spans → AllPairs (λ s t. s.end ≤ t.start) spans →
-    All (λ s. at ≤ s.start) spans → Lies at to spans
+    whole : (rest : List ℕ) → rest ≡ left → front ++ (gone ++ rest) ≡ text
+    whole rest same =
+        ap (λ (xs : List ℕ). front ++ (gone ++ xs)) same ∙ ap (λ (xs : List ℕ). front ++ xs) (take-append-drop (s.end - s.start) behind_front)
+        ∙ take-append-drop (s.start - at) text
+
+    placed : (pieces : List Piece) (ss : List Span) → places_from s.end pieces ≡ ss → places_from at (Stays front ∷ Goes gone ∷ pieces) ≡ s ∷ ss
+    placed pieces ss same =
+        ap₂ (λ (from to : ℕ). span from to ∷ places_from to pieces) begins ends ∙ ap (λ (xs : List Span). s ∷ xs) same
+
+cuts : (at : ℕ) (text : List ℕ) (spans : List Span) → Lies at (at + length text) spans → IsCutAt at text spans
+cuts at text [] lies = record { pieces = Stays text ∷ []; cut = append-nil text; exactly = refl }
+cuts at text (s ∷ ss) lies =
+    let inside = ends_below s.end (at + length text) ss lies.2 in
+    let rest = cuts s.end (left at text s) ss (subst (λ (to : ℕ). Lies s.end to ss) (left_long at text s lies.0 lies.1 inside) lies.2) in
+    record {
+      pieces = Stays (front at text s) ∷ Goes (gone at text s) ∷ rest.pieces;
+      cut = whole at text s lies.0 lies.1 inside (joined_pieces rest.pieces) rest.cut;
+      exactly = placed at text s lies.0 lies.1 inside rest.pieces ss rest.exactly;
+    }
+
+-- what holds of each holds of all
+pub all_of : {X : Type 0} (P : X → Type 0) (xs : List X) → ((x : X) → Contains xs x → P x) → All P xs
+all_of P xs each i d inside = each (slice_index_or xs i d) (Contains-get_or xs i d inside)
+
+from_pairs : (at to : ℕ) (spans : List Span) → at ≤ to → ((s : Span) → Contains spans s → (s.start ≤ s.end) × (s.end ≤ to)) →
+    AllPairs (λ s t. s.end ≤ t.start) spans → ((s : Span) → Contains spans s → at ≤ s.start) → Lies at to spans
 from_pairs at to [] below inside apart behind = below
 from_pairs at to (s ∷ ss) below inside apart behind = (
-  behind s (0, omega arith, refl),
-  (inside s (0, omega arith, refl)).0,
-  from_pairs s.end to ss (inside s (0, omega arith, refl)).1 (λ t has. inside t (later t has))
+  behind s (the_first s ss),
+  (inside s (the_first s ss)).0,
+  from_pairs s.end to ss (inside s (the_first s ss)).1 (λ t has. inside t (there s ss t has))
       (λ i j d low high. apart (suc i) (suc j) d (omega (arith, low)) (omega (arith, high)))
       (λ t has. subst (λ (u : Span). s.end ≤ u.start) has.2 (apart 0 (suc has.0) t (omega arith) (omega (arith, has.1)))),
 )
-  where
-    later : (t : Span) → Contains ss t → Contains (s ∷ ss) t
-    later t has = (suc has.0, omega (arith, has.1), has.2)
+
+lies_in : (text : List ℕ) (spans : List Span) → StandInOrder text spans → Lies 0 (length text) spans
+lies_in text spans in_order =
+    from_pairs 0 (length text) spans (omega arith) (λ s has. All-contains (IsInText text) spans s in_order.inside has) in_order.apart (λ s has. omega arith)
 
 module _ (new : List ℕ) (text : List ℕ) (spans : List Span) (in_order : StandInOrder text spans) where
   pub some_result : (result : List ℕ) × IsReplaced new spans text result
   some_result =
-      let cut = cuts 0 text spans (from_pairs 0 (length text) spans (omega arith) in_order.inside in_order.apart (λ s has. omega arith)) in
+      let cut = cuts 0 text spans (lies_in text spans in_order) in
       (with_new new cut.pieces, record { pieces = cut.pieces; cut = cut.cut; exactly = cut.exactly; gives = refl })
 
   pub is_replaced : IsReplaced new spans text (replaced new text spans)
@@ -189,29 +199,36 @@ module _ (new text : List ℕ) where
   dropped_past end rest inside =
       ap (λ (k : ℕ). drop k (take end text ++ rest)) (sym (length-take-le end text inside)) ∙ drop-append_seam (take end text) rest
 
-  made_from_last : (at : ℕ) (spans : List Span) → Lies at (length text) spans → from_last new text spans ≡ take at text ++ replaced_from new at (drop at text) spans
+  abbrev from_there : ℕ → List Span → List ℕ
+  from_there at spans = replaced_from new at (drop at text) spans
+
+  module _ (at : ℕ) (s : Span) (ss : List Span) (up : at ≤ s.start) (wide : s.start ≤ s.end) (inside : s.end ≤ length text) where
+    put_last : from_last new text ss ≡ take s.end text ++ from_there s.end ss →
+        from_last new text (s ∷ ss) ≡ take s.start text ++ (new ++ from_there s.end ss)
+    put_last is =
+        ap (λ (xs : List ℕ). take s.start xs ++ (new ++ drop s.end xs)) is
+        ∙ ap (λ (xs : List ℕ). xs ++ (new ++ drop s.end (take s.end text ++ from_there s.end ss)))
+        (take-append-le s.start (take s.end text) (from_there s.end ss) (let long = length-take-le s.end text inside in omega (arith, long, wide))
+        ∙ take_of_take s.start s.end wide inside)
+        ∙ ap (λ (xs : List ℕ). take s.start text ++ (new ++ xs)) (dropped_past s.end (from_there s.end ss) inside)
+
+    put_first : take s.start text ++ (new ++ from_there s.end ss) ≡ take at text ++ from_there at (s ∷ ss)
+    put_first =
+        ap (λ (xs : List ℕ). xs ++ (new ++ from_there s.end ss)) (sym (taken_on at s.start up (omega (arith, inside, wide))))
+        ∙ append_assoc (take at text) (take (s.start - at) (drop at text)) (new ++ from_there s.end ss)
+        ∙ ap (λ (xs : List ℕ). take at text ++ (take (s.start - at) (drop at text) ++ (new ++ replaced_from new s.end xs ss)))
+        (ap (λ (k : ℕ). drop k text) (let e : s.end ≡ at + (s.end - at) = omega (arith, up, wide) in e) ∙ sym (drop-drop (s.end - at) at text))
+        ∙ ap (λ (xs : List ℕ). take at text ++ xs) (sym (one_more new at s ss (drop at text) up))
+
+  made_from_last : (at : ℕ) (spans : List Span) → Lies at (length text) spans → from_last new text spans ≡ take at text ++ from_there at spans
   made_from_last at [] lies = sym (take-append-drop at text)
   made_from_last at (s ∷ ss) lies =
-      ap (λ (xs : List ℕ). take s.start xs ++ (new ++ drop s.end xs)) (made_from_last s.end ss lies.2)
-      ∙ ap (λ (xs : List ℕ). xs ++ (new ++ drop s.end (take s.end text ++ rest)))
-      (take-append-le s.start (take s.end text) rest (let long = length-take-le s.end text inside in omega (arith, long, lies.1))
-      ∙ take_of_take s.start s.end lies.1 inside)
-      ∙ ap (λ (xs : List ℕ). take s.start text ++ (new ++ xs)) (dropped_past s.end rest inside)
-      ∙ ap (λ (xs : List ℕ). xs ++ (new ++ rest)) (sym (taken_on at s.start lies.0 (omega (arith, inside, lies.1))))
-      ∙ append_assoc (take at text) (take (s.start - at) (drop at text)) (new ++ rest)
-      ∙ ap (λ (xs : List ℕ). take at text ++ (take (s.start - at) (drop at text) ++ (new ++ replaced_from new s.end xs ss)))
-      (ap (λ (k : ℕ). drop k text) (let e : s.end ≡ at + (s.end - at) = omega (arith, lies.0, lies.1) in e) ∙ sym (drop-drop (s.end - at) at text))
-      ∙ ap (λ (xs : List ℕ). take at text ++ xs) (sym (one_more new at s ss (drop at text) lies.0))
-    where
-      rest : List ℕ
-      rest = replaced_from new s.end (drop s.end text) ss
-
-      inside : s.end ≤ length text
-      inside = ends_below s.end (length text) ss lies.2
+      let inside = ends_below s.end (length text) ss lies.2 in
+      put_last at s ss lies.0 lies.1 inside (made_from_last s.end ss lies.2) ∙ put_first at s ss lies.0 lies.1 inside
 
   pub last_first : (spans : List Span) → StandInOrder text spans → from_last new text spans ≡ replaced new text spans
   last_first spans in_order =
-      made_from_last 0 spans (from_pairs 0 (length text) spans (omega arith) in_order.inside in_order.apart (λ s has. omega arith))
+      made_from_last 0 spans (lies_in text spans in_order)
 
 -- ---- texts
 
