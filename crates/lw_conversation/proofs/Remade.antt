@@ -160,25 +160,25 @@ module _ (g : Grammar) (texts : Texts) (address : List ℕ) (offset : ℕ) (new 
     (own : (m : Mention) → Contains mentions m → (text : List ℕ) → texts m.address ≡ Some text → HasOwnPositions text m.span) where
   remade : (file : List ℕ × List Span) → Contains (by_document mentions) file → (edits : FileEdits) → AreEditsOf texts new file edits →
       IsRemade texts (renamed_texts new mentions texts) edits
-  remade file has edits is = record {
-    text = is.text;
-    was = ap texts is.uri ∙ is.there;
-    result = from_last new is.text file.1;
-    made = made_of is.text new (utf8 file.0 is.text is.there) file.1 edits.edits is.each places;
+  remade file has edits told = record {
+    text = told.text;
+    was = ap texts told.uri ∙ told.there;
+    result = from_last new told.text file.1;
+    made = made_of told.text new (utf8 file.0 told.text told.there) file.1 edits.edits told.each places;
     is =
-        ap (renamed_texts new mentions texts) is.uri
-        ∙ ap (option_map (λ (text : List ℕ). replaced new text (spans_at file.0 mentions))) is.there
-        ∙ ap Some (sym (last_first new is.text (spans_at file.0 mentions) (renamed_in_order g texts address offset mentions are file.0 is.text is.there))
-        ∙ ap (λ (spans : List Span). from_last new is.text spans) (sym same));
+        ap (renamed_texts new mentions texts) told.uri
+        ∙ ap (option_map (λ (text : List ℕ). replaced new text (spans_at file.0 mentions))) told.there
+        ∙ ap Some (sym (last_first new told.text (spans_at file.0 mentions) (renamed_in_order g texts address offset mentions are file.0 told.text told.there))
+        ∙ ap (λ (spans : List Span). from_last new told.text spans) (sym same));
   }
     where
       same : file.1 ≡ spans_at file.0 mentions
       same = files_spans mentions are.are_mentions.ordered file has
 
-      places : (s : Span) → Contains file.1 s → HasOwnPositions is.text s
+      places : (s : Span) → Contains file.1 s → HasOwnPositions told.text s
       places s inside =
           let found = spans_has file.0 mentions s (subst (λ (spans : List Span). Contains spans s) same inside) in
-          subst (λ (t : Span). HasOwnPositions is.text t) found.3 (own found.0 found.1 is.text (ap texts found.2 ∙ is.there))
+          subst (λ (t : Span). HasOwnPositions told.text t) found.3 (own found.0 found.1 told.text (ap texts found.2 ∙ told.there))
 
   all_remade : (files : List FileEdits) → AllZip (AreEditsOf texts new) (by_document mentions) files →
       (edits : FileEdits) → Contains files edits → IsRemade texts (renamed_texts new mentions texts) edits

@@ -86,7 +86,10 @@ module _ (address : List ℕ) where
   module _ (R : Span → Span → Type 0) where
     spans_pairs : (ms : List Mention) → ((m k : Mention) → Contains ms m → Contains ms k → m.address ≡ address → k.address ≡ address → MentionPrecedes m k → R m.span k.span) →
         AllPairs MentionPrecedes ms → AllPairs R (spans_at address ms)
-    spans_pairs [] each ordered i j d low high = absurd (omega (arith, high))
+    spans_pairs [] each ordered = none
+      where
+        none : AllPairs R []
+        none i j d low high = absurd (omega (arith, high))
     spans_pairs (m ∷ ms) each ordered =
         by (bytes_eq m.address address) refl
         (spans_pairs ms (λ n k has also. each n k (there m ms n has) (there m ms k also))

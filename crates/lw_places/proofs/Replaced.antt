@@ -169,7 +169,7 @@ lies_in text spans in_order =
 module _ (new : List ℕ) (text : List ℕ) (spans : List Span) (in_order : StandInOrder text spans) where
   pub some_result : (result : List ℕ) × IsReplaced new spans text result
   some_result =
-      let cut = cuts 0 text spans (lies_in text spans in_order) in
+      let cut = cuts 0 text spans (subst (λ (to : ℕ). Lies 0 to spans) (let e : length text ≡ 0 + length text = omega arith in e) (lies_in text spans in_order)) in
       (with_new new cut.pieces, record { pieces = cut.pieces; cut = cut.cut; exactly = cut.exactly; gives = refl })
 
   pub is_replaced : IsReplaced new spans text (replaced new text spans)
