@@ -114,9 +114,13 @@ module _ (m : Mention) (ms : List Mention) where
 
   with_one : (files : Files) → HaveSpans ms files → ((k : Mention) → Contains ms k → Contains (keys files) k.address) →
       AllPairs Ascends (keys (with_mention m files)) → HaveSpans (m ∷ ms) (with_mention m files)
-  with_one [] each among ordered file (zero, inside, is) =
-      subst (λ (x : List ℕ × List Span). x.1 ≡ spans_at x.0 (m ∷ ms)) is (alone (λ k has same. absurd (let none = among k has in omega (arith, none.1))))
-  with_one [] each among ordered file (suc i, inside, is) = absurd (omega (arith, inside))
+  with_one [] each among ordered = only
+    where
+      only : HaveSpans (m ∷ ms) ((m.address, m.span ∷ []) ∷ [])
+      only file (zero, inside, is) =
+          subst (λ (x : List ℕ × List Span). x.1 ≡ spans_at x.0 (m ∷ ms)) is
+          (alone (λ k has same. absurd (let none = among k has in omega (arith, none.1))))
+      only file (suc i, inside, is) = absurd (omega (arith, inside))
   with_one (f ∷ fs) each among ordered = by (bytes_eq m.address f.0) refl ordered
     where
       by : (b : Bool) → bytes_eq m.address f.0 ≡ b → AllPairs Ascends (keys (if b then (f.0, m.span ∷ f.1) ∷ fs else (m.address, m.span ∷ []) ∷ f ∷ fs)) →
@@ -138,7 +142,10 @@ module _ (m : Mention) (ms : List Mention) where
           ∙ sym (elsewhere file.0 m ms (unlike m.address file.0 (below_first m.address (f.0 ∷ keys fs) rising file.0 (key_of (f ∷ fs) file has))))
 
 files_spans : (ms : List Mention) → AllPairs MentionPrecedes ms → HaveSpans ms (by_document ms)
-files_spans [] ordered file has = absurd (omega (arith, has.1))
+files_spans [] ordered = none
+  where
+    none : HaveSpans [] []
+    none file has = absurd (omega (arith, has.1))
 files_spans (m ∷ ms) ordered =
     with_one m ms (by_document ms) (files_spans ms (λ i j d low high. ordered (suc i) (suc j) d (omega (arith, low)) (omega (arith, high)))) (keyed ms)
     (documents_in_order (m ∷ ms) ordered)
