@@ -1,5 +1,5 @@
 -- Where spans stand in order, one text results, which is made from the front.
-use Rattle.std.proofs.Common.{◌≡◌, ℕ, zero, suc, ◌+◌, ◌-◌, ◌<◌, ◌≤◌, List, [], ◌∷◌, ◌++◌, Bool, true, false, Option, Some, None, All, Contains, length, take, drop, slice_index_or, refl, sym, ap, ap₂, subst, ◌∙◌, arith, append-nil, append_assoc, length-drop}
+use Rattle.std.proofs.Common.{◌≡◌, ◌≢◌, ℕ, zero, suc, ◌+◌, ◌-◌, ◌<◌, ◌≤◌, List, [], ◌∷◌, ◌++◌, Bool, true, false, Option, Some, None, All, Contains, length, map, take, drop, slice_index_or, refl, sym, ap, ap₂, subst, ◌∙◌, arith, append-nil, append_assoc, length-drop}
 use Rattle.std.specs.Prelude.{if◌then◌else◌, nat_lt}
 use Rattle.std.specs.List.{AllPairs}
 use Rattle.std.specs.Option.{option_map}
@@ -13,6 +13,7 @@ use Rattle.lw_link_rules.specs.Links.{Texts}
 use Rattle.lw_reading.specs.Within.{IsInText}
 use Rattle.lw_places.specs.Cutting.{Piece, Stays, Goes, joined_pieces, with_new, places_from, IsReplaced, StandInOrder, IsRenamedText, absent, present, AreRenamedTexts}
 use Rattle.lw_places.specs.Mentions.{Mention}
+use Rattle.lw_places.proofs.Untouched.{no_mention}
 use Rattle.lw_places.specs.Replacing.{renamed_texts, replaced, replaced_from, spans_at}
 
 -- ---- the text of a cut
@@ -250,3 +251,18 @@ module _ (new : List ℕ) where
   pub some_texts : (mentions : List Mention) (texts : Texts) → ((address text : List ℕ) → texts address ≡ Some text → StandInOrder text (spans_at address mentions)) →
       AreRenamedTexts new mentions texts (renamed_texts new mentions texts)
   some_texts mentions texts in_order address = some_text (spans_at address mentions) (texts address) (in_order address)
+
+  no_place : (pieces : List Piece) (at : ℕ) → places_from at pieces ≡ [] → with_new new pieces ≡ joined_pieces pieces
+  no_place [] at none = refl
+  no_place (Stays bytes ∷ pieces) at none = ap (λ (xs : List ℕ). bytes ++ xs) (no_place pieces (at + length bytes) none)
+  no_place (Goes bytes ∷ pieces) at none = absurd (let long = ap length none in omega (arith, long))
+
+  nowhere_renamed : (spans : List Span) (o p : Option (List ℕ)) → spans ≡ [] → IsRenamedText new spans o p → p ≡ o
+  nowhere_renamed spans o p none absent = refl
+  nowhere_renamed spans o p none (present is) = ap Some (sym is.gives ∙ no_place is.pieces 0 (is.exactly ∙ none) ∙ is.cut)
+
+  -- the text of a document without a mention stays as it is
+  pub unmentioned : (mentions : List Mention) (texts after : Texts) → AreRenamedTexts new mentions texts after → (a : List ℕ) →
+      ((m : Mention) → Contains mentions m → m.address ≢ a) → after a ≡ texts a
+  unmentioned mentions texts after are a none =
+      nowhere_renamed (spans_at a mentions) (texts a) (after a) (ap (λ (ms : List Mention). map (λ (m : Mention). m.span) ms) (no_mention a mentions none)) (are a)

@@ -24,10 +24,10 @@ pub fn one_rename()
 /// the nodes that they led to, told by address and number, and where one led nowhere it still does. And it changes no text of a document without a mention.
 pub fn renames_rebind_nothing()
     ensures bound { (g : Grammar) → IsReadOneWay g → (texts : Texts) (address : List ℕ) (offset : ℕ) (new : List ℕ) (mentions : List Mention) →
-        IsRenamed g texts address offset new (Ok mentions) → (a : List ℕ) (links : List Link) → AreLinks g texts a links →
-        AreLinks g (renamed_texts new mentions texts) a links }
-    ensures untouched { (new : List ℕ) (mentions : List Mention) (texts : Texts) (a : List ℕ) → ((m : Mention) → Contains mentions m → m.address ≢ a) →
-        renamed_texts new mentions texts a ≡ texts a }
+        IsRenamed g texts address offset new (Ok mentions) → (after : Texts) → AreRenamedTexts new mentions texts after →
+        (a : List ℕ) (links : List Link) → AreLinks g texts a links → AreLinks g after a links }
+    ensures untouched { (new : List ℕ) (mentions : List Mention) (texts after : Texts) → AreRenamedTexts new mentions texts after →
+        (a : List ℕ) → ((m : Mention) → Contains mentions m → m.address ≢ a) → after a ≡ texts a }
 {}
 
 /// What a rename comes to depends on nothing but which text stands at each address.
