@@ -125,7 +125,7 @@ same_keys texts new (f ∷ fs) (e ∷ es) are = ap₂ (λ b bs. b ∷ bs) are.0.
 
 in_order : (g : Grammar) (texts : Texts) (address new : List ℕ) (offset : ℕ) (mentions : List Mention) (files : List FileEdits) →
     IsRenamed g texts address offset new (Ok mentions) → AllZip (AreEditsOf texts new) (by_document mentions) files → AreOrdered files
-in_order g texts address new offset mentions files (rename.renamed is kept stay) are =
+in_order g texts address new offset mentions files (rename.renamed is put kept stay) are =
     subst (λ us. AllPairs Ascends us) (sym (same_keys texts new (by_document mentions) files are)) (documents_in_order mentions is.are_mentions.ordered)
 
 module _ (g : Grammar) (m : Documents) where

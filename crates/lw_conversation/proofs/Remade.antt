@@ -16,6 +16,7 @@ use Rattle.lw_text.proofs.Returning.{lead_back}
 use Rattle.lw_link_rules.specs.Links.{Texts}
 use Rattle.lw_rpc.specs.declared.reply.FileEdits.{FileEdits}
 use Rattle.lw_rpc.specs.declared.reply.TextEdit.{TextEdit}
+use Rattle.lw_places.specs.Cutting.{AreRenamedTexts}
 use Rattle.lw_places.specs.Mentions.{Mention, MentionPrecedes}
 use Rattle.lw_places.specs.Renamed as rename
 use Rattle.lw_places.specs.Renamed.{AreRenamed, IsRenamed}
@@ -25,6 +26,7 @@ use Rattle.lw_places.proofs.Replaced.{from_last, last_first}
 use Rattle.lw_conversation.specs.Asking.{AreEditsOf, IsEditOf, by_document, with_mention}
 use Rattle.lw_conversation.specs.Remaking.{HasOwnPosition, HasOwnPositions, IsMadeOf, IsRemade}
 use Rattle.lw_conversation.specs.Remaking as remaking
+use Rattle.lw_places.proofs.OneRename.{made_from_front}
 use Rattle.lw_places.proofs.Orders.{not_at_one}
 use Rattle.lw_places.proofs.Untouched.{no_mention}
 use Rattle.lw_conversation.proofs.Ordered.{Ascends, documents_in_order, keys}
@@ -195,7 +197,9 @@ module _ (g : Grammar) (texts : Texts) (address : List ℕ) (offset : ℕ) (new 
 pub edits_remake : (g : Grammar) (texts : Texts) (address : List ℕ) (offset : ℕ) (new : List ℕ) (mentions : List Mention) →
     IsRenamed g texts address offset new (Ok mentions) → ((a text : List ℕ) → texts a ≡ Some text → IsUtf8 text) →
     ((m : Mention) → Contains mentions m → (text : List ℕ) → texts m.address ≡ Some text → HasOwnPositions text m.span) →
+    (after : Texts) → AreRenamedTexts new mentions texts after →
     (files : List FileEdits) → AllZip (AreEditsOf texts new) (by_document mentions) files →
-    (edits : FileEdits) → Contains files edits → IsRemade texts (renamed_texts new mentions texts) edits
-edits_remake g texts address offset new mentions (rename.renamed are kept stay) utf8 own files zip =
-    all_remade g texts address offset new mentions are utf8 own files zip
+    (edits : FileEdits) → Contains files edits → IsRemade texts after edits
+edits_remake g texts address offset new mentions (rename.renamed are put kept stay) utf8 own after also files zip edits has =
+    subst (λ (seen : Texts). IsRemade texts seen edits) (sym (made_from_front g texts address offset new mentions are also))
+    (all_remade g texts address offset new mentions are utf8 own files zip edits has)

@@ -12,7 +12,7 @@ ghost use Rattle.lw_reading.specs.Laws.{IsReadOneWay};
 ghost use Rattle.lw_link_rules.specs.Links.{Texts};
 ghost use Rattle.lw_places.specs.Mentions.{Mention};
 ghost use Rattle.lw_places.specs.Renamed.{IsRenamed};
-ghost use Rattle.lw_places.specs.Replacing.{renamed_texts};
+ghost use Rattle.lw_places.specs.Cutting.{AreRenamedTexts};
 ghost use Rattle.lw_rpc.specs.Replies.{HasOrderedEdits};
 ghost use Rattle.lw_rpc.specs.declared.file_change.FileChange.{FileChange};
 ghost use Rattle.lw_rpc.specs.declared.message.Id.{Id};
@@ -74,8 +74,9 @@ pub fn edits_give_what_was_judged()
     ensures { (g : Grammar) (texts : Texts) (address : List ℕ) (offset : ℕ) (new : List ℕ) (mentions : List Mention) →
         IsRenamed g texts address offset new (Ok mentions) → ((a text : List ℕ) → texts a ≡ Some text → IsUtf8 text) →
         ((m : Mention) → Contains mentions m → (text : List ℕ) → texts m.address ≡ Some text → HasOwnPositions text m.span) →
+        (after : Texts) → AreRenamedTexts new mentions texts after →
         (files : List FileEdits) → AllZip (AreEditsOf texts new) (by_document mentions) files →
-        (edits : FileEdits) → Contains files edits → IsRemade texts (renamed_texts new mentions texts) edits }
+        (edits : FileEdits) → Contains files edits → IsRemade texts after edits }
 {}
 
 /// A session ends as its phases say, whatever its documents are, and they say one end of any bodies.

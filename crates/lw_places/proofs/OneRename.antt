@@ -35,7 +35,7 @@ use Rattle.lw_places.proofs.MentionsApart.{renamed_replaced}
 use Rattle.lw_places.proofs.Replaced.{one_texts}
 
 -- the texts with the mentions replaced are those that are made from their fronts
-made_from_front : (g : Grammar) (texts : Texts) (address : List ℕ) (offset : ℕ) (new : List ℕ) (mentions : List Mention) {after : Texts} →
+pub made_from_front : (g : Grammar) (texts : Texts) (address : List ℕ) (offset : ℕ) (new : List ℕ) (mentions : List Mention) {after : Texts} →
     AreRenamed g texts address offset mentions → AreRenamedTexts new mentions texts after → after ≡ renamed_texts new mentions texts
 made_from_front g texts address offset new mentions {after} are put =
     λ i a. one_texts new mentions texts after (renamed_texts new mentions texts) put (renamed_replaced g texts address offset mentions are new) a i
