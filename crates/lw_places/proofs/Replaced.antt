@@ -1,5 +1,5 @@
 -- Where spans stand in order, one text results, which is made from the front.
-use Rattle.std.proofs.Common.{◌≡◌, ◌≢◌, ℕ, zero, suc, ◌+◌, ◌-◌, ◌<◌, ◌≤◌, List, [], ◌∷◌, ◌++◌, Bool, true, false, Option, Some, None, All, Contains, length, map, take, drop, slice_index_or, refl, sym, ap, ap₂, subst, ◌∙◌, arith, append-nil, append_assoc, length-drop}
+use Rattle.std.proofs.Common.{◌≡◌, ◌≢◌, ℕ, zero, suc, ◌+◌, ◌-◌, ◌<◌, ◌≤◌, List, [], ◌∷◌, ◌++◌, Bool, true, false, Option, Some, None, All, Contains, length, map, take, drop, slice_index_or, refl, sym, ap, ap₂, subst, ◌∙◌, arith, append-nil, append_assoc, length-append, length-drop, inl, inr}
 use Rattle.std.specs.Prelude.{if◌then◌else◌, nat_lt}
 use Rattle.std.specs.List.{AllPairs}
 use Rattle.std.specs.Option.{option_map}
@@ -7,8 +7,9 @@ use Rattle.std.proofs.Math.Seq.{take-append-add, drop-append-add, drop-append_se
 use Rattle.std.proofs.lemmas.Bool.Decides.{Decides-ltb}
 use Rattle.std.proofs.lemmas.List.{drop-drop, length-take-le, take-append-drop, take-append-le}
 use Rattle.std.proofs.lemmas.List.Elements.{All-contains, Contains-get_or}
+use Rattle.std.proofs.lemmas.List.Kept.{AllPairs-cons}
 use Rattle.lw_base.specs.declared.token.Span.{Span}
-use Rattle.lw_base.proofs.Lists.{the_first, there}
+use Rattle.lw_base.proofs.Lists.{first_or_later, the_first, there}
 use Rattle.lw_link_rules.specs.Links.{Texts}
 use Rattle.lw_reading.specs.Within.{IsInText}
 use Rattle.lw_places.specs.Cutting.{Piece, Stays, Goes, joined_pieces, with_new, places_from, IsReplaced, StandInOrder, IsRenamedText, absent, present, AreRenamedTexts}
@@ -176,6 +177,56 @@ module _ (new : List ℕ) (text : List ℕ) (spans : List Span) (in_order : Stan
   pub is_replaced : IsReplaced new spans text (replaced new text spans)
   is_replaced = subst (λ (result : List ℕ). IsReplaced new spans text result) (sym (is_computed new spans text some_result.0 some_result.1)) some_result.1
 
+-- ---- spans of a cut stand in order
+
+from_earlier : (at later to : ℕ) (spans : List Span) → at ≤ later → Lies later to spans → Lies at to spans
+from_earlier at later to [] low lies = omega (arith, low, lies)
+from_earlier at later to (s ∷ ss) low lies = (omega (arith, low, lies.0), lies.1, lies.2)
+
+far_on : (at : ℕ) (bytes rest : List ℕ) → at + length bytes + length rest ≡ at + length (bytes ++ rest)
+far_on at bytes rest = let long = length-append bytes rest in omega (arith, long)
+
+places_lie : (at : ℕ) (pieces : List Piece) → Lies at (at + length (joined_pieces pieces)) (places_from at pieces)
+places_lie at [] = omega arith
+places_lie at (Stays bytes ∷ pieces) =
+    from_earlier at (at + length bytes) (at + length (bytes ++ joined_pieces pieces)) (places_from (at + length bytes) pieces) (omega arith)
+    (subst (λ (to : ℕ). Lies (at + length bytes) to (places_from (at + length bytes) pieces)) (far_on at bytes (joined_pieces pieces))
+    (places_lie (at + length bytes) pieces))
+places_lie at (Goes bytes ∷ pieces) = (
+  omega arith,
+  omega arith,
+  subst (λ (to : ℕ). Lies (at + length bytes) to (places_from (at + length bytes) pieces)) (far_on at bytes (joined_pieces pieces))
+      (places_lie (at + length bytes) pieces),
+)
+
+inside_of : (at to : ℕ) (spans : List Span) → Lies at to spans → (t : Span) → Contains spans t → (at ≤ t.start) × (t.start ≤ t.end) × (t.end ≤ to)
+inside_of at to [] lies t has = absurd (omega (arith, has.1))
+inside_of at to (s ∷ ss) lies t has = elim (first_or_later s ss has) [
+  | inl same ↦
+      subst (λ (u : Span). (at ≤ u.start) × (u.start ≤ u.end) × (u.end ≤ to)) same (lies.0, lies.1, ends_below s.end to ss lies.2)
+  | inr later ↦ let rest = inside_of s.end to ss lies.2 t later in (omega (arith, lies.0, lies.1, rest.0), rest.1, rest.2)
+]
+
+pairs_of : (at to : ℕ) (spans : List Span) → Lies at to spans → AllPairs (λ s t. s.end ≤ t.start) spans
+pairs_of at to [] lies = none
+  where
+    none : AllPairs (λ (s t : Span). s.end ≤ t.start) []
+    none i j d low high = absurd (omega (arith, high))
+pairs_of at to (s ∷ ss) lies =
+    AllPairs-cons (λ (x t : Span). x.end ≤ t.start) s ss (all_of (λ (t : Span). s.end ≤ t.start) ss (λ t has. (inside_of s.end to ss lies.2 t has).0))
+    (pairs_of s.end to ss lies.2)
+
+pub cut_in_order : (new : List ℕ) (spans : List Span) (text result : List ℕ) → IsReplaced new spans text result → StandInOrder text spans
+cut_in_order new spans text result is = record {
+  inside = all_of (IsInText text) spans (λ s has. let it = inside_of 0 (0 + length text) spans lies s has in (it.1, omega (arith, it.2)));
+  apart = pairs_of 0 (0 + length text) spans lies;
+}
+  where
+    lies : Lies 0 (0 + length text) spans
+    lies =
+        subst (λ (xs : List ℕ). Lies 0 (0 + length xs) spans) is.cut
+        (subst (λ (ss : List Span). Lies 0 (0 + length (joined_pieces is.pieces)) ss) is.exactly (places_lie 0 is.pieces))
+
 -- ---- from the last to the first
 
 -- the text in which these spans are replaced, the last one first
@@ -237,6 +288,12 @@ module _ (new : List ℕ) where
   one_text : (spans : List Span) (o p q : Option (List ℕ)) → IsRenamedText new spans o p → IsRenamedText new spans o q → p ≡ q
   one_text spans o p q absent absent = refl
   one_text spans o p q (present {text} {result} is) (present {result = other} also) = ap Some (one_result new spans text result other is also)
+
+  -- the text of a document whose spans are these
+  pub its_text : (spans : List Span) (o p : Option (List ℕ)) (text result : List ℕ) → IsRenamedText new spans o p → o ≡ Some text →
+      IsReplaced new spans text result → p ≡ Some result
+  its_text spans o p text result are is replaced_so =
+      one_text spans o p (Some result) are (subst (λ (q : Option (List ℕ)). IsRenamedText new spans q (Some result)) (sym is) (present replaced_so))
 
   pub one_texts : (mentions : List Mention) (texts after others : Texts) → AreRenamedTexts new mentions texts after → AreRenamedTexts new mentions texts others →
       (address : List ℕ) → after address ≡ others address

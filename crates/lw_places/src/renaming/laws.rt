@@ -36,10 +36,10 @@ pub fn only_texts_are_renamed()
         (outcome : Result (List Mention) Refusal) → IsRenamed g texts address offset new outcome → IsRenamed g others address offset new outcome }
 {}
 
-/// Where spans of a text stand in order, one text results in which exactly they are replaced; the text that is made from the front is it. There is one such text at
-/// most in any case.
+/// One text results in which exactly these spans are replaced where they stand in order, and none where they do not. The text that is made from the front is it.
 pub fn what_stands_apart_is_replaced()
     ensures one { (new : List ℕ) (spans : List Span) (text result other : List ℕ) → IsReplaced new spans text result → IsReplaced new spans text other → result ≡ other }
+    ensures only { (new : List ℕ) (spans : List Span) (text result : List ℕ) → IsReplaced new spans text result → StandInOrder text spans }
     ensures made { (new text : List ℕ) (spans : List Span) → StandInOrder text spans → IsReplaced new spans text (replaced new text spans) }
     ensures texts { (new : List ℕ) (mentions : List Mention) (texts after others : Texts) → AreRenamedTexts new mentions texts after →
         AreRenamedTexts new mentions texts others → (address : List ℕ) → after address ≡ others address }
@@ -53,13 +53,13 @@ pub fn mentions_stand_apart()
         (new : List ℕ) → AreRenamedTexts new mentions texts (renamed_texts new mentions texts) }
 {}
 
-/// Each span is replaced, at the place where it stands as the text is before any is; one that is given twice is replaced once. The
+/// Each span is replaced, at the place where it stands as the text is before any is, and none is passed over: where one is given twice there is no result. The
 /// mentions in one document replace nothing in another.
 pub fn texts_are_replaced()
-    ensures all { replaced (codes "long") (codes "part x uses x") (letter_at 5 ∷ letter_at 12 ∷ []) ≡ codes "part long uses long" }
-    ensures once { replaced (codes "long") (codes "part x") (letter_at 5 ∷ letter_at 5 ∷ []) ≡ codes "part long" }
-    ensures there { (texts : Texts) → texts (codes "a") ≡ Some (codes "uses x") →
-        renamed_texts (codes "y") (letter_in (codes "a") 5 ∷ letter_in (codes "b") 0 ∷ []) texts (codes "a") ≡ Some (codes "uses y") }
+    ensures all { IsReplaced (codes "long") (letter_at 5 ∷ letter_at 12 ∷ []) (codes "part x uses x") (codes "part long uses long") }
+    ensures once { (result : List ℕ) → ¬ IsReplaced (codes "long") (letter_at 5 ∷ letter_at 5 ∷ []) (codes "part x") result }
+    ensures there { (texts after : Texts) → texts (codes "a") ≡ Some (codes "uses x") →
+        AreRenamedTexts (codes "y") (letter_in (codes "a") 5 ∷ letter_in (codes "b") 0 ∷ []) texts after → after (codes "a") ≡ Some (codes "uses y") }
 {}
 
 /// Trees that differ in texts and places alone have one shape. Those that differ in a type do not, and they differ first at that node.
