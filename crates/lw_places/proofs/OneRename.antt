@@ -77,67 +77,67 @@ module _ (g : Grammar) (one_way : IsReadOneWay g) (texts : Texts) (address : Lis
 
   -- what comes of it, over the texts that are made from their fronts
   data ByFront : Result (List Mention) Refusal → Type 0 where
-    unmeant : NothingIsMeant g texts address offset → ByFront (Err NoName)
-    spoils : {mentions : List Mention} {m : Mention} {refusal : Refusal} → AreRenamed g texts address offset mentions → Contains mentions m →
+    is_unmeant : NothingIsMeant g texts address offset → ByFront (Err NoName)
+    is_spoiled : {mentions : List Mention} {m : Mention} {refusal : Refusal} → AreRenamed g texts address offset mentions → Contains mentions m →
         IsSpoiledAt g texts (after mentions) m.address refusal →
         ((other : Mention) → Contains mentions other → slice_cmp nat_cmp other.address m.address ≡ Less → IsKeptAt g texts (after mentions) other.address) →
         ByFront (Err refusal)
-    rebinds : {mentions : List Mention} {a : List ℕ} {i : ℕ} {before behind : Link} → AreRenamed g texts address offset mentions → AllKept mentions →
+    is_rebound : {mentions : List Mention} {a : List ℕ} {i : ℕ} {before behind : Link} → AreRenamed g texts address offset mentions → AllKept mentions →
         IsRebound g texts (after mentions) a i before behind → ByFront (Err (Rebound a i before behind))
-    accepts : {mentions : List Mention} → AreRenamed g texts address offset mentions → AllKept mentions →
+    is_accepted : {mentions : List Mention} → AreRenamed g texts address offset mentions → AllKept mentions →
         ((a : List ℕ) → LinksStay g texts (after mentions) a) → ByFront (Ok mentions)
 
   one_by_front : (outcome other : Result (List Mention) Refusal) → ByFront outcome →
       ByFront other → outcome ≡ other
-  one_by_front outcome other (unmeant _) (unmeant _) = refl
-  one_by_front outcome other (unmeant none) (spoils {mentions = ns} were _ _ _) = not_both ns none were
-  one_by_front outcome other (unmeant none) (rebinds {mentions = ns} were _ _) = not_both ns none were
-  one_by_front outcome other (unmeant none) (accepts {mentions = ns} were _ _) = not_both ns none were
-  one_by_front outcome other (spoils {mentions = ms} are _ _ _) (unmeant none) = not_both ms none are
-  one_by_front outcome other (rebinds {mentions = ms} are _ _) (unmeant none) = not_both ms none are
-  one_by_front outcome other (accepts {mentions = ms} are _ _) (unmeant none) = not_both ms none are
-  one_by_front outcome other (spoils {mentions = ms} {m = m} {refusal = a} are has spoiled kept)
-      (spoils {mentions = ns} {m = k} {refusal = b} were had spoils keeps) =
+  one_by_front outcome other (is_unmeant _) (is_unmeant _) = refl
+  one_by_front outcome other (is_unmeant none) (is_spoiled {mentions = ns} were _ _ _) = not_both ns none were
+  one_by_front outcome other (is_unmeant none) (is_rebound {mentions = ns} were _ _) = not_both ns none were
+  one_by_front outcome other (is_unmeant none) (is_accepted {mentions = ns} were _ _) = not_both ns none were
+  one_by_front outcome other (is_spoiled {mentions = ms} are _ _ _) (is_unmeant none) = not_both ms none are
+  one_by_front outcome other (is_rebound {mentions = ms} are _ _) (is_unmeant none) = not_both ms none are
+  one_by_front outcome other (is_accepted {mentions = ms} are _ _) (is_unmeant none) = not_both ms none are
+  one_by_front outcome other (is_spoiled {mentions = ms} {m = m} {refusal = a} are has spoiled kept)
+      (is_spoiled {mentions = ns} {m = k} {refusal = b} were had spoils keeps) =
       let same : ms ≡ ns = same_mentions ms ns are were in
       let one : FirstSpoiled ms a = record { m = m; has = has; spoiled = spoiled; kept_before = kept } in
       ap Err (one_refusal ns a b (subst (λ (x : List Mention). FirstSpoiled x a) same one) (record { m = k; has = had; spoiled = spoils; kept_before = keeps }))
-  one_by_front outcome other (spoils {mentions = ms} {m = m} {refusal = a} are has spoiled kept) (rebinds {mentions = ns} were all _) =
+  one_by_front outcome other (is_spoiled {mentions = ms} {m = m} {refusal = a} are has spoiled kept) (is_rebound {mentions = ns} were all _) =
       not_kept ms ns a (same_mentions ms ns are were) (record { m = m; has = has; spoiled = spoiled; kept_before = kept }) all
-  one_by_front outcome other (spoils {mentions = ms} {m = m} {refusal = a} are has spoiled kept) (accepts {mentions = ns} were all _) =
+  one_by_front outcome other (is_spoiled {mentions = ms} {m = m} {refusal = a} are has spoiled kept) (is_accepted {mentions = ns} were all _) =
       not_kept ms ns a (same_mentions ms ns are were) (record { m = m; has = has; spoiled = spoiled; kept_before = kept }) all
-  one_by_front outcome other (rebinds {mentions = ms} are all _) (spoils {mentions = ns} {m = k} {refusal = b} were had spoils keeps) =
+  one_by_front outcome other (is_rebound {mentions = ms} are all _) (is_spoiled {mentions = ns} {m = k} {refusal = b} were had spoils keeps) =
       not_kept ns ms b (same_mentions ns ms were are) (record { m = k; has = had; spoiled = spoils; kept_before = keeps }) all
-  one_by_front outcome other (accepts {mentions = ms} are all _) (spoils {mentions = ns} {m = k} {refusal = b} were had spoils keeps) =
+  one_by_front outcome other (is_accepted {mentions = ms} are all _) (is_spoiled {mentions = ns} {m = k} {refusal = b} were had spoils keeps) =
       not_kept ns ms b (same_mentions ns ms were are) (record { m = k; has = had; spoiled = spoils; kept_before = keeps }) all
-  one_by_front outcome other (rebinds {mentions = ms} {a = a} {i = i} {before = x} {behind = y} are _ is)
-      (rebinds {mentions = ns} {a = b} {i = j} {before = z} {behind = w} were _ was) =
+  one_by_front outcome other (is_rebound {mentions = ms} {a = a} {i = i} {before = x} {behind = y} are _ is)
+      (is_rebound {mentions = ns} {a = b} {i = j} {before = z} {behind = w} were _ was) =
       let same : ms ≡ ns = same_mentions ms ns are were in
       let one : IsRebound g texts (after ns) a i x y = subst (λ (seen : List Mention). IsRebound g texts (after seen) a i x y) same is in
       ap Err (one_rebound g one_way texts (after ns) a b i j x y z w one was)
-  one_by_front outcome other (rebinds {mentions = ms} {a = a} {i = i} {before = x} {behind = y} are _ is) (accepts {mentions = ns} were _ stay) =
+  one_by_front outcome other (is_rebound {mentions = ms} {a = a} {i = i} {before = x} {behind = y} are _ is) (is_accepted {mentions = ns} were _ stay) =
       let same : ms ≡ ns = same_mentions ms ns are were in
       let one : IsRebound g texts (after ns) a i x y = subst (λ (seen : List Mention). IsRebound g texts (after seen) a i x y) same is in
       not_rebound g one_way texts (after ns) a i x y one (stay a)
-  one_by_front outcome other (accepts {mentions = ms} are _ stay) (rebinds {mentions = ns} {a = b} {i = j} {before = z} {behind = w} were _ was) =
+  one_by_front outcome other (is_accepted {mentions = ms} are _ stay) (is_rebound {mentions = ns} {a = b} {i = j} {before = z} {behind = w} were _ was) =
       let same : ns ≡ ms = same_mentions ns ms were are in
       let one : IsRebound g texts (after ms) b j z w = subst (λ (seen : List Mention). IsRebound g texts (after seen) b j z w) same was in
       not_rebound g one_way texts (after ms) b j z w one (stay b)
-  one_by_front outcome other (accepts {mentions = ms} are _ _) (accepts {mentions = ns} were _ _) =
+  one_by_front outcome other (is_accepted {mentions = ms} are _ _) (is_accepted {mentions = ns} were _ _) =
       ap Ok (same_mentions ms ns are were)
 
   by_front : (outcome : Result (List Mention) Refusal) → IsRenamed g texts address offset new outcome → ByFront outcome
-  by_front outcome (no_name none) = unmeant none
+  by_front outcome (no_name none) = is_unmeant none
   by_front outcome (refused {mentions = ms} {m = m} {refusal = x} are put has spoiled kept) =
       let same = made_from_front g texts address offset new ms are put in
-      spoils are has (subst (λ (seen : Texts). IsSpoiledAt g texts seen m.address x) same spoiled)
+      is_spoiled are has (subst (λ (seen : Texts). IsSpoiledAt g texts seen m.address x) same spoiled)
       (λ other among less. subst (λ (seen : Texts). IsKeptAt g texts seen other.address) same (kept other among less))
   by_front outcome (rebound {mentions = ms} {a = a} {i = i} {before = x} {behind = y} are put kept is) =
       let same = made_from_front g texts address offset new ms are put in
-      rebinds are (λ m has. subst (λ (seen : Texts). IsKeptAt g texts seen m.address) same (kept m has))
+      is_rebound are (λ m has. subst (λ (seen : Texts). IsKeptAt g texts seen m.address) same (kept m has))
       (subst (λ (seen : Texts). IsRebound g texts seen a i x y) same is)
   by_front outcome (renamed {mentions = ms} are put kept stay) =
       let same = made_from_front g texts address offset new ms are put in
-      accepts are (λ m has. subst (λ (seen : Texts). IsKeptAt g texts seen m.address) same (kept m has))
+      is_accepted are (λ m has. subst (λ (seen : Texts). IsKeptAt g texts seen m.address) same (kept m has))
       (λ a. subst (λ (seen : Texts). LinksStay g texts seen a) same (stay a))
 
   pub one_outcome : (outcome other : Result (List Mention) Refusal) → IsRenamed g texts address offset new outcome →
