@@ -32,6 +32,7 @@ mod NamedTried
 mod NamedWritten
 mod NamesFound
 mod NoneSoFar
+mod OthersIndexed
 mod ParserKnown
 mod TypedWords
 mod WrittenThere

@@ -1,5 +1,5 @@
 -- A name that the text with it means by its bytes is found without it: what stands around it tells where it leads.
-use Rattle.std.proofs.Common.{◌≡◌, ◌≢◌, ◌+◌, ℕ, List, [], ◌∷◌, ◌++◌, Option, Some, Contains, drop, length, map, slice_get, refl, sym, ap, subst, ◌∙◌, arith}
+use Rattle.std.proofs.Common.{◌≡◌, ◌≢◌, ◌+◌, ℕ, List, [], ◌++◌, Option, Some, drop, length, map, slice_get, refl, sym, ap, subst, ◌∙◌, arith}
 use Rattle.std.proofs.lemmas.List.{append-nil, append_cancel_left, drop_at}
 use Rattle.std.proofs.lemmas.Option.{same_Some}
 use Rattle.lw_base.specs.declared.numbers.PropId.{PropId}

@@ -3,3 +3,4 @@ pub mod Starts
 pub mod Tried
 pub mod Judged
 pub mod Items
+pub mod Others

@@ -36,7 +36,7 @@ use std::alloc::Global;
 /// keyword that may come next, and each name that begins with the word and would lead somewhere, takes the time of cutting the end of the
 /// text before the word with it, and some bytes behind it, and of a search among these names. Only where that does not tell how the whole
 /// text is cut, as where a pattern looks far ahead, is the text with the name read for it.
-pub fn complete(
+pub fn complete_in(
     alloc: Global,
     language: &Language,
     index: &Index,

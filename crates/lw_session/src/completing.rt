@@ -8,7 +8,7 @@ ghost use Rattle.lw_session.specs.Completing.{IsItemTold, TakesWord};
 use crate::locating::asked_at;
 use lw_base::{Items, Name, NoMemory};
 use lw_build::Workspace;
-use lw_complete::{Item, complete};
+use lw_complete::{Item, complete_in};
 use lw_rpc::{CompletionItem, Outcome};
 use lw_text::{Encoding, Pos, TextDoc};
 use std::alloc::Global;
@@ -30,7 +30,7 @@ pub(crate) fn completion_at(
         unreachable!()
     };
     workspace.agrees();
-    let offered = complete(
+    let offered = complete_in(
         alloc,
         workspace.language(),
         workspace.index(),

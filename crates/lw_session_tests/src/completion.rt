@@ -3,7 +3,7 @@ ghost use Rattle.lw_reading.specs.Laws.{IsReadOneWay};
 
 use crate::session::language;
 use lw_base::{DocId, Name, NoMemory};
-use lw_complete::{Item, complete};
+use lw_complete::{Item, complete_in};
 use lw_index::Index;
 use lw_lang::{Language, Parsed};
 use lw_link::entries;
@@ -93,7 +93,7 @@ fn offered(
     let text = Name::from_string(format!(in alloc; "{front}{rest}")?);
     let off = u32::try_from(front.len()).expect(rt, "a short text");
     assert!(rt; text.text().is_char_boundary(off as usize));
-    let items = complete(alloc, language, index, DocId(0), &text, off)?;
+    let items = complete_in(alloc, language, index, DocId(0), &text, off)?;
     shown(alloc, items.as_slice())
 }
 

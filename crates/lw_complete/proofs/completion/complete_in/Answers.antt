@@ -9,7 +9,7 @@ use Rattle.lw_tokens.specs.Cut.{IsCut}
 use Rattle.lw_tree.specs.Parts.{Tile}
 use Rattle.lw_complete.specs.Items.{offer_of}
 use Rattle.lw_complete.proofs.Completed.{answered, first_bytes, none_in_long, none_uncut, nothing, typed_as}
-use Rattle.lw_complete.proofs.completion.complete.Goals as goal
+use Rattle.lw_complete.proofs.completion.complete_in.Goals as goal
 
 pub returns-then-bytes-gt-LONGEST_DOCUMENT-clause-offers : goal.returns-then-bytes-gt-LONGEST_DOCUMENT-clause-offers
 returns-then-bytes-gt-LONGEST_DOCUMENT-clause-offers c texts trees address are is number =
