@@ -1,5 +1,5 @@
 -- The values of a reply's parts read back, where those of their parts do.
-use Rattle.std.proofs.Common.{◌≡◌, ℕ, ℤ, List, [], ◌∷◌, map, true, All, codes, Option, Some, None, refl, arith}
+use Rattle.std.proofs.Common.{◌≡◌, ℕ, ℤ, List, [], ◌∷◌, map, true, All, codes, Option, Some, None, refl, ap, ◌∙◌, arith}
 use Rattle.serde_json.specs.Data as Data
 use Rattle.serde_json.specs.Data.{no_members, string, array}
 use Rattle.serde_json.specs.Read.{read}
@@ -10,13 +10,14 @@ use Rattle.lw_rpc.proofs.ReadLemmas.{ReadsBack-boolean, ReadsBack-string, ReadsB
 use Rattle.lw_rpc.proofs.ReplyLemmas.{depth-value_of}
 use Rattle.lw_rpc.proofs.TextLemmas.{compact_text-value_of}
 use Rattle.lw_rpc.specs.Readable.{ReadsBack, AllReadBack}
-use Rattle.lw_rpc.specs.Replies.{AreOrdered, HasOrderedEdits, reply_bytes}
+use Rattle.lw_rpc.specs.Replies.{AreOrdered, HasOrderedEdits, publish_text, reply_bytes}
 use Rattle.lw_rpc.specs.Values as value
 use Rattle.lw_rpc.specs.Values.{value_of}
 use Rattle.lw_rpc.specs.declared.reply.CompletionItem.{CompletionItem}
 use Rattle.lw_rpc.specs.declared.reply.FileEdits.{FileEdits}
 use Rattle.lw_rpc.specs.declared.reply.Location.{Location}
 use Rattle.lw_rpc.specs.declared.reply.Reply.{Reply}
+use Rattle.lw_rpc.specs.declared.reply.Reply.TheVariants.{Publish}
 
 pub location_reads : (location : Location) → ReadsBack (value.range_value location.start location.end) → ReadsBack (value.location_value location)
 location_reads location range =
@@ -87,3 +88,10 @@ hello_reads =
 
 pub reply_reads : (reply : Reply) → HasOrderedEdits reply → ReadsBack (value_of reply) → read (reply_bytes reply) ≡ Some (value_of reply)
 reply_reads reply ordered back = rw (← compact_text-value_of reply ordered) (read-compact_text (value_of reply) back (depth-value_of reply))
+
+-- the same of a publication by its parts
+pub publication_reads : (uri : List ℕ) (at : Option ℤ) (list : List Shown) (text : List ℕ) → text ≡ publish_text uri at list
+    → ReadsBack (value.notification_value (codes "textDocument/publishDiagnostics") (value.publish_params uri at list))
+    → read text ≡ Some (value_of (Publish uri at list))
+unfolding reply_bytes value_of
+publication_reads uri at list text is back = ap read is ∙ reply_reads (Publish uri at list) tt back

@@ -9,7 +9,8 @@
 //! `specs/Replies.antt` gives the bytes of a [`Reply`], and `specs/Values.antt` the JSON value that they are.
 //!
 //! It promises that [`read_message`] gives exactly that message, each refusal by its own rule alone; that
-//! [`reply_text`] gives exactly those bytes, and that they read back as that value. The changes of a text are
+//! [`reply_text`] gives exactly those bytes, and that they read back as that value. [`publication_text`] gives those
+//! of [`Reply::Publish`] from parts that are lent to it. The changes of a text are
 //! read one by one, each by its own shape. Either call may be refused memory instead. What is to be changed in
 //! documents is an object whose keys are their addresses: [`reply_text`] asks that [`Outcome::Edits`] has them
 //! in byte order, each once. What may be put in at a place is a list: of each item its kind, its text, and that
@@ -50,4 +51,4 @@ pub use file_change::{FileChange, FileChangeKind};
 pub use message::{Id, Message};
 pub use reading::read_message;
 pub use reply::{CompletionItem, FileEdits, Location, Outcome, Reply, TextEdit};
-pub use writing::reply_text;
+pub use writing::{publication_text, reply_text};

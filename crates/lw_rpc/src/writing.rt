@@ -5,6 +5,7 @@ ghost use Rattle.serde_json.specs.Read.{read};
 ghost use Rattle.lw_rpc.specs.Readable.{ReadsBack};
 ghost use Rattle.lw_rpc.specs.Replies.{reply_bytes, done_text, error_text, id_or_null_text, id_text, log_text, outcome_text, HasOrderedEdits, HasOrderedFiles};
 ghost use Rattle.lw_rpc.specs.Values as spec;
+ghost use Rattle.lw_rpc.specs.declared.reply.Reply.TheVariants as reply_;
 
 use crate::edits::write_edits;
 use crate::hello::write_hello;
@@ -14,6 +15,7 @@ use crate::published::write_publish;
 use crate::texts::{write_quoted, write_whole};
 use crate::{Id, Outcome, Reply};
 use lw_base::{Name, NoMemory};
+use lw_text::Shown;
 use std::alloc::Global;
 
 /// The bytes of a reply: compact JSON, keys in byte order (JSON-RPC 2.0; Language Server Protocol 3.17).
@@ -27,6 +29,22 @@ pub fn reply_text(alloc: Global, reply: &Reply) -> Result<Name, NoMemory>
 {
     let mut text = String::new(alloc);
     write_reply(alloc, &mut text, reply)?;
+    Ok(Name::from_string(text))
+}
+
+/// The bytes of [`Reply::Publish`] of these parts, which are lent: nothing of them is copied first.
+#[tactic(auto, unfolding(crate::specs::Replies::reply_bytes, crate::specs::Values::value_of))]
+pub fn publication_text(
+    alloc: Global,
+    uri: &Name,
+    version: Option<i64>,
+    list: &[Shown],
+) -> Result<Name, NoMemory>
+    ensures bytes { IfOk result (λ text. text ≡ reply_bytes (reply_.Publish uri.now version list.now)) }
+    ensures reads_back { IfOk result (λ text. read text ≡ Some (spec.value_of (reply_.Publish uri.now version list.now))) }
+{
+    let mut text = String::new(alloc);
+    write_publish(alloc, &mut text, uri, &version, list)?;
     Ok(Name::from_string(text))
 }
 
