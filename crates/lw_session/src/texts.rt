@@ -5,8 +5,7 @@ ghost use Rattle.lw_rpc.specs.Replies.{HasOrderedEdits, reply_bytes};
 
 use lw_base::{Items, Name, NoMemory};
 use lw_machine::Published;
-use lw_rpc::{Reply, reply_text};
-use lw_text::Shown;
+use lw_rpc::{Reply, publication_text, reply_text};
 use std::alloc::Global;
 
 /// The bytes of each reply, and behind them those of each publication, in their order.
@@ -20,8 +19,8 @@ pub(crate) fn texts_of(
 {
     let mut texts = reply_texts(alloc, replies)?;
     'lists: for list in lists {
-        let reply = publication(alloc, list)?;
-        texts.push(reply_text(alloc, &reply)?)?;
+        let shown = list.list.as_slice();
+        texts.push(publication_text(alloc, &list.uri, list.version, shown)?)?;
     }
     Ok(texts)
 }
