@@ -1,6 +1,6 @@
 -- Words are one command at most.
-use Rattle.std.proofs.Common.{◌≡◌, ℕ, List, [], ◌∷◌, Option, unwrap_or, codes, refl, sym, ap, subst, ◌∙◌, arith}
-use Rattle.lw_command_line.specs.Said.{SaysOperands}
+use Rattle.std.proofs.Common.{◌≡◌, ℕ, List, [], ◌∷◌, codes, refl, sym, ap, subst, ◌∙◌, arith}
+use Rattle.lw_command_line.specs.Said.{SaysOperands, depth_of}
 use Rattle.std.specs.Str.Parse.{digits_value}
 use Rattle.lw_command_line.specs.Words.{SaysBehind, AreFiles, IsCount, IsCheck, IsServe, IsMake, NamesFile}
 use Rattle.lw_command_line.specs.Words as words
@@ -23,8 +23,8 @@ pub record IsSame (m n : List ℕ) (os ps : List (List ℕ)) (j k : ℕ) : Type 
 pub says_same : {words : List (List ℕ)} {m n : List ℕ} {os ps : List (List ℕ)} {j k : ℕ} → SaysBehind m words os j → SaysBehind n words ps k → IsSame m n os ps j k
 says_same {n} {os} {ps} is also =
     let same : _ ∷ is.behind ≡ n ∷ also.behind = sym is.are ∙ also.are in
-    let one = says_one is.said (subst (λ ws. SaysOperands ws ps also.depth) (sym (behind same)) also.said) in
-    record { name = first same; operands = one.0; depth = is.deep ∙ ap (λ d. unwrap_or d 2) one.1 ∙ sym also.deep }
+    let one = says_one is.said (subst (λ ws. SaysOperands ws ps also.options) (sym (behind same)) also.said) in
+    record { name = first same; operands = one.0; depth = is.deep ∙ ap depth_of one.1 ∙ sym also.deep }
 
 -- ---- the commands apart
 

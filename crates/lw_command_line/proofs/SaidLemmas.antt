@@ -1,8 +1,10 @@
 -- What words say is one thing, and is found word by word.
-use Rattle.std.proofs.Common.{◌≡◌, ℕ, ◌+◌, List, [], ◌∷◌, ◌++◌, Option, Some, None, codes, length, length-append, drop, refl, sym, ap, subst, ◌∙◌, arith, append_assoc, append-nil, bytes_eq, is_some, false, true}
+use Rattle.std.proofs.Common.{◌≡◌, ◌≢◌, ℕ, ◌+◌, List, [], ◌∷◌, ◌++◌, All, codes, length, length-append, drop, refl, sym, ap, subst, ◌∙◌, arith, append_assoc, append-nil, bytes_eq, false, zero, suc}
 use Rattle.std.proofs.lemmas.Bool.{false≢true}
 use Rattle.std.proofs.lemmas.Slice.Eq.{bytes_eq-Decides}
-use Rattle.lw_command_line.specs.Said.{IsDepth, IsOperand, SaysDepth, SaysOperands}
+use Rattle.lw_command_line.specs.Said.{IsDepth, IsNew, IsOperand, SaysDepth, SaysOperands, SaysOption, name_of}
+use Rattle.lw_command_line.specs.declared.option.CommandOption.{CommandOption}
+use Rattle.lw_command_line.specs.declared.option.CommandOption.TheVariants.{Lookahead}
 use Rattle.lw_command_line.specs.Said as said
 
 -- ---- words
@@ -20,12 +22,13 @@ behind same = cc
 pub differs : (xs ys : List ℕ) → bytes_eq xs ys ≡ false → ¬ (xs ≡ ys)
 differs xs ys other same = false≢true (sym other ∙ (bytes_eq-Decides xs ys).1 same)
 
--- ---- the option
+-- ---- options
 
--- the word that the option begins with begins with `--l`
-begins : {words : List (List ℕ)} {k : ℕ} {others : List (List ℕ)} → SaysDepth words k others → (rest : List ℕ) × (more : List (List ℕ)) × (words ≡ (45 ∷ 45 ∷ 108 ∷ rest) ∷ more)
-begins (said.apart {word} {others} is) = (drop 3 (codes "--lookahead"), word ∷ others, refl)
-begins (said.joined {word} {others} is) = (drop 3 (codes "--lookahead=" ++ word), others, refl)
+-- the word that an option begins with begins with `--`, and more
+begins : {words : List (List ℕ)} {one : CommandOption} {others : List (List ℕ)} → SaysOption words one others →
+    (n : ℕ) × (rest : List ℕ) × (more : List (List ℕ)) × (words ≡ (45 ∷ 45 ∷ n ∷ rest) ∷ more)
+begins (said.lookahead (said.apart {word} {others} is)) = (108, drop 3 (codes "--lookahead"), word ∷ others, refl)
+begins (said.lookahead (said.joined {word} {others} is)) = (108, drop 3 (codes "--lookahead=" ++ word), others, refl)
 
 -- each number is one word, and they are three
 word_one : {word other : List ℕ} {j k : ℕ} → IsDepth word j → IsDepth other k → word ≡ other → j ≡ k
@@ -51,7 +54,11 @@ depth_is says j more also = by says also refl
     by (said.joined {word} is) (said.apart also) same = absurd (apart_joined word (sym (first same)))
     by (said.joined {word} is) (said.joined {word = other} also) same = (word_one is also (ap (drop 12) (first same)), behind same)
 
--- the option where the words begin with it, and else nothing
+option_is : {words : List (List ℕ)} {one : CommandOption} {others : List (List ℕ)} → SaysOption words one others → (other : CommandOption) (more : List (List ℕ)) → SaysOption words other more →
+    (one ≡ other) × (others ≡ more)
+option_is (said.lookahead is) _ more (said.lookahead also) = let same = depth_is is _ _ also in (ap Lookahead same.0, same.1)
+
+-- the depth where the words begin with its option, and else nothing
 pub apart_says : (words behind others : List (List ℕ)) (option word : List ℕ) (k : ℕ) → words ≡ option ∷ behind → option ≡ codes "--lookahead" → behind ≡ word ∷ others → IsDepth word k →
     SaysDepth words k others
 apart_says words behind others option word k are named next is =
@@ -68,139 +75,168 @@ neither_says words behind option are apart joined k others says = by says are
     by (said.apart is) same = apart (sym (first same))
     by (said.joined {word} is) same = joined word (sym (first same))
 
+-- ---- each option once
+
+all_cons : {X : Type 0} {P : X → Type 0} (x : X) (xs : List X) → P x → All P xs → All P (x ∷ xs)
+all_cons x xs here each zero d h = here
+all_cons x xs here each (suc k) d h = each k d (omega (arith, h))
+
+all_tail : {X : Type 0} {P : X → Type 0} (x : X) (xs : List X) → All P (x ∷ xs) → All P xs
+all_tail x xs each k d h = each (suc k) d (omega (arith, h))
+
+all_none : {X : Type 0} (P : X → Type 0) → All P []
+all_none P k d h = absurd (omega (arith, h))
+
+-- options that may be said behind these, since each has another name
+abbrev pub Joins : List CommandOption → List CommandOption → Type 0
+Joins [] behind = Unit {0}
+Joins (one ∷ before) behind = IsNew one behind × Joins before behind
+
+no_more : (before : List CommandOption) → Joins before []
+no_more [] = tt
+no_more (one ∷ before) = (all_none _, no_more before)
+
+-- the first of what is behind may be said before the rest of it
+joins_first : (before : List CommandOption) (one : CommandOption) (behind : List CommandOption) → IsNew one before → Joins (before ++ one ∷ []) behind → Joins before (one ∷ behind)
+joins_first [] one behind new joins = tt
+joins_first (other ∷ before) one behind new joins =
+    (all_cons one behind (λ same. new zero one (omega arith) (sym same)) joins.0, joins_first before one behind (all_tail other before new) joins.1)
+
+joins_new : (before : List CommandOption) (one : CommandOption) (behind : List CommandOption) → Joins (before ++ one ∷ []) behind → IsNew one behind
+joins_new [] one behind joins = joins.0
+joins_new (other ∷ before) one behind joins = joins_new before one behind joins.1
+
+joins_last : (before : List CommandOption) (one : CommandOption) (behind : List CommandOption) → Joins before (one ∷ behind) → IsNew one behind → Joins (before ++ one ∷ []) behind
+joins_last [] one behind joins new = (new, tt)
+joins_last (other ∷ before) one behind joins new = (all_tail one behind joins.0, joins_last before one behind joins.1 new)
+
+joined_new : (before : List CommandOption) (one : CommandOption) (behind : List CommandOption) → Joins before (one ∷ behind) → IsNew one before
+joined_new [] one behind joins = all_none _
+joined_new (other ∷ before) one behind joins = all_cons other before (λ same. joins.0 zero one (omega arith) (sym same)) (joined_new before one behind joins.1)
+
 -- ---- what words say, by the first of them
 
-nothing_said : {words os : List (List ℕ)} {d : Option ℕ} → SaysOperands words os d → words ≡ [] → (os ≡ []) × (d ≡ None)
+nothing_said : {words os : List (List ℕ)} {ds : List CommandOption} → SaysOperands words os ds → words ≡ [] → (os ≡ []) × (ds ≡ [])
 nothing_said said.nothing same = (refl, refl)
 nothing_said said.ended same = absurd (none-cons (sym same))
 nothing_said (said.operand is says) same = absurd (none-cons (sym same))
-nothing_said (said.option is says) same = absurd (none-cons (sym same ∙ (begins is).2))
+nothing_said (said.option is says new) same = absurd (none-cons (sym same ∙ (begins is).3))
 
-ended_said : {words os : List (List ℕ)} {d : Option ℕ} → SaysOperands words os d → (more : List (List ℕ)) → words ≡ codes "--" ∷ more → (os ≡ more) × (d ≡ None)
+ended_said : {words os : List (List ℕ)} {ds : List CommandOption} → SaysOperands words os ds → (more : List (List ℕ)) → words ≡ codes "--" ∷ more → (os ≡ more) × (ds ≡ [])
 ended_said said.nothing more same = absurd (none-cons same)
 ended_said said.ended more same = (behind same, refl)
 ended_said (said.operand is says) more same = absurd (is (45 ∷ []) (first same))
-ended_said (said.option is says) more same =
-    let e : codes "--" ≡ 45 ∷ 45 ∷ 108 ∷ (begins is).0 = first (sym same ∙ (begins is).2) in
+ended_said (said.option is says new) more same =
+    let e : codes "--" ≡ 45 ∷ 45 ∷ (begins is).0 ∷ (begins is).1 = first (sym same ∙ (begins is).3) in
     absurd (none-cons (behind (behind e)))
 
-operand_said : {words os : List (List ℕ)} {d : Option ℕ} → SaysOperands words os d → (word : List ℕ) (more : List (List ℕ)) → IsOperand word → words ≡ word ∷ more →
-    (rest : List (List ℕ)) × (os ≡ word ∷ rest) × SaysOperands more rest d
+operand_said : {words os : List (List ℕ)} {ds : List CommandOption} → SaysOperands words os ds → (word : List ℕ) (more : List (List ℕ)) → IsOperand word → words ≡ word ∷ more →
+    (rest : List (List ℕ)) × (os ≡ word ∷ rest) × SaysOperands more rest ds
 operand_said said.nothing word more operand same = absurd (none-cons same)
 operand_said said.ended word more operand same = absurd (operand (45 ∷ []) (sym (first same)))
-operand_said {d} (said.operand {operands} is says) word more operand same =
-    (operands, ap (λ w. w ∷ operands) (first same), subst (λ ws. SaysOperands ws operands d) (behind same) says)
-operand_said (said.option is says) word more operand same = absurd (operand (45 ∷ 108 ∷ (begins is).0) (first (sym same ∙ (begins is).2)))
+operand_said {ds} (said.operand {operands} is says) word more operand same =
+    (operands, ap (λ w. w ∷ operands) (first same), subst (λ ws. SaysOperands ws operands ds) (behind same) says)
+operand_said (said.option is says new) word more operand same = absurd (operand (45 ∷ (begins is).0 ∷ (begins is).1) (first (sym same ∙ (begins is).3)))
 
-option_said : {words os : List (List ℕ)} {d : Option ℕ} → SaysOperands words os d → (k : ℕ) (others : List (List ℕ)) → SaysDepth words k others → SaysOperands others os None × (d ≡ Some k)
-option_said {os} says k others option = by says option refl
+option_said : {words os : List (List ℕ)} {ds : List CommandOption} → SaysOperands words os ds → (one : CommandOption) (others : List (List ℕ)) → SaysOption words one others →
+    (rest : List CommandOption) × (ds ≡ one ∷ rest) × SaysOperands others os rest × IsNew one rest
+option_said {os} says one others option = by says option refl
   where
-    by : {words rows os : List (List ℕ)} {d : Option ℕ} {k : ℕ} {others : List (List ℕ)} → SaysOperands words os d → SaysDepth rows k others → words ≡ rows →
-        SaysOperands others os None × (d ≡ Some k)
-    by said.nothing option same = absurd (none-cons (same ∙ (begins option).2))
-    by said.ended option same = absurd (none-cons (behind (behind (first (same ∙ (begins option).2)))))
-    by (said.operand is says) option same = absurd (is (45 ∷ 108 ∷ (begins option).0) (first (same ∙ (begins option).2)))
-    by {os} (said.option {words} {others = rest} {k = j} is says) option same =
-        let one = depth_is (subst (λ ws. SaysDepth ws j rest) same is) _ _ option in
-        (subst (λ ws. SaysOperands ws os None) one.1 says, ap Some one.0)
+    by : {words rows os : List (List ℕ)} {ds : List CommandOption} {one : CommandOption} {others : List (List ℕ)} → SaysOperands words os ds → SaysOption rows one others → words ≡ rows →
+        (rest : List CommandOption) × (ds ≡ one ∷ rest) × SaysOperands others os rest × IsNew one rest
+    by said.nothing option same = absurd (none-cons (same ∙ (begins option).3))
+    by said.ended option same = absurd (none-cons (behind (behind (first (same ∙ (begins option).3)))))
+    by (said.operand is says) option same = absurd (is (45 ∷ (begins option).0 ∷ (begins option).1) (first (same ∙ (begins option).3)))
+    by {os} (said.option {others = behind_it} {one = other} {options} is says new) option same =
+        let alike = option_is (subst (λ ws. SaysOption ws other behind_it) same is) _ _ option in
+        (options, ap (λ o. o ∷ options) alike.0, subst (λ ws. SaysOperands ws os options) alike.1 says, subst (λ o. IsNew o options) alike.0 new)
 
 -- words that begin with none of these say nothing
-pub refused : {words os : List (List ℕ)} {d : Option ℕ} → SaysOperands words os d → (word : List ℕ) (more : List (List ℕ)) → words ≡ word ∷ more → ¬ (IsOperand word) → ¬ (word ≡ codes "--") →
-    (k : ℕ) × (others : List (List ℕ)) × SaysDepth words k others
+pub refused : {words os : List (List ℕ)} {ds : List CommandOption} → SaysOperands words os ds → (word : List ℕ) (more : List (List ℕ)) → words ≡ word ∷ more → ¬ (IsOperand word) →
+    ¬ (word ≡ codes "--") → (one : CommandOption) × (others : List (List ℕ)) × SaysOption words one others
 refused said.nothing word more same not_operand not_end = absurd (none-cons same)
 refused said.ended word more same not_operand not_end = absurd (not_end (sym (first same)))
 refused (said.operand is says) word more same not_operand not_end = absurd (not_operand (subst IsOperand (first same) is))
-refused (said.option {others} {k} is says) word more same not_operand not_end = (k, others, is)
+refused (said.option {others} {one} is says new) word more same not_operand not_end = (one, others, is)
 
 -- words say one thing
-pub says_one : {words os ps : List (List ℕ)} {d e : Option ℕ} → SaysOperands words os d → SaysOperands words ps e → (os ≡ ps) × (d ≡ e)
+pub says_one : {words os ps : List (List ℕ)} {ds es : List CommandOption} → SaysOperands words os ds → SaysOperands words ps es → (os ≡ ps) × (ds ≡ es)
 says_one said.nothing also = let one = nothing_said also refl in (sym one.0, sym one.1)
 says_one said.ended also = let one = ended_said also _ refl in (sym one.0, sym one.1)
 says_one (said.operand {word} is says) also =
     let one = operand_said also _ _ is refl in
     let rest = says_one says one.2 in
     (ap (λ os. word ∷ os) rest.0 ∙ sym one.1, rest.1)
-says_one (said.option is says) also =
-    let one = option_said also _ _ is in
-    ((says_one says one.0).0, sym one.1)
+says_one (said.option {one} is says new) also =
+    let alike = option_said also _ _ is in
+    let rest = says_one says alike.2 in
+    (rest.0, ap (λ ds. one ∷ ds) rest.1 ∙ sym alike.1)
 
 -- ---- reading on
 
--- one depth of two that may be said
-pub data Joins : Option ℕ → Option ℕ → Option ℕ → Type 0 where
-  later : {d : Option ℕ} → Joins None d d
-  before : {k : ℕ} → Joins (Some k) None (Some k)
-
-no_more : (d : Option ℕ) → Joins d None d
-no_more None = later
-no_more (Some k) = before
-
 -- what the words say is what was read, and what the rest of them says behind it
-pub record IsReading (words got : List (List ℕ)) (depth : Option ℕ) (rest : List (List ℕ)) : Type 0 where
-  pub forth : (os : List (List ℕ)) (d e : Option ℕ) → SaysOperands rest os d → Joins depth d e → SaysOperands words (got ++ os) e
-  pub back : (os : List (List ℕ)) (e : Option ℕ) → SaysOperands words os e → (tail : List (List ℕ)) × (d : Option ℕ) × (os ≡ got ++ tail) × Joins depth d e × SaysOperands rest tail d
+pub record IsReading (words got : List (List ℕ)) (before : List CommandOption) (rest : List (List ℕ)) : Type 0 where
+  pub forth : (os : List (List ℕ)) (ds : List CommandOption) → SaysOperands rest os ds → Joins before ds → SaysOperands words (got ++ os) (before ++ ds)
+  pub back : (os : List (List ℕ)) (es : List CommandOption) → SaysOperands words os es →
+      (tail : List (List ℕ)) × (ds : List CommandOption) × (os ≡ got ++ tail) × (es ≡ before ++ ds) × Joins before ds × SaysOperands rest tail ds
 
-pub reading_begins : (words : List (List ℕ)) → IsReading words [] None words
+pub reading_begins : (words : List (List ℕ)) → IsReading words [] [] words
 reading_begins words = record {
-  forth = λ os d e says joins. as_said says joins;
-  back = λ os e says. (os, e, refl, later, says);
+  forth = λ os ds says joins. says;
+  back = λ os es says. (os, es, refl, refl, tt, says);
 }
-  where
-    as_said : {os : List (List ℕ)} {d e : Option ℕ} → SaysOperands words os d → Joins None d e → SaysOperands words os e
-    as_said says later = says
 
-module _ (words got : List (List ℕ)) (depth : Option ℕ) (rest : List (List ℕ)) (reading : IsReading words got depth rest) where
+module _ (words got : List (List ℕ)) (before : List CommandOption) (rest : List (List ℕ)) (reading : IsReading words got before rest) where
   -- an operand is read
-  pub reads_operand : (word : List ℕ) (more : List (List ℕ)) → rest ≡ word ∷ more → IsOperand word → IsReading words (got ++ word ∷ []) depth more
+  pub reads_operand : (word : List ℕ) (more : List (List ℕ)) → rest ≡ word ∷ more → IsOperand word → IsReading words (got ++ word ∷ []) before more
   reads_operand word more same operand = record {
-    forth = λ os d e says joins.
-        subst (λ ws. SaysOperands words ws e) (sym (append_assoc got (word ∷ []) os))
-        (reading.forth (word ∷ os) d e (subst (λ ws. SaysOperands ws (word ∷ os) d) (sym same) (said.operand operand says)) joins);
-    back = λ os e says.
-        let told = reading.back os e says in
-        let here = operand_said told.4 word more operand same in
-        (here.0, told.1, told.2 ∙ ap (λ ws. got ++ ws) here.1 ∙ sym (append_assoc got (word ∷ []) here.0), told.3, here.2);
+    forth = λ os ds says joins.
+        subst (λ ws. SaysOperands words ws (before ++ ds)) (sym (append_assoc got (word ∷ []) os))
+        (reading.forth (word ∷ os) ds (subst (λ ws. SaysOperands ws (word ∷ os) ds) (sym same) (said.operand operand says)) joins);
+    back = λ os es says.
+        let told = reading.back os es says in
+        let here = operand_said told.5 word more operand same in
+        (here.0, told.1, told.2 ∙ ap (λ ws. got ++ ws) here.1 ∙ sym (append_assoc got (word ∷ []) here.0), told.3, told.4, here.2);
+  }
+
+  -- an option is read that was not
+  pub reads_option : (one : CommandOption) (others : List (List ℕ)) → SaysOption rest one others → IsNew one before → IsReading words got (before ++ one ∷ []) others
+  reads_option one others option new = record {
+    forth = λ os ds says joins.
+        subst (λ es. SaysOperands words (got ++ os) es) (sym (append_assoc before (one ∷ []) ds))
+        (reading.forth os (one ∷ ds) (said.option option says (joins_new before one ds joins)) (joins_first before one ds new joins));
+    back = λ os es says.
+        let told = reading.back os es says in
+        let here = option_said told.5 one others option in (
+          told.0,
+          here.0,
+          told.2,
+          told.3 ∙ ap (λ ds. before ++ ds) here.1 ∙ sym (append_assoc before (one ∷ []) here.0),
+          joins_last before one here.0 (subst (λ ds. Joins before ds) here.1 told.4) here.3,
+          here.2,
+        );
   }
 
   -- all behind `--` is read
-  pub reads_end : (more : List (List ℕ)) → rest ≡ codes "--" ∷ more → SaysOperands words (got ++ more) depth
-  reads_end more same = reading.forth more None depth (subst (λ ws. SaysOperands ws more None) (sym same) said.ended) (no_more depth)
+  pub reads_end : (more : List (List ℕ)) → rest ≡ codes "--" ∷ more → SaysOperands words (got ++ more) before
+  reads_end more same =
+      subst (λ ds. SaysOperands words (got ++ more) ds) (append-nil before)
+      (reading.forth more [] (subst (λ ws. SaysOperands ws more []) (sym same) said.ended) (no_more before))
 
   -- nothing is left
-  pub reads_nothing : rest ≡ [] → SaysOperands words got depth
+  pub reads_nothing : rest ≡ [] → SaysOperands words got before
   reads_nothing same =
-      subst (λ ws. SaysOperands words ws depth) (append-nil got) (reading.forth [] None depth (subst (λ ws. SaysOperands ws [] None) (sym same) said.nothing) (no_more depth))
+      subst (λ ws. SaysOperands words ws before) (append-nil got)
+      (subst (λ ds. SaysOperands words (got ++ []) ds) (append-nil before)
+      (reading.forth [] [] (subst (λ ws. SaysOperands ws [] []) (sym same) said.nothing) (no_more before)))
 
   -- the words are refused where the rest says nothing
-  pub reads_none : ((os : List (List ℕ)) (d : Option ℕ) → ¬ SaysOperands rest os d) → (os : List (List ℕ)) (e : Option ℕ) → ¬ SaysOperands words os e
-  reads_none none os e says = let told = reading.back os e says in none told.0 told.1 told.4
+  pub reads_none : ((os : List (List ℕ)) (ds : List CommandOption) → ¬ SaysOperands rest os ds) → (os : List (List ℕ)) (es : List CommandOption) → ¬ SaysOperands words os es
+  reads_none none os es says = let told = reading.back os es says in none told.0 told.1 told.5
 
--- the option is read, where none was
-pub reads_option : (words got rest : List (List ℕ)) (depth : Option ℕ) (k : ℕ) (others : List (List ℕ)) → IsReading words got depth rest → is_some depth ≡ false → SaysDepth rest k others →
-    IsReading words got (Some k) others
-reads_option words got rest None k others reading none option = record {
-  forth = forth_by;
-  back = λ os e says.
-      let told = reading.back os e says in
-      let here = option_said told.4 k others option in
-      (told.0, None, told.2, joined told.3 here.1, here.0);
-}
-  where
-    forth_by : (os : List (List ℕ)) (d e : Option ℕ) → SaysOperands others os d → Joins (Some k) d e → SaysOperands words (got ++ os) e
-    forth_by os _ _ says before = reading.forth os (Some k) (Some k) (said.option option says) later
-
-    joined : {d e : Option ℕ} → Joins None d e → d ≡ Some k → Joins (Some k) None e
-    joined later same = subst (λ e. Joins (Some k) None e) (sym same) before
-reads_option words got rest (Some j) k others reading none option = absurd (false≢true (sym none))
-
--- behind one option another is refused, as is what is none
-pub none_behind_option : (words got rest : List (List ℕ)) (depth : Option ℕ) → IsReading words got depth rest → is_some depth ≡ true → (word : List ℕ) (more : List (List ℕ)) → rest ≡ word ∷ more →
-    ¬ (IsOperand word) → ¬ (word ≡ codes "--") → (os : List (List ℕ)) (e : Option ℕ) → ¬ SaysOperands words os e
-none_behind_option words got rest None reading some word more same not_operand not_end os e says = false≢true some
-none_behind_option words got rest (Some j) reading some word more same not_operand not_end os e says =
-    let told = reading.back os e says in
-    let option = refused told.4 word more same not_operand not_end in
-    by told.3 (option_said told.4 option.0 option.1 option.2).1
-  where
-    by : {d e : Option ℕ} {k : ℕ} → Joins (Some j) d e → d ≡ Some k → ⊥
-    by before same = cc
+  -- and where it begins with an option that was read
+  pub reads_no_more : (one : CommandOption) (others : List (List ℕ)) → SaysOption rest one others → ¬ IsNew one before → (os : List (List ℕ)) (es : List CommandOption) → ¬ SaysOperands words os es
+  reads_no_more one others option old os es says =
+      let told = reading.back os es says in
+      let here = option_said told.5 one others option in
+      old (joined_new before one here.0 (subst (λ ds. Joins before ds) here.1 told.4))

@@ -1,10 +1,11 @@
 -- How the command that words are is found.
-use Rattle.std.proofs.Common.{◌≡◌, ℕ, ◌<◌, ◌≤◌, ◌^◌, List, [], ◌∷◌, All, Option, unwrap_or, codes, length, map, refl, sym, subst, ◌∙◌, arith, Bor, zero, suc}
+use Rattle.std.proofs.Common.{◌≡◌, ℕ, ◌<◌, ◌≤◌, ◌^◌, List, [], ◌∷◌, All, codes, length, map, refl, sym, subst, ◌∙◌, arith, Bor, zero, suc}
 use Rattle.std.proofs.lemmas.List.{length-map}
 use Rattle.std.proofs.lemmas.Str.Parse.{digits_value_short, numerals_by_value, tells_digits}
 use Rattle.std.specs.Str.Parse.{AllDigits, IsNumeral, digits_value}
 use Rattle.lw_base.specs.declared.limits.TheConstants.{MOST_DOCUMENTS}
-use Rattle.lw_command_line.specs.Said.{IsDepth, SaysDepth, SaysOperands}
+use Rattle.lw_command_line.specs.Said.{IsDepth, SaysDepth, SaysOperands, SaysOption, depth_of}
+use Rattle.lw_command_line.specs.declared.option.CommandOption.{CommandOption}
 use Rattle.lw_command_line.specs.Said as said
 use Rattle.lw_command_line.specs.Words.{SaysBehind, AreFiles, IsFile, IsCount, IsNoCommand, NamesFile}
 use Rattle.lw_command_line.proofs.SaidLemmas.{none-cons, says_one}
@@ -14,13 +15,13 @@ use Rattle.lw_command_line.proofs.OneCommand.{Fits, named, says_same, to_check, 
 
 module _ {all behind : List (List ℕ)} {name : List ℕ} (are : all ≡ name ∷ behind) where
   -- what a command says behind its name
-  told : {path : List ℕ} {k : ℕ} → NamesFile all path k → (others : List (List ℕ)) × (depth : Option ℕ) × SaysOperands behind (path ∷ others) depth
+  told : {path : List ℕ} {k : ℕ} → NamesFile all path k → (others : List (List ℕ)) × (options : List CommandOption) × SaysOperands behind (path ∷ others) options
   told {path} names =
       let is = (named names).2 in
       let same : is.behind ≡ behind = cc in
-      ((named names).1, is.depth, subst (λ ws. SaysOperands ws (path ∷ (named names).1) is.depth) same is.said)
+      ((named names).1, is.options, subst (λ ws. SaysOperands ws (path ∷ (named names).1) is.options) same is.said)
 
-  pub no_operand : {d : Option ℕ} {os : List (List ℕ)} → os ≡ [] → SaysOperands behind os d → IsNoCommand all
+  pub no_operand : {d : List CommandOption} {os : List (List ℕ)} → os ≡ [] → SaysOperands behind os d → IsNoCommand all
   no_operand none says path k names = let is = told names in none-cons (sym none ∙ (says_one says is.2).0)
 
 -- where the words say this behind a name
@@ -82,11 +83,11 @@ each_file words are = of_files words are.each
 -- ---- numbers
 
 -- how many kinds words say, or two
-pub depth_within : {words os : List (List ℕ)} {d : Option ℕ} → SaysOperands words os d → (1 ≤ unwrap_or d 2) × (unwrap_or d 2 ≤ 3)
+pub depth_within : {words os : List (List ℕ)} {ds : List CommandOption} → SaysOperands words os ds → (1 ≤ depth_of ds) × (depth_of ds ≤ 3)
 depth_within said.nothing = (omega arith, omega arith)
 depth_within said.ended = (omega arith, omega arith)
 depth_within (said.operand is says) = depth_within says
-depth_within (said.option is says) = by is
+depth_within (said.option (said.lookahead is) says new) = by is
   where
     of_word : {word : List ℕ} {k : ℕ} → IsDepth word k → (1 ≤ k) × (k ≤ 3)
     of_word said.one = (omega arith, omega arith)

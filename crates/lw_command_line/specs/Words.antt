@@ -1,19 +1,20 @@
 -- The words of the command line, behind the program's name.
-use Rattle.std.specs.Prelude.{ℕ, ◌≡◌, ◌≤◌, List, [], ◌∷◌, All, Option, codes, length, map, unwrap_or}
+use Rattle.std.specs.Prelude.{ℕ, ◌≡◌, ◌≤◌, List, [], ◌∷◌, All, codes, length, map}
 use Rattle.std.specs.Str.Parse.{IsNumeral, digits_value}
 use Rattle.lw_base.specs.declared.limits.TheConstants.{GREATEST_WORKSPACE, MOST_DOCUMENTS}
-use Rattle.lw_command_line.specs.Said.{SaysOperands}
+use Rattle.lw_command_line.specs.Said.{SaysOperands, depth_of}
+use Rattle.lw_command_line.specs.declared.option.CommandOption.{CommandOption}
 use Rattle.lw_command_line.specs.declared.root.Root.{Root}
 use Rattle.lw_command_line.specs.declared.words.Command.{Command}
 use Rattle.lw_command_line.specs.declared.words.Command.TheVariants.{Check, Serve, Make}
 
--- the name of a command, and behind it words that say these operands and this depth, which is two where they say none
+-- the name of a command, and behind it words that say these operands, and options that say this depth
 pub record SaysBehind (name : List ℕ) (words operands : List (List ℕ)) (k : ℕ) : Type 0 where
   pub behind : List (List ℕ)
-  pub depth : Option ℕ
+  pub options : List CommandOption
   pub are : words ≡ name ∷ behind
-  pub said : SaysOperands behind operands depth
-  pub deep : k ≡ unwrap_or depth 2
+  pub said : SaysOperands behind operands options
+  pub deep : k ≡ depth_of options
 
 -- a file's path is absolute: it begins with `/`, which is 47
 pub record IsFile (word : List ℕ) : Type 0 where

@@ -1,26 +1,28 @@
 // What the words behind a command's name say.
-ghost use Rattle.std.specs.Prelude.{◌≡◌, ◌++◌, ◌<◌, ◌↔◌, IfOk, IfSome, IsTrue, List, MatchOption, OnOk, Option, length, map, ℕ};
-ghost use Rattle.lw_command_line.specs.Said.{IsDepth, IsOperand, SaysDepth, SaysOperands};
+ghost use Rattle.std.specs.Prelude.{◌≡◌, ◌++◌, ◌<◌, ◌↔◌, IfOk, IfSome, IsTrue, List, MatchOption, OnOk, length, map, ℕ};
+ghost use Rattle.lw_command_line.specs.Said.{IsDepth, IsOperand, SaysDepth, SaysOperands, SaysOption};
+ghost use Rattle.lw_command_line.specs.declared.option.CommandOption.{CommandOption};
 
+use crate::option::{CommandOption, is_new};
 use lw_base::{Name, NoMemory};
 use std::alloc::Global;
 
-/// The operands among words, and how many kinds a reader may look ahead, where the words say it.
+/// The operands among words, and the options.
 #[derive(Drop)]
 pub(crate) struct Said<'a> {
     pub operands: Vec<&'a Name>,
-    pub depth: Option<u8>,
+    pub options: Vec<CommandOption>,
 }
 
-/// What the words say, or None where one of them begins with `-` and is not of the option, or the option stands
-/// twice. It is linear in their number.
+/// What the words say, or None where one of them begins with `-` and is of no option, or an option stands
+/// twice. It is linear in their number, for there are few options.
 pub(crate) fn said_by<'a>(alloc: Global, words: &'a [Name]) -> Result<Option<Said<'a>>, NoMemory>
     ensures { IfOk result (λ found. MatchOption found
-        ((operands : List (List ℕ)) (depth : Option ℕ) → ¬ SaysOperands words.now operands depth)
-        (λ said. SaysOperands words.now (map (λ word. word.now) said.operands.items) said.depth)) }
+        ((operands : List (List ℕ)) (options : List CommandOption) → ¬ SaysOperands words.now operands options)
+        (λ said. SaysOperands words.now (map (λ word. word.now) said.operands.items) said.options.items)) }
 {
     let mut operands = Vec::new(alloc);
-    let mut depth = None;
+    let mut options = Vec::new(alloc);
     let mut rest = words;
     'reading: while let Some((word, behind)) = rest.split_first() {
         if is_operand(word.text()) {
@@ -30,18 +32,18 @@ pub(crate) fn said_by<'a>(alloc: Global, words: &'a [Name]) -> Result<Option<Sai
         }
         if word.text() == "--" {
             put_all(&mut operands, behind)?;
-            return Ok(Some(Said { operands, depth }));
+            return Ok(Some(Said { operands, options }));
         }
-        if depth.is_some() {
-            return Ok(None);
-        }
-        let Some((k, others)) = depth_in(rest) else {
+        let Some((option, others)) = option_in(rest) else {
             return Ok(None);
         };
-        depth = Some(k);
+        if !is_new(&option, &options) {
+            return Ok(None);
+        }
+        options.push(option)?;
         rest = others;
     }
-    Ok(Some(Said { operands, depth }))
+    Ok(Some(Said { operands, options }))
 }
 
 // Puts words behind the operands.
@@ -54,7 +56,19 @@ fn put_all<'a>(operands: &mut Vec<&'a Name>, words: &'a [Name]) -> Result<(), No
     Ok(())
 }
 
-// How many kinds the option says that these words begin with, and the words behind it.
+// The option that these words begin with, and the words behind it.
+fn option_in(words: &[Name]) -> Option<(CommandOption, &[Name])>
+    ensures option { MatchOption result ((option : CommandOption) (others : List (List ℕ)) → ¬ SaysOption words.now option others)
+        (λ found. SaysOption words.now found.0 found.1.now) }
+    ensures fewer { IfSome result (λ found. length found.1.now < length words.now) }
+{
+    match depth_in(words) {
+        Some((k, others)) => Some((CommandOption::Lookahead(k), others)),
+        None => None,
+    }
+}
+
+// How many kinds `--lookahead` says, where these words begin with it, and the words behind it.
 fn depth_in(words: &[Name]) -> Option<(u8, &[Name])>
     ensures depth { MatchOption result ((k : ℕ) (others : List (List ℕ)) → ¬ SaysDepth words.now k others)
         (λ found. SaysDepth words.now found.0 found.1.now) }

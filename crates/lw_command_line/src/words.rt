@@ -2,6 +2,7 @@
 ghost use Rattle.std.specs.Prelude.{◌≡◌, [], ◌∷◌, ◌↔◌, All, IfOk, IsTrue, List, MatchOption, map, ℕ};
 ghost use Rattle.lw_command_line.specs.Words.{AreFiles, IsCommand, IsCount, IsFile, IsNoCommand, SaysBehind, root_of};
 
+use crate::option::depth_of;
 use crate::root::Root;
 use crate::said::{Said, said_by};
 use lw_base::{MOST_DOCUMENTS, Name, NoMemory};
@@ -41,7 +42,7 @@ pub fn command_of<'a>(alloc: Global, words: &'a [Name]) -> Result<Option<Command
     let Some(
         Said {
             mut operands,
-            depth,
+            options,
         },
     ) = said_by(alloc, behind)?
     else {
@@ -51,7 +52,7 @@ pub fn command_of<'a>(alloc: Global, words: &'a [Name]) -> Result<Option<Command
         return Ok(None);
     }
     let path = operands.remove(0);
-    let k = depth.unwrap_or(2);
+    let k = depth_of(&options);
     Ok(command_over(name.text(), Root { path, k }, operands))
 }
 

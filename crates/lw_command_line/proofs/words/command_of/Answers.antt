@@ -12,4 +12,4 @@ returns-then-is_empty c =
 pub invariant_of-command_over : goal.invariant_of-command_over
 invariant_of-command_over c =
     let within = depth_within (rw c.in-Some-2.is at c.in_ok-operands.ensures) in
-    record { least = subst (λ k. 1 ≤ k) (sym c.unwrap_or-k.ensures) within.0; most = subst (λ k. k ≤ 3) (sym c.unwrap_or-k.ensures) within.1 }
+    record { least = subst (λ k. 1 ≤ k) (sym c.depth_of-k.ensures) within.0; most = subst (λ k. k ≤ 3) (sym c.depth_of-k.ensures) within.1 }
