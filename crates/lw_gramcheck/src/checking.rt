@@ -2,6 +2,7 @@
 ghost use Rattle.std.specs.Prelude.{◌≤◌, IfOk, IsTrue, OnOk};
 ghost use Rattle.lw_faults.specs.Faults.{AreCheckFaults};
 ghost use Rattle.lw_faults.specs.Finding.{Finds};
+ghost use Rattle.lw_kinds.specs.Reading.{IsReadingOf};
 ghost use Rattle.lw_types.specs.Inferred.{AreTypesOf};
 ghost use Rattle.lw_gramcheck.specs.Reading.{IsReadingFault};
 
@@ -14,9 +15,15 @@ use lw_kinds::derivations::{Reading, find_derivation_faults};
 use lw_types::Types;
 use std::alloc::Global;
 
-/// All that is wrong with the rules of a grammar of these types, in the order of faults.
-pub fn check(alloc: Global, g: &Grammar, types: &Types) -> Result<Items<GrammarFault>, NoMemory>
-    requires { AreTypesOf g.now types.now }
+/// All that is wrong with the rules of a grammar of these types, in the order of faults, where this is what the rules can read.
+pub fn check(
+    alloc: Global,
+    g: &Grammar,
+    types: &Types,
+    reading: &Reading,
+) -> Result<Items<GrammarFault>, NoMemory>
+    requires typed { AreTypesOf g.now types.now }
+    requires read { IsReadingOf g.now reading.now }
     ensures { IfOk result (AreCheckFaults g.now) }
 {
     let checker = Checker {
@@ -29,7 +36,7 @@ pub fn check(alloc: Global, g: &Grammar, types: &Types) -> Result<Items<GrammarF
     find_circular_calls(alloc, &checker, &mut found)?;
     let has_no_circle = found.is_empty();
     find_plain_faults(alloc, &checker, &mut found)?;
-    find_where_calls_end(alloc, g, types, has_no_circle, &mut found)?;
+    find_where_calls_end(alloc, g, types, reading, has_no_circle, &mut found)?;
     found.into_list(alloc)
 }
 
@@ -38,16 +45,18 @@ fn find_where_calls_end(
     alloc: Global,
     g: &Grammar,
     types: &Types,
+    reading: &Reading,
     has_no_circle: bool,
     found: &mut Findings,
 ) -> Result<(), NoMemory>
-    requires { AreTypesOf g.now types.now }
+    requires typed { AreTypesOf g.now types.now }
+    requires read { IsReadingOf g.now reading.now }
     ensures { OnOk result (Finds (λ f. IsTrue has_no_circle × IsReadingFault g.now f) found.old found.new) }
 {
     if !has_no_circle {
         return Ok(());
     }
-    find_reading_faults(alloc, g, types, found)
+    find_reading_faults(alloc, g, types, reading, found)
 }
 
 /// Finds what is wrong with what rules read, and with the order in which they do things.
@@ -55,14 +64,14 @@ fn find_reading_faults(
     alloc: Global,
     g: &Grammar,
     types: &Types,
+    reading: &Reading,
     found: &mut Findings,
 ) -> Result<(), NoMemory>
-    requires { AreTypesOf g.now types.now }
+    requires typed { AreTypesOf g.now types.now }
+    requires read { IsReadingOf g.now reading.now }
     ensures { OnOk result (Finds (IsReadingFault g.now) found.old found.new) }
 {
     let numbers = types.numbers();
-    let name_rules = types.name_rules();
-    let reading = Reading::of(alloc, g, numbers, name_rules)?;
-    find_derivation_faults(alloc, g, numbers, name_rules, &reading, found)?;
+    find_derivation_faults(alloc, g, numbers, types.name_rules(), reading, found)?;
     find_order_faults(alloc, g, numbers, types.nodes(), types.ways(), found)
 }

@@ -12,8 +12,8 @@
 //! circles of calls.
 //!
 //! The faults of this phase are 1 to 3, 7 to 13 and 20 to 23 ([`check`]). Those from 7 to 12 are looked for only
-//! where no fragment and no terminal calls itself. [`judge`] answers the types of a grammar where none of the 23
-//! faults is in it.
+//! where no fragment and no terminal calls itself. [`judge`] answers the types of a grammar, and what its rules can
+//! read, where none of the 23 faults is in it: both are found once, and lent to [`check`].
 //!
 //! In folders of their own stand:
 //!
@@ -31,4 +31,4 @@ pub mod parts;
 
 pub use checking::check;
 pub use fault::JudgeFault;
-pub use judging::judge;
+pub use judging::{Judged, judge};

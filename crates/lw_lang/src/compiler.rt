@@ -5,6 +5,7 @@ ghost use Rattle.lw_load.specs.declared.limits.TheConstants.{LARGEST_GRAMMAR};
 ghost use Rattle.lw_load.specs.Standing.{Stands};
 ghost use Rattle.lw_grammar.specs.WellFormed.{IsWellFormed};
 ghost use Rattle.lw_gramcheck.specs.Judging.{IsFaultless};
+ghost use Rattle.lw_kinds.specs.Reading.{IsReadingOf};
 ghost use Rattle.lw_terminals.specs.TokenSets.{IsTokenSetOf, HasTokens};
 ghost use Rattle.lw_lang.specs.Compiled.{HoldsGrammar, IsClear, HasTables, Causes, GrammarCauses, IsBehindTokens, CountsStore, CountsPatterns, KeepsPatterns};
 ghost use Rattle.lw_lang.specs.declared.fault.CompileFault.TheVariants.{NoMemory as no_memory};
@@ -27,6 +28,7 @@ use crate::language::Language;
 use crate::told_look::told_look;
 use crate::told_term::told_term;
 use lw_base::{Name, NoMemory};
+use lw_gramcheck::Judged;
 use lw_grammar::Grammar;
 use lw_io::{Patterns, Store};
 use lw_lexer::LexerTables;
@@ -98,7 +100,7 @@ fn build<P: Patterns>(
     ensures last { KeepsPatterns (P.last_refused patterns.old) (P.last_refused patterns.new) result }
 {
     match judge_files(alloc, &grammar, texts) {
-        Ok(types) => build_faultless(alloc, grammar, types, texts, k, patterns),
+        Ok(judged) => build_faultless(alloc, grammar, judged, texts, k, patterns),
         Err(fault) => Err(fault),
     }
 }
@@ -107,13 +109,14 @@ fn build<P: Patterns>(
 fn build_faultless<P: Patterns>(
     alloc: Global,
     grammar: Grammar,
-    types: Types,
+    judged: Judged,
     texts: &[Name],
     k: u8,
     patterns: &mut P,
 ) -> Result<Language, CompileFault>
     requires faultless { IsFaultless grammar }
-    requires typed { AreTypesOf grammar types }
+    requires typed { AreTypesOf grammar judged.types }
+    requires read { IsReadingOf grammar judged.reading }
     requires fits { size grammar ≤ LARGEST_GRAMMAR }
     requires stand { Stands texts.now grammar }
     requires formed { IsWellFormed grammar }
@@ -128,7 +131,8 @@ fn build_faultless<P: Patterns>(
     ensures patterns { CountsPatterns (P.count patterns.old) (P.count patterns.new) result }
     ensures last { KeepsPatterns (P.last_refused patterns.old) (P.last_refused patterns.new) result }
 {
-    let facts = ReadingFacts::of(alloc, &grammar, &types)?;
+    let Judged { types, reading } = judged;
+    let facts = ReadingFacts::of(alloc, &grammar, &types, reading)?;
     match token_set(alloc, &grammar, types.numbers(), &facts.kinds, patterns) {
         Ok(tokens) => build_sound(alloc, grammar, types, texts, k, &facts, tokens),
         Err(fault) => Err(fault_of(grammar, texts, fault)),

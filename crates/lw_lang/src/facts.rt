@@ -5,6 +5,7 @@ ghost use Rattle.lw_grammar.specs.Size.{size};
 ghost use Rattle.lw_grammar.specs.WellFormed.{IsWellFormed};
 ghost use Rattle.lw_gramcheck.specs.Judging.{IsFaultless};
 ghost use Rattle.lw_kinds.specs.LexiconKnown.{IsKnownLexicon};
+ghost use Rattle.lw_kinds.specs.Reading.{IsReadingOf};
 ghost use Rattle.lw_load.specs.FilledChoices.{HasFilledChoices};
 ghost use Rattle.lw_look.specs.Supplied.{IsSupplied};
 ghost use Rattle.lw_types.specs.Inferred.{AreTypesOf};
@@ -36,15 +37,20 @@ impl Drop for ReadingFacts {
 }
 
 impl ReadingFacts {
-    /// Those of a grammar of these types.
-    pub(crate) fn of(alloc: Global, g: &Grammar, types: &Types) -> Result<ReadingFacts, NoMemory>
+    /// Those of a grammar of these types, where this is what its rules can read.
+    pub(crate) fn of(
+        alloc: Global,
+        g: &Grammar,
+        types: &Types,
+        reading: Reading,
+    ) -> Result<ReadingFacts, NoMemory>
         requires typed { AreTypesOf g.now types.now }
+        requires read { IsReadingOf g.now reading }
         requires small { size g.now ≤ 65535 }
         ensures { IfOk result (AreReadingFactsOf g.now) }
     {
         let numbers = types.numbers();
         let name_rules = types.name_rules();
-        let reading = Reading::of(alloc, g, numbers, name_rules)?;
         let kinds = KindTable::of(alloc, g, numbers, name_rules, &reading)?;
         Ok(ReadingFacts { reading, kinds })
     }
