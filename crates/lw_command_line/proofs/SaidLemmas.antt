@@ -1,5 +1,5 @@
 -- What words say is one thing, and is found word by word.
-use Rattle.std.proofs.Common.{◌≡◌, ◌≢◌, ℕ, ◌+◌, List, [], ◌∷◌, ◌++◌, All, codes, length, length-append, drop, refl, sym, ap, subst, ◌∙◌, arith, append_assoc, append-nil, bytes_eq, false, zero, suc}
+use Rattle.std.proofs.Common.{◌≡◌, ◌≢◌, ℕ, ◌+◌, List, [], ◌∷◌, ◌++◌, codes, length, length-append, drop, refl, sym, ap, subst, ◌∙◌, arith, append_assoc, append-nil, bytes_eq, false, zero, suc}
 use Rattle.std.proofs.lemmas.Bool.{false≢true}
 use Rattle.std.proofs.lemmas.Slice.Eq.{bytes_eq-Decides}
 use Rattle.lw_command_line.specs.Said.{IsDepth, IsNew, IsOperand, SaysDepth, SaysOperands, SaysOption, name_of}
@@ -77,15 +77,15 @@ neither_says words behind option are apart joined k others says = by says are
 
 -- ---- each option once
 
-all_cons : {X : Type 0} {P : X → Type 0} (x : X) (xs : List X) → P x → All P xs → All P (x ∷ xs)
-all_cons x xs here each zero d h = here
-all_cons x xs here each (suc k) d h = each k d (omega (arith, h))
+new_cons : (one x : CommandOption) (xs : List CommandOption) → name_of x ≢ name_of one → IsNew one xs → IsNew one (x ∷ xs)
+new_cons one x xs other each zero d h = other
+new_cons one x xs other each (suc k) d h = each k d (omega (arith, h))
 
-all_tail : {X : Type 0} {P : X → Type 0} (x : X) (xs : List X) → All P (x ∷ xs) → All P xs
-all_tail x xs each k d h = each (suc k) d (omega (arith, h))
+new_tail : (one x : CommandOption) (xs : List CommandOption) → IsNew one (x ∷ xs) → IsNew one xs
+new_tail one x xs each k d h = each (suc k) d (omega (arith, h))
 
-all_none : {X : Type 0} (P : X → Type 0) → All P []
-all_none P k d h = absurd (omega (arith, h))
+new_alone : (one : CommandOption) → IsNew one []
+new_alone one k d h = absurd (omega (arith, h))
 
 -- options that may be said behind these, since each has another name
 abbrev pub Joins : List CommandOption → List CommandOption → Type 0
@@ -94,13 +94,13 @@ Joins (one ∷ before) behind = IsNew one behind × Joins before behind
 
 no_more : (before : List CommandOption) → Joins before []
 no_more [] = tt
-no_more (one ∷ before) = (all_none _, no_more before)
+no_more (one ∷ before) = (new_alone one, no_more before)
 
 -- the first of what is behind may be said before the rest of it
 joins_first : (before : List CommandOption) (one : CommandOption) (behind : List CommandOption) → IsNew one before → Joins (before ++ one ∷ []) behind → Joins before (one ∷ behind)
 joins_first [] one behind new joins = tt
 joins_first (other ∷ before) one behind new joins =
-    (all_cons one behind (λ same. new zero one (omega arith) (sym same)) joins.0, joins_first before one behind (all_tail other before new) joins.1)
+    (new_cons other one behind (λ same. new zero one (omega arith) (sym same)) joins.0, joins_first before one behind (new_tail one other before new) joins.1)
 
 joins_new : (before : List CommandOption) (one : CommandOption) (behind : List CommandOption) → Joins (before ++ one ∷ []) behind → IsNew one behind
 joins_new [] one behind joins = joins.0
@@ -108,11 +108,11 @@ joins_new (other ∷ before) one behind joins = joins_new before one behind join
 
 joins_last : (before : List CommandOption) (one : CommandOption) (behind : List CommandOption) → Joins before (one ∷ behind) → IsNew one behind → Joins (before ++ one ∷ []) behind
 joins_last [] one behind joins new = (new, tt)
-joins_last (other ∷ before) one behind joins new = (all_tail one behind joins.0, joins_last before one behind joins.1 new)
+joins_last (other ∷ before) one behind joins new = (new_tail other one behind joins.0, joins_last before one behind joins.1 new)
 
 joined_new : (before : List CommandOption) (one : CommandOption) (behind : List CommandOption) → Joins before (one ∷ behind) → IsNew one before
-joined_new [] one behind joins = all_none _
-joined_new (other ∷ before) one behind joins = all_cons other before (λ same. joins.0 zero one (omega arith) (sym same)) (joined_new before one behind joins.1)
+joined_new [] one behind joins = new_alone one
+joined_new (other ∷ before) one behind joins = new_cons one other before (λ same. joins.0 zero one (omega arith) (sym same)) (joined_new before one behind joins.1)
 
 -- ---- what words say, by the first of them
 
