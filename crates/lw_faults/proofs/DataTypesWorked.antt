@@ -24,7 +24,7 @@ module _ (result : RuleResult) (unions : List UnionDef) (body : Element) where
   abbrev G : Grammar
   G = resulting result unions body
 
-  abbrev A : Rule
+  abbrev pub A : Rule
   A = record (entry_rule (codes "A") (place 16 17) body) { result = result }
 
   is_a : (rule : Rule) → Contains G.rules rule → A ≡ rule
@@ -47,17 +47,17 @@ module _ (result : RuleResult) (unions : List UnionDef) (body : Element) where
   result_is : (rule : Rule) → Contains G.rules rule → result ≡ rule.result
   result_is rule has = ap (λ (x : Rule). x.result) (is_a rule has)
 
-x_makes : (result : RuleResult) (unions : List UnionDef) (rule : Rule) → Contains (G result unions x_id).rules rule → ¬ IsDataType (G result unions x_id) rule
+pub x_makes : (result : RuleResult) (unions : List UnionDef) (rule : Rule) → Contains (G result unions x_id).rules rule → ¬ IsDataType (G result unions x_id) rule
 x_makes result unions rule has is =
     is.1 (puts_makes (G result unions x_id) rule (codes "x") (codes "ID") (sym (ap (λ (x : Rule). x.body) (is_a result unions x_id rule has))))
 
-id_is_text : (result : RuleResult) (unions : List UnionDef) (rule : Rule) → Contains (G result unions id_element).rules rule → IsDataType (G result unions id_element) rule
+pub id_is_text : (result : RuleResult) (unions : List UnionDef) (rule : Rule) → Contains (G result unions id_element).rules rule → IsDataType (G result unions id_element) rule
 id_is_text result unions rule has = (
   sym (ap (λ (x : Rule). x.is_fragment) (is_a result unions id_element rule has)),
   id_makes_none (G result unions id_element) rule (sym (ap (λ (x : Rule). x.body) (is_a result unions id_element rule has))) (no_id result unions id_element),
 )
 
-here : (result : RuleResult) (unions : List UnionDef) (body : Element) → Contains (G result unions body).rules (A result unions body)
+pub here : (result : RuleResult) (unions : List UnionDef) (body : Element) → Contains (G result unions body).rules (A result unions body)
 here result unions body = (0, omega arith, refl)
 
 -- ---- a primitive type

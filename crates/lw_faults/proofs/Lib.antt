@@ -20,10 +20,12 @@ pub mod CircularCallsWorked
 pub mod NodeLemmas
 pub mod EntriesWorked
 pub mod DataTypesWorked
+pub mod TextsWorked
 pub mod AssignLemmas
 pub mod BadCallsWorked
 pub mod AssignmentsWorked
 pub mod NamesWorked
+pub mod DeclaredOnce
 pub mod NameRulesWorked
 pub mod SizesWorked
 pub mod Joining

@@ -1,6 +1,6 @@
 -- Names that are declared twice, or mean nothing, and those beside them.
-use Rattle.std.proofs.Common.{◌≡◌, ◌≢◌, ℕ, List, [], ◌∷◌, Some, slice_get, false, codes, Contains, inl, inr, lit<, refl, sym, ap, ◌∙◌, subst, arith, true≢false}
-use Rattle.std.proofs.lemmas.Option.{none-some}
+use Rattle.std.proofs.Common.{◌≡◌, ◌≢◌, ◌<◌, ℕ, zero, suc, List, [], ◌∷◌, Some, slice_get, false, codes, Contains, inl, inr, lit<, refl, sym, ap, ◌∙◌, subst, arith, true≢false}
+use Rattle.std.proofs.lemmas.Option.{none-some, same_Some}
 use Rattle.std.proofs.lemmas.List.Elements.{All-nil, All-cons, All-contains}
 use Rattle.lw_base.specs.declared.token.Span.{Span}
 use Rattle.lw_grammar.specs.declared.grammar.Grammar.{Grammar}
@@ -15,12 +15,11 @@ use Rattle.lw_grammar.specs.declared.terminal.Terminal.{Terminal}
 use Rattle.lw_grammar.specs.declared.declared_types.Interface.{Interface}
 use Rattle.lw_grammar.specs.Leaves as leaf
 use Rattle.lw_grammar.specs.Leaves.{Leaf, leaves, ValueLeaf, Calls, Cross, value_leaves}
-use Rattle.lw_grammar.specs.Named.{Declaration, StandsBefore, declared_rule, declared_terminal, declared_interface}
+use Rattle.lw_grammar.specs.Named.{Declaration, StandsBefore, declared_rule, declared_terminal, declared_interface, declared_union}
 use Rattle.lw_grammar.proofs.LeafLemmas.{leaves-Act, leaves-Assign, values-Call, values-Cross}
 use Rattle.lw_grammar.specs.Written.{WritesCall, IsNoRule, HasDeclaration, InfersHere, NamesType, IsKnownType, term_calls}
 use Rattle.lw_grammar.specs.Written as written
-use Rattle.lw_grammar.specs.Written.{rule_space, type_space}
-use Rattle.lw_faults.specs.Names.{Duplicate, UnknownRule, UnknownType}
+use Rattle.lw_faults.specs.Names.{IsDeclaredAgain, IsSecondDeclaration, Duplicate, UnknownRule, UnknownType}
 use Rattle.lw_faults.specs.Names as names
 use Rattle.lw_faults.specs.Worked.{StandsAlone, StandsNowhere, place, no_place, entry_rule, plain_rule, terminal_id, interface_of, x_id, y_id, alone, x_value, a_entry, behind_a, beside_interface, makes_declared}
 use Rattle.lw_grammar.proofs.Every.{Every, every_of, differ}
@@ -30,75 +29,84 @@ use Rattle.lw_grammar.proofs.TermLemmas.{call_equations}
 
 -- ---- a name that is declared twice
 
-never_itself : (one : Declaration) → ¬ StandsBefore one one
-never_itself one (inl below) = omega (arith, below)
-never_itself one (inr both) = omega (arith, both.1)
+-- ---- lists in which nothing is declared again
 
-module _ (space : List Declaration) (Here : Declaration → Type 0) where
-  -- what is looked at of each two of one name
-  abbrev Twice : Declaration → Declaration → Type 0
-  Twice second first = first.name ≡ second.name → StandsBefore first second → Here second
+module _ {X Y : Type 0} (declared_by : X → Declaration) (other_by : Y → Declaration) (others : List Y) where
+  -- of no item
+  pub none_again : {again : Declaration} → ¬ IsDeclaredAgain declared_by other_by [] others again
+  none_again (names.in_list i j first second below at_i at_j same) = none-some first at_i
+  none_again (names.across second other has there same not) = absurd (none_there second has)
 
-  twice_of : Every (λ second. Every (Twice second) space) space → (first second : Declaration) → Contains space first → Contains space second →
-      first.name ≡ second.name → StandsBefore first second → Here second
-  twice_of all first second has had = every_of (Twice second) space first (every_of (λ x. Every (Twice x) space) space second all had) has
+  -- of one item, whose name no other list has
+  pub one_again : (x : X) → Every (λ y. (other_by y).name ≢ (declared_by x).name) others → {again : Declaration} →
+      ¬ IsDeclaredAgain declared_by other_by (x ∷ []) others again
+  one_again x apart (names.in_list i zero first second below at_i at_j same) = omega (arith, below)
+  one_again x apart (names.in_list i (suc j) first second below at_i at_j same) = none-some second at_j
+  one_again x apart (names.across second other has there same not) = absurd (every_of Differs others other differs there same)
+    where
+      Differs : Y → Type 0
+      Differs y = (other_by y).name ≢ (declared_by second).name
+
+      differs : Every Differs others
+      differs = subst (λ z. Every (λ y. (other_by y).name ≢ (declared_by z).name) others) (every_of (λ z. x ≡ z) (x ∷ []) second (refl, tt) has) apart
 
 apart : {P : Type 0} (a b : List ℕ) → a ≢ b → a ≡ b → P
 apart a b differs same = absurd (differs same)
 
-module _ (name : List ℕ) where
+module _ (s : Span) (name : List ℕ) where
   abbrev G : Grammar
-  G = behind_a name
+  G = behind_a s name
 
   abbrev second : Rule
-  second = plain_rule name (place 25 26) y_id
-
-  abbrev id : Declaration
-  id = declared_terminal terminal_id
+  second = plain_rule name s y_id
 
   abbrev IsSecond : Declaration → Type 0
-  IsSecond x = (name ≡ codes "A") × (x.file ≡ 0) × (x.span ≡ place 25 26) × (x.name ≡ name)
+  IsSecond x = (name ≡ codes "A") × (x.file ≡ 0) × (x.span ≡ s) × (x.name ≡ name)
 
-  only_second : name ≢ codes "ID" → (f : ℕ) (t : Span) (n : List ℕ) → Duplicate G f t n → (name ≡ codes "A") × (f ≡ 0) × (t ≡ place 25 26) × (n ≡ name)
-  only_second no_id f t n (names.rule_ first other has had same sooner) = twice_of (rule_space G) IsSecond pairs first other has had same sooner
+  two_rules : (i j : ℕ) (first other : Rule) → i < j → slice_get G.rules i ≡ Some first → slice_get G.rules j ≡ Some other → first.name ≡ other.name →
+      IsSecond (declared_rule other)
+  two_rules i zero first other below at_i at_j same = absurd (omega (arith, below))
+  two_rules zero (suc zero) first other below at_i at_j same = (
+    ap (λ (x : Rule). x.name) is_second ∙ sym same ∙ sym (ap (λ (x : Rule). x.name) is_first),
+    sym (ap (λ (x : Rule). x.file) is_second),
+    sym (ap (λ (x : Rule). x.span) is_second),
+    sym (ap (λ (x : Rule). x.name) is_second),
+  )
     where
-      of_a : Every (Twice (rule_space G) IsSecond (declared_rule a_entry)) (rule_space G)
-      of_a = (
-        λ is sooner. absurd (never_itself (declared_rule a_entry) sooner),
-        (λ is sooner. absurd (back sooner), (λ is. apart (codes "ID") (codes "A") (differ _ _ refl) is, tt)),
-      )
-        where
-          back : StandsBefore (declared_rule second) (declared_rule a_entry) → ⊥
-          back (inl below) = omega (arith, below)
-          back (inr both) = omega (arith, both.1)
+      is_first : a_entry ≡ first
+      is_first = same_Some a_entry first at_i
 
-      of_second : Every (Twice (rule_space G) IsSecond (declared_rule second)) (rule_space G)
-      of_second = (
-        λ is sooner. (sym is, refl, refl, refl),
-        (λ is sooner. absurd (never_itself (declared_rule second) sooner), (λ is sooner. absurd (no_id (sym is)), tt)),
-      )
+      is_second : second ≡ other
+      is_second = same_Some second other at_j
+  two_rules (suc i) (suc zero) first other below at_i at_j same = absurd (omega (arith, below))
+  two_rules i (suc (suc j)) first other below at_i at_j same = absurd (none-some other at_j)
 
-      of_id : Every (Twice (rule_space G) IsSecond id) (rule_space G)
-      of_id = (
-        λ is. apart (codes "A") (codes "ID") (differ _ _ refl) is,
-        (λ is sooner. absurd (no_id is), (λ is sooner. absurd (never_itself id sooner), tt)),
-      )
+  only_again : name ≢ codes "ID" → {again : Declaration} → IsSecondDeclaration G again → IsSecond again
+  only_again no_id (names.rule_ (names.in_list i j first other below at_i at_j same)) = two_rules i j first other below at_i at_j same
+  only_again no_id (names.rule_ (names.across rule other has there same not)) =
+      absurd (every_of (λ (x : Rule). x.name ≢ codes "ID") G.rules rule (differ _ _ refl, (no_id, tt)) has (sym same ∙ sym is_id))
+    where
+      is_id : codes "ID" ≡ other.name
+      is_id = ap (λ (x : Terminal). x.name) (every_of (λ x. terminal_id ≡ x) G.terminals other (refl, tt) there)
+  only_again no_id (names.terminal_ is) =
+      absurd (one_again declared_terminal declared_rule G.rules terminal_id (differ _ _ refl, (no_id, tt)) is)
+  only_again no_id (names.interface_ is) = absurd (none_again declared_interface declared_union G.unions is)
+  only_again no_id (names.union_ is) = absurd (none_again declared_union declared_interface G.interfaces is)
 
-      pairs : Every (λ x. Every (Twice (rule_space G) IsSecond x) (rule_space G)) (rule_space G)
-      pairs = (of_a, (of_second, (of_id, tt)))
-  only_second no_id f t n (names.type_ first other has _ _ _) = absurd (none_there first has)
+  only_second : name ≢ codes "ID" → (f : ℕ) (t : Span) (n : List ℕ) → Duplicate G f t n → (name ≡ codes "A") × (f ≡ 0) × (t ≡ s) × (n ≡ name)
+  only_second no_id f t n (names.declared is) = only_again no_id is
   only_second no_id f t n (names.inferred _ (inl (k, interface, inside, _, _))) = absurd (omega (arith, inside))
   only_second no_id f t n (names.inferred _ (inr (k, union, inside, _, _))) = absurd (omega (arith, inside))
   only_second no_id f t n (names.attribute interface i j first other has _ _ _ _) = absurd (none_there interface has)
 
-pub rule : StandsAlone (Duplicate (behind_a (codes "A"))) 0 (place 25 26) (codes "A")
-rule = (
-  names.rule_ (declared_rule a_entry) (declared_rule (second (codes "A"))) (0, omega arith, refl) (1, omega arith, refl) refl (inr (refl, lit< tt)),
-  λ f t n is. let found = only_second (codes "A") (differ _ _ refl) f t n is in (found.1, found.2, found.3),
+pub rule : (s : Span) → StandsAlone (Duplicate (behind_a s (codes "A"))) 0 s (codes "A")
+rule s = (
+  names.declared (names.rule_ (names.in_list 0 1 a_entry (second s (codes "A")) (lit< tt) refl refl refl)),
+  λ f t n is. let found = only_second s (codes "A") (differ _ _ refl) f t n is in (found.1, found.2, found.3),
 )
 
-pub other_rule : StandsNowhere (Duplicate (behind_a (codes "B")))
-other_rule f t n is = differ (codes "B") (codes "A") refl (only_second (codes "B") (differ _ _ refl) f t n is).0
+pub other_rule : (s : Span) → StandsNowhere (Duplicate (behind_a s (codes "B")))
+other_rule s f t n is = differ (codes "B") (codes "A") refl (only_second s (codes "B") (differ _ _ refl) f t n is).0
 
 -- ---- a type that is inferred and declared
 
@@ -130,24 +138,14 @@ module _ (name : List ℕ) where
       other : leaf.Assign (codes "x") One (value.Call (codes "ID") no_place) no_place ≡ leaf.Act a → ⊥
       other same = cc
 
+  nothing_again : {again : Declaration} → ¬ IsSecondDeclaration H again
+  nothing_again (names.rule_ is) = one_again declared_rule declared_terminal H.terminals A (differ _ _ refl, tt) is
+  nothing_again (names.terminal_ is) = one_again declared_terminal declared_rule H.rules terminal_id (differ _ _ refl, tt) is
+  nothing_again (names.interface_ is) = one_again declared_interface declared_union H.unions (interface_of name [] []) tt is
+  nothing_again (names.union_ is) = none_again declared_union declared_interface H.interfaces is
+
   only_inferred : (f : ℕ) (t : Span) (n : List ℕ) → Duplicate H f t n → ((f ≡ 0) × (t ≡ place 31 32) × (n ≡ codes "A")) × (name ≡ codes "A")
-  only_inferred f t n (names.rule_ first other has had same sooner) =
-      absurd (twice_of (rule_space H) (λ x. ⊥) (
-        (
-          λ is sooner. never_itself (declared_rule A) sooner,
-          (λ is. apart (codes "ID") (codes "A") (differ _ _ refl) is, tt),
-        ),
-        (
-          (
-            λ is. apart (codes "A") (codes "ID") (differ _ _ refl) is,
-            (λ is sooner. never_itself (declared_terminal terminal_id) sooner, tt),
-          ),
-          tt,
-        ),
-      )
-      first other has had same sooner)
-  only_inferred f t n (names.type_ first other has had same sooner) =
-      absurd (twice_of (type_space H) (λ x. ⊥) ((λ is sooner. never_itself (declared_interface (interface_of name [] [])) sooner, tt), tt) first other has had same sooner)
+  only_inferred f t n (names.declared is) = absurd (nothing_again is)
   only_inferred f t n (names.inferred here declared) = (infers_a f t n here, declares declared)
     where
       declares : HasDeclaration H n → name ≡ codes "A"

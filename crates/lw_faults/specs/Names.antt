@@ -9,18 +9,30 @@ use Rattle.lw_grammar.specs.declared.terminal.Terminal.{Terminal}
 use Rattle.lw_grammar.specs.declared.declared_types.Interface.{Interface}
 use Rattle.lw_grammar.specs.declared.declared_types.Attribute.{Attribute}
 use Rattle.lw_grammar.specs.Leaves.{Assign, leaves, Cross, value_leaves}
-use Rattle.lw_grammar.specs.Named.{Declaration, StandsBefore}
+use Rattle.lw_grammar.specs.Named.{Declaration, StandsBefore, declared_rule, declared_terminal, declared_interface, declared_union}
 use Rattle.lw_grammar.specs.NameRules.{IsNameRule}
-use Rattle.lw_grammar.specs.Written.{rule_space, type_space, WritesCall, term_calls, IsNoRule, HasDeclaration, NamesType, InfersHere, IsKnownType}
+use Rattle.lw_grammar.specs.Written.{WritesCall, term_calls, IsNoRule, HasDeclaration, NamesType, InfersHere, IsKnownType}
+
+-- The name of an item is declared again: one of its own list that has the name stands before it there, or one of the other list of its space has the
+-- name, which it does not stand before. Such an item is never what its name means.
+pub data IsDeclaredAgain {X Y : Type 0} (declared_by : X → Declaration) (other_by : Y → Declaration) (xs : List X) (others : List Y) : Declaration → Type 0 where
+  in_list : (i j : ℕ) (first second : X) → i < j → slice_get xs i ≡ Some first → slice_get xs j ≡ Some second →
+      (declared_by first).name ≡ (declared_by second).name → IsDeclaredAgain declared_by other_by xs others (declared_by second)
+  across : (second : X) (other : Y) → Contains xs second → Contains others other → (other_by other).name ≡ (declared_by second).name →
+      ¬ StandsBefore (declared_by second) (other_by other) → IsDeclaredAgain declared_by other_by xs others (declared_by second)
 
 module _ (g : Grammar) where
-  -- A rule, terminal, interface or union has the name of one of its space that stands before it; a type is inferred that is declared; an interface
-  -- has a second attribute of one name.
+  -- of rules and terminals, which share a space of names, and of interfaces and unions, which share the other
+  pub data IsSecondDeclaration : Declaration → Type 0 where
+    rule_ : {again : Declaration} → IsDeclaredAgain declared_rule declared_terminal g.rules g.terminals again → IsSecondDeclaration again
+    terminal_ : {again : Declaration} → IsDeclaredAgain declared_terminal declared_rule g.terminals g.rules again → IsSecondDeclaration again
+    interface_ : {again : Declaration} → IsDeclaredAgain declared_interface declared_union g.interfaces g.unions again → IsSecondDeclaration again
+    union_ : {again : Declaration} → IsDeclaredAgain declared_union declared_interface g.unions g.interfaces again → IsSecondDeclaration again
+
+  -- The name of a rule, a terminal, an interface or a union is declared again; a type is inferred that is declared; an interface has a second attribute of
+  -- one name.
   pub data Duplicate : ℕ → Span → List ℕ → Type 0 where
-    rule_ : (first second : Declaration) → Contains (rule_space g) first → Contains (rule_space g) second → first.name ≡ second.name → StandsBefore first second →
-        Duplicate second.file second.span second.name
-    type_ : (first second : Declaration) → Contains (type_space g) first → Contains (type_space g) second → first.name ≡ second.name → StandsBefore first second →
-        Duplicate second.file second.span second.name
+    declared : {again : Declaration} → IsSecondDeclaration again → Duplicate again.file again.span again.name
     inferred : {file : ℕ} {s : Span} {name : List ℕ} → InfersHere g file s name → HasDeclaration g name → Duplicate file s name
     attribute : (interface : Interface) (i j : ℕ) (first second : Attribute) → Contains g.interfaces interface → i < j →
         slice_get interface.attributes i ≡ Some first → slice_get interface.attributes j ≡ Some second → first.name ≡ second.name →

@@ -344,8 +344,9 @@ y_id = puts (codes "y") (codes "ID")
 
 -- ---- names: grammar G entry A: x=ID; A: y=ID;
 
-abbrev pub behind_a : List ℕ → Grammar
-behind_a name = of_rules (a_entry ∷ plain_rule name (place 25 26) y_id ∷ [])
+-- the second rule has this place
+abbrev pub behind_a : Span → List ℕ → Grammar
+behind_a s name = of_rules (a_entry ∷ plain_rule name s y_id ∷ [])
 
 -- grammar G interface A {} entry A: x=ID;
 abbrev pub beside_interface : List ℕ → Grammar

@@ -1,19 +1,26 @@
 // What a reader may expect of the faults of a grammar, and where they are in grammars that are written out.
-ghost use Rattle.std.specs.Prelude.{ℕ, ◌≡◌, ◌<◌, ◌⊎◌, [], ◌∷◌, List, Some, true, false, codes};
+ghost use Rattle.std.specs.Prelude.{ℕ, ◌≡◌, ◌<◌, ◌⊎◌, [], ◌∷◌, List, Some, true, false, codes, slice_get};
 ghost use Rattle.lw_base.specs.declared.token.Span.{Span};
 ghost use Rattle.lw_grammar.specs.declared.rule.Element.TheVariants.{Call, Assign, Act, Group, Maybe, Many};
 ghost use Rattle.lw_grammar.specs.declared.rule.Op.TheVariants.{One, Add, Flag};
 ghost use Rattle.lw_grammar.specs.declared.rule.Value0.TheVariants as value;
-ghost use Rattle.lw_grammar.specs.declared.rule.RuleResult.TheVariants.{Returns, Gives, Infers};
-ghost use Rattle.lw_grammar.specs.declared.terminal.Primitive.TheVariants.{Text, Boolean};
+ghost use Rattle.lw_grammar.specs.declared.rule.RuleResult.TheVariants.{Own, Returns, Gives, Infers};
+ghost use Rattle.lw_grammar.specs.declared.terminal.Primitive.TheVariants.{Text, Number, Boolean};
 ghost use Rattle.lw_grammar.specs.declared.terminal.TermElement.TheVariants as term;
 ghost use Rattle.lw_grammar.specs.declared.declared_types.Member.TheVariants.{Named, Plain, Refers, Literal};
 ghost use Rattle.lw_grammar.specs.declared.fault.GrammarFault.{GrammarFault};
 ghost use Rattle.lw_grammar.specs.declared.grammar.Grammar.{Grammar};
+ghost use Rattle.lw_grammar.specs.declared.rule.Rule.{Rule};
+ghost use Rattle.lw_grammar.specs.declared.terminal.Terminal.{Terminal};
+ghost use Rattle.lw_grammar.specs.declared.declared_types.Interface.{Interface};
+ghost use Rattle.lw_grammar.specs.declared.declared_types.UnionDef.{UnionDef};
+ghost use Rattle.lw_grammar.specs.Named.{IsRule, IsTerminal, IsInterface, IsUnion, declared_rule, declared_terminal, declared_interface, declared_union};
+ghost use Rattle.lw_faults.specs.Attributes.{TakesKind};
+ghost use Rattle.lw_faults.specs.Attributes as kind;
 ghost use Rattle.lw_faults.specs.Derivations.{LeftRecursion, ReadsNothing, RepeatsNothing, NeverEnds};
 ghost use Rattle.lw_faults.specs.Faults.{IsTypeFault, IsCheckFault, AreTypeFaults, AreCheckFaults};
 ghost use Rattle.lw_faults.specs.Worked.{StandsAlone, StandsNowhere, place, no_place, left_recursive, right_recursive, x_id, calling_b, alone, repeating, a_a, endless, keyword_of, makes_b, takes_b, two_parts, action_and_word, acts_in_fragment, with_node, node_behind, node_before, node_and_word, puts, with_attribute, extending_type, united, x_by, calls_id, i_reference, with_endless, twice, unknown_twice, making_s, types_alone, extends, a_extending, b_extending, union_of, fragment_calling, terminal_calling, of_rules, plain_rule, in_file, a_entry, b_entry, entry_fragment, id_element, resulting, with_terminal, calling_terminal, crossing, assigning, y_id, node_rule, fragment_rule, x_value, behind_a, beside_interface, makes_declared, by_its_name, many_rules, naming_terminal};
-ghost use Rattle.lw_faults.specs.Names.{Duplicate, UnknownRule, UnknownType, NoNameRule};
+ghost use Rattle.lw_faults.specs.Names.{IsSecondDeclaration, Duplicate, UnknownRule, UnknownType, NoNameRule};
 ghost use Rattle.lw_faults.specs.BadCalls.{BadCall, BadAssignment};
 ghost use Rattle.lw_faults.specs.Entries.{NoEntry, SecondEntry, EntryMakesNoNode, TooManyRules};
 ghost use Rattle.lw_faults.specs.DataTypes.{MixedDataTypeRule};
@@ -104,6 +111,15 @@ pub fn property_forms()
     ensures reference { (s : Span) → StandsNowhere (WrongPropertyForm (with_attribute false (Refers (codes "I") no_place) (x_by One i_reference s))) }
 {}
 
+/// A member that names the type of a data type rule takes every text, as `string` does, and so does a union that has such a member.
+pub fn members_of_texts()
+    ensures string { TakesKind (resulting Own [] id_element) (Named (codes "A") no_place) (kind.Plain Text) }
+    ensures of_rule { (type_name : List ℕ) → TakesKind (resulting Own [] id_element) (Named (codes "A") no_place) (kind.TextsOf type_name) }
+    ensures number { ¬ TakesKind (resulting Own [] id_element) (Named (codes "A") no_place) (kind.Plain Number) }
+    ensures node { ¬ TakesKind (resulting Own [] x_id) (Named (codes "A") no_place) (kind.Plain Text) }
+    ensures union { TakesKind (resulting Own (union_of (Named (codes "A") no_place) ∷ []) id_element) (Named (codes "U") no_place) (kind.Plain Text) }
+{}
+
 /// A property of an inferred type is a list each time that something is put into it, or never. Of an unknown type that is not asked.
 pub fn mixed_properties()
     ensures one_then_list { StandsAlone (MixedProperty (twice One Add (place 24 29))) 0 (place 24 29) (codes "x") }
@@ -188,12 +204,24 @@ pub fn bad_assignments()
     ensures fragment_ { StandsAlone (BadAssignment (assigning One (place 19 22) (fragment_rule (codes "F") no_place y_id))) 0 (place 19 22) (codes "x") }
 {}
 
-/// A name is declared once, and an inferred type is none that is declared.
+/// A name is declared once, and an inferred type is none that is declared. A second rule is told wherever it stands, also at the place of the
+/// first.
 pub fn duplicates()
-    ensures rule { StandsAlone (Duplicate (behind_a (codes "A"))) 0 (place 25 26) (codes "A") }
-    ensures other_rule { StandsNowhere (Duplicate (behind_a (codes "B"))) }
+    ensures rule { (s : Span) → StandsAlone (Duplicate (behind_a s (codes "A"))) 0 s (codes "A") }
+    ensures other_rule { (s : Span) → StandsNowhere (Duplicate (behind_a s (codes "B"))) }
     ensures inferred { StandsAlone (Duplicate (beside_interface (codes "A"))) 0 (place 31 32) (codes "A") }
     ensures other_type { StandsNowhere (Duplicate (beside_interface (codes "B"))) }
+{}
+
+/// A rule, a terminal, an interface or a union whose name is not declared again there is what its name means.
+pub fn what_is_declared_once_is_meant()
+    ensures rule { (g : Grammar) (r : ℕ) (rule : Rule) → slice_get g.rules r ≡ Some rule → ¬ IsSecondDeclaration g (declared_rule rule) → IsRule g rule.name r rule }
+    ensures terminal { (g : Grammar) (t : ℕ) (terminal : Terminal) → slice_get g.terminals t ≡ Some terminal →
+        ¬ IsSecondDeclaration g (declared_terminal terminal) → IsTerminal g terminal.name t terminal }
+    ensures interface { (g : Grammar) (i : ℕ) (interface : Interface) → slice_get g.interfaces i ≡ Some interface →
+        ¬ IsSecondDeclaration g (declared_interface interface) → IsInterface g interface.name i interface }
+    ensures union { (g : Grammar) (u : ℕ) (union : UnionDef) → slice_get g.unions u ≡ Some union → ¬ IsSecondDeclaration g (declared_union union) →
+        IsUnion g union.name u union }
 {}
 
 /// What is called is a rule or a terminal. In a cross-reference the place is that of the whole.

@@ -38,8 +38,8 @@ mod laws;
 pub use kind::FaultKind;
 pub use laws::{
     bad_assignments, bad_calls, circular_calls, circular_types, data_types, duplicates, entries,
-    left_recursion, misplaced_actions, misplaced_calls, mixed_properties, name_rules,
-    one_list_of_faults, phases, property_forms, repeated_nothing, rules_that_read_nothing,
-    rules_without_end, sizes, types_that_are_not_below, unknown_properties, unknown_rules,
-    unknown_types,
+    left_recursion, members_of_texts, misplaced_actions, misplaced_calls, mixed_properties,
+    name_rules, one_list_of_faults, phases, property_forms, repeated_nothing,
+    rules_that_read_nothing, rules_without_end, sizes, types_that_are_not_below,
+    unknown_properties, unknown_rules, unknown_types, what_is_declared_once_is_meant,
 };

@@ -2,7 +2,7 @@
 use Rattle.std.proofs.Common.{◌≡◌, ◌<◌, ◌⊎◌, inl, inr, ℕ, zero, suc, List, [], ◌∷◌, ◌++◌, Option, Some, None, Contains, All, length, map, slice_get, refl, sym, ap, subst, arith}
 use Rattle.std.specs.List.{flat_map}
 use Rattle.std.proofs.lemmas.Option.{slice_get_within, get_or_from_slice_get}
-use Rattle.std.proofs.lemmas.List.Elements.{All-contains, All-nil, All-cons, Contains-append_left, Contains-append_right, Contains-append_cases}
+use Rattle.std.proofs.lemmas.List.Elements.{All-contains, All-nil, All-cons, Contains-append_left, Contains-append_right}
 use Rattle.lw_base.specs.declared.token.Span.{Span}
 use Rattle.lw_grammar.specs.declared.grammar.Grammar.{Grammar}
 use Rattle.lw_grammar.specs.declared.fault.GrammarFault.{GrammarFault}
@@ -24,7 +24,7 @@ use Rattle.lw_grammar.specs.Written as writing
 use Rattle.lw_grammar.specs.Written.{WritesCall, NamesType, InfersHere, MemberNames}
 use Rattle.lw_faults.specs.Steps.{Step, step, IsBehind}
 use Rattle.lw_faults.specs.Names as names
-use Rattle.lw_faults.specs.Names.{Duplicate, UnknownRule, UnknownType, NoNameRule}
+use Rattle.lw_faults.specs.Names.{IsDeclaredAgain, IsSecondDeclaration, Duplicate, UnknownRule, UnknownType, NoNameRule}
 use Rattle.lw_faults.specs.Entries as entries
 use Rattle.lw_faults.specs.Entries.{SecondEntry, EntryMakesNoNode}
 use Rattle.lw_faults.specs.Derivations as derivations
@@ -55,11 +55,6 @@ module _ {X : Type 0} where
   in_map f [] y (k, inside, is) = absurd (omega (arith, inside))
   in_map f (z ∷ zs) y (zero, inside, is) = subst (λ w. Contains (f z ∷ map f zs) (f w)) is (at_front (f z) (map f zs))
   in_map f (z ∷ zs) y (suc k, inside, is) = behind_front (f z) (map f zs) (in_map f zs y (k, omega (arith, inside), is))
-
-  of_map : {Y : Type 0} (f : Y → X) (ys : List Y) (x : X) → Contains (map f ys) x → (y : Y) × Contains ys y × (f y ≡ x)
-  of_map f [] x (k, inside, is) = absurd (omega (arith, inside))
-  of_map f (y ∷ ys) x (zero, inside, is) = (y, at_front y ys, is)
-  of_map f (y ∷ ys) x (suc k, inside, is) = let found = of_map f ys x (k, omega (arith, inside), is) in (found.0, behind_front y ys found.1, found.2)
 
 module _ (texts : List (List ℕ)) (g : Grammar) (stands : Stands texts g) where
   abbrev At : ℕ → Span → Type 0
@@ -154,13 +149,17 @@ module _ (texts : List (List ℕ)) (g : Grammar) (stands : Stands texts g) where
 
   -- ---- the faults of names
 
-  of_declaration : (first : Declaration) (xs ys : List Declaration) → ((d : Declaration) → Contains xs d → At d.file d.span) → ((d : Declaration) → Contains ys d → At d.file d.span) →
-      Contains (xs ++ ys) first → At first.file first.span
-  of_declaration first xs ys here there has = elim (Contains-append_cases xs ys first has) [ inl left ↦ here first left | inr right ↦ there first right ]
+  declared_again : {X Y : Type 0} (declared_by : X → Declaration) (other_by : Y → Declaration) (xs : List X) (others : List Y) →
+      ((x : X) → Contains xs x → At (declared_by x).file (declared_by x).span) → {again : Declaration} → IsDeclaredAgain declared_by other_by xs others again →
+      At again.file again.span
+  declared_again declared_by other_by xs others each (names.in_list i j first second _ _ at _) = each second (at_its_number xs j second at)
+  declared_again declared_by other_by xs others each (names.across second other has _ _ _) = each second has
 
-  mapped : {X : Type 0} (declared_by : X → Declaration) (xs : List X) → ((x : X) → Contains xs x → At (declared_by x).file (declared_by x).span) → (d : Declaration) →
-      Contains (map declared_by xs) d → At d.file d.span
-  mapped declared_by xs each d has = let found = of_map declared_by xs d has in subst (λ (e : Declaration). At e.file e.span) found.2 (each found.0 found.1)
+  second_place : {again : Declaration} → IsSecondDeclaration g again → At again.file again.span
+  second_place (names.rule_ is) = declared_again declared_rule declared_terminal g.rules g.terminals of_rule is
+  second_place (names.terminal_ is) = declared_again declared_terminal declared_rule g.terminals g.rules of_terminal is
+  second_place (names.interface_ is) = declared_again declared_interface declared_union g.interfaces g.unions of_interface is
+  second_place (names.union_ is) = declared_again declared_union declared_interface g.unions g.interfaces of_union is
 
   inferred_place : (file : ℕ) (s : Span) (name : List ℕ) → InfersHere g file s name → At file s
   inferred_place _ _ _ (writing.own rule has _ _) = of_rule rule has
@@ -168,10 +167,7 @@ module _ (texts : List (List ℕ)) (g : Grammar) (stands : Stands texts g) where
   inferred_place _ _ _ (InfersHere.acted rule a has there _) = of_act rule a has there
 
   duplicate_place : (file : ℕ) (s : Span) (name : List ℕ) → Duplicate g file s name → At file s
-  duplicate_place _ _ _ (names.rule_ first second _ has _ _) =
-      of_declaration second (map declared_rule g.rules) (map declared_terminal g.terminals) (mapped declared_rule g.rules of_rule) (mapped declared_terminal g.terminals of_terminal) has
-  duplicate_place _ _ _ (names.type_ first second _ has _ _) =
-      of_declaration second (map declared_interface g.interfaces) (map declared_union g.unions) (mapped declared_interface g.interfaces of_interface) (mapped declared_union g.unions of_union) has
+  duplicate_place _ _ _ (names.declared is) = second_place is
   duplicate_place file s name (names.inferred here _) = inferred_place file s name here
   duplicate_place _ _ _ (names.attribute interface i j first second has _ _ at _) =
       of_attributes interface second second.span has (at_its_number interface.attributes j second at) (at_front second.span _)

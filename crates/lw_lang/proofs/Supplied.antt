@@ -18,7 +18,6 @@ use Rattle.lw_grammar.specs.declared.rule.Value0.TheOpen as value
 use Rattle.lw_grammar.specs.declared.rule.Value0.TheOpen.{Value0-F}
 use Rattle.lw_grammar.specs.Kinds.{Kinds, AreKinds}
 use Rattle.lw_grammar.specs.NameRules.{IsNameRule}
-use Rattle.lw_grammar.specs.WellFormed.{IsWellFormed}
 use Rattle.lw_gramcheck.specs.Judging.{IsFaultless}
 use Rattle.lw_load.specs.FilledChoices.{value_choice_sizes, value_layer_choice_sizes, element_choice_sizes, layer_choice_sizes, HasFilledChoices}
 use Rattle.lw_look.specs.Sites.{PartSite, Part, Body, Value, element_parts, value_parts, inner_parts, IsPartAt}
@@ -144,8 +143,8 @@ module _ (g : Grammar) where
 
   -- ---- a grammar without faults, as it is loaded and judged
 
-  pub is_supplied : (types : Types) → AreTypesOf g types → (facts : ReadingFacts) → AreReadingFactsOf g facts → IsFaultless g → IsWellFormed g → HasFilledChoices g →
+  pub is_supplied : (types : Types) → AreTypesOf g types → (facts : ReadingFacts) → AreReadingFactsOf g facts → IsFaultless g → HasFilledChoices g →
       (kinds : Kinds) → AreKinds g kinds → IsSupplied g kinds
-  is_supplied types typed facts are faultless formed filled kinds kinds_are =
+  is_supplied types typed facts are faultless filled kinds kinds_are =
       supplied g kinds kinds_are (nodes_told g types.rules.nodes.items typed.rules.nodes)
-      (lacks_nothing g faultless.types faultless.checks formed (reading_told types typed facts.reading are.reading) (choices_have_parts filled))
+      (lacks_nothing g faultless.types faultless.checks (reading_told types typed facts.reading are.reading) (choices_have_parts filled))

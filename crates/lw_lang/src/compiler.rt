@@ -165,7 +165,6 @@ fn build_sound(
     requires typed { AreTypesOf grammar types }
     requires fits { size grammar ≤ LARGEST_GRAMMAR }
     requires stand { Stands texts.now grammar }
-    requires formed { IsWellFormed grammar }
     requires filled { HasFilledChoices grammar }
     requires most { k ≤ 3 }
     requires facts { AreReadingFactsOf grammar facts.now }
@@ -208,7 +207,6 @@ fn language_of(
     requires typed { AreTypesOf grammar types }
     requires fits { size grammar ≤ LARGEST_GRAMMAR }
     requires most { k ≤ 3 }
-    requires formed { IsWellFormed grammar }
     requires filled { HasFilledChoices grammar }
     requires facts { AreReadingFactsOf grammar facts.now }
     requires tokens { IsTokenSetOf grammar [] facts.now.kinds tokens }
@@ -258,7 +256,6 @@ fn parser_of(
     requires typed { AreTypesOf g.now types.now }
     requires fits { size g.now ≤ LARGEST_GRAMMAR }
     requires most { k ≤ 3 }
-    requires formed { IsWellFormed g.now }
     requires filled { HasFilledChoices g.now }
     requires facts { AreReadingFactsOf g.now facts.now }
     requires tables { (kinds : Kinds) → AreKinds g.now kinds → AreTables g.now kinds k tables }

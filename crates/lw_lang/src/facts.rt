@@ -2,7 +2,6 @@
 ghost use Rattle.std.specs.Prelude.{◌≡◌, ◌≤◌, IfOk};
 ghost use Rattle.lw_grammar.specs.Kinds.{Kinds, AreKinds};
 ghost use Rattle.lw_grammar.specs.Size.{size};
-ghost use Rattle.lw_grammar.specs.WellFormed.{IsWellFormed};
 ghost use Rattle.lw_gramcheck.specs.Judging.{IsFaultless};
 ghost use Rattle.lw_kinds.specs.LexiconKnown.{IsKnownLexicon};
 ghost use Rattle.lw_kinds.specs.Reading.{IsReadingOf};
@@ -60,7 +59,6 @@ impl ReadingFacts {
         requires facts { AreReadingFactsOf g.now self.now }
         requires typed { AreTypesOf g.now types.now }
         requires faultless { IsFaultless g.now }
-        requires formed { IsWellFormed g.now }
         requires filled { HasFilledChoices g.now }
         ensures lexicon { IsKnownLexicon result }
         ensures grammar { result.g.now ≡ g.now }

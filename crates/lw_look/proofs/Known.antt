@@ -1,7 +1,7 @@
--- What a reached rule calls is known, where no fault of names and no bad call is found, and no rule stands where a terminal stands.
+-- What a reached rule calls is known, where no fault of names and no bad call is found.
 use Rattle.std.proofs.Common.{◌≡◌, ◌≢◌, ◌⊎◌, ◌<◌, ◌≤◌, inl, inr, ℕ, zero, suc, Bool, List, [], ◌∷◌, ◌++◌, map, None, true, false, Contains, bytes_eq, refl, sym, ap, ◌∙◌, subst, arith}
 use Rattle.std.proofs.lemmas.Bool.{cases_lt}
-use Rattle.std.proofs.lemmas.List.Elements.{Contains-append_left, Contains-append_right, Contains-append_cases}
+use Rattle.std.proofs.lemmas.List.Elements.{Contains-append_cases}
 use Rattle.lw_base.specs.declared.token.Span.{Span}
 use Rattle.lw_grammar.specs.declared.fault.GrammarFault.{GrammarFault}
 use Rattle.lw_grammar.specs.declared.grammar.Grammar.{Grammar}
@@ -32,7 +32,6 @@ use Rattle.lw_faults.specs.Names.{Duplicate, UnknownRule}
 use Rattle.lw_faults.specs.Names as fault
 use Rattle.lw_grammar.specs.Written.{WritesCall, IsNoRule}
 use Rattle.lw_grammar.specs.Written as written
-use Rattle.lw_grammar.specs.WellFormed.{IsWellFormed}
 use Rattle.lw_look.specs.Supplied.{IsKnownCall, ChoicesHaveParts, LacksNothing, ReadingIsTold}
 use Rattle.lw_look.proofs.Apart.{each}
 use Rattle.lw_base.proofs.Lists.{among}
@@ -58,11 +57,6 @@ first_or_none {X} name_of name (x ∷ xs) = by (first_or_none name_of name xs) (
     by (inl (i, y, first)) false is = inl (suc i, y, first_later (differ (name_of x) name is) first)
     by (inr others) false is = inr (none (differ (name_of x) name is) others)
 
-mapped : {X Y : Type 0} (f : X → Y) (xs : List X) (x : X) → Contains xs x → Contains (map f xs) (f x)
-mapped f [] x (i, inside, is) = absurd (omega arith)
-mapped f (y ∷ xs) x (zero, inside, is) = (0, omega arith, ap f is)
-mapped f (y ∷ xs) x (suc i, inside, is) = there (f y) (map f xs) (f x) (mapped f xs x (i, omega arith, is))
-
 abbrev IsSamePlace : Declaration → Declaration → Type 0
 IsSamePlace one other = (one.file ≡ other.file) × (one.span.start ≡ other.span.start)
 
@@ -82,32 +76,36 @@ order one other = files (cases_lt one.file other.file) (cases_lt other.file one.
     files (inr least) (inr most) =
         places (omega (arith, least, most)) (cases_lt one.span.start other.span.start) (cases_lt other.span.start one.span.start)
 
+-- of two declarations at most one stands before the other
+one_way : (one other : Declaration) → StandsBefore one other → ¬ StandsBefore other one
+one_way one other (inl low) (inl high) = omega (arith, low, high)
+one_way one other (inl low) (inr (same, start)) = omega (arith, low, same)
+one_way one other (inr (same, start)) (inl high) = omega (arith, same, high)
+one_way one other (inr (same, start)) (inr (also, end)) = omega (arith, start, end)
+
+never_at_one_place : (one other : Declaration) → IsSamePlace one other → ¬ StandsBefore one other
+never_at_one_place one other (file, start) (inl below) = omega (arith, file, below)
+never_at_one_place one other (file, start) (inr (same, below)) = omega (arith, start, below)
+
 module _ (g : Grammar) where
   abbrev IsNamed : List ℕ → Type 0
   IsNamed called = ((r : ℕ) × (rule : Rule) × IsRule g called r rule) ⊎ ((t : ℕ) × (terminal : Terminal) × IsTerminal g called t terminal)
 
-  module _ (no_duplicate : (file : ℕ) (s : Span) (called : List ℕ) → ¬ Duplicate g file s called) (formed : IsWellFormed g) where
+  module _ (no_duplicate : (file : ℕ) (s : Span) (called : List ℕ) → ¬ Duplicate g file s called) where
     never_both : (rule : Rule) (terminal : Terminal) → Contains g.rules rule → Contains g.terminals terminal → rule.name ≡ terminal.name → ⊥
-    never_both rule terminal has_rule has_terminal same = by (order one other)
+    never_both rule terminal has_rule has_terminal same = by (order (declared_rule rule) (declared_terminal terminal))
       where
-        one : Declaration
-        one = declared_rule rule
+        rule_again : ¬ StandsBefore (declared_rule rule) (declared_terminal terminal) → ⊥
+        rule_again behind = no_duplicate _ _ _ (fault.declared (fault.rule_ (fault.across rule terminal has_rule has_terminal (sym same) behind)))
 
-        other : Declaration
-        other = declared_terminal terminal
-
-        in_rules : Contains (map declared_rule g.rules ++ map declared_terminal g.terminals) (declared_rule rule)
-        in_rules = Contains-append_left (map declared_rule g.rules) (map declared_terminal g.terminals) (declared_rule rule) (mapped declared_rule g.rules rule has_rule)
-
-        in_terminals : Contains (map declared_rule g.rules ++ map declared_terminal g.terminals) (declared_terminal terminal)
-        in_terminals = Contains-append_right (map declared_rule g.rules) (map declared_terminal g.terminals) (declared_terminal terminal)
-            (mapped declared_terminal g.terminals terminal has_terminal)
+        terminal_again : ¬ StandsBefore (declared_terminal terminal) (declared_rule rule) → ⊥
+        terminal_again behind = no_duplicate _ _ _ (fault.declared (fault.terminal_ (fault.across terminal rule has_terminal has_rule same behind)))
 
         by : StandsBefore (declared_rule rule) (declared_terminal terminal)
             ⊎ (StandsBefore (declared_terminal terminal) (declared_rule rule) ⊎ IsSamePlace (declared_rule rule) (declared_terminal terminal)) → ⊥
-        by (inl before) = no_duplicate _ _ _ (fault.rule_ (declared_rule rule) (declared_terminal terminal) in_rules in_terminals same before)
-        by (inr (inl before)) = no_duplicate _ _ _ (fault.rule_ (declared_terminal terminal) (declared_rule rule) in_terminals in_rules (sym same) before)
-        by (inr (inr place)) = formed.apart rule terminal has_rule has_terminal place
+        by (inl before) = terminal_again (one_way (declared_rule rule) (declared_terminal terminal) before)
+        by (inr (inl before)) = rule_again (one_way (declared_terminal terminal) (declared_rule rule) before)
+        by (inr (inr place)) = rule_again (never_at_one_place (declared_rule rule) (declared_terminal terminal) place)
 
     is_named : (called : List ℕ) → ¬ IsNoRule g called → IsNamed called
     is_named called declared = by (first_or_none (λ (rule : Rule). rule.name) called g.rules) (first_or_none (λ (terminal : Terminal). terminal.name) called g.terminals)
@@ -206,11 +204,11 @@ module _ (g : Grammar) where
   call_written rule called there (reached.assigns p op v s has (reached.crosses_by_name wanted t within is)) = name_written wanted called is
 
   pub known_call : ((file : ℕ) (s : Span) (called : List ℕ) → ¬ Duplicate g file s called) → ((file : ℕ) (s : Span) (called : List ℕ) → ¬ UnknownRule g file s called) →
-      ((file : ℕ) (s : Span) (called : List ℕ) → ¬ BadCall g file s called) → IsWellFormed g → (r : ℕ) (rule : Rule) (called : List ℕ) → IsReachedRule g r rule →
+      ((file : ℕ) (s : Span) (called : List ℕ) → ¬ BadCall g file s called) → (r : ℕ) (rule : Rule) (called : List ℕ) → IsReachedRule g r rule →
       RuleCalls g rule called → IsKnownCall g called
-  known_call no_duplicate no_unknown no_bad formed r rule called (from, at) does =
+  known_call no_duplicate no_unknown no_bad r rule called (from, at) does =
       let w = call_written rule called (among g.rules r rule at) does in
-      by w (is_named no_duplicate formed called (λ none. no_unknown w.writer.file w.place called (fault.in_rule w.writer w.among_rules w.writes none)))
+      by w (is_named no_duplicate called (λ none. no_unknown w.writer.file w.place called (fault.in_rule w.writer w.among_rules w.writes none)))
     where
       by : IsWritten called → IsNamed called → IsKnownCall g called
       by w (inl found) = inr found
@@ -222,11 +220,11 @@ module _ (g : Grammar) where
 
 -- ---- a grammar without faults lacks nothing
 
-module _ (g : Grammar) (no_type_fault : (f : GrammarFault) → ¬ IsTypeFault g f) (no_check_fault : (f : GrammarFault) → ¬ IsCheckFault g f) (formed : IsWellFormed g) where
+module _ (g : Grammar) (no_type_fault : (f : GrammarFault) → ¬ IsTypeFault g f) (no_check_fault : (f : GrammarFault) → ¬ IsCheckFault g f) where
   pub calls_known : (r : ℕ) (rule : Rule) (called : List ℕ) → IsReachedRule g r rule → RuleCalls g rule called → IsKnownCall g called
   calls_known =
       known_call g (λ file s called is. no_type_fault (list.fault 4 file s called) (list.duplicate is)) (λ file s called is. no_type_fault (list.fault 5 file s called) (list.unknown_rule is))
-      (λ file s called is. no_check_fault (list.fault 21 file s called) (list.bad_call is)) formed
+      (λ file s called is. no_check_fault (list.fault 21 file s called) (list.bad_call is))
 
   module _ (told : ReadingIsTold g) where
     body_ends : (r : ℕ) (rule : Rule) → IsReachedRule g r rule → (n : ℕ) × MayRead g rule.body n

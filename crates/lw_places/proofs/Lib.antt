@@ -12,4 +12,5 @@ pub mod OneRebound
 pub mod OneRename
 pub mod Written
 mod OneList
+mod HeldText
 pub mod OneWord

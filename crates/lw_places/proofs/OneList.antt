@@ -22,7 +22,7 @@ use Rattle.lw_tokens.specs.Lexicon.{IsLexicon, Lexicon}
 use Rattle.lw_tokens.proofs.OnePattern.{one_lexicon}
 use Rattle.lw_tree.specs.declared.node.Reference.{Reference}
 use Rattle.lw_tree.specs.Parts.{Parts, SameTables}
-use Rattle.lw_places.specs.Offers.{AreOffers, IsOffer, IsOffered, LeadsSomewhere, Offer, OfferPrecedes, by_kind, by_label}
+use Rattle.lw_places.specs.Offers.{AreOffers, IsKnownNext, IsOffer, IsOffered, LeadsSomewhere, Offer, OfferPrecedes, by_kind, by_label}
 use Rattle.lw_places.specs.Offers as offer
 use Rattle.lw_places.specs.Starting.{IsFindable, ReferenceNext}
 use Rattle.lw_places.specs.Starting as start
@@ -77,16 +77,21 @@ fits_over all below r place (tree, is, has, (type, named, under)) =
     let (other, there, same) = alike_in (all place.0) is in
     (other, there, subst (λ (xs : List ℕ). Contains xs place.1) (same_exports same) has, (type, same_named same named, under))
 
-target_too : (g : Grammar) {trees others : Trees} (address : List ℕ) (tree : Parts) (r : Reference) → HaveSameTables trees others →
+-- the trees of all other documents have the same tables in both
+abbrev pub HaveSameOthers : List ℕ → Trees → Trees → Type 0
+HaveSameOthers address trees others = (tree : Parts) → HaveSameTables (having_tree address tree trees) (having_tree address tree others)
+
+target_too : (g : Grammar) {trees others : Trees} (address : List ℕ) (tree : Parts) (r : Reference) → HaveSameOthers address trees others →
     HasTarget (IsNumberBelow g) trees address tree r → HasTarget (IsNumberBelow g) others address tree r
 target_too g address tree r all (target, leads) =
-    let alike = having_alike address tree all in (
+    let alike = all tree in (
       target,
       link_over (IsNumberBelow g) _ _ address tree tree r (λ n own. own) (fits_over alike (IsNumberBelow g) r)
           (fits_over (λ a. alike_back (alike a)) (IsNumberBelow g) r) (Some target) leads,
     )
 
-module _ (g : Grammar) (of : Kinds) (lexicon : Lexicon) {trees others : Trees} (address front rest : List ℕ) (tokens : List Token) (all : HaveSameTables trees others) where
+module _ (g : Grammar) (of : Kinds) (lexicon : Lexicon) {trees others : Trees} (address front rest : List ℕ) (tokens : List Token)
+    (all : HaveSameOthers address trees others) where
   findable_too : (next : ReferenceNext) (name : List ℕ) → IsFindable g of lexicon trees address front rest tokens next name →
       IsFindable g of lexicon others address front rest tokens next name
   findable_too next name (start.in_front {tree} {r} is target) = start.in_front is (target_too g address tree (renamed_to name r) all target)
@@ -97,16 +102,22 @@ module _ (g : Grammar) (of : Kinds) (lexicon : Lexicon) {trees others : Trees} (
   leads_too next name (offer.in_whole {tree} {r} has target) = offer.in_whole has (target_too g address tree r all target)
   leads_too next name (offer.in_front {tree} {r} none is target) = offer.in_front none is (target_too g address tree (renamed_to name r) all target)
 
-  offered_too : (word : List ℕ) (x : Offer) → IsOffered g of lexicon trees address front rest tokens word x →
+  known_too : (added : List Token) (name : List ℕ) → IsKnownNext g of lexicon trees address front rest tokens added name →
+      IsKnownNext g of lexicon others address front rest tokens added name
+  known_too added name (offer.meant is) = offer.meant (record { cut = is.cut; value = is.value })
+  known_too added name (offer.found is) =
+      offer.found (record { next = is.next; comes = is.comes; findable = findable_too is.next name is.findable })
+
+  pub offered_too : (word : List ℕ) (x : Offer) → IsOffered g of lexicon trees address front rest tokens word x →
       IsOffered g of lexicon others address front rest tokens word x
   offered_too word x (offer.keyword begins is) = offer.keyword begins is
   offered_too word x (offer.name {n} begins is) =
       offer.name begins (record {
-        found = record { next = is.found.next; comes = is.found.comes; findable = findable_too is.found.next n is.found.findable };
         next = is.next;
         comes = is.comes;
         read = is.read;
         leads = leads_too is.next n is.leads;
+        known = known_too is.read.added n is.known;
       })
 
 -- ---- one list
@@ -124,7 +135,7 @@ module _ (g : Grammar) (one_way : IsReadOneWay g) (texts : Texts) (address text 
         typed = is.typed;
         tokens = is.tokens;
         cut = is.cut;
-        offered = offered_too g _ _ address is.front is.rest is.tokens all is.word x is.offered;
+        offered = offered_too g _ _ address is.front is.rest is.tokens (λ tree. having_alike address tree all) is.word x is.offered;
       })
 
   held_too : (offers others : List Offer) → AreOffers g texts address text offset offers → AreOffers g texts address text offset others → (x : Offer) →

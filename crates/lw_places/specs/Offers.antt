@@ -16,7 +16,7 @@ use Rattle.lw_link_rules.specs.Links.{AreTreesOfTexts, IsNumberBelow, Texts}
 use Rattle.lw_scoping.specs.Links.{Trees}
 use Rattle.lw_grammar.specs.Marks.{Mark}
 use Rattle.lw_grammar.specs.Sentences.{IsSentence, Starts}
-use Rattle.lw_tokens.specs.Cut.{IsCut, kinds, visible}
+use Rattle.lw_tokens.specs.Cut.{IsCut, IsCutTo, kinds, visible}
 use Rattle.lw_tokens.specs.Lexicon.{IsLexicon, Lexicon}
 use Rattle.lw_tree.specs.declared.node.Reference.{Reference}
 use Rattle.lw_tree.specs.Parts.{Parts}
@@ -88,13 +88,23 @@ module _ (g : Grammar) (of : Kinds) (lexicon : Lexicon) (trees : Trees) (address
     pub comes : ComesNext g of tokens next
     pub findable : IsFindable g of lexicon trees address front rest tokens next name
 
+  -- the text with the name in it has these tokens of the name, and where it reads just these bytes as a reference, the value of that is the name
+  pub record IsMeantThere (added : List Token) (name : List ℕ) : Type 0 where
+    pub cut : IsCutTo lexicon (front ++ name ++ rest) (length (front ++ name)) (tokens ++ added)
+    pub value : (tree : Parts) (r : Reference) → HasReference name tree r → r.name ≡ name
+
+  -- The text with the name in it means the name by these bytes. Where it means something else by them, the name is offered if it is found without them.
+  pub data IsKnownNext (added : List Token) (name : List ℕ) : Type 0 where
+    meant : IsMeantThere added name → IsKnownNext added name
+    found : IsFoundNext name → IsKnownNext added name
+
   -- the name is read as a reference that comes next, and leads somewhere
   pub record IsNameNext (name : List ℕ) : Type 0 where
-    pub found : IsFoundNext name
     pub next : ReferenceNext
     pub comes : ComesNext g of tokens next
     pub read : ReadsAsReference g of lexicon front tokens next name
     pub leads : LeadsSomewhere next name
+    pub known : IsKnownNext read.added name
 
   -- what is offered in place of the word
   pub data IsOffered (word : List ℕ) : Offer → Type 0 where

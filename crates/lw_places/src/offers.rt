@@ -9,7 +9,8 @@
 //! There is no code here. Each function has an empty body, and its contract is a law that a reader would expect. By a
 //! grammar by which a text is read in one way, there is one list of offers at most ([`one_list`]). Of the names by
 //! which a reference leads somewhere there is one list at most in any case. One word is being typed at an offset
-//! ([`one_word`]), and what is offered goes on with it ([`words_go_on`]).
+//! ([`one_word`]), and what is offered goes on with it ([`words_go_on`]). It does not depend on what is held under the
+//! text's own address ([`the_text_that_is_held_is_not_looked_at`]).
 mod laws;
 
-pub use laws::{one_list, one_word, words_go_on};
+pub use laws::{one_list, one_word, the_text_that_is_held_is_not_looked_at, words_go_on};

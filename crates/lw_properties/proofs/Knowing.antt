@@ -19,8 +19,8 @@ use Rattle.lw_grammar.proofs.Every.{first_here, first_later}
 use Rattle.lw_faults.specs.Attributes.{HasAttribute, HasNoAttribute}
 use Rattle.lw_faults.specs.Attributes as above
 use Rattle.lw_faults.proofs.LineageLemmas.{one_lineage}
-use Rattle.lw_properties.specs.Known.{known_attribute, AreAttributesOf}
-use Rattle.lw_properties.specs.Search.{attributes_of, Follows, is_named, AreFirsts}
+use Rattle.lw_properties.specs.Known.{KnownAttributes, known_attribute, AreAttributesOf}
+use Rattle.lw_properties.specs.Search.{attributes_of, is_named, AreFirsts, ServesFor}
 
 -- ---- the first of each name
 
@@ -107,14 +107,31 @@ none_found p (y ∷ xs) is i x there same = by (bytes_eq y.name p) refl (none_fo
     by false e later zero there = bytes_apart y.name p e (ap (λ (a : Attribute). a.name) (same_Some y x there) ∙ same)
     by false e later (suc i) there = later (sym (ap (λ t. cond t (Some y) (find (is_named p) xs)) e) ∙ is) i x there same
 
-module _ (g : Grammar) where
-  -- these entries are the attributes of a type
-  pub record ServesFor (type_name : List ℕ) (firsts : List (List ℕ × Bor Attribute)) : Type 0 where
-    pub order : List Interface
-    pub follows : Follows g type_name order
-    pub are : AreFirsts (attributes_of order) firsts
+-- ---- entries that are held in another form
 
-  serves : (type_name p : List ℕ) (firsts : List (List ℕ × Bor Attribute)) → ServesFor type_name firsts →
+module _ {V W : Type 0} (firsts_of : V → W) where
+  lookup_mapped : (test : List ℕ → Bool) (entries : List (List ℕ × V)) → lookup test (map (λ e. (e.0, firsts_of e.1)) entries) ≡ option_map firsts_of (lookup test entries)
+  lookup_mapped test [] = refl
+  lookup_mapped test (e ∷ entries) = by (test e.0) (lookup_mapped test entries)
+    where
+      by : (t : Bool) → lookup test (map (λ e. (e.0, firsts_of e.1)) entries) ≡ option_map firsts_of (lookup test entries) →
+          cond t (Some (firsts_of e.1)) (lookup test (map (λ e. (e.0, firsts_of e.1)) entries)) ≡ option_map firsts_of (cond t (Some e.1) (lookup test entries))
+      by true later = refl
+      by false later = later
+
+  pub put_mapped : (entries then : List (List ℕ × V)) (v : V) (key : List ℕ) →
+      ((q : List ℕ) → lookup (bytes_eq q) then ≡ cond (bytes_eq key q) (Some v) (lookup (bytes_eq q) entries)) → (q : List ℕ) →
+      lookup (bytes_eq q) (map (λ e. (e.0, firsts_of e.1)) then) ≡ cond (bytes_eq key q) (Some (firsts_of v)) (lookup (bytes_eq q) (map (λ e. (e.0, firsts_of e.1)) entries))
+  put_mapped entries then v key updates q =
+      lookup_mapped (bytes_eq q) then ∙ ap (option_map firsts_of) (updates q) ∙ by (bytes_eq key q)
+      ∙ ap (λ o. cond (bytes_eq key q) (Some (firsts_of v)) o) (sym (lookup_mapped (bytes_eq q) entries))
+    where
+      by : (t : Bool) → option_map firsts_of (cond t (Some v) (lookup (bytes_eq q) entries)) ≡ cond t (Some (firsts_of v)) (option_map firsts_of (lookup (bytes_eq q) entries))
+      by true = refl
+      by false = refl
+
+module _ (g : Grammar) where
+  serves : (type_name p : List ℕ) (firsts : List (List ℕ × Bor Attribute)) → ServesFor g type_name firsts →
       MatchOption (lookup (bytes_eq p) firsts) (HasNoAttribute g type_name p) (λ a. HasAttribute g type_name p a.now)
   serves type_name p firsts for = by (lookup (bytes_eq p) firsts) refl
     where
@@ -137,62 +154,56 @@ module _ (g : Grammar) where
       subst (λ ls. IsFirst (λ (a : Attribute). a.name ≡ p) (attributes_of ls) has.at attribute) (one_lineage g has.all (above.no_interface none)) has.first in
       none-some attribute first.there
 
-  module _ {V : Type 0} (firsts_of : V → List (List ℕ × Bor Attribute)) where
-    -- the attributes of these interfaces' types, and of no other, are known
-    abbrev pub KnowsOf : List Interface → List (List ℕ × V) → Type 0
-    KnowsOf xs entries =
-        (type_name : List ℕ) → MatchOption (lookup (bytes_eq type_name) entries) ((x : Interface) → Contains xs x → x.name ≡ type_name → ⊥) (λ v. ServesFor type_name (firsts_of v))
+  abbrev Firsts : Type 0
+  Firsts = List (List ℕ × Bor Attribute)
 
-    pub knows_more : (xs : List Interface) (entries then : List (List ℕ × V)) (x : Interface) (v : V) (key : List ℕ) → KnowsOf xs entries →
-        key ≡ x.name → ServesFor x.name (firsts_of v) → ((q : List ℕ) → lookup (bytes_eq q) then ≡ cond (bytes_eq key q) (Some v) (lookup (bytes_eq q) entries)) →
-        KnowsOf (xs ++ x ∷ []) then
-    knows_more xs entries then x v key knows named for updates type_name =
-        subst Knows (sym (updates type_name ∙ ap (λ k. cond (bytes_eq k type_name) (Some v) (lookup (bytes_eq type_name) entries)) named)) (by (bytes_eq x.name type_name) refl)
-      where
-        Knows : Option V → Type 0
-        Knows o = MatchOption o ((y : Interface) → Contains (xs ++ x ∷ []) y → y.name ≡ type_name → ⊥) (λ v. ServesFor type_name (firsts_of v))
+  -- the attributes of these interfaces' types, and of no other, are known
+  abbrev pub KnowsOf : List Interface → KnownAttributes → Type 0
+  KnowsOf xs entries =
+      (type_name : List ℕ) → MatchOption (lookup (bytes_eq type_name) entries) ((x : Interface) → Contains xs x → x.name ≡ type_name → ⊥) (λ firsts. ServesFor g type_name firsts)
 
-        old : (o : Option V) → bytes_eq x.name type_name ≡ false → MatchOption o ((y : Interface) → Contains xs y → y.name ≡ type_name → ⊥) (λ v. ServesFor type_name (firsts_of v)) → Knows o
-        old None e none = λ y has same. elim (Contains-push_cases xs x y has) [
-          | inl was ↦ none y was same
-          | inr this ↦ bytes_apart x.name type_name e (ap (λ (z : Interface). z.name) this ∙ same)
-        ]
-        old (Some w) e is = is
+  pub knows_more : (xs : List Interface) (entries then : KnownAttributes) (x : Interface) (v : Firsts) → KnowsOf xs entries → ServesFor g x.name v →
+      ((q : List ℕ) → lookup (bytes_eq q) then ≡ cond (bytes_eq x.name q) (Some v) (lookup (bytes_eq q) entries)) → KnowsOf (xs ++ x ∷ []) then
+  knows_more xs entries then x v knows for updates type_name = subst Knows (sym (updates type_name)) (by (bytes_eq x.name type_name) refl)
+    where
+      Knows : Option Firsts → Type 0
+      Knows o = MatchOption o ((y : Interface) → Contains (xs ++ x ∷ []) y → y.name ≡ type_name → ⊥) (λ firsts. ServesFor g type_name firsts)
 
-        by : (t : Bool) → bytes_eq x.name type_name ≡ t → Knows (cond t (Some v) (lookup (bytes_eq type_name) entries))
-        by true e = subst (λ n. ServesFor n (firsts_of v)) ((bytes_eq-Decides x.name type_name).0 e) for
-        by false e = old (lookup (bytes_eq type_name) entries) e (knows type_name)
+      old : (o : Option Firsts) → bytes_eq x.name type_name ≡ false → MatchOption o ((y : Interface) → Contains xs y → y.name ≡ type_name → ⊥) (λ firsts. ServesFor g type_name firsts) → Knows o
+      old None e none = λ y has same. elim (Contains-push_cases xs x y has) [
+        | inl was ↦ none y was same
+        | inr this ↦ bytes_apart x.name type_name e (ap (λ (z : Interface). z.name) this ∙ same)
+      ]
+      old (Some w) e is = is
 
-    lookup_mapped : (test : List ℕ → Bool) (entries : List (List ℕ × V)) → lookup test (map (λ e. (e.0, firsts_of e.1)) entries) ≡ option_map firsts_of (lookup test entries)
-    lookup_mapped test [] = refl
-    lookup_mapped test (e ∷ entries) = by (test e.0) (lookup_mapped test entries)
-      where
-        by : (t : Bool) → lookup test (map (λ e. (e.0, firsts_of e.1)) entries) ≡ option_map firsts_of (lookup test entries) →
-            cond t (Some (firsts_of e.1)) (lookup test (map (λ e. (e.0, firsts_of e.1)) entries)) ≡ option_map firsts_of (cond t (Some e.1) (lookup test entries))
-        by true later = refl
-        by false later = later
+      by : (t : Bool) → bytes_eq x.name type_name ≡ t → Knows (cond t (Some v) (lookup (bytes_eq type_name) entries))
+      by true e = subst (λ n. ServesFor g n v) ((bytes_eq-Decides x.name type_name).0 e) for
+      by false e = old (lookup (bytes_eq type_name) entries) e (knows type_name)
 
+  pub knows_all : (entries : KnownAttributes) → KnowsOf g.interfaces entries → AreAttributesOf g entries
+  knows_all entries knows type_name p = by (lookup (bytes_eq type_name) entries) refl (knows type_name)
+    where
+      Right : Option (Bor Attribute) → Type 0
+      Right o = MatchOption o (HasNoAttribute g type_name p) (λ a. HasAttribute g type_name p a.now)
+
+      found : Option Firsts → Option (Bor Attribute)
+      found o = option_and_then (λ of_type. lookup (bytes_eq p) of_type) o
+
+      by : (o : Option Firsts) → lookup (bytes_eq type_name) entries ≡ o →
+          MatchOption o ((x : Interface) → Contains g.interfaces x → x.name ≡ type_name → ⊥) (λ firsts. ServesFor g type_name firsts) → Right (known_attribute entries type_name p)
+      by None e none =
+          subst Right (sym (ap found e))
+          (no_lineage type_name p (λ i own is. none own (i, slice_get_within g.interfaces i own is.first.there, get_or_from_slice_get g.interfaces i own own is.first.there) is.first.does))
+      by (Some v) e for = subst Right (sym (ap found e)) (serves type_name p v for)
+
+  -- ---- the same, where the entries are held in another form
+  module _ {V : Type 0} (firsts_of : V → Firsts) where
     pub known_none : (entries : List (List ℕ × V)) (type_name p : List ℕ) → None ≡ lookup (bytes_eq type_name) entries →
         known_attribute (map (λ e. (e.0, firsts_of e.1)) entries) type_name p ≡ None
     known_none entries type_name p is =
-        ap (option_and_then (λ of_type. lookup (bytes_eq p) of_type)) (lookup_mapped (bytes_eq type_name) entries ∙ ap (option_map firsts_of) (sym is))
+        ap (option_and_then (λ of_type. lookup (bytes_eq p) of_type)) (lookup_mapped firsts_of (bytes_eq type_name) entries ∙ ap (option_map firsts_of) (sym is))
 
     pub known_some : (entries : List (List ℕ × V)) (type_name p : List ℕ) (v : V) → Some v ≡ lookup (bytes_eq type_name) entries →
         known_attribute (map (λ e. (e.0, firsts_of e.1)) entries) type_name p ≡ lookup (bytes_eq p) (firsts_of v)
     known_some entries type_name p v is =
-        ap (option_and_then (λ of_type. lookup (bytes_eq p) of_type)) (lookup_mapped (bytes_eq type_name) entries ∙ ap (option_map firsts_of) (sym is))
-
-    pub knows_all : (entries : List (List ℕ × V)) → KnowsOf g.interfaces entries → AreAttributesOf g (map (λ e. (e.0, firsts_of e.1)) entries)
-    knows_all entries knows type_name p =
-        by (lookup (bytes_eq type_name) entries) refl (knows type_name)
-      where
-        Right : Option (Bor Attribute) → Type 0
-        Right o = MatchOption o (HasNoAttribute g type_name p) (λ a. HasAttribute g type_name p a.now)
-
-        by : (o : Option V) → lookup (bytes_eq type_name) entries ≡ o →
-            MatchOption o ((x : Interface) → Contains g.interfaces x → x.name ≡ type_name → ⊥) (λ v. ServesFor type_name (firsts_of v)) →
-            Right (known_attribute (map (λ e. (e.0, firsts_of e.1)) entries) type_name p)
-        by None e none =
-            subst Right (sym (known_none entries type_name p (sym e)))
-            (no_lineage type_name p (λ i own is. none own (i, slice_get_within g.interfaces i own is.first.there, get_or_from_slice_get g.interfaces i own own is.first.there) is.first.does))
-        by (Some v) e for = subst Right (sym (known_some entries type_name p v (sym e))) (serves type_name p (firsts_of v) for)
+        ap (option_and_then (λ of_type. lookup (bytes_eq p) of_type)) (lookup_mapped firsts_of (bytes_eq type_name) entries ∙ ap (option_map firsts_of) (sym is))

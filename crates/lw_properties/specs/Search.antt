@@ -32,3 +32,9 @@ is_named p attribute = bytes_eq attribute.name p
 -- these entries have of each name the first attribute of the list
 abbrev pub AreFirsts : List Attribute → List (List ℕ × Bor Attribute) → Type 0
 AreFirsts attributes entries = (p : List ℕ) → option_map (λ a. a.now) (lookup (bytes_eq p) entries) ≡ find (is_named p) attributes
+
+-- these entries are the attributes of a type
+pub record ServesFor (g : Grammar) (type_name : List ℕ) (firsts : List (List ℕ × Bor Attribute)) : Type 0 where
+  pub order : List Interface
+  pub follows : Follows g type_name order
+  pub are : AreFirsts (attributes_of order) firsts

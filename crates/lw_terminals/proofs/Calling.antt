@@ -1,10 +1,9 @@
--- In a well-formed grammar without faults of names and calls, what a terminal calls is a terminal.
-use Rattle.std.proofs.Common.{◌≡◌, ◌≢◌, ℕ, zero, suc, ◌<◌, ◌⊎◌, inl, inr, List, [], ◌∷◌, Bool, true, false, get_or, slice_get, map, Contains, Some, refl, sym, ap, ◌∙◌, arith}
+-- In a grammar without faults of names and calls, what a terminal calls is a terminal.
+use Rattle.std.proofs.Common.{◌≡◌, ◌≢◌, ℕ, zero, suc, ◌<◌, ◌⊎◌, inl, inr, List, [], ◌∷◌, Bool, true, false, get_or, slice_get, Contains, Some, refl, sym, ap, ◌∙◌, arith}
 use Rattle.std.specs.Prelude.{bytes_eq, All}
 use Rattle.std.specs.Bool.{Decides}
-use Rattle.std.proofs.lemmas.Bool.{cases_lt}
 use Rattle.std.proofs.lemmas.Slice.Eq.{bytes_eq-Decides}
-use Rattle.std.proofs.lemmas.List.Elements.{Contains-append_left, Contains-append_right, Contains-get_or}
+use Rattle.std.proofs.lemmas.List.Elements.{Contains-get_or}
 use Rattle.std.proofs.lemmas.Option.{same_Some, slice_get_within, get_or_from_slice_get}
 use Rattle.lw_base.specs.declared.token.Span.{Span}
 use Rattle.lw_grammar.specs.declared.fault.GrammarFault.{GrammarFault}
@@ -16,9 +15,7 @@ use Rattle.lw_faults.specs.BadCalls as calls
 use Rattle.lw_faults.specs.Faults as faults
 use Rattle.lw_faults.specs.Faults.{IsTypeFault, IsCheckFault, fault}
 use Rattle.lw_faults.specs.Names as names
-use Rattle.lw_grammar.specs.Written.{rule_space}
 use Rattle.lw_grammar.specs.Written.{term_calls}
-use Rattle.lw_grammar.specs.WellFormed.{IsWellFormed}
 
 -- ---- the first item of a name, if there is one
 module _ {X : Type 0} (name_of : X → List ℕ) (name : List ℕ) where
@@ -63,31 +60,14 @@ place_of [] x (k, inside, is) = absurd (omega arith)
 place_of (y ∷ xs) x (zero, inside, is) = (0, ap Some is)
 place_of (y ∷ xs) x (suc k, inside, is) = let more = place_of xs x (k, omega arith, is) in (suc more.0, more.1)
 
-mapped : {X Y : Type 0} (f : X → Y) (xs : List X) (x : X) → Contains xs x → Contains (map f xs) (f x)
-mapped f [] x (k, inside, is) = absurd (omega arith)
-mapped f (y ∷ xs) x (zero, inside, is) = (0, omega arith, ap f is)
-mapped f (y ∷ xs) x (suc k, inside, is) = let more = mapped f xs x (k, omega arith, is) in (suc more.0, omega (arith, more.1), more.2)
+-- ---- of two declarations at most one stands before the other
+one_way : (one other : Declaration) → StandsBefore one other → ¬ StandsBefore other one
+one_way one other (inl low) (inl high) = omega (arith, low, high)
+one_way one other (inl low) (inr (same, start)) = omega (arith, low, same)
+one_way one other (inr (same, start)) (inl high) = omega (arith, same, high)
+one_way one other (inr (same, start)) (inr (also, end)) = omega (arith, start, end)
 
--- ---- which of two declarations stands before the other
-abbrev StandTogether : Declaration → Declaration → Type 0
-StandTogether one other = (one.file ≡ other.file) × (one.span.start ≡ other.span.start)
-
-together_if_neither : (one other : Declaration) → ¬ StandsBefore one other → ¬ StandsBefore other one → StandTogether one other
-together_if_neither one other not_one not_other = (same_file, same_start)
-  where
-    same_file : one.file ≡ other.file
-    same_file = elim (cases_lt one.file other.file) [
-      | inl before ↦ absurd (not_one (inl before))
-      | inr past ↦ elim (cases_lt other.file one.file) [ inl before ↦ absurd (not_other (inl before)) | inr also ↦ omega arith ]
-    ]
-
-    same_start : one.span.start ≡ other.span.start
-    same_start = elim (cases_lt one.span.start other.span.start) [
-      | inl before ↦ absurd (not_one (inr (same_file, before)))
-      | inr past ↦ elim (cases_lt other.span.start one.span.start) [ inl before ↦ absurd (not_other (inr (sym same_file, before))) | inr also ↦ omega arith ]
-    ]
-
-module _ (g : Grammar) (well_formed : IsWellFormed g) (no_type_fault : (f : GrammarFault) → ¬ IsTypeFault g f)
+module _ (g : Grammar) (no_type_fault : (f : GrammarFault) → ¬ IsTypeFault g f)
     (no_check_fault : (f : GrammarFault) → ¬ IsCheckFault g f) where
   abbrev Called : List ℕ → Type 0
   Called name = (u : ℕ) × (called : Terminal) × IsTerminal g name u called
@@ -124,7 +104,7 @@ module _ (g : Grammar) (well_formed : IsWellFormed g) (no_type_fault : (f : Gram
     both : (r : ℕ) (rule : Rule) (u : ℕ) (x : Terminal) → IsFirst (λ (y : Rule). y.name ≡ name) g.rules r rule →
         IsFirst (λ (y : Terminal). y.name ≡ name) g.terminals u x → ⊥
     both r rule u x first also =
-        well_formed.apart rule x rule_in x_in (together_if_neither (declared_rule rule) (declared_terminal x) rule_first x_first)
+        rule_behind (λ before. x_behind (λ after. one_way (declared_rule rule) (declared_terminal x) before after))
       where
         rule_in : Contains g.rules rule
         rule_in = at_place g.rules r rule first.there
@@ -132,20 +112,14 @@ module _ (g : Grammar) (well_formed : IsWellFormed g) (no_type_fault : (f : Gram
         x_in : Contains g.terminals x
         x_in = at_place g.terminals u x also.there
 
-        rule_declared : Contains (rule_space g) (declared_rule rule)
-        rule_declared = Contains-append_left (map declared_rule g.rules) (map declared_terminal g.terminals) (declared_rule rule) (mapped declared_rule g.rules rule rule_in)
-
-        x_declared : Contains (rule_space g) (declared_terminal x)
-        x_declared = Contains-append_right (map declared_rule g.rules) (map declared_terminal g.terminals) (declared_terminal x) (mapped declared_terminal g.terminals x x_in)
-
         same : rule.name ≡ x.name
         same = first.does ∙ sym also.does
 
-        rule_first : ¬ StandsBefore (declared_rule rule) (declared_terminal x)
-        rule_first before = no_type_fault _ (faults.duplicate (names.rule_ (declared_rule rule) (declared_terminal x) rule_declared x_declared same before))
+        rule_behind : ¬ (¬ StandsBefore (declared_rule rule) (declared_terminal x))
+        rule_behind behind = no_type_fault _ (faults.duplicate (names.declared (names.rule_ (names.across rule x rule_in x_in (sym same) behind))))
 
-        x_first : ¬ StandsBefore (declared_terminal x) (declared_rule rule)
-        x_first before = no_type_fault _ (faults.duplicate (names.rule_ (declared_terminal x) (declared_rule rule) x_declared rule_declared (sym same) before))
+        x_behind : ¬ (¬ StandsBefore (declared_terminal x) (declared_rule rule))
+        x_behind behind = no_type_fault _ (faults.duplicate (names.declared (names.terminal_ (names.across x rule x_in rule_in same behind))))
 
     pub calls_terminal : Called name
     calls_terminal = by (first_or_none (λ (rule : Rule). rule.name) name g.rules) (first_or_none (λ (x : Terminal). x.name) name g.terminals)

@@ -60,7 +60,7 @@ module _ (g : Grammar) (well_formed : IsWellFormed g) (no_type_fault : (f : Gram
     pattern_from known =
         terminal_has g IsKnown (λ name u called is so. so called is.first.there) x
         (ready_body g IsKnown x.body
-        (λ name s has. let means = calls_terminal g well_formed no_type_fault no_check_fault x name s there has in (means.0, means.1, means.2, known name s means.0 means.1 has means.2))
+        (λ name s has. let means = calls_terminal g no_type_fault no_check_fault x name s there has in (means.0, means.1, means.2, known name s means.0 means.1 has means.2))
         (λ from to s has. ranges_have_ends g no_check_fault x there from to s has) (well_formed.no_empty_choice x there))
 
   -- the flags are set of those that led to t, and there are so many others

@@ -18,14 +18,12 @@ use Rattle.lw_grammar.specs.declared.declared_types.Member.{Member}
 use Rattle.lw_grammar.specs.declared.declared_types.Member.TheVariants as member
 use Rattle.lw_grammar.specs.Leaves as leaf
 use Rattle.lw_grammar.specs.Leaves.{Leaf, ValueLeaf, leaves, value_leaves}
-use Rattle.lw_grammar.specs.Named.{Declaration, declared_rule, declared_terminal, declared_interface, declared_union}
 use Rattle.lw_base.proofs.Lists.{there}
-use Rattle.lw_grammar.specs.Written.{rule_space, type_space}
 use Rattle.lw_grammar.specs.Written.{WritesCall, term_calls, MemberNames, NamesType, InfersHere, IsInferredType}
 use Rattle.lw_grammar.specs.Written as written
 use Rattle.lw_faults.specs.Finding.{Finds, OfSome}
 use Rattle.lw_types.specs.declared.naming.mentions.Role.{Role}
-use Rattle.lw_types.specs.declared.naming.mentions.Role.TheVariants.{DeclaresRule, DeclaresType, InfersType, CallsRule, NamesType as NamesAType, WantsNameRule}
+use Rattle.lw_types.specs.declared.naming.mentions.Role.TheVariants.{InfersType, CallsRule, NamesType as NamesAType, WantsNameRule}
 use Rattle.lw_types.specs.NameUses.{NameUse, name_use, value_uses, action_role, leaf_uses, unless_fragment, result_uses, rule_uses, called_uses, terminal_uses, named_uses, member_uses, attribute_uses, interface_uses, union_uses, uses}
 use Rattle.lw_types.specs.Wrong.{InfersName}
 use Rattle.lw_types.proofs.Membership.{in_nothing, here, in_cons, in_one, map_has, in_map, in_flat_map, flat_map_has}
@@ -64,8 +62,6 @@ module _ (g : Grammar) where
 
   -- what the definitions say of a name that does this here
   abbrev pub IsSaid : Role → ℕ → Span → List ℕ → Type 0
-  IsSaid DeclaresRule file s name = Contains (rule_space g) (record { name = name; file = file; span = s })
-  IsSaid DeclaresType file s name = Contains (type_space g) (record { name = name; file = file; span = s })
   IsSaid InfersType file s name = InfersHere g file s name
   IsSaid CallsRule file s name = CallsHere file s name
   IsSaid NamesAType file s name = NamesType g file s name
@@ -121,26 +117,15 @@ module _ (g : Grammar) where
     rule_said s stands =
         let results = result_uses rule rule.result in
         let all = flat_map (leaf_uses rule.file) (leaves rule.body) in
-        let declared : Contains (rule_space g) (declared_rule rule) =
-        Contains-append_left (map declared_rule g.rules) (map declared_terminal g.terminals) (declared_rule rule) (map_has declared_rule g.rules rule has) in
-        elim (in_cons (name_use DeclaresRule rule.file rule.name rule.span) (results ++ all) stands) [
-          | inl is ↦ subst Said is declared
-          | inr later ↦ elim (Contains-append_cases results all s later) [
-            | inl is ↦ result_said rule.result refl s is
-            | inr is ↦ let one = in_flat_map (leaf_uses rule.file) (leaves rule.body) s is in leaf_said one.0 one.1 s one.2
-          ]
+        elim (Contains-append_cases results all s stands) [
+          | inl is ↦ result_said rule.result refl s is
+          | inr is ↦ let one = in_flat_map (leaf_uses rule.file) (leaves rule.body) s is in leaf_said one.0 one.1 s one.2
         ]
 
   terminal_said : (terminal : Terminal) → Contains g.terminals terminal → (s : NameUse) → Contains (terminal_uses terminal) s → Said s
   terminal_said terminal has s stands =
-      let declared : Contains (rule_space g) (declared_terminal terminal) =
-      Contains-append_right (map declared_rule g.rules) (map declared_terminal g.terminals) (declared_terminal terminal)
-      (map_has declared_terminal g.terminals terminal has) in
-      elim (in_cons (name_use DeclaresRule terminal.file terminal.name terminal.span) (flat_map (called_uses terminal.file) (term_calls terminal.body)) stands) [
-        | inl is ↦ subst Said is declared
-        | inr later ↦ let call = in_flat_map (called_uses terminal.file) (term_calls terminal.body) s later in
-            subst Said (in_one (name_use CallsRule terminal.file call.0.0 call.0.1) call.2) (by_terminal terminal has call.1)
-      ]
+      let call = in_flat_map (called_uses terminal.file) (term_calls terminal.body) s stands in
+      subst Said (in_one (name_use CallsRule terminal.file call.0.0 call.0.1) call.2) (by_terminal terminal has call.1)
 
   module _ (interface : Interface) (has : Contains g.interfaces interface) where
     attribute_said : (attribute : Attribute) → Contains interface.attributes attribute → (s : NameUse) → Contains (attribute_uses interface.file attribute) s → Said s
@@ -153,29 +138,17 @@ module _ (g : Grammar) where
     interface_said s stands =
         let above = flat_map (named_uses interface.file) interface.above in
         let attributes = flat_map (attribute_uses interface.file) interface.attributes in
-        let declared : Contains (type_space g) (declared_interface interface) =
-        Contains-append_left (map declared_interface g.interfaces) (map declared_union g.unions) (declared_interface interface)
-        (map_has declared_interface g.interfaces interface has) in
-        elim (in_cons (name_use DeclaresType interface.file interface.name interface.span) (above ++ attributes) stands) [
-          | inl is ↦ subst Said is declared
-          | inr later ↦ elim (Contains-append_cases above attributes s later) [
-            | inl is ↦ let named = in_flat_map (named_uses interface.file) interface.above s is in
-                subst Said (in_one (name_use NamesAType interface.file named.0.0 named.0.1) named.2) (written.extending_type interface has named.1)
-            | inr is ↦ let one = in_flat_map (attribute_uses interface.file) interface.attributes s is in attribute_said one.0 one.1 s one.2
-          ]
+        elim (Contains-append_cases above attributes s stands) [
+          | inl is ↦ let named = in_flat_map (named_uses interface.file) interface.above s is in
+              subst Said (in_one (name_use NamesAType interface.file named.0.0 named.0.1) named.2) (written.extending_type interface has named.1)
+          | inr is ↦ let one = in_flat_map (attribute_uses interface.file) interface.attributes s is in attribute_said one.0 one.1 s one.2
         ]
 
   union_said : (union : UnionDef) → Contains g.unions union → (s : NameUse) → Contains (union_uses union) s → Said s
   union_said union has s stands =
-      let declared : Contains (type_space g) (declared_union union) =
-      Contains-append_right (map declared_interface g.interfaces) (map declared_union g.unions) (declared_union union)
-      (map_has declared_union g.unions union has) in
-      elim (in_cons (name_use DeclaresType union.file union.name union.span) (flat_map (member_uses union.file) union.members) stands) [
-        | inl is ↦ subst Said is declared
-        | inr later ↦ let m = in_flat_map (member_uses union.file) union.members s later in
-            let named = named_by union.file m.0 s m.2 in
-            subst Said named.3 (written.in_union union m.0 has m.1 named.2)
-      ]
+      let m = in_flat_map (member_uses union.file) union.members s stands in
+      let named = named_by union.file m.0 s m.2 in
+      subst Said named.3 (written.in_union union m.0 has m.1 named.2)
 
   abbrev of_rules : List NameUse
   of_rules = flat_map rule_uses g.rules
@@ -228,15 +201,13 @@ module _ (g : Grammar) where
     result_has s inside =
         let results = result_uses rule rule.result in
         let all = flat_map (leaf_uses rule.file) (leaves rule.body) in
-        rule_has rule has s (there (name_use DeclaresRule rule.file rule.name rule.span) (results ++ all) s (Contains-append_left results all s inside))
+        rule_has rule has s (Contains-append_left results all s inside)
 
     leaf_has : (l : Leaf) → Contains (leaves rule.body) l → (s : NameUse) → Contains (leaf_uses rule.file l) s → Contains (uses g) s
     leaf_has l at s inside =
         let results = result_uses rule rule.result in
         let all = flat_map (leaf_uses rule.file) (leaves rule.body) in
-        rule_has rule has s
-        (there (name_use DeclaresRule rule.file rule.name rule.span) (results ++ all) s
-        (Contains-append_right results all s (flat_map_has (leaf_uses rule.file) (leaves rule.body) l s at inside)))
+        rule_has rule has s (Contains-append_right results all s (flat_map_has (leaf_uses rule.file) (leaves rule.body) l s at inside))
 
     part_has : (p : List ℕ) (op : Op) (v : Value0) (t : Span) → Contains (leaves rule.body) (leaf.Assign p op v t) → (part : ValueLeaf) →
         Contains (value_leaves v) part → (s : NameUse) → Contains (value_uses rule.file part) s → Contains (uses g) s
@@ -280,8 +251,7 @@ module _ (g : Grammar) where
         let attributes = flat_map (attribute_uses interface.file) interface.attributes in
         let one = name_use NamesAType interface.file name s in
         interface_has interface has one
-        (there (name_use DeclaresType interface.file interface.name interface.span) (above ++ attributes) one
-        (Contains-append_left above attributes one (flat_map_has (named_uses interface.file) interface.above (name, s) one at (here one []))))
+        (Contains-append_left above attributes one (flat_map_has (named_uses interface.file) interface.above (name, s) one at (here one [])))
 
     attribute_has : (attribute : Attribute) (m : Member) (name : List ℕ) (s : Span) → Contains interface.attributes attribute → Contains attribute.members m →
         MemberNames m s name → Contains (uses g) (name_use NamesAType interface.file name s)
@@ -290,44 +260,15 @@ module _ (g : Grammar) where
         let attributes = flat_map (attribute_uses interface.file) interface.attributes in
         let one = name_use NamesAType interface.file name s in
         interface_has interface has one
-        (there (name_use DeclaresType interface.file interface.name interface.span) (above ++ attributes) one
         (Contains-append_right above attributes one
         (flat_map_has (attribute_uses interface.file) interface.attributes attribute one at
-        (flat_map_has (member_uses interface.file) attribute.members m one inside (names_it interface.file named)))))
+        (flat_map_has (member_uses interface.file) attribute.members m one inside (names_it interface.file named))))
 
   member_has : (union : UnionDef) → Contains g.unions union → (m : Member) (name : List ℕ) (s : Span) → Contains union.members m → MemberNames m s name →
       Contains (uses g) (name_use NamesAType union.file name s)
   member_has union has m name s inside named =
       let one = name_use NamesAType union.file name s in
-      union_has union has one
-      (there (name_use DeclaresType union.file union.name union.span) (flat_map (member_uses union.file) union.members) one
-      (flat_map_has (member_uses union.file) union.members m one inside (names_it union.file named)))
-
-  pub declared_stands : (d : Declaration) → Contains (rule_space g) d → Contains (uses g) (name_use DeclaresRule d.file d.name d.span)
-  declared_stands d is = by (Contains-append_cases (map declared_rule g.rules) (map declared_terminal g.terminals) d is)
-    where
-      by : Contains (map declared_rule g.rules) d ⊎ Contains (map declared_terminal g.terminals) d → Contains (uses g) (name_use DeclaresRule d.file d.name d.span)
-      by (inl one) =
-          let at = in_map declared_rule g.rules d one in
-          let P : Declaration → Type 0 = λ e. Contains (uses g) (name_use DeclaresRule e.file e.name e.span) in
-          subst P at.2 (rule_has at.0 at.1 (name_use DeclaresRule at.0.file at.0.name at.0.span) (here _ _))
-      by (inr one) =
-          let at = in_map declared_terminal g.terminals d one in
-          let P : Declaration → Type 0 = λ e. Contains (uses g) (name_use DeclaresRule e.file e.name e.span) in
-          subst P at.2 (terminal_has at.0 at.1 (name_use DeclaresRule at.0.file at.0.name at.0.span) (here _ _))
-
-  pub type_stands : (d : Declaration) → Contains (type_space g) d → Contains (uses g) (name_use DeclaresType d.file d.name d.span)
-  type_stands d is = by (Contains-append_cases (map declared_interface g.interfaces) (map declared_union g.unions) d is)
-    where
-      by : Contains (map declared_interface g.interfaces) d ⊎ Contains (map declared_union g.unions) d → Contains (uses g) (name_use DeclaresType d.file d.name d.span)
-      by (inl one) =
-          let at = in_map declared_interface g.interfaces d one in
-          let P : Declaration → Type 0 = λ e. Contains (uses g) (name_use DeclaresType e.file e.name e.span) in
-          subst P at.2 (interface_has at.0 at.1 (name_use DeclaresType at.0.file at.0.name at.0.span) (here _ _))
-      by (inr one) =
-          let at = in_map declared_union g.unions d one in
-          let P : Declaration → Type 0 = λ e. Contains (uses g) (name_use DeclaresType e.file e.name e.span) in
-          subst P at.2 (union_has at.0 at.1 (name_use DeclaresType at.0.file at.0.name at.0.span) (here _ _))
+      union_has union has one (flat_map_has (member_uses union.file) union.members m one inside (names_it union.file named))
 
   pub inferred_stands : {file : ℕ} {s : Span} {name : List ℕ} → InfersHere g file s name → Contains (uses g) (name_use InfersType file name s)
   inferred_stands (written.own rule has not_fragment is) = own_has rule has not_fragment is
@@ -338,9 +279,7 @@ module _ (g : Grammar) where
   called_stands (by_rule rule has writes) = call_has rule has writes
   called_stands (by_terminal {s} {name} terminal has at) =
       let one = name_use CallsRule terminal.file name s in
-      terminal_has terminal has one
-      (there (name_use DeclaresRule terminal.file terminal.name terminal.span) (flat_map (called_uses terminal.file) (term_calls terminal.body)) one
-      (flat_map_has (called_uses terminal.file) (term_calls terminal.body) (name, s) one at (here one [])))
+      terminal_has terminal has one (flat_map_has (called_uses terminal.file) (term_calls terminal.body) (name, s) one at (here one []))
 
   pub named_stands : {file : ℕ} {s : Span} {name : List ℕ} → NamesType g file s name → Contains (uses g) (name_use NamesAType file name s)
   named_stands (written.returned {s} {name} rule has is) = returns_has rule has name s is

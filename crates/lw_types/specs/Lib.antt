@@ -3,6 +3,7 @@ pub mod Sets
 pub mod Facts
 pub mod NameUses
 pub mod Wrong
+pub mod Seconds
 pub mod Attributes
 pub mod Rounds
 pub mod FirstSeen

@@ -17,7 +17,7 @@ use Rattle.lw_grammar.specs.Leaves as leaf
 use Rattle.lw_grammar.specs.Leaves.{Leaf, ValueLeaf, leaves, value_leaves}
 use Rattle.lw_grammar.specs.Written.{term_calls}
 use Rattle.lw_types.specs.declared.naming.mentions.Role.{Role}
-use Rattle.lw_types.specs.declared.naming.mentions.Role.TheVariants.{DeclaresRule, DeclaresType, InfersType, CallsRule, NamesType, WantsNameRule}
+use Rattle.lw_types.specs.declared.naming.mentions.Role.TheVariants.{InfersType, CallsRule, NamesType, WantsNameRule}
 use Rattle.lw_types.specs.declared.naming.mentions.Mention.{Mention}
 
 pub record NameUse : Type 0 where
@@ -66,8 +66,7 @@ result_uses rule (Gives primitive) = []
 result_uses rule (Infers name s) = unless_fragment rule.is_fragment (name_use InfersType rule.file name s)
 
 abbrev pub rule_uses : Rule → List NameUse
-rule_uses rule =
-    name_use DeclaresRule rule.file rule.name rule.span ∷ (result_uses rule rule.result ++ flat_map (leaf_uses rule.file) (leaves rule.body))
+rule_uses rule = result_uses rule rule.result ++ flat_map (leaf_uses rule.file) (leaves rule.body)
 
 -- ---- terminals
 
@@ -75,8 +74,7 @@ abbrev pub called_uses : ℕ → List ℕ × Span → List NameUse
 called_uses file call = name_use CallsRule file call.0 call.1 ∷ []
 
 abbrev pub terminal_uses : Terminal → List NameUse
-terminal_uses terminal =
-    name_use DeclaresRule terminal.file terminal.name terminal.span ∷ flat_map (called_uses terminal.file) (term_calls terminal.body)
+terminal_uses terminal = flat_map (called_uses terminal.file) (term_calls terminal.body)
 
 -- ---- declared types
 
@@ -93,12 +91,10 @@ abbrev pub attribute_uses : ℕ → Attribute → List NameUse
 attribute_uses file attribute = flat_map (member_uses file) attribute.members
 
 abbrev pub interface_uses : Interface → List NameUse
-interface_uses interface =
-    name_use DeclaresType interface.file interface.name interface.span
-    ∷ (flat_map (named_uses interface.file) interface.above ++ flat_map (attribute_uses interface.file) interface.attributes)
+interface_uses interface = flat_map (named_uses interface.file) interface.above ++ flat_map (attribute_uses interface.file) interface.attributes
 
 abbrev pub union_uses : UnionDef → List NameUse
-union_uses union = name_use DeclaresType union.file union.name union.span ∷ flat_map (member_uses union.file) union.members
+union_uses union = flat_map (member_uses union.file) union.members
 
 -- ---- all
 

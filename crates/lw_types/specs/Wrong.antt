@@ -4,15 +4,13 @@ use Rattle.lw_base.specs.declared.token.Span.{Span}
 use Rattle.lw_grammar.specs.declared.grammar.Grammar.{Grammar}
 use Rattle.lw_grammar.specs.declared.fault.GrammarFault.{GrammarFault}
 use Rattle.lw_numbers.specs.Tables.{AreNumbersOf}
-use Rattle.lw_numbers.specs.Presence.{IsDeclaredBefore}
 use Rattle.lw_numbers.specs.NameTable.{AreNameRulesOf}
-use Rattle.lw_grammar.specs.Written.{rule_space, type_space}
 use Rattle.lw_grammar.specs.Written.{IsNoRule, HasDeclaration, IsInferredType, IsKnownType}
 use Rattle.lw_faults.specs.Names.{IsNameless}
 use Rattle.lw_faults.specs.Faults.{fault}
 use Rattle.lw_faults.specs.Finding.{OneIf}
 use Rattle.lw_types.specs.declared.naming.mentions.Role.{Role}
-use Rattle.lw_types.specs.declared.naming.mentions.Role.TheVariants.{DeclaresRule, DeclaresType, InfersType, CallsRule, NamesType, WantsNameRule}
+use Rattle.lw_types.specs.declared.naming.mentions.Role.TheVariants.{InfersType, CallsRule, NamesType, WantsNameRule}
 use Rattle.lw_types.specs.declared.naming.names.KnownNames.{KnownNames}
 use Rattle.lw_types.specs.NameUses.{NameUse, use_of, uses}
 
@@ -30,8 +28,6 @@ InfersName s = OneIf (s.role ≡ InfersType) s.name
 module _ (g : Grammar) where
   -- a name that does this here is wrong
   abbrev pub IsWrongAs : Role → ℕ → Span → List ℕ → Type 0
-  IsWrongAs DeclaresRule file s name = IsDeclaredBefore (rule_space g) name file s.start
-  IsWrongAs DeclaresType file s name = IsDeclaredBefore (type_space g) name file s.start
   IsWrongAs InfersType file s name = HasDeclaration g name
   IsWrongAs CallsRule file s name = IsNoRule g name
   IsWrongAs NamesType file s name = ¬ IsKnownType g name
@@ -42,8 +38,6 @@ module _ (g : Grammar) where
 
 -- the number of the fault
 abbrev pub fault_number : Role → ℕ
-fault_number DeclaresRule = 4
-fault_number DeclaresType = 4
 fault_number InfersType = 4
 fault_number CallsRule = 5
 fault_number NamesType = 6

@@ -17,6 +17,7 @@
 //! search of its own.
 mod attributes;
 mod circles;
+mod declarations;
 mod faults;
 mod mentions;
 mod names;

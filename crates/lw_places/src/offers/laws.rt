@@ -1,8 +1,8 @@
 // What a reader may expect of offers, whatever the grammar and the texts.
-ghost use Rattle.std.specs.Prelude.{◌≡◌, ◌⊎◌, ◌++◌, ℕ, Bool, List, Contains, take};
+ghost use Rattle.std.specs.Prelude.{◌≡◌, ◌≢◌, ◌⊎◌, ◌++◌, ℕ, Bool, List, Option, Contains, take};
 ghost use Rattle.lw_grammar.specs.declared.grammar.Grammar.{Grammar};
 ghost use Rattle.lw_reading.specs.Laws.{IsReadOneWay};
-ghost use Rattle.lw_link_rules.specs.Links.{Texts};
+ghost use Rattle.lw_link_rules.specs.Links.{IsTreeOfText, Texts};
 ghost use Rattle.lw_scoping.specs.Links.{ByTest, Trees};
 ghost use Rattle.lw_tree.specs.declared.node.Reference.{Reference};
 ghost use Rattle.lw_tree.specs.Parts.{Parts};
@@ -30,4 +30,11 @@ pub fn words_go_on()
 pub fn one_word()
     ensures { (text : List ℕ) (offset : ℕ) (front word rest other_front other_word other_rest : List ℕ) → IsTypedAt text offset front word rest →
         IsTypedAt text offset other_front other_word other_rest → (front ≡ other_front) × (word ≡ other_word) × (rest ≡ other_rest) }
+{}
+
+/// What is offered in a text does not depend on what is held under its address, as long as what is held there reads as something.
+pub fn the_text_that_is_held_is_not_looked_at()
+    ensures { (g : Grammar) (texts others : Texts) (address : List ℕ) → ((a : List ℕ) → a ≢ address → texts a ≡ others a) →
+        (held : Option Parts) → IsTreeOfText g (others address) held → (text : List ℕ) (offset : ℕ) (offers : List Offer) →
+        AreOffers g texts address text offset offers → AreOffers g others address text offset offers }
 {}

@@ -31,6 +31,7 @@ pub fn find_name_faults(
     ensures { OnOk result (Finds (λ f. IsFaultOf 4 (Duplicate g.now) f ⊎ IsFaultOf 5 (UnknownRule g.now) f ⊎ IsFaultOf 6 (UnknownType g.now) f ⊎ IsFaultOf 18 (NoNameRule g.now) f ⊎ IsFaultOf 19 (CircularType g.now) f) found.old found.new) }
 {
     let names = KnownNames::of(alloc, g, numbers, name_rules)?;
+    names.find_second_declarations(alloc, found)?;
     names.find_wrong(alloc, found)?;
     find_second_attributes(alloc, g.interfaces.as_slice(), found)?;
     names.find_interface_circles(alloc, found)?;

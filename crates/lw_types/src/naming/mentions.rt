@@ -17,10 +17,6 @@ use std::alloc::Global;
 /// What a name does where it is written.
 #[derive(Clone, Copy, Debug, PartialEq, Eq)]
 pub(crate) enum Role {
-    /// It is that of a rule or a terminal which is declared.
-    DeclaresRule,
-    /// It is that of an interface or a union which is declared.
-    DeclaresType,
     /// It is that of a type which is inferred.
     InfersType,
     /// It calls a rule or a terminal.
@@ -88,7 +84,6 @@ fn put_rules<'g>(
 fn put_rule<'g>(alloc: Global, found: &mut Vec<Mention<'g>>, rule: &'g Rule) -> Result<(), NoMemory>
     ensures { OnOk result (map use_of found.new.items ≡ map use_of found.old.items ++ rule_uses rule.now) }
 {
-    put(found, Role::DeclaresRule, rule.file, &rule.name, rule.span)?;
     put_result(found, rule)?;
     put_body(alloc, found, rule.file, &rule.body)
 }
@@ -230,13 +225,6 @@ fn put_terminal<'g>(
 ) -> Result<(), NoMemory>
     ensures { OnOk result (map use_of found.new.items ≡ map use_of found.old.items ++ terminal_uses terminal.now) }
 {
-    put(
-        found,
-        Role::DeclaresRule,
-        terminal.file,
-        &terminal.name,
-        terminal.span,
-    )?;
     put_term(alloc, found, terminal.file, &terminal.body)
 }
 
@@ -282,13 +270,6 @@ fn put_interfaces<'g>(
 fn put_interface<'g>(found: &mut Vec<Mention<'g>>, interface: &'g Interface) -> Result<(), NoMemory>
     ensures { OnOk result (map use_of found.new.items ≡ map use_of found.old.items ++ interface_uses interface.now) }
 {
-    put(
-        found,
-        Role::DeclaresType,
-        interface.file,
-        &interface.name,
-        interface.span,
-    )?;
     put_named(found, interface.file, interface.above.as_slice())?;
     put_attributes(found, interface.file, interface.attributes.as_slice())
 }
@@ -359,12 +340,5 @@ fn put_unions<'g>(found: &mut Vec<Mention<'g>>, unions: &'g [UnionDef]) -> Resul
 fn put_union<'g>(found: &mut Vec<Mention<'g>>, union: &'g UnionDef) -> Result<(), NoMemory>
     ensures { OnOk result (map use_of found.new.items ≡ map use_of found.old.items ++ union_uses union.now) }
 {
-    put(
-        found,
-        Role::DeclaresType,
-        union.file,
-        &union.name,
-        union.span,
-    )?;
     put_members(found, union.file, union.members.as_slice())
 }

@@ -86,10 +86,7 @@ impl<'g> KnownNames<'g> {
         requires { KnowsNames self.now }
         ensures { IsTrue result ↔ IsWrong self.now.g.now (use_of mention.now) }
     {
-        let (file, start) = (mention.file, mention.span.start);
         match mention.role {
-            Role::DeclaresRule => self.numbers.called_before(mention.name, file, start),
-            Role::DeclaresType => self.numbers.declared_before(mention.name, file, start),
             Role::InfersType => self.numbers.is_declared(mention.name),
             Role::CallsRule => self.is_no_rule(mention.name),
             Role::NamesType => !self.is_known(mention.name),
@@ -97,8 +94,8 @@ impl<'g> KnownNames<'g> {
         }
     }
 
-    /// Finds each name that is wrong where it is written: second declarations, rules and types that are
-    /// not there, and cross-references that nothing reads.
+    /// Finds each name that is wrong where it is written: types that are inferred and declared, rules and
+    /// types that are not there, and cross-references that nothing reads.
     pub(crate) fn find_wrong(&self, alloc: Global, found: &mut Findings) -> Result<(), NoMemory>
         requires { KnowsNames self.now }
         ensures { OnOk result (Finds (OfSome (TellsWrong self.now.g.now) (uses self.now.g.now)) found.old found.new) }
@@ -143,7 +140,7 @@ fn fault_kind(role: Role) -> FaultKind
     ensures { number_of result ≡ fault_number role }
 {
     match role {
-        Role::DeclaresRule | Role::DeclaresType | Role::InfersType => FaultKind::Duplicate,
+        Role::InfersType => FaultKind::Duplicate,
         Role::CallsRule => FaultKind::UnknownRule,
         Role::NamesType => FaultKind::UnknownType,
         Role::WantsNameRule => FaultKind::NoNameRule,

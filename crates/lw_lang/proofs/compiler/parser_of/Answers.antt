@@ -13,5 +13,5 @@ unreachable-requires c = has_entry c.args.g.now c.requires.faultless c.in-None.e
 pub returns : goal.returns
 returns c kinds are =
     parses c.args.g.now c.lexicon.result.g.now c.lexicon.ensures.grammar kinds are c.requires.faultless
-    (is_supplied c.args.g.now c.args.types.now c.requires.typed c.args.facts.now c.requires.facts c.requires.faultless c.requires.formed c.requires.filled kinds are) c.args.k c.args.tables
+    (is_supplied c.args.g.now c.args.types.now c.requires.typed c.args.facts.now c.requires.facts c.requires.faultless c.requires.filled kinds are) c.args.k c.args.tables
     (c.requires.tables kinds are) c.in-Some.rule.0 c.in-Some.ensures c.of.result c.of.ensures

@@ -3,4 +3,4 @@ use Rattle.lw_properties.proofs.Knowing.{KnowsOf}
 use Rattle.lw_properties.proofs.attributes.Attributes.of.Given as goal
 
 abbrev pub invariant-loop-interface : goal.invariant-loop-interface
-invariant-loop-interface l = KnowsOf l.g (λ m. m.entries) (take l.interface-index l.interface-items) l.known.entries
+invariant-loop-interface l = KnowsOf l.g (take l.interface-index l.interface-items) l.attributes

@@ -14,6 +14,6 @@ returns c =
     let Q : List Interface → Type 0 = λ interfaces. Finds (OfSome RepeatsAttribute interfaces) c.find_wrong.new.found c.find_second_attributes.new.found in
     on_ok_weaker c.find_extending_others.result
     (λ others. subst P same
-    (parts_found c.in_ok-names.names.g.now c.in_ok-find_wrong.ensures
+    (parts_found c.in_ok-names.names.g.now c.in_ok-find_second_declarations.ensures c.in_ok-find_wrong.ensures
     (subst Q (c.as_slice.ensures ∙ ap (λ g. g.interfaces) (sym same)) c.in_ok-find_second_attributes.ensures) c.in_ok-find_interface_circles.ensures
     c.in_ok-find_union_circles.ensures others)) c.find_extending_others.ensures
