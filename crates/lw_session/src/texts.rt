@@ -6,6 +6,7 @@ ghost use Rattle.lw_rpc.specs.Replies.{HasOrderedEdits, reply_bytes};
 use lw_base::{Items, Name, NoMemory};
 use lw_machine::Published;
 use lw_rpc::{Reply, publication_text, reply_text};
+use lw_text::Shown;
 use std::alloc::Global;
 
 /// The bytes of each reply, and behind them those of each publication, in their order.
