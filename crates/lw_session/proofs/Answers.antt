@@ -1,11 +1,13 @@
 -- What opening and changing a document come to.
-use Rattle.std.proofs.Common.{◌≡◌, ℕ, ◌<◌, ◌≤◌, ◌⊎◌, inl, inr, List, [], ◌∷◌, ◌++◌, length, map, Bool, true, false, Option, Some, Ok, Err, codes, decimal, refl, sym, ap, ◌∙◌, subst, true≢false, arith}
-use Rattle.std.proofs.lemmas.Bool.{cases_lt}
+use Rattle.std.proofs.Common.{◌≡◌, ℕ, ◌<◌, ◌≤◌, ◌⊎◌, inl, inr, List, [], ◌∷◌, ◌++◌, ℤ, length, map, Bool, true, false, not, ◌&&◌, if◌then◌else◌, IfOk, Option, Some, Result, Ok, Err, codes, decimal, refl, sym, ap, ◌∙◌, subst, true≢false, arith}
+use Rattle.std.proofs.lemmas.Bool.{cases_lt, false≢true}
+use Rattle.std.proofs.lemmas.Result.{IfOk-weaker}
 use Rattle.std.proofs.lemmas.List.Elements.{All-nil}
 use Rattle.std.specs.FinMap.{get, insert, len, contains_key}
 use Rattle.lw_base.specs.declared.limits.TheConstants.{LONGEST_TEXT}
 use Rattle.lw_docs.specs.Documents.{Numbered}
 use Rattle.lw_base.specs.declared.limits.TheConstants.{MOST_DOCUMENTS}
+use Rattle.lw_base.specs.declared.memory.NoMemory.{NoMemory}
 use Rattle.lw_text.specs.Changes.{Changes}
 use Rattle.lw_text.specs.declared.change.Change.{Change}
 use Rattle.lw_text.specs.declared.change.EditFault.{EditFault}
@@ -15,7 +17,7 @@ use Rattle.lw_rpc.specs.declared.message.Id.{Id}
 use Rattle.lw_io.specs.Store.{AnswersFile}
 use Rattle.lw_rpc.specs.declared.file_change.FileChange.{FileChange}
 use Rattle.lw_rpc.specs.declared.message.Message.{Message}
-use Rattle.lw_rpc.specs.declared.message.Message.TheVariants.{DidClose, DidChangeWatchedFiles}
+use Rattle.lw_rpc.specs.declared.message.Message.TheVariants.{DidOpen, DidChange, DidClose, DidChangeWatchedFiles}
 use Rattle.lw_rpc.specs.declared.reply.Reply.{Reply}
 use Rattle.lw_rpc.specs.declared.reply.Reply.TheVariants.{Log}
 use Rattle.lw_build.specs.Agreeing.{Agrees, Known}
@@ -36,7 +38,7 @@ use Rattle.lw_conversation.specs.Editing as editing
 use Rattle.lw_conversation.specs.Editing.{IsOpenAt, IsUnknown}
 use Rattle.lw_conversation.specs.Effects.{TakesEffect}
 use Rattle.lw_conversation.specs.Effects as effect
-use Rattle.lw_conversation.specs.Gate.{Passes, gate}
+use Rattle.lw_conversation.specs.Gate.{Passage, Passes, gate, notification, replies_at, request}
 use Rattle.lw_conversation.specs.Opening as opening
 use Rattle.lw_conversation.specs.Opening.{HasRoom, IsFull}
 use Rattle.lw_conversation.specs.Publishing.{as_reply}
@@ -44,13 +46,8 @@ use Rattle.lw_conversation.specs.Reading as reads
 use Rattle.lw_conversation.specs.declared.phase.Phase.{Phase}
 use Rattle.lw_session.specs.Answering.{IsAnswered, IsAnsweredBy}
 use Rattle.lw_session.specs.Moving.{IsDoneByReads}
-use Rattle.lw_session.specs.Lifecycle.{IsLive, opened_message, edited_message, asked_message, question_message, passage_of, telling}
+use Rattle.lw_session.specs.Lifecycle.{IsLive, passage_of, telling}
 use Rattle.lw_session.specs.declared.lifecycle.Told.{Told}
-use Rattle.lw_session.specs.declared.said.Asked.{Asked}
-use Rattle.lw_session.specs.declared.said.Edited.{Edited}
-use Rattle.lw_session.specs.declared.said.Question.{Question}
-use Rattle.lw_session.specs.declared.said.Question.TheVariants as question
-use Rattle.lw_session.specs.declared.said.Opened.{Opened}
 use Rattle.lw_session.proofs.Known.{same_len, same_contains, is_held, is_kept, none_open}
 
 -- what stops at the gate
@@ -75,6 +72,12 @@ pub unasked : (files : Option (List (List ℕ × List ℕ))) (count : ℕ) (v w 
 unasked files count v w phase message told is =
     record { asked = []; answered = is; by_store = All-nil (λ a. AnswersFile files a.path a.answer); counted = refl }
 
+-- so is what stops at the gate
+pub stopped : (files : Option (List (List ℕ × List ℕ))) (count : ℕ) (v : WorkspaceView) (phase : Phase) (message : Message) (told : Result Told NoMemory) → Agrees v (documents v) →
+    IfOk told (λ told. gate phase message ≡ passage_of told) → IfOk told (IsAnsweredBy files count count v v phase message)
+stopped files count v phase message told agrees is =
+    IfOk-weaker told _ _ (λ told so. unasked files count v v phase message told (stops v phase message told agrees so)) is
+
 -- and where it is
 pub by_reads : (files : Option (List (List ℕ × List ℕ))) (before now : ℕ) (v w : WorkspaceView) (phase : Phase) → IsLive phase → (message : Message) →
     gate phase message ≡ Passes → (Does : Documents → List reads.Asked → Documents → List Reply → Type 0) →
@@ -95,17 +98,44 @@ closes phase live address = rw (live.0, live.1) refl
 pub watches : (phase : Phase) → IsLive phase → (changes : List FileChange) → gate phase (DidChangeWatchedFiles changes) ≡ Passes
 watches phase live changes = rw (live.0, live.1) refl
 
-opens : (phase : Phase) → IsLive phase → (opened : Opened) → gate phase (opened_message opened) ≡ Passes
-opens phase live opened = rw (live.0, live.1) refl
+opens : (phase : Phase) → IsLive phase → (address : List ℕ) (version : ℤ) (text : List ℕ) → gate phase (DidOpen address version text) ≡ Passes
+opens phase live address version text = rw (live.0, live.1) refl
 
-asks : (phase : Phase) → IsLive phase → (id : Id) (address : List ℕ) (at : Pos) (question : Question) → gate phase (question_message id address at question) ≡ Passes
-asks phase live id address at question.Definition = rw (live.0, live.1) refl
-asks phase live id address at (question.References declaration) = rw (live.0, live.1) refl
-asks phase live id address at (question.Rename new) = rw (live.0, live.1) refl
-asks phase live id address at question.Completion = rw (live.0, live.1) refl
+asks : (phase : Phase) → IsLive phase → (id : Id) → request phase id Passes ≡ Passes
+asks phase live id = rw (live.0, live.1) refl
 
-edits : (phase : Phase) → IsLive phase → (edited : Edited) → gate phase (edited_message edited) ≡ Passes
-edits phase live edited = rw (live.0, live.1) refl
+edits : (phase : Phase) → IsLive phase → (address : List ℕ) (version : ℤ) (changes : List Change) → gate phase (DidChange address version changes) ≡ Passes
+edits phase live address version changes = rw (live.0, live.1) refl
+
+-- a session is live, or it is not
+both : (a b : Bool) → (a && not b) ≡ true → (a ≡ true) × (b ≡ false)
+both true false is = (refl, refl)
+both true true is = absurd (false≢true is)
+both false b is = absurd (false≢true is)
+
+pub is_live : (phase : Phase) → (phase.initialized && not phase.shut_down) ≡ true → IsLive phase
+is_live phase on = both phase.initialized phase.shut_down on
+
+dropped : (a b : Bool) (phase : Phase) → (a && not b) ≡ false → (if a && not b then Passes else replies_at phase []) ≡ replies_at phase []
+dropped a b phase off = rw off refl
+
+-- a notification is dropped where the session is not live
+pub drops : (v : WorkspaceView) (phase : Phase) (message : Message) → Agrees v (documents v) → gate phase message ≡ notification phase Passes →
+    (phase.initialized && not phase.shut_down) ≡ false → IsAnswered v v phase message [] (telling phase [])
+drops v phase message agrees is off = stops v phase message (telling phase []) agrees (is ∙ dropped phase.initialized phase.shut_down phase off)
+
+-- a request is refused there, whatever it asks for
+pub not_live : (initialized shut_down : Bool) (id : Id) (a b : Passage) → (initialized && not shut_down) ≡ false →
+    request (record { initialized = initialized; shut_down = shut_down }) id a ≡ request (record { initialized = initialized; shut_down = shut_down }) id b
+not_live false shut_down id a b off = refl
+not_live true true id a b off = refl
+not_live true false id a b off = cc
+
+pub refuses : (v : WorkspaceView) (phase : Phase) (id : Id) (message : Message) (a : Passage) (told : Result Told NoMemory) → Agrees v (documents v) →
+    gate phase message ≡ request phase id Passes → (phase.initialized && not phase.shut_down) ≡ false → IfOk told (λ told. request phase id a ≡ passage_of told) →
+    IfOk told (IsAnswered v v phase message [])
+refuses v phase id message a told agrees is off ends =
+    IfOk-weaker told _ _ (λ told so. stops v phase message told agrees (is ∙ not_live phase.initialized phase.shut_down id Passes a off ∙ so)) ends
 
 -- the room that is left, by what is kept
 module _ (v : WorkspaceView) (m : Documents) (agrees : Agrees v m) (address : List ℕ) where
@@ -121,60 +151,61 @@ module _ (v : WorkspaceView) (m : Documents) (agrees : Agrees v m) (address : Li
       by false is (inr most) = absurd (free (is, omega arith))
 
 module _ (v w : WorkspaceView) (phase : Phase) (live : IsLive phase) (agrees : Agrees v (documents v)) where
-  module _ (opened : Opened) where
-    pub puts : Agrees w (put (documents v) opened.id.address opened.text (Some opened.id.version) true) → length opened.text ≤ LONGEST_TEXT →
-        len v.kept ≤ MOST_DOCUMENTS → ¬ (HasNoRoom v opened.id.address) → IsAnswered v w phase (opened_message opened) [] (telling phase [])
+  module _ (address : List ℕ) (version : ℤ) (text : List ℕ) where
+    pub puts : Agrees w (put (documents v) address text (Some version) true) → length text ≤ LONGEST_TEXT →
+        len v.kept ≤ MOST_DOCUMENTS → ¬ (HasNoRoom v address) → IsAnswered v w phase (DidOpen address version text) [] (telling phase [])
     puts after short few free =
-        effective v w phase live (opened_message opened) (opens phase live opened) [] _ _ after
-        (effect.opens (opening.puts short (room v (documents v) agrees opened.id.address few free)))
+        effective v w phase live (DidOpen address version text) (opens phase live address version text) [] _ _ after
+        (effect.opens (opening.puts short (room v (documents v) agrees address few free)))
 
   -- a question, where the build has come to its end
-  pub answers : (asked : Asked) (lists : List Published) (reply : Reply) → Agrees w (documents w) → BuildsToEnd v.grammar (documents v) (documents w) lists →
-      RepliesTo v.grammar (documents w) (asked_message asked) reply → IsAnswered v w phase (asked_message asked) [] (telling phase (map as_reply lists ++ reply ∷ []))
-  answers asked lists reply after builds replies =
-      effective v w phase live (asked_message asked) (asks phase live asked.id asked.address asked.at asked.question) [] _ _ after (effect.asks lists reply builds replies)
+  pub answers : (id : Id) (message : Message) (lists : List Published) (reply : Reply) → gate phase message ≡ request phase id Passes → Agrees w (documents w) →
+      BuildsToEnd v.grammar (documents v) (documents w) lists → RepliesTo v.grammar (documents w) message reply →
+      IsAnswered v w phase message [] (telling phase (map as_reply lists ++ reply ∷ []))
+  answers id message lists reply is after builds replies =
+      effective v w phase live message (is ∙ asks phase live id) [] _ _ after (effect.asks lists reply builds replies)
 
-  module _ (edited : Edited) where
-    pub changes : (d : Document) (text : List ℕ) (held : Numbered) → get (documents v) edited.id.address ≡ Some d → Changes Utf16 d.text edited.changes (Ok text) →
-        Agrees w (insert (documents v) edited.id.address (event.edited d text edited.id.version)) → get v.kept edited.id.address ≡ Some held → held.doc.is_open ≡ true →
-        IsAnswered v w phase (edited_message edited) [] (telling phase [])
+  module _ (address : List ℕ) (version : ℤ) (edits_of : List Change) where
+    pub changes : (d : Document) (text : List ℕ) (held : Numbered) → get (documents v) address ≡ Some d → Changes Utf16 d.text edits_of (Ok text) →
+        Agrees w (insert (documents v) address (event.edited d text version)) → get v.kept address ≡ Some held → held.doc.is_open ≡ true →
+        IsAnswered v w phase (DidChange address version edits_of) [] (telling phase [])
     changes d text held at does after kept on =
-        let found = is_kept v (documents v) agrees edited.id.address d at in
+        let found = is_kept v (documents v) agrees address d at in
         let same : Some held ≡ Some found.0 = sym kept ∙ found.1 in
         let one : held ≡ found.0 = cc in
         let is_open : d.is_open ≡ true = ap (λ (k : Known). k.is_open) found.2 ∙ ap (λ (h : Numbered). h.doc.is_open) (sym one) ∙ on in
-        effective v w phase live (edited_message edited) (edits phase live edited) [] _ _ after
+        effective v w phase live (DidChange address version edits_of) (edits phase live address version edits_of) [] _ _ after
         (effect.edits (editing.edits (record { held = at; is_open = is_open }) does))
 
 module _ (v : WorkspaceView) (phase : Phase) (live : IsLive phase) (agrees : Agrees v (documents v)) where
-  module _ (opened : Opened) where
-    logged : (line : List ℕ) → opening.OpensDocument (documents v) opened.id.address opened.id.version opened.text (documents v) (Log line ∷ []) →
-        IsAnswered v v phase (opened_message opened) [] (telling phase (Log line ∷ []))
-    logged line does = effective v v phase live (opened_message opened) (opens phase live opened) [] _ _ agrees (effect.opens does)
+  module _ (address : List ℕ) (version : ℤ) (text : List ℕ) where
+    logged : (line : List ℕ) → opening.OpensDocument (documents v) address version text (documents v) (Log line ∷ []) →
+        IsAnswered v v phase (DidOpen address version text) [] (telling phase (Log line ∷ []))
+    logged line does = effective v v phase live (DidOpen address version text) (opens phase live address version text) [] _ _ agrees (effect.opens does)
 
-    pub too_long : LONGEST_TEXT < length opened.text → IsAnswered v v phase (opened_message opened) [] (telling phase (Log (codes "text too long: " ++ opened.id.address) ∷ []))
+    pub too_long : LONGEST_TEXT < length text → IsAnswered v v phase (DidOpen address version text) [] (telling phase (Log (codes "text too long: " ++ address) ∷ []))
     too_long long = logged _ (opening.too_long long)
 
-    pub too_many : length opened.text ≤ LONGEST_TEXT → HasNoRoom v opened.id.address →
-        IsAnswered v v phase (opened_message opened) [] (telling phase (Log (codes "too many documents: " ++ opened.id.address) ∷ []))
-    too_many short full_up = logged _ (opening.too_many short (full v (documents v) agrees opened.id.address full_up))
+    pub too_many : length text ≤ LONGEST_TEXT → HasNoRoom v address →
+        IsAnswered v v phase (DidOpen address version text) [] (telling phase (Log (codes "too many documents: " ++ address) ∷ []))
+    too_many short full_up = logged _ (opening.too_many short (full v (documents v) agrees address full_up))
 
-  module _ (edited : Edited) where
-    refused : (line : List ℕ) → editing.EditsDocument (documents v) edited.id.address edited.id.version edited.changes (documents v) (Log line ∷ []) →
-        IsAnswered v v phase (edited_message edited) [] (telling phase (Log line ∷ []))
-    refused line does = effective v v phase live (edited_message edited) (edits phase live edited) [] _ _ agrees (effect.edits does)
+  module _ (address : List ℕ) (version : ℤ) (edits_of : List Change) where
+    refused : (line : List ℕ) → editing.EditsDocument (documents v) address version edits_of (documents v) (Log line ∷ []) →
+        IsAnswered v v phase (DidChange address version edits_of) [] (telling phase (Log line ∷ []))
+    refused line does = effective v v phase live (DidChange address version edits_of) (edits phase live address version edits_of) [] _ _ agrees (effect.edits does)
 
-    pub unknown : ¬ ((held : Numbered) × (get v.kept edited.id.address ≡ Some held) × (held.doc.is_open ≡ true)) →
-        IsAnswered v v phase (edited_message edited) [] (telling phase (Log (codes "unknown document: " ++ edited.id.address) ∷ []))
-    unknown none = refused _ (editing.unknown (none_open v (documents v) agrees edited.id.address none))
+    pub unknown : ¬ ((held : Numbered) × (get v.kept address ≡ Some held) × (held.doc.is_open ≡ true)) →
+        IsAnswered v v phase (DidChange address version edits_of) [] (telling phase (Log (codes "unknown document: " ++ address) ∷ []))
+    unknown none = refused _ (editing.unknown (none_open v (documents v) agrees address none))
 
-    module _ (held other : Numbered) (kept : get v.kept edited.id.address ≡ Some held) (on : held.doc.is_open ≡ true) (at : get v.kept edited.id.address ≡ Some other) where
+    module _ (held other : Numbered) (kept : get v.kept address ≡ Some held) (on : held.doc.is_open ≡ true) (at : get v.kept address ≡ Some other) where
       one : held ≡ other
       one = let same : Some held ≡ Some other = sym kept ∙ at in cc
 
-      opened_here : (d : Document) × IsOpenAt (documents v) edited.id.address d × (other.doc.text ≡ d.text)
+      opened_here : (d : Document) × IsOpenAt (documents v) address d × (other.doc.text ≡ d.text)
       opened_here =
-          let found = is_held v (documents v) agrees edited.id.address other at in (
+          let found = is_held v (documents v) agrees address other at in (
             found.0,
             record {
               held = found.1;
@@ -183,19 +214,19 @@ module _ (v : WorkspaceView) (phase : Phase) (live : IsLive phase) (agrees : Agr
             ap (λ (k : Known). k.text) (sym found.2),
           )
 
-      pub bad_range : (number : ℕ) → Changes Utf16 other.doc.text edited.changes (Err (edit.BadRange number)) →
-          IsAnswered v v phase (edited_message edited) []
-          (telling phase (Log (codes "bad range in change " ++ decimal number ++ codes " of " ++ edited.id.address) ∷ []))
+      pub bad_range : (number : ℕ) → Changes Utf16 other.doc.text edits_of (Err (edit.BadRange number)) →
+          IsAnswered v v phase (DidChange address version edits_of) []
+          (telling phase (Log (codes "bad range in change " ++ decimal number ++ codes " of " ++ address) ∷ []))
       bad_range number fault =
           refused _
           (editing.bad_range opened_here.1
-          (subst (λ (t : List ℕ). Changes Utf16 t edited.changes (Err (edit.BadRange number))) opened_here.2 fault))
+          (subst (λ (t : List ℕ). Changes Utf16 t edits_of (Err (edit.BadRange number))) opened_here.2 fault))
 
-      pub edit_too_long : (size : ℕ) → Changes Utf16 other.doc.text edited.changes (Err (edit.TooLong size)) →
-          IsAnswered v v phase (edited_message edited) [] (telling phase (Log (codes "text too long: " ++ edited.id.address) ∷ []))
+      pub edit_too_long : (size : ℕ) → Changes Utf16 other.doc.text edits_of (Err (edit.TooLong size)) →
+          IsAnswered v v phase (DidChange address version edits_of) [] (telling phase (Log (codes "text too long: " ++ address) ∷ []))
       edit_too_long size fault =
           refused _
-          (editing.too_long opened_here.1 (subst (λ (t : List ℕ). Changes Utf16 t edited.changes (Err (edit.TooLong size))) opened_here.2 fault))
+          (editing.too_long opened_here.1 (subst (λ (t : List ℕ). Changes Utf16 t edits_of (Err (edit.TooLong size))) opened_here.2 fault))
 
 -- what a fault tells
 pub too_long_put : (v : WorkspaceView) (address text : List ℕ) (fault : WorkFault) (size : ℕ) → fault ≡ work.TooLong size → IsPutFault v address text fault →

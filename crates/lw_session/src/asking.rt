@@ -2,73 +2,126 @@
 ghost use Rattle.std.specs.Prelude.{◌≡◌, ◌∷◌, ◌++◌, [], IfOk, OnErr, map, true};
 ghost use Rattle.lw_build.specs.View.{documents};
 ghost use Rattle.lw_conversation.specs.Answered.{IsCutShort};
-ghost use Rattle.lw_conversation.specs.Asking.{RepliesTo, TellsDefinition, TellsReferences};
+ghost use Rattle.lw_conversation.specs.Asking.{TellsDefinition, TellsReferences};
 ghost use Rattle.lw_conversation.specs.Publishing.{as_reply};
 ghost use Rattle.lw_session.specs.Answering.{IsAnswered, standing_of};
-ghost use Rattle.lw_session.specs.Lifecycle.{IsLive, asked_message, telling};
+ghost use Rattle.lw_rpc.specs.declared.message.Message.TheVariants as message_;
+ghost use Rattle.lw_session.specs.Lifecycle.{telling};
 
 use crate::completing::completion_at;
-use crate::lifecycle::Told;
+use crate::lifecycle::{Told, is_live, refuse};
 use crate::locating::{asked_at, location_of, locations_of};
 use crate::renaming::rename_at;
-use crate::said::{Asked, Question};
 use crate::texts::publication;
 use lw_base::{Items, Name, NoMemory, Steps};
 use lw_build::Workspace;
-use lw_conversation::{Ended, Phase};
+use lw_conversation::{Ended, INVALID_REQUEST, Phase};
 use lw_machine::Published;
 use lw_query::{definition, references};
-use lw_rpc::{Outcome, Reply};
+use lw_rpc::{Id, Outcome, Reply};
 use lw_text::Pos;
 use std::alloc::Global;
 use std::sync::ledger::Ledger;
 
-/// Answers a question, in a session that is live.
-pub(crate) fn ask<L: Ledger>(
+/// Says where the name is defined that stands at a place.
+pub(crate) fn ask_definition<L: Ledger>(
     alloc: Global,
     workspace: &mut Workspace,
     phase: Phase,
-    asked: Asked,
+    id: Id,
+    address: &Name,
+    at: Pos,
     steps: &mut Steps<L>,
 ) -> Result<Told, NoMemory>
-    requires { IsLive phase }
-    ensures answered { IfOk result (IsAnswered workspace.old workspace.new phase (asked_message asked) []) }
-    ensures cut_short { OnErr result (IsCutShort workspace.old.grammar (standing_of workspace.old phase) (asked_message asked) (standing_of workspace.new phase)) }
+    ensures answered { IfOk result (IsAnswered workspace.old workspace.new phase (message_.Definition id address.now at) []) }
+    ensures cut_short { OnErr result (IsCutShort workspace.old.grammar (standing_of workspace.old phase) (message_.Definition id address.now at) (standing_of workspace.new phase)) }
     ensures grammar { workspace.new.grammar ≡ workspace.old.grammar }
 {
     workspace.agrees();
+    if !is_live(phase) {
+        return refuse(alloc, phase, id, INVALID_REQUEST, "invalid request");
+    }
     let lists = workspace.advance(steps)?;
     workspace.agrees();
-    let reply = reply_to(alloc, workspace, asked)?;
+    let outcome = definition_at(alloc, workspace, address, at)?;
+    let reply = Reply::Done(id, outcome);
     tells_behind(alloc, phase, lists.as_slice(), reply)
 }
 
-/// What is replied to a question, where all documents are built.
-fn reply_to(alloc: Global, workspace: &Workspace, asked: Asked) -> Result<Reply, NoMemory>
-    requires { workspace.now.is_built ≡ true }
-    ensures { IfOk result (RepliesTo workspace.now.grammar (documents workspace.now) (asked_message asked)) }
+/// Says where it is mentioned, what stands at a place, with its declaration or without.
+pub(crate) fn ask_references<L: Ledger>(
+    alloc: Global,
+    workspace: &mut Workspace,
+    phase: Phase,
+    id: Id,
+    address: &Name,
+    at: Pos,
+    declaration: bool,
+    steps: &mut Steps<L>,
+) -> Result<Told, NoMemory>
+    ensures answered { IfOk result (IsAnswered workspace.old workspace.new phase (message_.References id address.now at declaration) []) }
+    ensures cut_short { OnErr result (IsCutShort workspace.old.grammar (standing_of workspace.old phase) (message_.References id address.now at declaration) (standing_of workspace.new phase)) }
+    ensures grammar { workspace.new.grammar ≡ workspace.old.grammar }
 {
-    let Asked {
-        id,
-        address,
-        at,
-        question,
-    } = asked;
-    match question {
-        Question::Definition => {
-            let outcome = definition_at(alloc, workspace, &address, at)?;
-            Ok(Reply::Done(id, outcome))
-        }
-        Question::References(declaration) => {
-            let outcome = references_at(alloc, workspace, &address, at, declaration)?;
-            Ok(Reply::Done(id, outcome))
-        }
-        Question::Rename(new) => rename_at(alloc, workspace, id, &address, at, &new),
-        Question::Completion => {
-            let outcome = completion_at(alloc, workspace, &address, at)?;
-            Ok(Reply::Done(id, outcome))
-        }
+    workspace.agrees();
+    if !is_live(phase) {
+        return refuse(alloc, phase, id, INVALID_REQUEST, "invalid request");
     }
+    let lists = workspace.advance(steps)?;
+    workspace.agrees();
+    let outcome = references_at(alloc, workspace, address, at, declaration)?;
+    let reply = Reply::Done(id, outcome);
+    tells_behind(alloc, phase, lists.as_slice(), reply)
+}
+
+/// Says which edits give another name to what stands at a place, or why there are none.
+pub(crate) fn ask_rename<L: Ledger>(
+    alloc: Global,
+    workspace: &mut Workspace,
+    phase: Phase,
+    id: Id,
+    address: &Name,
+    at: Pos,
+    new: &Name,
+    steps: &mut Steps<L>,
+) -> Result<Told, NoMemory>
+    ensures answered { IfOk result (IsAnswered workspace.old workspace.new phase (message_.Rename id address.now at new.now) []) }
+    ensures cut_short { OnErr result (IsCutShort workspace.old.grammar (standing_of workspace.old phase) (message_.Rename id address.now at new.now) (standing_of workspace.new phase)) }
+    ensures grammar { workspace.new.grammar ≡ workspace.old.grammar }
+{
+    workspace.agrees();
+    if !is_live(phase) {
+        return refuse(alloc, phase, id, INVALID_REQUEST, "invalid request");
+    }
+    let lists = workspace.advance(steps)?;
+    workspace.agrees();
+    let reply = rename_at(alloc, workspace, id, address, at, new)?;
+    tells_behind(alloc, phase, lists.as_slice(), reply)
+}
+
+/// Says what may be written at a place.
+pub(crate) fn ask_completion<L: Ledger>(
+    alloc: Global,
+    workspace: &mut Workspace,
+    phase: Phase,
+    id: Id,
+    address: &Name,
+    at: Pos,
+    steps: &mut Steps<L>,
+) -> Result<Told, NoMemory>
+    ensures answered { IfOk result (IsAnswered workspace.old workspace.new phase (message_.Completion id address.now at) []) }
+    ensures cut_short { OnErr result (IsCutShort workspace.old.grammar (standing_of workspace.old phase) (message_.Completion id address.now at) (standing_of workspace.new phase)) }
+    ensures grammar { workspace.new.grammar ≡ workspace.old.grammar }
+{
+    workspace.agrees();
+    if !is_live(phase) {
+        return refuse(alloc, phase, id, INVALID_REQUEST, "invalid request");
+    }
+    let lists = workspace.advance(steps)?;
+    workspace.agrees();
+    let outcome = completion_at(alloc, workspace, address, at)?;
+    let reply = Reply::Done(id, outcome);
+    tells_behind(alloc, phase, lists.as_slice(), reply)
 }
 
 fn definition_at(

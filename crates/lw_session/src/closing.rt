@@ -10,11 +10,10 @@ ghost use Rattle.lw_rpc.specs.declared.message.Message.TheVariants as message_;
 ghost use Rattle.lw_rpc.specs.declared.reply.Reply.{Reply};
 ghost use Rattle.lw_rpc.specs.declared.reply.Reply.TheVariants as reply_;
 ghost use Rattle.lw_session.specs.Answering.{IsAnsweredBy, standing_of};
-ghost use Rattle.lw_session.specs.Lifecycle.{IsLive};
 ghost use Rattle.lw_session.specs.Moving.{IsDoneByReads, MayBeDone, MayMove, Moves, RemovesHeld};
 
 use crate::files::{find_file, put_file, remove_document};
-use crate::lifecycle::{Told, logs};
+use crate::lifecycle::{Told, is_live, keeps_silent, logs};
 use lw_base::{Items, Name, NoMemory};
 use lw_build::Workspace;
 use lw_conversation::{Ended, Phase};
@@ -22,7 +21,7 @@ use lw_io::{Found, Store};
 use lw_rpc::Reply;
 use std::alloc::Global;
 
-/// Closes the document at an address, in a session that is live.
+/// Closes the document at an address, in a session that is live; in another the notification is dropped.
 pub(crate) fn close<F: Store>(
     alloc: Global,
     workspace: &mut Workspace,
@@ -30,7 +29,6 @@ pub(crate) fn close<F: Store>(
     address: &Name,
     store: &mut F,
 ) -> Result<Told, NoMemory>
-    requires { IsLive phase }
     ensures answered { IfOk result (IsAnsweredBy (F.files store.old) (F.count store.old) (F.count store.new) workspace.old workspace.new phase
         (message_.DidClose address.now)) }
     ensures cut_short { OnErr result (IsCutShort workspace.old.grammar (standing_of workspace.old phase) (message_.DidClose address.now) (standing_of workspace.new phase)) }
@@ -38,6 +36,9 @@ pub(crate) fn close<F: Store>(
     ensures files { F.files store.new ≡ F.files store.old }
 {
     workspace.agrees();
+    if !is_live(phase) {
+        return Ok(keeps_silent(alloc, phase));
+    }
     let replies = close_document(alloc, workspace, address, store);
     workspace.agrees();
     Ok(Told {

@@ -1,38 +1,43 @@
 // The changes of a document: they are made all, or none.
 ghost use Rattle.std.specs.Prelude.{◌≡◌, ◌++◌, ◌∷◌, [], IfOk, OnErr, codes, decimal};
+ghost use Rattle.lw_rpc.specs.declared.message.Message.TheVariants as message_;
 ghost use Rattle.lw_rpc.specs.declared.reply.Reply.TheVariants as reply_;
 ghost use Rattle.lw_session.specs.Answering.{IsAnswered};
-ghost use Rattle.lw_session.specs.Lifecycle.{IsLive, edited_message, telling};
+ghost use Rattle.lw_session.specs.Lifecycle.{telling};
 
-use crate::lifecycle::{Told, keeps_silent, log, tells};
-use crate::said::Edited;
+use crate::lifecycle::{Told, is_live, keeps_silent, log, tells};
 use lw_base::{Name, NoMemory};
 use lw_build::{WorkFault, Workspace};
 use lw_conversation::Phase;
 use lw_rpc::Reply;
+use lw_text::Change;
 use std::alloc::Global;
 
-/// Changes the text of a document that an editor has open, in a session that is live.
+/// Changes the text of a document that an editor has open, in a session that is live; in another the notification
+/// is dropped.
 pub(crate) fn edit(
     alloc: Global,
     workspace: &mut Workspace,
     phase: Phase,
-    edited: Edited,
+    address: &Name,
+    version: i64,
+    changes: &[Change],
 ) -> Result<Told, NoMemory>
-    requires { IsLive phase }
-    ensures answered { IfOk result (IsAnswered workspace.old workspace.new phase (edited_message edited) []) }
+    ensures answered { IfOk result (IsAnswered workspace.old workspace.new phase (message_.DidChange address.now version changes.now) []) }
     ensures refused { OnErr result (workspace.new ≡ workspace.old) }
     ensures grammar { workspace.new.grammar ≡ workspace.old.grammar }
 {
     workspace.agrees();
-    let Edited { id, changes } = edited;
-    if !workspace.is_open(&id.address) {
-        return log(alloc, phase, "unknown document: ", &id.address);
+    if !is_live(phase) {
+        return Ok(keeps_silent(alloc, phase));
     }
-    match workspace.edit(&id.address, changes.as_slice(), id.version) {
+    if !workspace.is_open(address) {
+        return log(alloc, phase, "unknown document: ", address);
+    }
+    match workspace.edit(address, changes, version) {
         Ok(()) => Ok(keeps_silent(alloc, phase)),
-        Err(WorkFault::BadRange(number)) => log_bad_range(alloc, phase, number, &id.address),
-        Err(WorkFault::TooLong(_)) => log(alloc, phase, "text too long: ", &id.address),
+        Err(WorkFault::BadRange(number)) => log_bad_range(alloc, phase, number, address),
+        Err(WorkFault::TooLong(_)) => log(alloc, phase, "text too long: ", address),
         // Nothing else is refused of a document that is held but memory.
         Err(_) => Err(NoMemory),
     }

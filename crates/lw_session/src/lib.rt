@@ -17,13 +17,14 @@
 //! changes, from the first on, none to all of them ([`Session::handle`]). What holds of documents still holds, and
 //! nothing was replied. [`Session::load_file`] answers why it does not load a file.
 //!
-//! How it is made: `lifecycle` decides a message by the two facts of a session alone; `opening` puts a text
-//! and `editing` makes the changes of one in the workspace (`lw_build`), `closing` makes a file the truth of a document again
-//! and `watching` sees what was done to files (both by `files`, which asks the store), `asking` answers what is asked about a place, over
-//! documents that are built (`locating`, `renaming`, `completing`), `serving` builds all documents behind a message,
-//! and `texts` makes bytes of what is told. The documents of the standing are those of the machine that the
-//! workspace stands for (`specs/Seen.antt`), and a message is handled over any documents that it may stand for
-//! (`specs/Answering.antt`, `specs/Moving.antt`), since a build comes to the same from all of them.
+//! How it is made: `serving` goes by the message, once, and builds all documents behind it; `lifecycle` answers what
+//! the two facts of a session decide alone; `opening` puts a text and `editing` makes the changes of one in the
+//! workspace (`lw_build`), `closing` makes a file the truth of a document again and `watching` sees what was done to
+//! files (both by `files`, which asks the store), `asking` answers what is asked about a place, over documents that
+//! are built (`locating`, `renaming`, `completing`), and `texts` makes bytes of what is told. The documents of the
+//! standing are those of the machine that the workspace stands for (`specs/Seen.antt`), and a message is handled over
+//! any documents that it may stand for (`specs/Answering.antt`, `specs/Moving.antt`), since a build comes to the same
+//! from all of them.
 #![tactic(auto)]
 
 mod asking;
@@ -35,7 +36,6 @@ mod lifecycle;
 mod locating;
 mod opening;
 mod renaming;
-mod said;
 mod serving;
 mod session;
 mod texts;

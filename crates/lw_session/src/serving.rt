@@ -8,10 +8,12 @@ ghost use Rattle.lw_machine.specs.Documents.{Documents};
 ghost use Rattle.lw_rpc.specs.Replies.{HasOrderedEdits};
 ghost use Rattle.lw_session.specs.Answering.{IsAnsweredBy, IsBuiltBehind, IsServedBy, standing_of};
 
-use crate::asking::ask;
+use crate::asking::{ask_completion, ask_definition, ask_references, ask_rename};
 use crate::closing::close;
 use crate::editing::edit;
-use crate::lifecycle::{Step, Told, decide};
+use crate::lifecycle::{
+    Told, bad_json, bad_request, ends, initialize, keeps_silent, malformed, shutdown, unknown,
+};
 use crate::opening::open;
 use crate::watching::watch;
 use lw_base::{Items, NoMemory, Steps};
@@ -66,16 +68,57 @@ fn answer<F: Store, L: Ledger>(
     ensures grammar { workspace.new.grammar ≡ workspace.old.grammar }
     ensures files { F.files store.new ≡ F.files store.old }
 {
-    match decide(alloc, phase, message)? {
-        Step::Stops(told) => {
-            workspace.agrees();
-            Ok(told)
+    workspace.agrees();
+    match message {
+        Message::BadJson => bad_json(alloc, phase),
+        Message::BadRequest => bad_request(alloc, phase),
+        Message::Response => Ok(keeps_silent(alloc, phase)),
+        Message::Exit => Ok(ends(alloc, phase)),
+        Message::Initialize { id } => initialize(alloc, phase, id),
+        Message::Shutdown { id } => shutdown(alloc, phase, id),
+        Message::Unknown { id, method } => unknown(alloc, phase, id, &method),
+        Message::BadParams { id, method } => malformed(alloc, phase, id, &method),
+        Message::DidOpen { uri, version, text } => {
+            open(alloc, workspace, phase, &uri, version, text)
         }
-        Step::Opens(opened) => open(alloc, workspace, phase, opened),
-        Step::Edits(edited) => edit(alloc, workspace, phase, edited),
-        Step::Closes(address) => close(alloc, workspace, phase, &address, store),
-        Step::Watches(changes) => watch(alloc, workspace, phase, changes.as_slice(), store),
-        Step::Asks(asked) => ask(alloc, workspace, phase, asked, steps),
+        Message::DidChange {
+            uri,
+            version,
+            changes,
+        } => edit(alloc, workspace, phase, &uri, version, changes.as_slice()),
+        Message::DidClose { uri } => close(alloc, workspace, phase, &uri, store),
+        Message::DidChangeWatchedFiles { changes } => {
+            watch(alloc, workspace, phase, changes.as_slice(), store)
+        }
+        Message::Definition { id, uri, position } => {
+            ask_definition(alloc, workspace, phase, id, &uri, position, steps)
+        }
+        Message::References {
+            id,
+            uri,
+            position,
+            include_declaration,
+        } => ask_references(
+            alloc,
+            workspace,
+            phase,
+            id,
+            &uri,
+            position,
+            include_declaration,
+            steps,
+        ),
+        Message::Rename {
+            id,
+            uri,
+            position,
+            new_name,
+        } => ask_rename(
+            alloc, workspace, phase, id, &uri, position, &new_name, steps,
+        ),
+        Message::Completion { id, uri, position } => {
+            ask_completion(alloc, workspace, phase, id, &uri, position, steps)
+        }
     }
 }
 

@@ -4,11 +4,10 @@ ghost use Rattle.lw_conversation.specs.Answered.{IsCutShort};
 ghost use Rattle.lw_conversation.specs.Watching.{LoadsAgain, SeesChange, SeesChanges};
 ghost use Rattle.lw_rpc.specs.declared.message.Message.TheVariants as message_;
 ghost use Rattle.lw_session.specs.Answering.{IsAnsweredBy, standing_of};
-ghost use Rattle.lw_session.specs.Lifecycle.{IsLive};
 ghost use Rattle.lw_session.specs.Moving.{AreSeenInPart, IsDoneByReads, MayBeDone};
 
 use crate::files::{find_file, put_file, remove_document};
-use crate::lifecycle::{Told, logs};
+use crate::lifecycle::{Told, is_live, keeps_silent, logs};
 use lw_base::{Items, Name, NoMemory};
 use lw_build::Workspace;
 use lw_conversation::{Ended, Phase};
@@ -16,7 +15,7 @@ use lw_io::{Found, Store};
 use lw_rpc::{FileChange, FileChangeKind, Reply};
 use std::alloc::Global;
 
-/// Sees changes of files, in a session that is live.
+/// Sees changes of files, in a session that is live; in another the notification is dropped.
 pub(crate) fn watch<F: Store>(
     alloc: Global,
     workspace: &mut Workspace,
@@ -24,7 +23,6 @@ pub(crate) fn watch<F: Store>(
     changes: &[FileChange],
     store: &mut F,
 ) -> Result<Told, NoMemory>
-    requires { IsLive phase }
     ensures answered { IfOk result (IsAnsweredBy (F.files store.old) (F.count store.old) (F.count store.new) workspace.old workspace.new phase
         (message_.DidChangeWatchedFiles changes.now)) }
     ensures cut_short { OnErr result (IsCutShort workspace.old.grammar (standing_of workspace.old phase) (message_.DidChangeWatchedFiles changes.now)
@@ -33,6 +31,9 @@ pub(crate) fn watch<F: Store>(
     ensures files { F.files store.new ≡ F.files store.old }
 {
     workspace.agrees();
+    if !is_live(phase) {
+        return Ok(keeps_silent(alloc, phase));
+    }
     let replies = see_all(alloc, workspace, changes, store);
     workspace.agrees();
     Ok(Told {

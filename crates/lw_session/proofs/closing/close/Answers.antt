@@ -1,7 +1,11 @@
+use Rattle.std.proofs.Common.{◌∙◌, refl, subst, sym}
 use Rattle.lw_conversation.specs.Closing.{ClosesDocument}
 use Rattle.lw_conversation.specs.Effects as effect
 use Rattle.lw_rpc.specs.declared.message.Message.TheVariants.{DidClose}
-use Rattle.lw_session.proofs.Answers.{by_reads, closes}
+use Rattle.lw_session.proofs.Answers.{by_reads, closes, drops, unasked}
+use Rattle.lw_session.proofs.Answers as comes
+use Rattle.lw_session.specs.Answering.{IsAnsweredBy}
+use Rattle.lw_session.specs.declared.lifecycle.Told.{Told}
 use Rattle.lw_session.proofs.Handling.{cut_in_message, error_there}
 use Rattle.lw_session.proofs.closing.close.Goals as goal
 
@@ -10,7 +14,7 @@ returns-in_err-replies-clause-cut_short g c =
     let v = c.args.workspace.now in
     let address = c.args.address.now in
     error_there c.from_residual.result _
-    (cut_in_message v c.close_document-replies.new.workspace c.args.phase (DidClose address) (closes c.args.phase c.requires address) c.agrees.ensures.agrees
+    (cut_in_message v c.close_document-replies.new.workspace c.args.phase (DidClose address) (closes c.args.phase (comes.is_live c.args.phase (sym c.is_live.ensures ∙ c.if-not-is_live.false)) address) c.agrees.ensures.agrees
     c.agrees-2.ensures.agrees c.in_err-replies.ensures.grammar (λ m. ClosesDocument v.grammar m address) (λ asked n replies does. effect.closes does)
     c.in_err-replies.ensures.lost)
 
@@ -19,5 +23,14 @@ returns-clause-answered g c =
     let v = c.args.workspace.now in
     let address = c.args.address.now in
     by_reads (g.F.Store.files c.args.store.now) (g.F.Store.count c.args.store.now) (g.F.Store.count c.close_document-replies.new.store) v
-    c.close_document-replies.new.workspace c.args.phase c.requires (DidClose address) (closes c.args.phase c.requires address) (λ m. ClosesDocument v.grammar m address)
+    c.close_document-replies.new.workspace c.args.phase (comes.is_live c.args.phase (sym c.is_live.ensures ∙ c.if-not-is_live.false)) (DidClose address) (closes c.args.phase (comes.is_live c.args.phase (sym c.is_live.ensures ∙ c.if-not-is_live.false)) address) (λ m. ClosesDocument v.grammar m address)
     (λ asked n replies does. effect.closes does) c.agrees.ensures.agrees c.in_ok-replies.field-0 c.in_ok-replies.ensures.closes
+
+pub returns-then-not-is_live-clause-answered : goal.returns-then-not-is_live-clause-answered
+returns-then-not-is_live-clause-answered g c =
+    let v = c.args.workspace.now in
+    let files = g.F.Store.files c.args.store.now in
+    let count = g.F.Store.count c.args.store.now in
+    let message = DidClose c.args.address.now in
+    subst (λ (told : Told). IsAnsweredBy files count count v v c.args.phase message told) (sym c.keeps_silent.ensures)
+    (unasked files count v v c.args.phase message _ (drops v c.args.phase message c.agrees.ensures.agrees refl (sym c.is_live.ensures ∙ c.if-not-is_live.true)))
