@@ -21,3 +21,4 @@ pub mod WithinRules
 pub mod WithinTerminals
 pub mod WithinFiles
 pub mod Verdicts
+pub mod Decided

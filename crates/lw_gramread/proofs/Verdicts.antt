@@ -111,12 +111,12 @@ module _ (text : List ℕ) (tokens : List FileToken) (cut : IsFrontCut text toke
       full : openings d.front ≡ closings d.front + 64
       full = omega (arith, counted d.front 64 d.room_left d.shallow, o.2)
 
-  stuck_of : (spot : Spot) (left : List Lexeme) → file 64 (lexemes_of text tokens) ≡ Err (stop.Unexpected spot, left) → StuckAt 64 AtStart [] (lexemes_of text tokens) spot left
+  pub stuck_of : (spot : Spot) (left : List Lexeme) → file 64 (lexemes_of text tokens) ≡ Err (stop.Unexpected spot, left) → StuckAt 64 AtStart [] (lexemes_of text tokens) spot left
   stuck_of spot left e =
       stuck_at (lexemes_of text tokens) 64 AtStart [] spot left
       (of_unexpected (lexemes_of text tokens) (place 64 AtStart [] (lexemes_of text tokens)) (file 64 (lexemes_of text tokens)) (file_at 64 (lexemes_of text tokens)) spot left e)
 
-  deep_of : (left : List Lexeme) → file 64 (lexemes_of text tokens) ≡ Err (stop.TooDeep, left) → DeepAt 64 AtStart [] (lexemes_of text tokens) left
+  pub deep_of : (left : List Lexeme) → file 64 (lexemes_of text tokens) ≡ Err (stop.TooDeep, left) → DeepAt 64 AtStart [] (lexemes_of text tokens) left
   deep_of left e =
       deep_at (lexemes_of text tokens) 64 AtStart [] left
       (of_too_deep (lexemes_of text tokens) (place 64 AtStart [] (lexemes_of text tokens)) (file 64 (lexemes_of text tokens)) (file_at 64 (lexemes_of text tokens)) left e)
@@ -163,7 +163,7 @@ module _ (text : List ℕ) (tokens : List FileToken) (cut : IsFrontCut text toke
   onward_from all whole front t ts e = let r = goes_on all whole in (ts ++ r.0, r.1 ∙ ap (λ us. us ++ r.0) e ∙ append_assoc front (t ∷ ts) r.0)
 
   -- where the reader stopped the text says no grammar
-  none_from : (spot : Spot) (left : List Lexeme) → StuckAt 64 AtStart [] (lexemes_of text tokens) spot left → (g : Grammar) → ¬ Syntax text g
+  pub none_from : (spot : Spot) (left : List Lexeme) → StuckAt 64 AtStart [] (lexemes_of text tokens) spot left → (g : Grammar) → ¬ Syntax text g
   none_from spot [] s g = λ y.
       let all : lexemes_of text tokens ≡ s.front = s.parts ∙ append-nil s.front in
       let e : reach AtStart [] (lexemes_of text tokens) ≡ Some s.stack = ap (reach AtStart []) all ∙ s.reached in
@@ -173,7 +173,7 @@ module _ (text : List ℕ) (tokens : List FileToken) (cut : IsFrontCut text toke
       let r = onward_from y.tokens y.cut s.front t ts s.parts in
       not_spelled (lexemes_of text y.tokens) g (ap (reach AtStart []) r.1 ∙ none_behind s.front t r.0 s.stack s.reached s.blocked) y.spells
 
-  too_deep_from : (left : List Lexeme) → DeepAt 64 AtStart [] (lexemes_of text tokens) left → (g : Grammar) → ¬ Syntax text g
+  pub too_deep_from : (left : List Lexeme) → DeepAt 64 AtStart [] (lexemes_of text tokens) left → (g : Grammar) → ¬ Syntax text g
   too_deep_from left d g = λ y.
       let o = no_room_open d.room_left d.token d.no_room in
       let same : left ≡ Sign sign.OpenParenthesis o.0 ∷ d.rest = d.begins ∙ ap (λ t. t ∷ d.rest) o.1 in

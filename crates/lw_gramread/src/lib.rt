@@ -18,14 +18,16 @@
 //! answered that is not want of memory, the text says no grammar. A token that tells a form which is left
 //! out is told with that form, and no other is. All places that it gives are in the text.
 //!
-//! `Steps.antt` and the files of steps beside it are the reader's own way through a file; the lemmas show
-//! that what it comes to is what the rules say.
+//! `Steps.antt` and the files of steps beside it are the reader's own way through a file. It promises that
+//! what they come to is what the rules say ([`steps_decide_what_is_said`]).
 #![tactic(auto)]
 
 mod form;
+mod laws;
 mod lexeme;
 mod reader;
 
 pub use form::Form;
+pub use laws::steps_decide_what_is_said;
 pub use lexeme::{Lexeme, Reserved};
 pub use reader::{ReadFault, read_grammar};
