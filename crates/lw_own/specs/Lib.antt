@@ -1,0 +1,4 @@
+pub mod OwnText
+pub mod OwnGrammar
+pub mod Lift
+pub mod SameTokens
