@@ -1,15 +1,16 @@
-//! The grammar language in its own notation.
+//! The grammar language in its own notation: Own, a grammar file that says the syntax of grammar files.
+//!
+//! Its model: Own is a text, line by line, and the grammar that it says is written out. A tree that Own
+//! reads says a grammar in turn, node by node. The definitions stand in `specs/`:
+//!
+//! - `OwnText.antt`: Own's lines; `OwnGrammar.antt`: its rules and terminals; `Terminals.antt`: its patterns.
+//! - `Lift.antt`: which grammar a tree of Own says, and what of it is refused.
+//! - `SameTokens.antt`: the tokens of a grammar file beside those that Own's lexicon cuts it into.
+//!
+//! It promises that Own says that grammar ([`own_says_its_grammar`]), and that Own's terminal of strings
+//! matches just what is a string's token ([`strings_are_matched`]).
 #![tactic(auto)]
 
-ghost use Rattle.lw_gramread.specs.Syntax.{Syntax};
-ghost use Rattle.lw_own.specs.OwnGrammar.{own_grammar};
-ghost use Rattle.lw_own.specs.OwnText.{own_text};
+mod laws;
 
-use lw_gramread::steps_decide_what_is_said;
-
-/// The grammar language's own notation says its grammar, which is written out.
-pub fn own_says_its_grammar()
-    ensures { Syntax own_text own_grammar }
-{
-    steps_decide_what_is_said();
-}
+pub use laws::{own_says_its_grammar, strings_are_matched};
