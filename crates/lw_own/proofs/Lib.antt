@@ -6,3 +6,4 @@ pub mod HighBytes
 pub mod StringPattern
 pub mod StringBack
 pub mod Greedy
+pub mod NamePattern

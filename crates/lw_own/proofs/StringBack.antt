@@ -35,10 +35,10 @@ first_char t (d ∷ ds, u) some =
     let k = and_split _ _ u.0 in
     record { c = d; scalar = k.0; rest = encode_utf8_all ds; parts = sym u.1; utf8 = (ds, (k.1, refl)) }
 
-scalar_below : (c : ℕ) → IsScalar c → c < 0x11_0000
+pub scalar_below : (c : ℕ) → IsScalar c → c < 0x11_0000
 scalar_below c s = grind (arith, nat_tests)
 
-both_true : (x y : Bool) → x ≡ true → y ≡ true → (x && y) ≡ true
+pub both_true : (x y : Bool) → x ≡ true → y ≡ true → (x && y) ≡ true
 both_true true y e f = f
 both_true false y e f = absurd (cc e)
 
@@ -58,7 +58,7 @@ module _ (hay : List ℕ) where
   star_first a i l j m (inl r) = inl (rounds_first (Matches hay a) i l j m r)
   star_first a i l j m (inr e) = inl (subst (Rounds (Matches hay a) i) (sym e) (one_round l m))
 
-  start_holds : holds Start hay 0 ≡ true
+  pub start_holds : holds Start hay 0 ≡ true
   unfolding holds holds_between
   start_holds = rw (byte_before-zero hay) refl
 
@@ -259,7 +259,7 @@ read_at : (text : List ℕ) → match_length string_pattern text ≡ at_start (f
 unfolding match_length
 read_at text = ap (option_and_then (λ re. match_at_start re text)) read_so
 
-started : (m : Match) (n : ℕ) → length_at_start m ≡ Some n → (m.start ≡ 0) × (m.trace.end ≡ n)
+pub started : (m : Match) (n : ℕ) → length_at_start m ≡ Some n → (m.start ≡ 0) × (m.trace.end ≡ n)
 started m n e = by (m.start == 0) refl e
   where
     by : (b : Bool) → (m.start == 0) ≡ b → (if b then Some m.trace.end else None) ≡ Some n → (m.start ≡ 0) × (m.trace.end ≡ n)

@@ -52,7 +52,7 @@ other_than c a more e = by (c == a) refl e
     by true f h = absurd (cc h)
     by false f h = (λ same. absurd (cc (f, eq-eqb c a same)), h)
 
-no_range_at : (b : ℕ) → in_ranges [] b ≡ true → ⊥
+pub no_range_at : (b : ℕ) → in_ranges [] b ≡ true → ⊥
 unfolding in_ranges
 no_range_at b h = absurd (cc h)
 

@@ -13,6 +13,7 @@ use Rattle.lw_grammar.specs.declared.terminal.Primitive.TheVariants as primitive
 use Rattle.lw_grammar.specs.declared.terminal.Terminal.{Terminal}
 use Rattle.lw_grammar.specs.declared.terminal.TermElement.TheVariants as term
 use Rattle.lw_gramread.specs.Spans.{group_of, choice_of}
+use Rattle.lw_own.specs.Terminals.{blank_pattern, line_comment_pattern, block_comment_pattern, name_pattern, string_pattern, regex_pattern}
 
 abbrev at : ℕ → ℕ → Span
 at first last = record { start = first; end = last }
@@ -235,25 +236,31 @@ unfolding feature_body
 feature_rule = record { name = codes "Feature"; file = 0; span = (at 1732 1739); is_entry = false; is_fragment = false; result = result.Gives primitive.Text; body = feature_body }
 
 unfoldable pub terminal_ws : Terminal
-terminal_ws = record { name = codes "WS"; file = 0; span = (at 1986 1988); is_hidden = true; is_fragment = false; gives = primitive.Text; body = term.Pattern (codes "[\\x09-\\x0D\\x20\\x{85}\\x{A0}\\x{1680}\\x{2000}-\\x{200A}\\x{2028}\\x{2029}\\x{202F}\\x{205F}\\x{3000}]+") (at 1990 2085) }
+unfolding blank_pattern
+terminal_ws = record { name = codes "WS"; file = 0; span = (at 1986 1988); is_hidden = true; is_fragment = false; gives = primitive.Text; body = term.Pattern blank_pattern (at 1990 2085) }
 
 unfoldable pub terminal_sl_comment : Terminal
-terminal_sl_comment = record { name = codes "SL_COMMENT"; file = 0; span = (at 2103 2113); is_hidden = true; is_fragment = false; gives = primitive.Text; body = term.Pattern (codes "\\/\\/[^\\r\\n]*") (at 2115 2129) }
+unfolding line_comment_pattern
+terminal_sl_comment = record { name = codes "SL_COMMENT"; file = 0; span = (at 2103 2113); is_hidden = true; is_fragment = false; gives = primitive.Text; body = term.Pattern line_comment_pattern (at 2115 2129) }
 
 unfoldable pub terminal_ml_comment : Terminal
-terminal_ml_comment = record { name = codes "ML_COMMENT"; file = 0; span = (at 2147 2157); is_hidden = true; is_fragment = false; gives = primitive.Text; body = term.Pattern (codes "\\/\\*[\\s\\S]*?\\*\\/") (at 2159 2177) }
+unfolding block_comment_pattern
+terminal_ml_comment = record { name = codes "ML_COMMENT"; file = 0; span = (at 2147 2157); is_hidden = true; is_fragment = false; gives = primitive.Text; body = term.Pattern block_comment_pattern (at 2159 2177) }
 
 unfoldable pub terminal_id : Terminal
-terminal_id = record { name = codes "ID"; file = 0; span = (at 2188 2190); is_hidden = false; is_fragment = false; gives = primitive.Text; body = term.Pattern (codes "\\^?[a-zA-Z_][a-zA-Z0-9_]*") (at 2192 2219) }
+unfolding name_pattern
+terminal_id = record { name = codes "ID"; file = 0; span = (at 2188 2190); is_hidden = false; is_fragment = false; gives = primitive.Text; body = term.Pattern name_pattern (at 2192 2219) }
 
 unfoldable pub terminal_string : Terminal
-terminal_string = record { name = codes "STRING"; file = 0; span = (at 2230 2236); is_hidden = false; is_fragment = false; gives = primitive.Text; body = term.Pattern (codes "'(?:[^'\\\\]|\\\\[^\\n])*'|\"(?:[^\"\\\\]|\\\\[^\\n])*\"") (at 2238 2283) }
+unfolding string_pattern
+terminal_string = record { name = codes "STRING"; file = 0; span = (at 2230 2236); is_hidden = false; is_fragment = false; gives = primitive.Text; body = term.Pattern string_pattern (at 2238 2283) }
 
 unfoldable pub terminal_regex : Terminal
-terminal_regex = record { name = codes "REGEX"; file = 0; span = (at 2294 2299); is_hidden = false; is_fragment = false; gives = primitive.Text; body = term.Pattern (codes "\\/(?:[^\\r\\n\\[\\/\\\\*]|\\\\[^\\r\\n]|\\[(?:[^\\r\\n\\]\\\\]|\\\\[^\\r\\n])*\\])(?:[^\\r\\n\\[\\/\\\\]|\\\\[^\\r\\n]|\\[(?:[^\\r\\n\\]\\\\]|\\\\[^\\r\\n])*\\])*\\/[a-z]*") (at 2301 2431) }
+unfolding regex_pattern
+terminal_regex = record { name = codes "REGEX"; file = 0; span = (at 2294 2299); is_hidden = false; is_fragment = false; gives = primitive.Text; body = term.Pattern regex_pattern (at 2301 2431) }
 
 unfoldable pub own_grammar : Grammar
-unfolding file_rule import_rule item_rule rule_rule interface_rule attribute_rule single_rule union_rule parser_rule_rule choice_rule seq_rule element_rule assign_rule keyword_rule call_rule group_rule value_rule value_group_rule cross_rule action_rule terminal_rule t_choice_rule t_seq_rule t_elem_rule t_text_rule t_regex_rule t_group_rule op_rule card_rule primitive_rule feature_rule terminal_ws terminal_sl_comment terminal_ml_comment terminal_id terminal_string terminal_regex file_body import_body item_body rule_body interface_body attribute_body single_body union_body parser_rule_body choice_body seq_body element_body assign_body keyword_body call_body group_body value_body value_group_body cross_body action_body terminal_body t_choice_body t_seq_body t_elem_body t_text_body t_regex_body t_group_body op_body card_body primitive_body feature_body
+unfolding file_rule import_rule item_rule rule_rule interface_rule attribute_rule single_rule union_rule parser_rule_rule choice_rule seq_rule element_rule assign_rule keyword_rule call_rule group_rule value_rule value_group_rule cross_rule action_rule terminal_rule t_choice_rule t_seq_rule t_elem_rule t_text_rule t_regex_rule t_group_rule op_rule card_rule primitive_rule feature_rule terminal_ws terminal_sl_comment terminal_ml_comment terminal_id terminal_string terminal_regex file_body import_body item_body rule_body interface_body attribute_body single_body union_body parser_rule_body choice_body seq_body element_body assign_body keyword_body call_body group_body value_body value_group_body cross_body action_body terminal_body t_choice_body t_seq_body t_elem_body t_text_body t_regex_body t_group_body op_body card_body primitive_body feature_body blank_pattern line_comment_pattern block_comment_pattern name_pattern string_pattern regex_pattern
 own_grammar = record {
   name = codes "Langium";
   files = [];
