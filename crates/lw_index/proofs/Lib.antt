@@ -11,6 +11,7 @@ pub mod View
 pub mod Asked
 pub mod Gathered
 pub mod OthersLemmas
+pub mod Free
 pub mod Exchanged
 pub mod LetteredLemmas
 pub mod Order

@@ -7,6 +7,7 @@ ghost use Rattle.lw_index.specs.Firsts.{IsFirstExport, NoneWanted};
 ghost use Rattle.lw_index.specs.Rivals.{IsLeastRival, HasNoRival};
 
 mod elsewhere;
+mod free;
 
 use crate::exporters::{first_of_type, first_wanted};
 use crate::names::{Names, offer_all, reserve_all, sweep_all, withdraw_all};

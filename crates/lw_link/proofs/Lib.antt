@@ -6,3 +6,4 @@ pub mod NamesSorted
 pub mod PutLevels
 pub mod Leading
 pub mod Reached
+pub mod CountLemmas

@@ -1,3 +1,4 @@
 pub mod Indexed
 pub mod Alone
 pub mod Visible
+pub mod Counts

@@ -12,8 +12,8 @@
 //! (`specs/Indexed.antt`), which has the address in place of the number; an index stands for trees by their addresses where it holds
 //! exactly what they export (`IsIndexOf`).
 //!
-//! It promises that each answer stands for the one link that the reference has over those trees, and that a look-up counts at most one
-//! step; that [`visible`] gives exactly those names, in the order of their bytes, each once, and that [`finds`] tells it exactly, neither of
+//! It promises that each answer stands for the one link that the reference has over those trees. A reference that no symbol of its own tree
+//! answers counts one step, and no other counts one (`specs/Counts.antt`). It promises that [`visible`] gives exactly those names, in the order of their bytes, each once, and that [`finds`] tells it exactly, neither of
 //! which counts a step.
 #![tactic(auto)]
 

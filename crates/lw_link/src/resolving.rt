@@ -1,5 +1,5 @@
 // Where references lead.
-ghost use Rattle.std.specs.Prelude.{◌≡◌, ◌<◌, ◌≤◌, ◌+◌, ◌⊎◌, ℕ, List, Some, IfOk, All, length, map, slice_get};
+ghost use Rattle.std.specs.Prelude.{◌≡◌, ◌<◌, ◌≤◌, ◌+◌, ◌⊎◌, ℕ, List, Some, IfOk, OnOk, All, length, map, slice_get};
 ghost use Rattle.std.specs.List.{AllZip};
 ghost use Rattle.lw_grammar.specs.declared.grammar.Grammar.{Grammar};
 ghost use Rattle.lw_link_rules.specs.Links.{IsNumberBelow};
@@ -10,6 +10,7 @@ ghost use Rattle.lw_numbers.specs.Numbering.{type_names};
 ghost use Rattle.lw_tree.specs.declared.node.Reference.{Reference};
 ghost use Rattle.lw_reading.specs.Known.{HasKnownTypes};
 ghost use Rattle.lw_types.specs.Inferred.{AreTypesOf};
+ghost use Rattle.lw_link.specs.Counts.{CountsLookUp, CountsLookUps};
 ghost use Rattle.lw_link.specs.Indexed.{IsDocumentOf, IsIndexOf, LeadsIntoHeld, link_of};
 
 use lw_base::{DocId, NoMemory, RefId, Steps};
@@ -39,6 +40,7 @@ fn answer_to<L: Ledger>(
         IsDocumentOf trees index.now doc.0 address tree.now →
         LinksTo (IsNumberBelow g) trees address tree.now reference.now (link_of index.now result) }
     ensures held { (trees : Trees) (address : List ℕ) → IsDocumentOf trees index.now doc.0 address tree.now → LeadsIntoHeld index.now result }
+    ensures counts { (g : Grammar) → AreTypesOf g types.now → CountsLookUp (IsNumberBelow g) tree.now reference.now steps.old steps.new }
     ensures ticks { (steps.new ≡ steps.old) ⊎ (steps.new ≡ steps.old + 1) }
 {
     let fits = types.subs(reference.want);
@@ -71,13 +73,16 @@ pub fn resolve<L: Ledger>(
         IsDocumentOf trees index.now doc.0 address tree.now → slice_get tree.now.refs reference.0 ≡ Some r →
         LinksTo (IsNumberBelow g) trees address tree.now r (link_of index.now result) }
     ensures held { (trees : Trees) (address : List ℕ) → IsDocumentOf trees index.now doc.0 address tree.now → LeadsIntoHeld index.now result }
+    ensures counts { (g : Grammar) (r : Reference) → AreTypesOf g types.now → slice_get tree.now.refs reference.0 ≡ Some r →
+        CountsLookUp (IsNumberBelow g) tree.now r steps.old steps.new }
     ensures ticks { (steps.new ≡ steps.old) ⊎ (steps.new ≡ steps.old + 1) }
 {
     let reference = &tree.refs()[reference.0 as usize];
     answer_to(tree, locals, doc, reference, index, types, steps)
 }
 
-/// Where each reference of the document `doc` leads, in their order. It counts at most one step for each. Want of memory is the only error.
+/// Where each reference of the document `doc` leads, in their order. It counts one step for each that no symbol of the tree fits, and at most
+/// one for each where memory is refused. Want of memory is the only error.
 pub fn answers<L: Ledger>(
     alloc: Global,
     tree: &Tree,
@@ -97,6 +102,7 @@ pub fn answers<L: Ledger>(
         IfOk result (λ found. AllZip (LinksTo (IsNumberBelow g) trees address tree.now) tree.now.refs (map (link_of index.now) found.items)) }
     ensures held { (trees : Trees) (address : List ℕ) → IsDocumentOf trees index.now doc.0 address tree.now →
         IfOk result (λ found. All (LeadsIntoHeld index.now) found.items) }
+    ensures counts { OnOk result ((g : Grammar) → AreTypesOf g types.now → CountsLookUps (IsNumberBelow g) tree.now tree.now.refs steps.old steps.new) }
     ensures ticks { (steps.old ≤ steps.new) × (steps.new ≤ steps.old + length tree.now.refs) }
 {
     let mut found = Vec::with_capacity(alloc, tree.refs().len())?;

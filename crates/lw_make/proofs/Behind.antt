@@ -14,7 +14,6 @@ use Rattle.lw_text.specs.Lines.{AreLines, last, next, IsNoBreak, Line, line_feed
 use Rattle.lw_text.specs.Offset.{IsOffset, in_line}
 use Rattle.lw_text.specs.declared.place.Pos.{Pos}
 use Rattle.lw_text.specs.declared.units.Encoding.TheVariants.{Utf16}
-use Rattle.lw_base.specs.declared.limits.TheConstants.{GREATEST_WORKSPACE}
 use Rattle.lw_make.specs.Made.{behind_model, edit_line, made_change, made_text, model_line, state_line, state_lines}
 use Rattle.lw_make.proofs.Lengths.{text_fits}
 
@@ -93,12 +92,12 @@ not_bad document bad = elim bad [ inl line ↦ omega arith | inr character ↦ o
 length-edit_line : (document : ℕ) → length (edit_line document) ≡ 17 + 2 * length (decimal document)
 length-edit_line document = simp length-append (omega arith)
 
-pub edit_goes_behind : (document count : ℕ) → document < count → count ≤ GREATEST_WORKSPACE →
+pub edit_goes_behind : (document count : ℕ) → document < count → count < 2 ^ 32 →
     Changes Utf16 (made_text document count) (made_change document ∷ []) (Ok (model_line document ++ edit_line document ++ state_lines document ((document + 1) % count)))
 edit_goes_behind document count low most =
     let front = model_line document in
     let back = state_lines document ((document + 1) % count) in
-    let short = length-decimal-le 4 document (omega arith) (omega arith) (omega arith) in
+    let short = length-decimal-le 10 document (omega arith) (omega arith) (omega arith) in
     made (and_then _ (record {
       ordered = not_bad document;
       changed = put_in front back (edit_line document) behind_model (is_behind document ((document + 1) % count) (omega arith));

@@ -12,7 +12,7 @@ use Rattle.lw_machine.proofs.Contents.{to_end_same}
 use Rattle.lw_machine.proofs.Places.{put_elsewhere}
 use Rattle.lw_make.specs.Made.{edit_count, made_address, made_edit}
 use Rattle.lw_make.specs.declared.edits.MadeEdit.{MadeEdit}
-use Rattle.lw_base.specs.declared.limits.TheConstants.{GREATEST_WORKSPACE}
+use Rattle.lw_base.specs.declared.limits.TheConstants.{MOST_DOCUMENTS}
 use Rattle.lw_text.specs.Changes.{AreMade, Changes, made as is_made}
 use Rattle.lw_text.specs.declared.change.Change.{Change}
 use Rattle.lw_text.specs.declared.units.Encoding.TheVariants.{Utf16}
@@ -65,18 +65,18 @@ same_texts g m n lists builds a =
     of_content None = refl
     of_content (Some d) = refl
 
-pub none_edited : AreDistinct → (g : Grammar) (count : ℕ) (n : Documents) (lists : List Published) → count ≤ GREATEST_WORKSPACE → BuildsToEnd g (made count count) n lists →
+pub none_edited : AreDistinct → (g : Grammar) (count : ℕ) (n : Documents) (lists : List Published) → count ≤ MOST_DOCUMENTS → BuildsToEnd g (made count count) n lists →
     AreUnedited count 0 n
 none_edited distinct g count n lists most builds number from low =
     same_texts g (made count count) n lists builds (made_address (made_edit number).document)
     ∙ made_texts distinct count count (made_edit number).document most (omega arith)
 
-others_apart : AreDistinct → (count number other : ℕ) → count ≤ GREATEST_WORKSPACE → number < other → other < edit_count count →
+others_apart : AreDistinct → (count number other : ℕ) → count ≤ MOST_DOCUMENTS → number < other → other < edit_count count →
     made_address (made_edit other).document ≢ made_address (made_edit number).document
 others_apart distinct count number other most less low same =
     let one = distinct (made_edit other).document (made_edit number).document (omega arith) (omega arith) same in omega (arith, one)
 
-pub one_edited : AreDistinct → (g : Grammar) (count number : ℕ) (m n : Documents) (d : Document) (text : List ℕ) (lists : List Published) → count ≤ GREATEST_WORKSPACE →
+pub one_edited : AreDistinct → (g : Grammar) (count number : ℕ) (m n : Documents) (d : Document) (text : List ℕ) (lists : List Published) → count ≤ MOST_DOCUMENTS →
     AreUnedited count number m → BuildsToEnd g (insert m (made_address (made_edit number).document) (edited d text (made_edit number).version)) n lists →
     AreUnedited count (number + 1) n
 one_edited distinct g count number m n d text lists most unedited builds other from low =

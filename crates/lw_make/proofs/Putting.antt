@@ -1,5 +1,5 @@
 -- The documents of a workspace that is being made, put one by one: how many there are, and their texts.
-use Rattle.std.proofs.Common.{◌≡◌, ℕ, zero, suc, ◌+◌, ◌<◌, ◌≤◌, List, [], ◌∷◌, ◌++◌, length, Bool, true, false, cond, Option, Some, None, option_map, refl, sym, ap, ◌∙◌, subst, inl, inr, arith, add-one}
+use Rattle.std.proofs.Common.{◌≡◌, ℕ, zero, suc, ◌+◌, ◌^◌, ◌<◌, ◌≤◌, List, [], ◌∷◌, ◌++◌, length, Bool, true, false, cond, Option, Some, None, option_map, refl, sym, ap, ◌∙◌, subst, inl, inr, arith, add-one}
 use Rattle.std.specs.Cmp.Lexicographic.{nat_list_cmp_total}
 use Rattle.std.specs.FinMap.{contains_key, empty, get, insert, len, len-empty, len-insert}
 use Rattle.std.specs.List.{range_with_len}
@@ -10,7 +10,7 @@ use Rattle.lw_machine.specs.Documents.{Document, Documents, present_texts}
 use Rattle.lw_machine.specs.Events.{put, with_text}
 use Rattle.lw_machine.proofs.Places.{order, put_here, put_elsewhere}
 use Rattle.lw_make.specs.Made.{made_address, made_text}
-use Rattle.lw_base.specs.declared.limits.TheConstants.{GREATEST_WORKSPACE}
+use Rattle.lw_base.specs.declared.limits.TheConstants.{MOST_DOCUMENTS}
 use Rattle.lw_make.specs.Making.{with_made}
 
 -- ---- one number more
@@ -60,13 +60,13 @@ text_put (Some d) text = refl
 
 -- no two documents have one address
 abbrev pub AreDistinct : Type 0
-AreDistinct = (document other : ℕ) → document < GREATEST_WORKSPACE → other < GREATEST_WORKSPACE → made_address document ≡ made_address other → document ≡ other
+AreDistinct = (document other : ℕ) → document < 2 ^ 32 → other < 2 ^ 32 → made_address document ≡ made_address other → document ≡ other
 
 module _ (distinct : AreDistinct) (count : ℕ) where
   abbrev HasText : ℕ → ℕ → Type 0
   HasText n d = present_texts (made count n) (made_address d) ≡ Some (made_text d count)
 
-  text_more : (n d : ℕ) → n < GREATEST_WORKSPACE → d < n + 1 → (d < n → HasText n d) → HasText (n + 1) d
+  text_more : (n d : ℕ) → n < MOST_DOCUMENTS → d < n + 1 → (d < n → HasText n d) → HasText (n + 1) d
   text_more n d most low before =
       ap (λ (m : Documents). present_texts m (made_address d)) (made_more count n) ∙ elim (cases_eq d n) [
         | inl last ↦
@@ -83,7 +83,7 @@ module _ (distinct : AreDistinct) (count : ℕ) where
       one : Document
       one = with_text (get (made count n) (made_address n)) (made_text n count) None false
 
-  pub made_texts : (n d : ℕ) → n ≤ GREATEST_WORKSPACE → d < n → HasText n d
+  pub made_texts : (n d : ℕ) → n ≤ MOST_DOCUMENTS → d < n → HasText n d
   made_texts zero d most low = absurd (omega arith)
   made_texts (suc n) d most low =
       subst (λ k. HasText k d) (add-one n)

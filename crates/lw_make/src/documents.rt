@@ -2,15 +2,18 @@
 ghost use Rattle.std.specs.Prelude.{◌≡◌, ◌<◌, ◌≤◌, ◌++◌, length, string_bytes, IfOk};
 ghost use Rattle.lw_make.specs.Made as spec;
 
-use lw_base::{GREATEST_WORKSPACE, Name, NoMemory};
+use lw_base::{Name, NoMemory};
 use std::alloc::Global;
 use std::fmt::Write;
 
 /// How many states each document has.
 pub const STATES: u32 = 20;
 
-/// The length of the longest text, in bytes.
-pub const LONGEST_MADE_TEXT: usize = 842;
+/// The length of the longest text, in bytes: that of a document whose number has ten digits.
+pub const LONGEST_MADE_TEXT: usize = 1_208;
+
+/// The length of a text whose numbers have four digits.
+const USUAL_MADE_TEXT: usize = 842;
 
 /// The address of a document, by its number.
 #[tactic(auto, using(crate::proofs::Addresses::padded_to_four))]
@@ -21,15 +24,14 @@ pub fn made_address(alloc: Global, document: u32) -> Result<Name, NoMemory>
     Ok(Name::from_string(address))
 }
 
-/// The text of a document of `count`. Room for it is taken once.
+/// The text of a document of `count`. Room for it is taken once where its numbers have four digits at most.
 #[tactic(auto, using(crate::proofs::Lengths::text_fits))]
 pub fn made_text(alloc: Global, document: u32, count: u32) -> Result<Name, NoMemory>
     requires document { document < count }
-    requires greatest { count ≤ GREATEST_WORKSPACE }
     ensures text { IfOk result (λ text. text ≡ spec.made_text document count) }
     ensures fits { IfOk result (λ text. length text ≤ LONGEST_MADE_TEXT) }
 {
-    let mut text = String::with_capacity(alloc, LONGEST_MADE_TEXT)?;
+    let mut text = String::with_capacity(alloc, USUAL_MADE_TEXT)?;
     write_model(&mut text, document)?;
     write_states(&mut text, document, (document + 1) % count)?;
     Ok(Name::from_string(text))

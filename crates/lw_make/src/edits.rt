@@ -1,8 +1,8 @@
 // The edits that are made in documents.
-ghost use Rattle.std.specs.Prelude.{◌≡◌, ◌<◌, IfOk};
+ghost use Rattle.std.specs.Prelude.{◌≡◌, ◌<◌, ◌^◌, IfOk};
 ghost use Rattle.lw_make.specs.Made as spec;
 
-use lw_base::{GREATEST_WORKSPACE, Name, NoMemory};
+use lw_base::{Name, NoMemory};
 use lw_text::{Change, Pos};
 use std::alloc::Global;
 
@@ -24,9 +24,9 @@ pub fn edit_count(count: u32) -> u32
     count / DOCUMENTS_PER_EDIT
 }
 
-/// An edit, by its number.
+/// An edit, by its number, where the number of its document is one of a `u32`.
 pub fn made_edit(alloc: Global, number: u32) -> Result<MadeEdit, NoMemory>
-    requires { number < spec.edit_count GREATEST_WORKSPACE }
+    requires { (spec.made_edit number).document < 2 ^ 32 }
     ensures { IfOk result (λ edit. edit ≡ spec.made_edit number) }
 {
     let document = DOCUMENTS_PER_EDIT * number;

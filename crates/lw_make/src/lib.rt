@@ -5,9 +5,9 @@
 //! and an edit is what a client would send. `specs/Made.antt` says what each of them is.
 //!
 //! It promises that the calls give exactly what is defined and fail only for want of memory. They are
-//! [`made_address`], [`made_text`], [`made_edit`] and [`edit_count`]. No two documents have one address, of as
-//! many as a workspace may have ([`addresses_are_distinct`]). The length of a text in bytes is what the digits of
-//! two numbers say, and 842 at most ([`texts_have_their_lengths`]). Each edit is on a document of the workspace,
+//! [`made_address`], [`made_text`], [`made_edit`] and [`edit_count`]. No two documents have one address
+//! ([`addresses_are_distinct`]). The length of a text in bytes is what the digits of
+//! two numbers say, and 1,208 at most ([`texts_have_their_lengths`]). Each edit is on a document of the workspace,
 //! and puts its line behind the first ([`edits_go_behind_the_model`]).
 //!
 //! In a folder of its own stands:

@@ -9,11 +9,13 @@ fn a_workspace_is_made(rt: HostRuntime) -> Result<(), Fail> {
     let address = made_address(alloc, 9_998)?;
     assert_eq!(rt; address.text(), "file:///made/d9998.s");
     let text = made_text(alloc, 9_997, GREATEST_WORKSPACE)?;
-    assert_eq!(rt; text.bytes().len(), LONGEST_MADE_TEXT);
+    assert_eq!(rt; text.bytes().len(), 842);
     assert!(rt;
         text.text()
             .ends_with("state s9997_19 to s9997_0 to s9998_19 end\n")
     );
+    let longest = made_text(alloc, 4_000_000_000, u32::MAX)?;
+    assert_eq!(rt; longest.bytes().len(), LONGEST_MADE_TEXT);
     assert_eq!(rt; edit_count(GREATEST_WORKSPACE), 999);
     let edit = made_edit(alloc, 998)?;
     assert_eq!(rt; edit.document, 9_980);

@@ -16,7 +16,7 @@ use crate::{
     addresses_are_distinct, edit_count, edits_go_behind_the_model, made_address, made_edit,
     made_text,
 };
-use lw_base::{GREATEST_WORKSPACE, NoMemory, Steps};
+use lw_base::{MOST_DOCUMENTS, NoMemory, Steps};
 use lw_build::{WorkFault, Workspace};
 use lw_lang::Language;
 use std::alloc::Global;
@@ -29,7 +29,7 @@ pub struct MadeWorkspace {
     pub summary: Summary,
 }
 
-/// Makes a workspace of so many documents and sums it up: they are put and built, and then their edits are made in their order, with a
+/// Makes a workspace of so many documents, at most those that a workspace holds, and sums it up: they are put and built, and then their edits are made in their order, with a
 /// build behind each. Want of memory is the only error; a sum that no `u64` holds would be one, too.
 pub fn make<L: Ledger>(
     alloc: Global,
@@ -37,7 +37,7 @@ pub fn make<L: Ledger>(
     count: u32,
     steps: &mut Steps<L>,
 ) -> Result<MadeWorkspace, NoMemory>
-    requires greatest { count ≤ GREATEST_WORKSPACE }
+    requires greatest { count ≤ MOST_DOCUMENTS }
     requires one_way { IsReadOneWay language.grammar }
     ensures made { IfOk result (λ made. (lists : List Published) × IsMade language.grammar count (documents made.workspace) lists
         × IsSummary language.grammar (documents made.workspace) lists made.summary) }
@@ -55,7 +55,7 @@ pub fn make<L: Ledger>(
 
 /// Puts the documents of a workspace of so many in their order.
 fn put_all(alloc: Global, workspace: &mut Workspace, count: u32) -> Result<(), NoMemory>
-    requires greatest { count ≤ GREATEST_WORKSPACE }
+    requires greatest { count ≤ MOST_DOCUMENTS }
     requires empty { workspace.old.kept ≡ empty }
     ensures stands { OnOk result (Agrees workspace.new (with_made count empty (range_with_len 0 count))) }
     ensures grammar { workspace.new.grammar ≡ workspace.old.grammar }
@@ -75,7 +75,7 @@ fn put_one(
     count: u32,
 ) -> Result<(), NoMemory>
     requires document { document < count }
-    requires greatest { count ≤ GREATEST_WORKSPACE }
+    requires greatest { count ≤ MOST_DOCUMENTS }
     requires stands { Agrees workspace.old (with_made count empty (range_with_len 0 document)) }
     ensures stands { OnOk result (Agrees workspace.new (with_made count empty (range_with_len 0 (document + 1)))) }
     ensures grammar { workspace.new.grammar ≡ workspace.old.grammar }
@@ -106,7 +106,7 @@ fn edit_all<L: Ledger>(
     first: u64,
     steps: &mut Steps<L>,
 ) -> Result<u64, NoMemory>
-    requires greatest { count ≤ GREATEST_WORKSPACE }
+    requires greatest { count ≤ MOST_DOCUMENTS }
     requires unedited { AreUnedited count 0 (documents workspace.old) }
     requires built { workspace.old.is_built ≡ true }
     ensures edited { IfOk result (λ published. (lists : List Published)
@@ -132,7 +132,7 @@ fn edit_one<L: Ledger>(
     steps: &mut Steps<L>,
 ) -> Result<usize, NoMemory>
     requires number { number < spec.edit_count count }
-    requires greatest { count ≤ GREATEST_WORKSPACE }
+    requires greatest { count ≤ MOST_DOCUMENTS }
     requires unedited { AreUnedited count number (documents workspace.old) }
     ensures edited { IfOk result (λ told. (lists : List Published)
         × AreEdited workspace.old.grammar (documents workspace.old) (number ∷ []) (documents workspace.new) lists × (told ≡ length lists)) }

@@ -1,8 +1,9 @@
-use Rattle.std.proofs.Common.{[], get_or}
+use Rattle.std.proofs.Common.{[], get_or, refl, Some, None}
 use Rattle.lw_numbers.specs.Numbering.{type_names}
 use Rattle.lw_link.specs.Indexed.{found, missing}
 use Rattle.lw_link.proofs.Known.{want_named}
-use Rattle.lw_link.proofs.Linked.{found_own, found_out, found_nowhere}
+use Rattle.lw_link.specs.Counts as counts
+use Rattle.lw_link.proofs.Linked.{found_own, found_out, found_nowhere, own_below}
 use Rattle.lw_link.proofs.resolving.answer_to.Goals as goal
 
 pub returns-in-Some-clause-link : goal.returns-in-Some-clause-link
@@ -35,3 +36,21 @@ returns-in-Some-first-clause-held g c trees address is_document =
 
 pub returns-in-None-first-clause-held : goal.returns-in-None-first-clause-held
 returns-in-None-first-clause-held g c trees address is_document = missing
+
+pub returns-in-Some-clause-counts : goal.returns-in-Some-clause-counts
+returns-in-Some-clause-counts g c h are =
+    let high = get_or (type_names h) c.args.reference.now.want.0 [] in
+    let named = want_named c.args.types.now c.args.reference.now c.requires.known h are in
+    counts.own (own_below h c.args.reference.now high c.subs-fits.result.now named (c.subs-fits.ensures h high are named) c.args.tree.now (Some c.in-Some.node.0) c.in-Some.ensures) refl
+
+pub returns-in-Some-first-clause-counts : goal.returns-in-Some-first-clause-counts
+returns-in-Some-first-clause-counts g c h are =
+    let high = get_or (type_names h) c.args.reference.now.want.0 [] in
+    let named = want_named c.args.types.now c.args.reference.now c.requires.known h are in
+    counts.asks (own_below h c.args.reference.now high c.subs-fits.result.now named (c.subs-fits.ensures h high are named) c.args.tree.now None c.in-None.ensures) c.in-Some-first.ensures.ticks
+
+pub returns-in-None-first-clause-counts : goal.returns-in-None-first-clause-counts
+returns-in-None-first-clause-counts g c h are =
+    let high = get_or (type_names h) c.args.reference.now.want.0 [] in
+    let named = want_named c.args.types.now c.args.reference.now c.requires.known h are in
+    counts.asks (own_below h c.args.reference.now high c.subs-fits.result.now named (c.subs-fits.ensures h high are named) c.args.tree.now None c.in-None.ensures) c.in-None-first.ensures.ticks

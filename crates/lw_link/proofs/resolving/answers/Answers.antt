@@ -7,6 +7,8 @@ use Rattle.lw_scoping.specs.Links.{Link, LinksTo}
 use Rattle.lw_tree.specs.declared.node.Reference.{Reference}
 use Rattle.lw_link.specs.Indexed.{LeadsIntoHeld, link_of}
 use Rattle.lw_base.proofs.Rows.{mapped_more}
+use Rattle.lw_link.specs.Counts.{CountsLookUps}
+use Rattle.lw_link.proofs.CountLemmas.{count_more}
 use Rattle.lw_link.proofs.resolving.answers.Goals as goal
 
 pub loop-reference-preserved : goal.loop-reference-preserved
@@ -22,6 +24,11 @@ loop-reference-preserved g c = record {
       All-same (LeadsIntoHeld c.args.index.now) c.push.new.self.items (c.loop-reference.found.items ++ c.answer_to.result ∷ []) c.in_ok-push.ensures.items
       (All-push (LeadsIntoHeld c.args.index.now) c.loop-reference.found.items c.answer_to.result (c.loop-reference.invariant.held trees address is_document)
       (c.answer_to.ensures.held trees address is_document));
+  counts = λ h are.
+      let refs = c.refs-reference-items.result.now in
+      let inside : c.loop-reference.reference-index < length refs = omega arith in
+      count_more (IsNumberBelow h) c.args.tree.now refs c.loop-reference.reference-index c.reference-item.result c.args.steps.now c.loop-reference.steps
+      c.answer_to.new.steps inside c.reference-item.is (c.loop-reference.invariant.counts h are) (c.answer_to.ensures.counts h are);
   count = omega (arith, c.in_ok-push.ensures.len, c.loop-reference.invariant.count);
   since = elim c.answer_to.ensures.ticks [
     | inl same ↦ omega (arith, same, c.loop-reference.invariant.since)
@@ -40,3 +47,10 @@ returns-clause-links g c h trees address are is_index is_document =
     subst (λ (refs : List Reference). AllZip (LinksTo (IsNumberBelow h) trees address c.args.tree.now) refs links)
     (take_all c.loop-reference.reference-index c.refs-reference-items.result.now past ∙ c.refs-reference-items.ensures)
     (c.loop-reference.invariant.links h trees address are is_index is_document)
+
+pub returns-clause-counts : goal.returns-clause-counts
+returns-clause-counts g c h are =
+    let past : length c.refs-reference-items.result.now ≤ c.loop-reference.reference-index = omega arith in
+    subst (λ (refs : List Reference). CountsLookUps (IsNumberBelow h) c.args.tree.now refs c.args.steps.now c.loop-reference.steps)
+    (take_all c.loop-reference.reference-index c.refs-reference-items.result.now past ∙ c.refs-reference-items.ensures)
+    (c.loop-reference.invariant.counts h are)
