@@ -5,6 +5,8 @@ pub mod OneRemoval
 pub mod OneFile
 pub mod OneOutcome
 pub mod Current
+pub mod Loads
+pub mod ReadOnce
 pub mod Ordered
 pub mod Lives
 pub mod SomeFile

@@ -7,6 +7,8 @@ pub mod Opening
 pub mod Editing
 pub mod Closing
 pub mod Watching
+pub mod Loading
+pub mod Asks
 pub mod Asking
 pub mod Effects
 pub mod Answered

@@ -17,11 +17,13 @@ ghost use Rattle.lw_rpc.specs.declared.reply.Reply.{Reply};
 ghost use Rattle.lw_text.specs.declared.change.Change.{Change};
 ghost use Rattle.lw_text.specs.declared.place.Pos.{Pos};
 ghost use Rattle.lw_conversation.specs.Answered.{Answered};
+ghost use Rattle.lw_conversation.specs.Asks.{AreReadOnce, addresses_read};
 ghost use Rattle.lw_conversation.specs.Asking.{TellsCompletion, TellsDefinition, TellsReferences, TellsRename};
 ghost use Rattle.lw_conversation.specs.Closing.{ClosesDocument};
 ghost use Rattle.lw_conversation.specs.Editing.{EditsDocument};
 ghost use Rattle.lw_conversation.specs.Ending.{Lives};
 ghost use Rattle.lw_conversation.specs.Laws.{AreSettledByFiles};
+ghost use Rattle.lw_conversation.specs.Loading.{LoadsFile};
 ghost use Rattle.lw_conversation.specs.Opening.{OpensDocument};
 ghost use Rattle.lw_conversation.specs.Outcomes.{Answers, AreFound, AreGiven, BringsTexts, ReadsTexts, TellsAllOffers, TellsOffers};
 ghost use Rattle.lw_conversation.specs.Reading.{Asked};
@@ -53,6 +55,18 @@ pub fn sessions_stay_current()
         (replies : List Reply) (ended : Ended) → Serves g (beginning files) bodies asked t replies ended → IsValid g t.documents }
     ensures current { (g : Grammar) → IsReadOneWay g → (files : List (List ℕ × List ℕ)) (bodies : List (List ℕ)) (asked : List (List Asked)) (t : Standing)
         (replies : List Reply) (ended : Ended) → Serves g (beginning files) bodies asked t replies ended → t.phase.initialized ≡ true → AreCurrent g t.documents }
+{}
+
+/// A text that is put without a message keeps what holds of documents at every moment.
+pub fn loads_keep_documents_valid()
+    ensures { (g : Grammar) → IsReadOneWay g → (m : Documents) (address text : List ℕ) (n : Documents) → LoadsFile m address text n → IsValid g m → IsValid g n }
+{}
+
+/// A message has each file that it names read once at most, in their order, and no other: the file of a document that is closed, and for each change of a
+/// watched file that one.
+pub fn files_are_read_once()
+    ensures { (g : Grammar) (s t : Standing) (m : Message) (asked : List Asked) (replies : List Reply) (ended : Ended) →
+        Answered g s m asked t replies ended → AreReadOnce (addresses_read m) asked }
 {}
 
 /// Where a message is answered with edits, their addresses are in byte order, each once, as the keys of a JSON object are.

@@ -10,6 +10,8 @@
 //!   (`Opening.antt`, `Editing.antt`, `Closing.antt`, `Watching.antt`), with what the store was asked and
 //!   answered at each of its reads. The build stands before the reply to a question, which `Asking.antt` says
 //!   over the documents that it leaves.
+//! - `Loading.antt`: the text of a file is put without a message.
+//! - `Asks.antt`: which files a message may have read.
 //! - `Reading.antt`: what is asked of the store about the file at an address, and what is found.
 //! - `Removing.antt`: a document goes out, and the list that was told of it is cleared (`Publishing.antt`: a list
 //!   as a reply).
@@ -26,7 +28,9 @@
 //! does is settled by its bodies and by what the store answers, or by its files where no read failed
 //! ([`one_outcome`]). Once `initialize` was answered with a result, nothing is left to do behind a message
 //! ([`sessions_stay_current`]). A session ends as its phases say, and in one way ([`one_end`]). Each message has an
-//! outcome, where what it asks about can be told ([`some_outcome`]).
+//! outcome, where what it asks about can be told ([`some_outcome`]). A message has each file that it names read
+//! once at most, and no other ([`files_are_read_once`]). A text that is put without a message keeps what holds of
+//! documents ([`loads_keep_documents_valid`]).
 #![tactic(auto)]
 
 mod ended;
@@ -39,5 +43,8 @@ pub use error_code::{
     INVALID_PARAMS, INVALID_REQUEST, METHOD_NOT_FOUND, PARSE_ERROR, REQUEST_FAILED,
     SERVER_NOT_INITIALIZED, error_codes,
 };
-pub use laws::{edits_are_in_order, one_end, one_outcome, sessions_stay_current, some_outcome};
+pub use laws::{
+    edits_are_in_order, files_are_read_once, loads_keep_documents_valid, one_end, one_outcome,
+    sessions_stay_current, some_outcome,
+};
 pub use phase::Phase;

@@ -9,8 +9,8 @@
 //! It promises that [`Session::handle`] does with each body exactly what is said there, a build to its end
 //! behind it, by what the store answers at its reads. Where it is refused memory the replies are lost, and the
 //! texts and the phase are such as they may be in the middle of the message. The grammar stays, and so do the
-//! files of the store. Before the first body [`Session::load_file`] puts texts at addresses, one behind the other:
-//! the session is then exactly one in which these were put.
+//! files of the store. [`Session::load_file`] puts the text of a file at an address, unless an editor has the
+//! document open. Before the first body the session is then exactly one in which the texts so far were put.
 //!
 //! What the store answers at its reads fits its files, where it tells them. Its count of faults rises once for each
 //! read that failed, and for nothing else. Where memory is refused, the texts are those behind some of the message's

@@ -1,11 +1,10 @@
 // A session: message bodies in, reply bodies out.
-ghost use Rattle.std.specs.Prelude.{ℕ, ◌≡◌, ◌≤◌, List, [], ◌∷◌, ◌++◌, length, IfOk, IfErr, OnOk, OnErr};
-ghost use Rattle.lw_base.specs.declared.limits.TheConstants.{LONGEST_TEXT};
+ghost use Rattle.std.specs.Prelude.{ℕ, ◌≡◌, List, [], ◌∷◌, ◌++◌, IfOk, IfErr, OnOk, OnErr};
 ghost use Rattle.lw_build.specs.View.{documents};
 ghost use Rattle.lw_reading.specs.Laws.{IsReadOneWay};
 ghost use Rattle.lw_rpc.specs.Messages.{message_of};
 ghost use Rattle.lw_conversation.specs.Answered.{IsCutShort};
-ghost use Rattle.lw_conversation.specs.Opening.{HasRoom};
+ghost use Rattle.lw_conversation.specs.Loading.{LoadsFile};
 ghost use Rattle.lw_conversation.specs.Sessions.{HandlesBody};
 ghost use Rattle.lw_conversation.specs.Standing.{beginning};
 ghost use Rattle.lw_session.specs.Loading.{IsLoadFault};
@@ -102,20 +101,24 @@ impl Session {
         &self.workspace
     }
 
-    /// Puts the text of a file at an address, before any message comes: no editor has it open, and it has no
-    /// version. Files may be loaded one behind the other; the last one at an address counts. They are built
-    /// once `initialize` is answered with a result. Errors: [`WorkFault::TooLong`], [`WorkFault::TooMany`] for
-    /// an address that is new, and want of memory; then nothing changes.
+    /// Puts the text of a file at an address, at any time: no editor has it open then, and it has no version. A
+    /// document that an editor has open stays its editor's, and nothing changes. Files may be loaded one behind
+    /// the other; the last one at an address counts. All documents are built anew behind the next message, once
+    /// `initialize` was answered with a result. Errors: [`WorkFault::TooLong`], [`WorkFault::TooMany`] for an
+    /// address that is new, and want of memory; then nothing changes.
     pub fn load_file(&mut self, uri: &Name, text: Name) -> Result<(), WorkFault>
-        requires { (files : List (List ℕ × List ℕ)) × (self.old.standing ≡ beginning files) }
+        ensures loads { OnOk result (LoadsFile self.old.standing.documents uri.now text self.new.standing.documents) }
         ensures loaded { OnOk result ((files : List (List ℕ × List ℕ)) → self.old.standing ≡ beginning files →
             self.new.standing ≡ beginning (files ++ (uri.now, text) ∷ [])) }
-        ensures fits { OnOk result ((length text ≤ LONGEST_TEXT) × HasRoom self.old.standing.documents uri.now) }
+        ensures phase { self.new.standing.phase ≡ self.old.standing.phase }
         ensures fault { IfErr result (IsLoadFault self.old.standing.documents uri.now text) }
         ensures refused { OnErr result (self.new ≡ self.old) }
         ensures grammar { self.new.grammar ≡ self.old.grammar }
     {
         self.workspace.agrees();
+        if self.workspace.is_open(uri) {
+            return Ok(());
+        }
         let outcome = self.workspace.put(uri, text, None, false);
         self.workspace.agrees();
         outcome
