@@ -94,7 +94,7 @@ module _ (s : Standing) (named : List (List ℕ × List ℕ)) (begins : s ≡ be
 
   -- so nothing but memory is refused
   pub refused_memory : (address text : List ℕ) (fault : WorkFault) → length text ≤ LONGEST_TEXT → IsLoadFault s.documents address text fault → fault ≡ NoMemory
-  refused_memory address text _ short (session.too_long long) = absurd (omega (arith, short, long))
+  refused_memory address text _ short (session.too_long shut long) = absurd (omega (arith, short, long))
   refused_memory address text _ short (session.too_many also full) = absurd (omega (arith, few_documents, full.1))
   refused_memory address text _ short session.no_memory = refl
 

@@ -7,9 +7,6 @@ pub returns-in-Ok-clause-loaded : goal.returns-in-Ok-clause-loaded
 returns-in-Ok-clause-loaded c =
     λ named begins. subst (λ address. c.load_file.new.self.standing ≡ beginning (named ++ (address, c.args.text) ∷ [])) c.in_ok-address.ensures (c.in-Ok.ensures.loaded named begins)
 
-pub load_file-requires : goal.load_file-requires
-load_file-requires c = (c.requires.begins.0, c.requires.begins.1)
-
 pub memory_stop-requires : goal.memory_stop-requires
 memory_stop-requires c =
     let begins = c.requires.begins in
