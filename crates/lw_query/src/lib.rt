@@ -12,6 +12,9 @@
 //! what is answered is the definition and are the references over these trees: no other place, each once, in the order of addresses and of
 //! bytes, and none of anything that is not meant.
 //!
+//! [`place_at`] tells a reference by its number, which is below 2^32: [`are_references_numbered`] tells whether a tree has no more references than
+//! that. A tree of a text that a workspace holds has fewer.
+//!
 //! A place is found by going over the names and the references of one tree, so [`definition`] takes no memory and time that grows with that
 //! tree alone. [`references`] asks the index of references (`lw_index::refs`), which looks at no document but those that lead into the document of
 //! the node; for n places it compares n log n addresses and copies none. Its only error is want of memory.
@@ -27,7 +30,7 @@ mod views;
 
 pub use asking::{definition, references};
 pub use lw_places::Place;
-pub use places::place_at;
+pub use places::{are_references_numbered, place_at};
 pub use spot::Spot;
 pub use view::View;
 pub use views::Views;

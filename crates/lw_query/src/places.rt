@@ -1,5 +1,5 @@
 // What stands at a place.
-ghost use Rattle.std.specs.Prelude.{◌≡◌, ◌<◌, ◌^◌, MatchOption, length, position};
+ghost use Rattle.std.specs.Prelude.{◌≡◌, ◌<◌, ◌^◌, ◌↔◌, IsTrue, MatchOption, length, position};
 ghost use Rattle.lw_places.specs.Places.{IsFirstPlace, IsPlaceAt, NoPlace};
 ghost use Rattle.lw_query.specs.Looking.{IsOnSide, IsFirstName, NoName, is_at, is_named_at as has_name_at};
 
@@ -71,8 +71,16 @@ fn first_place(tree: &Tree, side: Side, off: u32) -> Option<Place>
     }
 }
 
+/// Whether each reference of a tree has a number, as [`place_at`] asks: numbers are below 2^32. The time is constant.
+pub fn are_references_numbered(tree: &Tree) -> bool
+    ensures { IsTrue result ↔ (length tree.now.refs < 2 ^ 32) }
+{
+    tree.refs().len() <= u32::MAX as usize
+}
+
 /// What stands at a byte offset of a document with this tree: the name or the reference that the offset is inside of, else one that ends there.
-/// It takes no memory, and at most two look-ups for each node and two steps for each reference.
+/// It takes no memory, and at most two look-ups for each node and two steps for each reference. A place tells a reference by its number;
+/// [`are_references_numbered`] tells whether each has one.
 pub fn place_at(tree: &Tree, off: u32) -> Option<Place>
     requires { length tree.now.refs < 2 ^ 32 }
     ensures { IsPlaceAt tree.now off result }

@@ -12,9 +12,10 @@ pub returns-then-eq : goal.returns-then-eq
 returns-then-eq c =
     let gives = c.into_iter-number-iterator.ensures.into_iter_gives in
     let (_, there, _) = btree_map_turn deref_pair c.loop-number.yielded c.into_iter-number-iterator.result c.loop-number.number-iterator c.next.new.self c.next.result
-    (c.in-Some.number, c.in-Some.document) c.loop-number.yielded_by c.in-Some.is c.next.ensures.steps nat_cmp_total c.args.documents.now gives.0 gives.5 in
-    (λ no. absurd (false≢true no),
-     λ right. absurd (c.if-number-doc.true (right c.in-Some.number.now c.in-Some.document.now there ((bytes_eq-Decides c.in-Some.document.now.uri c.args.uri.now).0 (sym c.if-eq.ensures)))))
+    (c.in-Some.number, c.in-Some.document) c.loop-number.yielded_by c.in-Some.is c.next.ensures.steps nat_cmp_total c.args.documents.now gives.0 gives.5 in (
+      λ no. absurd (false≢true no),
+      λ right. absurd (c.if-number-doc.true (right c.in-Some.number.now c.in-Some.document.now there ((bytes_eq-Decides c.in-Some.document.now.uri c.args.uri.now).0 (sym c.if-eq.ensures)))),
+    )
 
 pub loop-number-preserved : goal.loop-number-preserved
 loop-number-preserved c =
@@ -28,6 +29,7 @@ loop-number-preserved c =
 
 pub returns : goal.returns
 returns c =
-    let gives = c.into_iter-number-iterator.ensures.into_iter_gives in
-    (λ yes. none_left c.args.documents.now c.args.doc.0 c.args.uri.now c.loop-number.number-iterator c.in-None.ensures.steps.0 gives.5 c.loop-number.invariant,
-     λ right. refl)
+    let gives = c.into_iter-number-iterator.ensures.into_iter_gives in (
+      λ yes. none_left c.args.documents.now c.args.doc.0 c.args.uri.now c.loop-number.number-iterator c.in-None.ensures.steps.0 gives.5 c.loop-number.invariant,
+      λ right. refl,
+    )
