@@ -9,6 +9,9 @@ module _ (below : ℕ → ℕ → Type 0) (tree : Parts) where
   from_same : (r : Reference) (before between now : ℕ) → between ≡ before → CountsLookUp below tree r between now → CountsLookUp below tree r before now
   from_same r before between now same one = subst (λ (n : ℕ). CountsLookUp below tree r n now) same one
 
+  pub none_counted : (n : ℕ) → CountsLookUps below tree [] n n
+  none_counted n = done refl
+
   pub count_last : (refs : List Reference) (r : Reference) (before between now : ℕ) → CountsLookUps below tree refs before between →
       CountsLookUp below tree r between now → CountsLookUps below tree (refs ++ r ∷ []) before now
   count_last [] r before between now (done same) one = next (from_same r before between now same one) (done refl)

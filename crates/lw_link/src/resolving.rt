@@ -83,6 +83,7 @@ pub fn resolve<L: Ledger>(
 
 /// Where each reference of the document `doc` leads, in their order. It counts one step for each that no symbol of the tree fits, and at most
 /// one for each where memory is refused. Want of memory is the only error.
+#[tactic(auto, using(crate::proofs::CountLemmas::none_counted))]
 pub fn answers<L: Ledger>(
     alloc: Global,
     tree: &Tree,
