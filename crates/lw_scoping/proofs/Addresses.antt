@@ -8,6 +8,7 @@ use Rattle.lw_tree.specs.declared.node.Reference.{Reference}
 use Rattle.lw_tree.specs.Parts.{Parts}
 use Rattle.lw_scoping.specs.Symbols.{exports}
 use Rattle.lw_scoping.specs.Firsts.{none}
+use Rattle.lw_scoping.specs.Rules.{all_seen}
 use Rattle.lw_scoping.specs.Outward.{outermost}
 use Rattle.lw_scoping.specs.Links.{ByTest, StandsNoLater, by_address, by_node, Fits, FitsThere, IsOwn, out, nowhere, AreLinksOver, whole}
 use Rattle.lw_scoping.specs.Worked.{somewhere, is_same_type, the_model, among_parts, uses, exporting, importing, self_using, three}
@@ -51,8 +52,8 @@ part name = uses 0 1 name
 no_part : (name : List ℕ) → IsOwn (ByTest is_same_type) importing (part name) None
 no_part name = record { path = 0 ∷ []; leads = outermost refl refl; first = none (λ n has fits. none_in_nothing has) }
 
-x_at_a : FitsThere (ByTest is_same_type) (three exporting exporting importing) (part (codes "x")) (codes "a", 1)
-x_at_a = (exporting, refl, (0, omega arith, refl), (1, record { span = somewhere; named = refl; node = among_parts 0 1; there = refl; typed = refl }, refl))
+x_at_a : FitsThere (ByTest is_same_type) (λ other. Unit {0}) (three exporting exporting importing) (part (codes "x")) (codes "a", 1)
+x_at_a = (tt, exporting, refl, (0, omega arith, refl), (1, record { span = somewhere; named = refl; node = among_parts 0 1; there = refl; typed = refl }, refl))
 
 least_x : (n : ℕ) (address : List ℕ) (tree : Parts) → IsOneOf exporting exporting importing address tree → Contains (exports tree) n → StandsNoLater (codes "a", 1) (address, n)
 least_x n address tree at_a has = by_node refl (omega (arith, only 1 n has))
@@ -67,14 +68,14 @@ no_z n address tree at_b has fits =
     wrong_name exporting (part (codes "z")) 1 (codes "x") somewhere refl refl (subst (Fits (ByTest is_same_type) exporting (part (codes "z"))) (only 1 n has) fits)
 no_z n address tree at_c has fits = none_in_nothing has
 
-pub smallest_address : AreLinksOver (ByTest is_same_type) (three exporting exporting importing) (codes "c") (Some (codes "a", 1) ∷ None ∷ [])
+pub smallest_address : AreLinksOver (all_seen (ByTest is_same_type)) (three exporting exporting importing) (codes "c") (Some (codes "a", 1) ∷ None ∷ [])
 smallest_address =
     whole refl (
       out (no_part (codes "x")) x_at_a
-          (λ place fits. least_x place.1 place.0 fits.0 (one_of exporting exporting importing place.0 fits.0 fits.1) fits.2),
+          (λ place fits. least_x place.1 place.0 fits.1 (one_of exporting exporting importing place.0 fits.1 fits.2) fits.3),
       (
         nowhere (no_part (codes "z"))
-            (λ place fits. no_z place.1 place.0 fits.0 (one_of exporting exporting importing place.0 fits.0 fits.1) fits.2 fits.3),
+            (λ place fits. no_z place.1 place.0 fits.1 (one_of exporting exporting importing place.0 fits.1 fits.2) fits.3 fits.4),
         tt,
       ),
     )
@@ -87,8 +88,8 @@ model_m = uses 0 0 (codes "m")
 no_symbol : IsOwn (ByTest is_same_type) self_using model_m None
 no_symbol = record { path = 0 ∷ []; leads = outermost refl refl; first = none (λ n has fits. none_in_nothing has) }
 
-m_at_b : FitsThere (ByTest is_same_type) (three exporting self_using self_using) model_m (codes "b", 0)
-m_at_b = (self_using, refl, (0, omega arith, refl), (0, record { span = somewhere; named = refl; node = the_model; there = refl; typed = refl }, refl))
+m_at_b : FitsThere (ByTest is_same_type) (λ other. Unit {0}) (three exporting self_using self_using) model_m (codes "b", 0)
+m_at_b = (tt, self_using, refl, (0, omega arith, refl), (0, record { span = somewhere; named = refl; node = the_model; there = refl; typed = refl }, refl))
 
 least_m : (n : ℕ) (address : List ℕ) (tree : Parts) → IsOneOf exporting self_using self_using address tree → Contains (exports tree) n →
     Fits (ByTest is_same_type) tree model_m n → StandsNoLater (codes "b", 0) (address, n)
@@ -97,9 +98,9 @@ least_m n address tree at_a has fits =
 least_m n address tree at_b has fits = by_node refl (omega (arith, only 0 n has))
 least_m n address tree at_c has fits = by_address refl
 
-pub other_root : AreLinksOver (ByTest is_same_type) (three exporting self_using self_using) (codes "c") (Some (codes "b", 0) ∷ [])
+pub other_root : AreLinksOver (all_seen (ByTest is_same_type)) (three exporting self_using self_using) (codes "c") (Some (codes "b", 0) ∷ [])
 other_root =
     whole refl (
-      out no_symbol m_at_b (λ place fits. least_m place.1 place.0 fits.0 (one_of exporting self_using self_using place.0 fits.0 fits.1) fits.2 fits.3),
+      out no_symbol m_at_b (λ place fits. least_m place.1 place.0 fits.1 (one_of exporting self_using self_using place.0 fits.1 fits.2) fits.3 fits.4),
       tt,
     )

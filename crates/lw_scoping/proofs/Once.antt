@@ -11,6 +11,7 @@ use Rattle.lw_tree.specs.declared.node.Reference.{Reference}
 use Rattle.lw_tree.specs.Parts.{Parts}
 use Rattle.lw_scoping.specs.Symbols.{locals}
 use Rattle.lw_scoping.specs.Firsts.{IsFirstIn, found, none}
+use Rattle.lw_scoping.specs.Rules.{Rules}
 use Rattle.lw_scoping.specs.Links.{Trees, Link, StandsNoLater, by_address, by_node, Fits, IsOwn, LinksTo, own, out, nowhere, AreLinksOver, treeless, whole}
 use Rattle.lw_scoping.proofs.Paths.{leads_once}
 use Rattle.lw_scoping.proofs.Places.{among}
@@ -61,38 +62,38 @@ module _ (below : ℕ → ℕ → Type 0) where
         differ : {n : ℕ} → Some n ≡ None → ⊥
         differ e = cc
 
-  module _ (trees : Trees) (address : List ℕ) where
-    pub one_target : (tree : Parts) (r : Reference) (one other : Link) → LinksTo below trees address tree r one → LinksTo below trees address tree r other → one ≡ other
-    one_target tree r one other (own {n = n} is) (own {n = m} was) = ap (λ k. Some (address, k)) (same_Some n m (one_own tree r (Some n) (Some m) is was))
-    one_target tree r one other (own is) (out was _ _) = absurd (not_some tree r is was)
-    one_target tree r one other (own is) (nowhere was _) = absurd (not_some tree r is was)
-    one_target tree r one other (out was _ _) (own is) = absurd (not_some tree r is was)
-    one_target tree r one other (out {place = p} _ fits least) (out {place = q} _ fits' least') = ap Some (one_place p q (least q fits') (least' p fits))
-    one_target tree r one other (out {place = p} _ fits _) (nowhere _ misses) = absurd (misses p fits)
-    one_target tree r one other (nowhere was _) (own is) = absurd (not_some tree r is was)
-    one_target tree r one other (nowhere _ misses) (out {place = p} _ fits _) = absurd (misses p fits)
-    one_target tree r one other (nowhere _ _) (nowhere _ _) = refl
+module _ (rules : Rules) (trees : Trees) (address : List ℕ) where
+  pub one_target : (tree : Parts) (r : Reference) (one other : Link) → LinksTo rules trees address tree r one → LinksTo rules trees address tree r other → one ≡ other
+  one_target tree r one other (own {n = n} is) (own {n = m} was) = ap (λ k. Some (address, k)) (same_Some n m (one_own rules.below tree r (Some n) (Some m) is was))
+  one_target tree r one other (own is) (out was _ _) = absurd (not_some rules.below tree r is was)
+  one_target tree r one other (own is) (nowhere was _) = absurd (not_some rules.below tree r is was)
+  one_target tree r one other (out was _ _) (own is) = absurd (not_some rules.below tree r is was)
+  one_target tree r one other (out {place = p} _ fits least) (out {place = q} _ fits' least') = ap Some (one_place p q (least q fits') (least' p fits))
+  one_target tree r one other (out {place = p} _ fits _) (nowhere _ misses) = absurd (misses p fits)
+  one_target tree r one other (nowhere was _) (own is) = absurd (not_some rules.below tree r is was)
+  one_target tree r one other (nowhere _ misses) (out {place = p} _ fits _) = absurd (misses p fits)
+  one_target tree r one other (nowhere _ _) (nowhere _ _) = refl
 
-    one_row : (tree : Parts) (refs : List Reference) (links others : List Link) → AllZip (LinksTo below trees address tree) refs links →
-        AllZip (LinksTo below trees address tree) refs others → links ≡ others
-    one_row tree [] [] [] is was = refl
-    one_row tree [] [] (m ∷ ms) is was = absurd was
-    one_row tree [] (l ∷ ls) others is was = absurd is
-    one_row tree (r ∷ rs) [] others is was = absurd is
-    one_row tree (r ∷ rs) (l ∷ ls) [] is was = absurd was
-    one_row tree (r ∷ rs) (l ∷ ls) (m ∷ ms) is was =
-        ap₂ (λ (x : Link) xs. x ∷ xs) (one_target tree r l m is.0 was.0) (one_row tree rs ls ms is.1 was.1)
+  one_row : (tree : Parts) (refs : List Reference) (links others : List Link) → AllZip (LinksTo rules trees address tree) refs links →
+      AllZip (LinksTo rules trees address tree) refs others → links ≡ others
+  one_row tree [] [] [] is was = refl
+  one_row tree [] [] (m ∷ ms) is was = absurd was
+  one_row tree [] (l ∷ ls) others is was = absurd is
+  one_row tree (r ∷ rs) [] others is was = absurd is
+  one_row tree (r ∷ rs) (l ∷ ls) [] is was = absurd was
+  one_row tree (r ∷ rs) (l ∷ ls) (m ∷ ms) is was =
+      ap₂ (λ (x : Link) xs. x ∷ xs) (one_target tree r l m is.0 was.0) (one_row tree rs ls ms is.1 was.1)
 
-    not_there : {tree : Parts} → trees address ≡ None → trees address ≡ Some tree → ⊥
-    not_there absent is = differ (sym absent ∙ is)
-      where
-        differ : {tree : Parts} → None ≡ Some tree → ⊥
-        differ e = cc
+  not_there : {tree : Parts} → trees address ≡ None → trees address ≡ Some tree → ⊥
+  not_there absent is = differ (sym absent ∙ is)
+    where
+      differ : {tree : Parts} → None ≡ Some tree → ⊥
+      differ e = cc
 
-    pub one_list : (links others : List Link) → AreLinksOver below trees address links → AreLinksOver below trees address others → links ≡ others
-    one_list links others (treeless absent) (treeless _) = refl
-    one_list links others (treeless absent) (whole is _) = absurd (not_there absent is)
-    one_list links others (whole is _) (treeless absent) = absurd (not_there absent is)
-    one_list links others (whole {tree = t} is all) (whole {tree = u} was every) =
-        let same : t ≡ u = same_Some t u (sym is ∙ was) in
-        one_row u u.refs links others (subst (λ (x : Parts). AllZip (LinksTo below trees address x) x.refs links) same all) every
+  pub one_list : (links others : List Link) → AreLinksOver rules trees address links → AreLinksOver rules trees address others → links ≡ others
+  one_list links others (treeless absent) (treeless _) = refl
+  one_list links others (treeless absent) (whole is _) = absurd (not_there absent is)
+  one_list links others (whole is _) (treeless absent) = absurd (not_there absent is)
+  one_list links others (whole {tree = t} is all) (whole {tree = u} was every) =
+      let same : t ≡ u = same_Some t u (sym is ∙ was) in
+      one_row u u.refs links others (subst (λ (x : Parts). AllZip (LinksTo rules trees address x) x.refs links) same all) every

@@ -6,6 +6,7 @@ use Rattle.lw_tree.specs.declared.node.Reference.{Reference}
 use Rattle.lw_tree.specs.Parts.{Parts, name_of}
 use Rattle.lw_scoping.specs.Symbols.{IsNamedNode}
 use Rattle.lw_scoping.specs.Firsts.{found}
+use Rattle.lw_scoping.specs.Rules.{all_seen}
 use Rattle.lw_scoping.specs.Outward.{outermost, inner}
 use Rattle.lw_scoping.specs.Links.{Trees, ByTest, IsOwn, own, AreLinksOver, whole}
 use Rattle.lw_scoping.specs.Worked.{somewhere, is_same_type, among_parts, uses, shadowing, other_type, doubled}
@@ -66,11 +67,11 @@ event_x = record {
 }
 
 module _ (trees : Trees) (address : List ℕ) where
-  pub shadows : trees address ≡ Some shadowing → AreLinksOver (ByTest is_same_type) trees address (Some (address, 2) ∷ [])
+  pub shadows : trees address ≡ Some shadowing → AreLinksOver (all_seen (ByTest is_same_type)) trees address (Some (address, 2) ∷ [])
   shadows is = whole is (own shadowed, tt)
 
-  pub passes_over : trees address ≡ Some other_type → AreLinksOver (ByTest is_same_type) trees address (Some (address, 1) ∷ [])
+  pub passes_over : trees address ≡ Some other_type → AreLinksOver (all_seen (ByTest is_same_type)) trees address (Some (address, 1) ∷ [])
   passes_over is = whole is (own unwanted, tt)
 
-  pub first_of_two : trees address ≡ Some doubled → AreLinksOver (ByTest is_same_type) trees address (Some (address, 1) ∷ Some (address, 2) ∷ [])
+  pub first_of_two : trees address ≡ Some doubled → AreLinksOver (all_seen (ByTest is_same_type)) trees address (Some (address, 1) ∷ Some (address, 2) ∷ [])
   first_of_two is = whole is (own part_x, (own event_x, tt))

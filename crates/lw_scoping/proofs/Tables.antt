@@ -11,7 +11,8 @@ use Rattle.lw_tree.specs.Parts.{Parts, SameTables, children_of, last_text, name_
 use Rattle.lw_scoping.specs.Symbols.{is_named_node, child_numbers, locals, exports, IsNamedNode}
 use Rattle.lw_scoping.specs.Outward.{LeadsOut, outermost, inner}
 use Rattle.lw_scoping.specs.Firsts.{IsFirstIn, found, none}
-use Rattle.lw_scoping.specs.Alike.{AreAlike, both, neither, HaveSameTables}
+use Rattle.lw_scoping.specs.Alike.{AreAlike, both, neither, HaveSameTables, TablesTellSight}
+use Rattle.lw_scoping.specs.Rules.{Rules}
 use Rattle.lw_scoping.specs.Links.{Trees, Link, Fits, IsOwn, FitsThere, LinksTo, own, out, nowhere, AreLinksOver, treeless, whole}
 
 pub turned : {one other : Parts} → SameTables one other → SameTables other one
@@ -103,32 +104,44 @@ alike_turned : {a b : Option Parts} → AreAlike a b → AreAlike b a
 alike_turned (both same) = both (turned same)
 alike_turned neither = neither
 
-module _ (below : ℕ → ℕ → Type 0) where
-  same_there : {trees others : Trees} (r : Reference) (place : List ℕ × ℕ) → HaveSameTables trees others → FitsThere below trees r place → FitsThere below others r place
-  same_there r place all (tree, is, has, fits) =
+module _ (below : ℕ → ℕ → Type 0) (sees also : List ℕ → Type 0) (kept : (place : List ℕ) → sees place → also place) where
+  pub same_there : {trees others : Trees} (r : Reference) (place : List ℕ × ℕ) → HaveSameTables trees others → FitsThere below sees trees r place →
+      FitsThere below also others r place
+  same_there r place all (seen, tree, is, has, fits) =
       let (other, there, same) = alike_there (all place.0) is in
-      (other, there, subst (λ (xs : List ℕ). Contains xs place.1) (same_exports same) has, same_fits same below r fits)
+      (kept place.0 seen, other, there, subst (λ (xs : List ℕ). Contains xs place.1) (same_exports same) has, same_fits same below r fits)
 
+module _ (rules : Rules) (kept : TablesTellSight rules) where
   module _ {trees others : Trees} (all : HaveSameTables trees others) (address : List ℕ) where
+    seen_there : {tree other : Parts} → SameTables tree other → (r : Reference) (place : List ℕ × ℕ) →
+        FitsThere rules.below (rules.sees address tree) trees r place → FitsThere rules.below (rules.sees address other) others r place
+    seen_there {tree} {other} same r place =
+        same_there rules.below (rules.sees address tree) (rules.sees address other) (kept tree other same address) r place all
+
     back : HaveSameTables others trees
     back a = alike_turned (all a)
 
-    same_link : {tree other : Parts} → SameTables tree other → (r : Reference) (link : Link) → LinksTo below trees address tree r link →
-        LinksTo below others address other r link
-    same_link same r link (own is) = own (same_own same below r is)
-    same_link same r link (out {place = to} is fits least) =
-        out (same_own same below r is) (same_there r to all fits) (λ place was. least place (same_there r place back was))
-    same_link same r link (nowhere is misses) = nowhere (same_own same below r is) (λ place was. misses place (same_there r place back was))
+    seen_back : {tree other : Parts} → SameTables tree other → (r : Reference) (place : List ℕ × ℕ) →
+        FitsThere rules.below (rules.sees address other) others r place → FitsThere rules.below (rules.sees address tree) trees r place
+    seen_back {tree} {other} same r place =
+        same_there rules.below (rules.sees address other) (rules.sees address tree) (kept other tree (turned same) address) r place back
 
-    same_row : {tree other : Parts} → SameTables tree other → (refs : List Reference) (links : List Link) → AllZip (LinksTo below trees address tree) refs links →
-        AllZip (LinksTo below others address other) refs links
+    same_link : {tree other : Parts} → SameTables tree other → (r : Reference) (link : Link) → LinksTo rules trees address tree r link →
+        LinksTo rules others address other r link
+    same_link same r link (own is) = own (same_own same rules.below r is)
+    same_link same r link (out {place = to} is fits least) =
+        out (same_own same rules.below r is) (seen_there same r to fits) (λ place was. least place (seen_back same r place was))
+    same_link same r link (nowhere is misses) = nowhere (same_own same rules.below r is) (λ place was. misses place (seen_back same r place was))
+
+    same_row : {tree other : Parts} → SameTables tree other → (refs : List Reference) (links : List Link) → AllZip (LinksTo rules trees address tree) refs links →
+        AllZip (LinksTo rules others address other) refs links
     same_row same [] [] row = tt
     same_row same [] (l ∷ ls) row = absurd row
     same_row same (r ∷ rs) [] row = absurd row
     same_row same (r ∷ rs) (l ∷ ls) row = (same_link same r l row.0, same_row same rs ls row.1)
 
-    pub same_links : (links : List Link) → AreLinksOver below trees address links → AreLinksOver below others address links
+    pub same_links : (links : List Link) → AreLinksOver rules trees address links → AreLinksOver rules others address links
     same_links links (treeless absent) = treeless (alike_not_there (all address) absent)
     same_links links (whole {tree = tree} is row) =
         let (other, there, same) = alike_there (all address) is in
-        whole there (subst (λ (refs : List Reference). AllZip (LinksTo below others address other) refs links) same.refs (same_row same tree.refs links row))
+        whole there (subst (λ (refs : List Reference). AllZip (LinksTo rules others address other) refs links) same.refs (same_row same tree.refs links row))

@@ -1,5 +1,5 @@
 -- Which symbols and exports are doubled: a symbol beside an earlier one of the same node with its name and its very type, and an export whose name
--- and very type another document exports too.
+-- and very type another document exports too, which is seen.
 -- Held against Langium, "Document lifecycle": a validator asks for names that are not unique; that types are compared for being the same is this profile's.
 use Rattle.std.specs.Prelude.{ℕ, ◌≡◌, ◌≢◌, ◌<◌, List, Some, Contains}
 use Rattle.std.specs.Cmp.Lexicographic.{slice_cmp}
@@ -18,9 +18,10 @@ pub record HasDouble (tree : Parts) (n : ℕ) (name : List ℕ) (type : ℕ) : T
   pub before : earlier < n
   pub same : IsNamedNode tree earlier name type
 
-module _ (trees : Trees) (name : List ℕ) (type : ℕ) where
-  -- the document at this address exports a node of this name and this type
+module _ (sees : List ℕ → Type 0) (trees : Trees) (name : List ℕ) (type : ℕ) where
+  -- the document at this address is seen, and exports a node of this name and this type
   pub record DoesExport (address : List ℕ) : Type 0 where
+    pub seen : sees address
     pub tree : Parts
     pub is_tree : trees address ≡ Some tree
     pub node : ℕ

@@ -1,5 +1,5 @@
 -- Which symbol a reference leads to: the first of its name, and of a type that is wanted, among the symbols of the node that it stands in, then
--- of each container outwards, and then among what all documents export, its own among them, in the order of addresses and nodes.
+-- of each container outwards, and then among what the documents export that are seen, in the order of addresses and nodes.
 -- Held against Langium's default scope provider, "Scoping"; the order of exported symbols is this profile's.
 use Rattle.std.specs.Prelude.{ℕ, ◌≡◌, ◌≤◌, Bool, true, List, [], Option, Some, None, Contains}
 use Rattle.std.specs.List.{AllZip, flat_map}
@@ -9,6 +9,7 @@ use Rattle.std.specs.declared.cmp.Ordering.TheVariants.{Less}
 use Rattle.lw_tree.specs.declared.node.Reference.{Reference}
 use Rattle.lw_tree.specs.Parts.{Parts}
 use Rattle.lw_scoping.specs.Firsts.{IsFirstIn}
+use Rattle.lw_scoping.specs.Rules.{Rules}
 use Rattle.lw_scoping.specs.Symbols.{locals, exports, IsNamedOf}
 use Rattle.lw_scoping.specs.Outward.{LeadsOut}
 
@@ -41,19 +42,24 @@ module _ (below : ℕ → ℕ → Type 0) (tree : Parts) (r : Reference) where
     pub leads : LeadsOut tree r.owner.0 path
     pub first : IsFirstIn Fits (flat_map (locals tree) path) found
 
--- the document at an address exports this node, which has the name, and a type that is wanted
-abbrev pub FitsThere : (ℕ → ℕ → Type 0) → Trees → Reference → List ℕ × ℕ → Type 0
-FitsThere below trees r place = (other : Parts) × (trees place.0 ≡ Some other) × Contains (exports other) place.1 × Fits below other r place.1
+-- a document that is seen, at an address, exports this node, which has the name, and a type that is wanted
+abbrev pub FitsThere : (ℕ → ℕ → Type 0) → (List ℕ → Type 0) → Trees → Reference → List ℕ × ℕ → Type 0
+FitsThere below sees trees r place =
+    sees place.0 × (other : Parts) × (trees place.0 ≡ Some other) × Contains (exports other) place.1 × Fits below other r place.1
 
-module _ (below : ℕ → ℕ → Type 0) (trees : Trees) (address : List ℕ) (tree : Parts) (r : Reference) where
+module _ (rules : Rules) (trees : Trees) (address : List ℕ) (tree : Parts) (r : Reference) where
+  -- an export of a document that this one sees
+  abbrev pub FitsSeen : List ℕ × ℕ → Type 0
+  FitsSeen = FitsThere rules.below (rules.sees address tree) trees r
+
   -- A symbol of its own tree goes before any export.
   pub data LinksTo : Link → Type 0 where
-    own : {n : ℕ} → IsOwn below tree r (Some n) → LinksTo (Some (address, n))
-    out : {place : List ℕ × ℕ} → IsOwn below tree r None → FitsThere below trees r place → ((other : List ℕ × ℕ) → FitsThere below trees r other → StandsNoLater place other) → LinksTo (Some place)
-    nowhere : IsOwn below tree r None → ((other : List ℕ × ℕ) → ¬ FitsThere below trees r other) → LinksTo None
+    own : {n : ℕ} → IsOwn rules.below tree r (Some n) → LinksTo (Some (address, n))
+    out : {place : List ℕ × ℕ} → IsOwn rules.below tree r None → FitsSeen place → ((other : List ℕ × ℕ) → FitsSeen other → StandsNoLater place other) → LinksTo (Some place)
+    nowhere : IsOwn rules.below tree r None → ((other : List ℕ × ℕ) → ¬ FitsSeen other) → LinksTo None
 
 -- the links of the document at an address, one for each reference of its tree, in their order; none where it has no tree
-pub data AreLinksOver (below : ℕ → ℕ → Type 0) (trees : Trees) (address : List ℕ) : List Link → Type 0 where
-  treeless : trees address ≡ None → AreLinksOver below trees address []
-  whole : {tree : Parts} {links : List Link} → trees address ≡ Some tree → AllZip (LinksTo below trees address tree) tree.refs links →
-      AreLinksOver below trees address links
+pub data AreLinksOver (rules : Rules) (trees : Trees) (address : List ℕ) : List Link → Type 0 where
+  treeless : trees address ≡ None → AreLinksOver rules trees address []
+  whole : {tree : Parts} {links : List Link} → trees address ≡ Some tree → AllZip (LinksTo rules trees address tree) tree.refs links →
+      AreLinksOver rules trees address links

@@ -4,19 +4,20 @@ ghost use Rattle.lw_tree.specs.Parts.{Parts};
 ghost use Rattle.lw_tree.specs.declared.node.Reference.{Reference};
 ghost use Rattle.lw_scoping.specs.Alike.{HaveSameTables};
 ghost use Rattle.lw_scoping.specs.Links.{AreLinksOver, ByTest, IsOwn, Link, Trees};
+ghost use Rattle.lw_scoping.specs.Rules.{all_seen};
 ghost use Rattle.lw_scoping.specs.Outward.{ContainersComeFirst, LeadsOut};
 ghost use Rattle.lw_scoping.specs.Worked.{doubled, exporting, importing, is_same_type, other_type, self_using, shadowing, three};
 
 /// A document has at most one list of links.
 pub fn one_link()
-    ensures { (is_below : ℕ → ℕ → Bool) (trees : Trees) (address : List ℕ) (links others : List Link) → AreLinksOver (ByTest is_below) trees address links →
-        AreLinksOver (ByTest is_below) trees address others → links ≡ others }
+    ensures { (is_below : ℕ → ℕ → Bool) (trees : Trees) (address : List ℕ) (links others : List Link) → AreLinksOver (all_seen (ByTest is_below)) trees address links →
+        AreLinksOver (all_seen (ByTest is_below)) trees address others → links ≡ others }
 {}
 
 /// Links depend on the tables of trees alone, and not on how these are kept.
 pub fn links_follow_from_tables()
     ensures { (is_below : ℕ → ℕ → Bool) (trees others : Trees) → HaveSameTables trees others → (address : List ℕ) (links : List Link) →
-        AreLinksOver (ByTest is_below) trees address links → AreLinksOver (ByTest is_below) others address links }
+        AreLinksOver (all_seen (ByTest is_below)) trees address links → AreLinksOver (all_seen (ByTest is_below)) others address links }
 {}
 
 /// One way leads outwards from a node at most, and one does from each node of a tree whose containers come first.
@@ -29,18 +30,18 @@ pub fn one_way_leads_out()
 /// shadows nothing, neither further out nor side by side.
 pub fn inner_symbols_shadow_outer_ones()
     ensures shadows { (trees : Trees) (address : List ℕ) → trees address ≡ Some shadowing →
-        AreLinksOver (ByTest is_same_type) trees address (Some (address, 2) ∷ []) }
+        AreLinksOver (all_seen (ByTest is_same_type)) trees address (Some (address, 2) ∷ []) }
     ensures unwanted { (trees : Trees) (address : List ℕ) → trees address ≡ Some other_type →
-        AreLinksOver (ByTest is_same_type) trees address (Some (address, 1) ∷ []) }
+        AreLinksOver (all_seen (ByTest is_same_type)) trees address (Some (address, 1) ∷ []) }
     ensures first { (trees : Trees) (address : List ℕ) → trees address ≡ Some doubled →
-        AreLinksOver (ByTest is_same_type) trees address (Some (address, 1) ∷ Some (address, 2) ∷ []) }
+        AreLinksOver (all_seen (ByTest is_same_type)) trees address (Some (address, 1) ∷ Some (address, 2) ∷ []) }
 {}
 
 /// Of two exports that fit, the one of the smaller address is taken; where none fits, a reference leads nowhere. The root is an export of its
 /// document and no symbol of a node, so that of a document of a smaller address goes before it.
 pub fn smaller_addresses_come_first()
-    ensures exports { AreLinksOver (ByTest is_same_type) (three exporting exporting importing) (codes "c") (Some (codes "a", 1) ∷ None ∷ []) }
-    ensures roots { AreLinksOver (ByTest is_same_type) (three exporting self_using self_using) (codes "c") (Some (codes "b", 0) ∷ []) }
+    ensures exports { AreLinksOver (all_seen (ByTest is_same_type)) (three exporting exporting importing) (codes "c") (Some (codes "a", 1) ∷ None ∷ []) }
+    ensures roots { AreLinksOver (all_seen (ByTest is_same_type)) (three exporting self_using self_using) (codes "c") (Some (codes "b", 0) ∷ []) }
 {}
 
 /// Which symbol of its own tree a reference leads to depends on the types that it wants, and on no other pair of types.
