@@ -3,7 +3,6 @@
 use Rattle.std.specs.Prelude.{ℕ, ◌≡◌, List, [], ◌∷◌, Option, Some, None, if◌then◌else◌}
 use Rattle.std.specs.List.{AllZip}
 use Rattle.std.specs.Str.{bytes_eq}
-use Rattle.lw_grammar.specs.declared.grammar.Grammar.{Grammar}
 use Rattle.lw_text.specs.declared.shown.Shown.{Shown}
 use Rattle.lw_reading.specs.Reading.{Reads}
 use Rattle.lw_reading.specs.declared.parsed.Parsed.TheVariants.{Broken}
@@ -12,6 +11,7 @@ use Rattle.lw_tree.specs.declared.issue.Issue.{Issue}
 use Rattle.lw_tree.specs.Parts.{Parts}
 use Rattle.lw_link_rules.specs.Links.{Texts, AreTreesOfTexts}
 use Rattle.lw_link_rules.specs.TreeDiagnostics.{Diagnostic, AreDiagnosticsOf}
+use Rattle.lw_link_rules.specs.Setting.{Setting}
 use Rattle.lw_link_rules.specs.Faults.{IsFaultShown, IsShownAt}
 
 -- what one document has where it is alone: this at its address, and nothing at any other
@@ -22,12 +22,12 @@ alone_at address x other = if bytes_eq other address then Some x else None
 abbrev pub IsDiagnosticShown : List ℕ → Diagnostic → Shown → Type 0
 IsDiagnosticShown text e shown = IsShownAt text e.span.start e.span.end e.code e.message shown
 
-module _ (g : Grammar) (texts : Texts) (address : List ℕ) where
+module _ (setting : Setting) (texts : Texts) (address : List ℕ) where
   -- the list of the document at the address, which has this text: what is told of its tree where it is read whole, else its one fault
   pub data IsList (text : List ℕ) : List Shown → Type 0 where
-    whole : {tree : Parts} {diagnostics : List Diagnostic} {list : List Shown} (trees : Trees) → AreTreesOfTexts g texts trees → trees address ≡ Some tree →
-        AreDiagnosticsOf g trees address tree diagnostics → AllZip (IsDiagnosticShown text) diagnostics list → IsList text list
-    broken : {issue : Issue} {shown : Shown} → Reads g text (Broken issue) → IsFaultShown g text issue shown → IsList text (shown ∷ [])
+    whole : {tree : Parts} {diagnostics : List Diagnostic} {list : List Shown} (trees : Trees) → AreTreesOfTexts setting.grammar texts trees → trees address ≡ Some tree →
+        AreDiagnosticsOf setting trees address tree diagnostics → AllZip (IsDiagnosticShown text) diagnostics list → IsList text list
+    broken : {issue : Issue} {shown : Shown} → Reads setting.grammar text (Broken issue) → IsFaultShown setting.grammar text issue shown → IsList text (shown ∷ [])
 
   pub record AreDiagnostics (list : List Shown) : Type 0 where
     pub text : List ℕ
@@ -35,5 +35,5 @@ module _ (g : Grammar) (texts : Texts) (address : List ℕ) where
     pub is_list : IsList text list
 
 -- the list of a document at this address, which has this text, where it is alone
-abbrev pub IsListAlone : Grammar → List ℕ → List ℕ → List Shown → Type 0
-IsListAlone g address text list = AreDiagnostics g (alone_at address text) address list
+abbrev pub IsListAlone : Setting → List ℕ → List ℕ → List Shown → Type 0
+IsListAlone setting address text list = AreDiagnostics setting (alone_at address text) address list

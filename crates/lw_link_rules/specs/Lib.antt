@@ -1,3 +1,5 @@
+pub mod Setting
+pub mod Seeing
 pub mod Faults
 pub mod Links
 pub mod TreeDiagnostics

@@ -7,6 +7,9 @@ use Rattle.lw_reading.specs.Numbers.{IsNumberOfType}
 use Rattle.lw_reading.specs.Reading.{Reads}
 use Rattle.lw_reading.specs.declared.parsed.Parsed.TheVariants.{Whole, Broken}
 use Rattle.lw_scoping.specs.Links.{Trees, Link, AreLinksOver}
+use Rattle.lw_scoping.specs.Rules.{Rules}
+use Rattle.lw_link_rules.specs.Seeing.{Sees}
+use Rattle.lw_link_rules.specs.Setting.{Setting}
 use Rattle.lw_tree.specs.Parts.{Parts}
 use Rattle.lw_tree.specs.declared.issue.Issue.{Issue}
 
@@ -33,8 +36,12 @@ module _ (g : Grammar) where
     pub other_is : IsNumberOfType g other high
     pub below : IsSubtype g one other
 
-  -- the links of the document at an address, one for each of its references, in their order
-  pub record AreLinks (texts : Texts) (address : List ℕ) (links : List Link) : Type 0 where
-    pub trees : Trees
-    pub are_trees : AreTreesOfTexts texts trees
-    pub are_links : AreLinksOver IsNumberBelow trees address links
+-- the rules by which references lead
+abbrev pub rules_of : Setting → Rules
+rules_of setting = record { below = IsNumberBelow setting.grammar; sees = Sees setting }
+
+-- the links of the document at an address, one for each of its references, in their order
+pub record AreLinks (setting : Setting) (texts : Texts) (address : List ℕ) (links : List Link) : Type 0 where
+  pub trees : Trees
+  pub are_trees : AreTreesOfTexts setting.grammar texts trees
+  pub are_links : AreLinksOver (rules_of setting) trees address links

@@ -5,12 +5,13 @@ use Rattle.std.specs.Cmp.Lexicographic.{slice_cmp}
 use Rattle.std.specs.Ordering.{nat_cmp}
 use Rattle.std.specs.declared.cmp.Ordering.TheVariants.{Less}
 use Rattle.lw_base.specs.declared.token.Span.{Span}
-use Rattle.lw_grammar.specs.declared.grammar.Grammar.{Grammar}
 use Rattle.lw_reading.specs.Numbers.{IsNumberOfType}
 use Rattle.lw_scoping.specs.Doubles.{HasDouble, IsLeastOther}
 use Rattle.lw_scoping.specs.Links.{LinksTo, Trees}
 use Rattle.lw_scoping.specs.Symbols.{exports, IsNamedNode}
-use Rattle.lw_link_rules.specs.Links.{IsNumberBelow}
+use Rattle.lw_link_rules.specs.Links.{rules_of}
+use Rattle.lw_link_rules.specs.Seeing.{Sees}
+use Rattle.lw_link_rules.specs.Setting.{Setting}
 use Rattle.lw_tree.specs.Parts.{Parts, values_at}
 use Rattle.lw_tree.specs.declared.node.Reference.{Reference}
 use Rattle.lw_tree.specs.declared.node.Value.TheVariants.{Huge}
@@ -45,15 +46,15 @@ abbrev pub also_exported_at : Span → List ℕ → List ℕ → List ℕ → Di
 also_exported_at s type name other = record { span = s; code = 5; message = type ++ codes " '" ++ name ++ codes "' is also exported by " ++ other ++ codes "." }
 
 -- The document at this address has this tree, and these are the trees of all documents.
-module _ (g : Grammar) (trees : Trees) (address : List ℕ) (tree : Parts) where
+module _ (setting : Setting) (trees : Trees) (address : List ℕ) (tree : Parts) where
   -- what is told of it
   pub data IsDiagnosticOf : Diagnostic → Type 0 where
-    unresolved : (r : Reference) {type : List ℕ} → Contains tree.refs r → LinksTo (IsNumberBelow g) trees address tree r None → IsNumberOfType g type r.want.0 →
+    unresolved : (r : Reference) {type : List ℕ} → Contains tree.refs r → LinksTo (rules_of setting) trees address tree r None → IsNumberOfType setting.grammar type r.want.0 →
         IsDiagnosticOf (unresolved_at r.span type r.name)
-    duplicate : (n t : ℕ) {type name : List ℕ} (named : IsNamedNode tree n name t) → HasDouble tree n name t → IsNumberOfType g type t →
+    duplicate : (n t : ℕ) {type name : List ℕ} (named : IsNamedNode tree n name t) → HasDouble tree n name t → IsNumberOfType setting.grammar type t →
         IsDiagnosticOf (duplicate_at named.span type name)
-    also_exported : (n t : ℕ) {type name other : List ℕ} → Contains (exports tree) n → (named : IsNamedNode tree n name t) → IsLeastOther trees name t address other →
-        IsNumberOfType g type t → IsDiagnosticOf (also_exported_at named.span type name other)
+    also_exported : (n t : ℕ) {type name other : List ℕ} → Contains (exports tree) n → (named : IsNamedNode tree n name t) → IsLeastOther (Sees setting address tree) trees name t address other →
+        IsNumberOfType setting.grammar type t → IsDiagnosticOf (also_exported_at named.span type name other)
     number : {s : Span} (node prop : ℕ) → Contains (values_at node prop tree.values) (Huge s) → IsDiagnosticOf (out_of_range s)
 
   -- exactly these diagnostics, in their order
