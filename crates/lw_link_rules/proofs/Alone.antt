@@ -6,6 +6,7 @@ use Rattle.lw_base.specs.declared.numbers.NodeId.{NodeId}
 use Rattle.lw_base.specs.declared.numbers.PropId.{PropId}
 use Rattle.lw_base.specs.declared.token.Span.{Span}
 use Rattle.lw_grammar.specs.declared.grammar.Grammar.{Grammar}
+use Rattle.lw_link_rules.specs.Setting.{Setting}
 use Rattle.lw_reading.specs.Numbers.{IsNumberOfType}
 use Rattle.lw_scoping.specs.Links.{Trees}
 use Rattle.lw_link_rules.specs.TreeDiagnostics.{Diagnostic, IsDiagnosticOf, AreDiagnosticsOf}
@@ -21,10 +22,10 @@ in_one (zero, inside, is) = is
 in_one (suc k, inside, is) = absurd (omega (arith, inside))
 
 -- where one thing is told and nothing else, the list has it alone
-pub one_alone : (g : Grammar) (trees : Trees) (address : List ℕ) (tree : Parts) (e : Diagnostic) → IsDiagnosticOf g trees address tree e →
-    ((d : Diagnostic) → IsDiagnosticOf g trees address tree d → e ≡ d) → AreDiagnosticsOf g trees address tree (e ∷ [])
-one_alone g trees address tree e told only = record {
-  exact = λ d. (λ has. subst (IsDiagnosticOf g trees address tree) (in_one has) told, λ is. (0, omega arith, only d is));
+pub one_alone : (setting : Setting) (trees : Trees) (address : List ℕ) (tree : Parts) (e : Diagnostic) → IsDiagnosticOf setting trees address tree e →
+    ((d : Diagnostic) → IsDiagnosticOf setting trees address tree d → e ≡ d) → AreDiagnosticsOf setting trees address tree (e ∷ [])
+one_alone setting trees address tree e told only = record {
+  exact = λ d. (λ has. subst (IsDiagnosticOf setting trees address tree) (in_one has) told, λ is. (0, omega arith, only d is));
   ordered = λ i j d below inside. absurd (omega (arith, below, inside));
 }
 

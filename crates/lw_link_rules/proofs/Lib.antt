@@ -1,3 +1,4 @@
+pub mod Seeing
 pub mod SameTables
 pub mod SameTexts
 pub mod OneList

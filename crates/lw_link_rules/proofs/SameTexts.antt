@@ -1,6 +1,7 @@
 -- Links and diagnostics depend on nothing but which text is shown at each address, and trees of the same texts have the same tables.
 use Rattle.std.proofs.Common.{◌≡◌, ℕ, List, Option, subst}
 use Rattle.lw_grammar.specs.declared.grammar.Grammar.{Grammar}
+use Rattle.lw_link_rules.specs.Setting.{Setting}
 use Rattle.lw_reading.specs.declared.parsed.Parsed.TheVariants.{Whole, Broken}
 use Rattle.lw_reading.specs.Laws as law
 use Rattle.lw_reading.specs.Laws.{IsReadOneWay, IsSameReading}
@@ -17,12 +18,12 @@ use Rattle.lw_tree.specs.Parts.{Parts, SameTables}
 same_texts : (texts others : Texts) → ((a : List ℕ) → texts a ≡ others a) → texts ≡ others
 same_texts texts others same = λ i a. same a i
 
-module _ (g : Grammar) (texts others : Texts) (same : (a : List ℕ) → texts a ≡ others a) (address : List ℕ) where
-  pub links_of_same_texts : (links : List Link) → AreLinks g texts address links → AreLinks g others address links
-  links_of_same_texts links are = subst (λ (seen : Texts). AreLinks g seen address links) (same_texts texts others same) are
+module _ (setting : Setting) (texts others : Texts) (same : (a : List ℕ) → texts a ≡ others a) (address : List ℕ) where
+  pub links_of_same_texts : (links : List Link) → AreLinks setting texts address links → AreLinks setting others address links
+  links_of_same_texts links are = subst (λ (seen : Texts). AreLinks setting seen address links) (same_texts texts others same) are
 
-  pub diagnostics_of_same_texts : (list : List Shown) → AreDiagnostics g texts address list → AreDiagnostics g others address list
-  diagnostics_of_same_texts list are = subst (λ (seen : Texts). AreDiagnostics g seen address list) (same_texts texts others same) are
+  pub diagnostics_of_same_texts : (list : List Shown) → AreDiagnostics setting texts address list → AreDiagnostics setting others address list
+  diagnostics_of_same_texts list are = subst (λ (seen : Texts). AreDiagnostics setting seen address list) (same_texts texts others same) are
 
 pub same_trees : {tree other : Parts} → IsSameReading (Whole tree) (Whole other) → SameTables tree other
 same_trees (law.whole same) = same

@@ -10,12 +10,13 @@ use Rattle.std.proofs.lemmas.Map.Lookups.{exact_bytes}
 use Rattle.std.proofs.lemmas.Option.{same_Some}
 use Rattle.lw_base.specs.declared.numbers.PropId.{PropId}
 use Rattle.lw_base.specs.declared.token.Span.{Span}
-use Rattle.lw_grammar.specs.declared.grammar.Grammar.{Grammar}
+use Rattle.lw_link_rules.specs.Setting.{Setting}
 use Rattle.lw_reading.specs.Numbers.{IsNumberOfType}
 use Rattle.lw_scoping.specs.Doubles.{IsLeastOther}
 use Rattle.lw_scoping.specs.Links.{Trees}
 use Rattle.lw_scoping.specs.Symbols.{IsNamedNode}
 use Rattle.lw_scoping.proofs.Places.{among}
+use Rattle.lw_link_rules.specs.Seeing.{Sees}
 use Rattle.lw_link_rules.specs.TreeDiagnostics.{Diagnostic, DiagnosticPrecedes, by_start, by_code, by_end, by_message, IsDiagnosticOf, unresolved, duplicate, also_exported, number, unresolved_at, duplicate_at, also_exported_at, out_of_range, AreDiagnosticsOf}
 use Rattle.lw_tree.specs.declared.node.Node.{Node}
 use Rattle.lw_tree.specs.declared.node.Reference.{Reference}
@@ -80,15 +81,15 @@ one_least a b up down = by (slice_cmp nat_cmp a b) refl
     by Equal is = exact_bytes a b is
     by Greater is = absurd (up is)
 
-one_other : (trees : Trees) (name : List ℕ) (type : ℕ) (address one other : List ℕ) → IsLeastOther trees name type address one →
-    IsLeastOther trees name type address other → one ≡ other
-one_other trees name type address one other is was =
+one_other : (sees : List ℕ → Type 0) (trees : Trees) (name : List ℕ) (type : ℕ) (address one other : List ℕ) → IsLeastOther sees trees name type address one →
+    IsLeastOther sees trees name type address other → one ≡ other
+one_other sees trees name type address one other is was =
     one_least one other (is.least other was.another was.exports_it) (was.least one is.another is.exports_it)
 
 -- ---- diagnostics
 
-module _ (g : Grammar) where
-  one_type : (type other : List ℕ) (t u : ℕ) → t ≡ u → IsNumberOfType g type t → IsNumberOfType g other u → type ≡ other
+module _ (setting : Setting) where
+  one_type : (type other : List ℕ) (t u : ℕ) → t ≡ u → IsNumberOfType setting.grammar type t → IsNumberOfType setting.grammar other u → type ≡ other
   one_type type other t u same is was = same_Some type other (sym is ∙ ap (slice_get _) same ∙ was)
 
   module _ (trees : Trees) (address : List ℕ) (tree : Parts) (apart : StandApart tree) where
@@ -114,7 +115,7 @@ module _ (g : Grammar) where
         }
 
     abbrev Tells : Diagnostic → Type 0
-    Tells e = IsDiagnosticOf g trees address tree e
+    Tells e = IsDiagnosticOf setting trees address tree e
 
     pub one_told : (one other : Diagnostic) → Tells one → Tells other → one.span.start ≡ other.span.start → one.code ≡ other.code →
         one ≡ other
@@ -138,10 +139,10 @@ module _ (g : Grammar) where
         (also_exported m u {type = kind} {name = called} {other = elsewhere} also was lowest known) start code =
         let same = one_node n m name called t u is was start in
         let types : type ≡ kind = one_type type kind t u same.types typed known in
-        let moved : IsLeastOther trees called u address there =
-        subst (λ (x : ℕ). IsLeastOther trees called x address there) same.types
-        (subst (λ (x : List ℕ). IsLeastOther trees x t address there) same.names least) in
-        let others : there ≡ elsewhere = one_other trees called u address there elsewhere moved lowest in
+        let moved : IsLeastOther (Sees setting address tree) trees called u address there =
+        subst (λ (x : ℕ). IsLeastOther (Sees setting address tree) trees called x address there) same.types
+        (subst (λ (x : List ℕ). IsLeastOther (Sees setting address tree) trees x t address there) same.names least) in
+        let others : there ≡ elsewhere = one_other (Sees setting address tree) trees called u address there elsewhere moved lowest in
         λ i. also_exported_at (same.spans i) (types i) (same.names i) (others i)
     one_told one other (also_exported n t has named least typed) (number node prop also) start code = absurd (omega (arith, code))
     one_told one other (number node prop has) (unresolved q also leads_too known) start code = absurd (omega (arith, code))
@@ -171,7 +172,7 @@ module _ (g : Grammar) where
     before one other is was (by_message spans code less) =
         absurd (itself one other (one_told one other is was (ap (λ (x : Span). x.start) spans) code) less)
 
-    pub list_is_strict : (list : List Diagnostic) → AreDiagnosticsOf g trees address tree list → AllPairs ComesBefore list
+    pub list_is_strict : (list : List Diagnostic) → AreDiagnosticsOf setting trees address tree list → AllPairs ComesBefore list
     list_is_strict list are i j d below inside =
         let one = slice_index_or list i d in
         let other = slice_index_or list j d in

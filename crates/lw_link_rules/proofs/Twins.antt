@@ -4,7 +4,7 @@ use Rattle.std.specs.Prelude.{if◌then◌else◌}
 use Rattle.std.proofs.lemmas.Option.{same_Some}
 use Rattle.lw_base.specs.declared.numbers.NodeId.{NodeId}
 use Rattle.lw_base.specs.declared.token.Span.{Span}
-use Rattle.lw_grammar.specs.declared.grammar.Grammar.{Grammar}
+use Rattle.lw_link_rules.specs.Setting.{Setting}
 use Rattle.lw_reading.specs.Numbers.{IsNumberOfType}
 use Rattle.lw_scoping.specs.Doubles.{HasDouble, IsLeastOther}
 use Rattle.lw_scoping.specs.Links.{Trees}
@@ -89,22 +89,22 @@ has_earlier = record {
   same = record { span = letter_at 5; named = refl; node = among_parts 0 1; there = refl; typed = refl };
 }
 
-module _ (g : Grammar) (part : IsNumberOfType g (codes "Part") 1) (trees : Trees) (address : List ℕ) (alone : (a : List ℕ) → a ≢ address → trees a ≡ None) where
-  nobody_else : {name other : List ℕ} {type : ℕ} {A : Type 0} → IsLeastOther trees name type address other → A
+module _ (setting : Setting) (part : IsNumberOfType setting.grammar (codes "Part") 1) (trees : Trees) (address : List ℕ) (alone : (a : List ℕ) → a ≢ address → trees a ≡ None) where
+  nobody_else : {sees : List ℕ → Type 0} {name other : List ℕ} {type : ℕ} {A : Type 0} → IsLeastOther sees trees name type address other → A
   nobody_else {other = other} least = absurd (differ (sym (alone other least.another) ∙ least.exports_it.is_tree))
     where
       differ : {tree : Parts} → None ≡ Some tree → ⊥
       differ e = cc
 
-  the_duplicate : {n t : ℕ} {type name : List ℕ} (named : IsNamedNode twins n name t) → n ≡ 3 → IsNumberOfType g type t →
+  the_duplicate : {n t : ℕ} {type name : List ℕ} (named : IsNamedNode twins n name t) → n ≡ 3 → IsNumberOfType setting.grammar type t →
       duplicate_at (letter_at 22) (codes "Part") (codes "x") ≡ duplicate_at named.span type name
   the_duplicate {n} {t} {type} {name} named is typed =
       let at : IsCalled n 22 1 = subst (λ k. IsCalled k 22 1) (sym is) second_part in
       let called = same_name at named in
-      let kind = one_type g 1 t (codes "Part") type (same_type at named) part typed in
+      let kind = one_type setting.grammar 1 t (codes "Part") type (same_type at named) part typed in
       λ i. duplicate_at ((called i).1) (kind i) ((called i).0)
 
-  only_duplicate : (d : Diagnostic) → IsDiagnosticOf g trees address twins d → duplicate_at (letter_at 22) (codes "Part") (codes "x") ≡ d
+  only_duplicate : (d : Diagnostic) → IsDiagnosticOf setting trees address twins d → duplicate_at (letter_at 22) (codes "Part") (codes "x") ≡ d
   only_duplicate d (unresolved r has leads typed) = absurd (in_nothing has)
   only_duplicate d (duplicate n t named double typed) =
       the_duplicate named
@@ -112,5 +112,5 @@ module _ (g : Grammar) (part : IsNumberOfType g (codes "Part") 1) (trees : Trees
   only_duplicate d (also_exported n t has named least typed) = nobody_else least
   only_duplicate d (number {s = s} node prop has) = absurd (none_huge node prop s twins.values (text, (text, (text, tt))) has)
 
-  pub second_is_told : AreDiagnosticsOf g trees address twins (duplicate_at (letter_at 22) (codes "Part") (codes "x") ∷ [])
-  second_is_told = one_alone g trees address twins _ (duplicate 3 1 named_second has_earlier part) only_duplicate
+  pub second_is_told : AreDiagnosticsOf setting trees address twins (duplicate_at (letter_at 22) (codes "Part") (codes "x") ∷ [])
+  second_is_told = one_alone setting trees address twins _ (duplicate 3 1 named_second has_earlier part) only_duplicate

@@ -2,6 +2,7 @@
 ghost use Rattle.std.specs.Prelude.{ℕ, ◌≡◌, List, AllPairs};
 ghost use Rattle.lw_grammar.specs.declared.fault.GrammarFault.{GrammarFault};
 ghost use Rattle.lw_grammar.specs.declared.grammar.Grammar.{Grammar};
+ghost use Rattle.lw_link_rules.specs.Setting.{Setting};
 ghost use Rattle.lw_faults.specs.Faults.{IsCheckFault, IsTypeFault};
 ghost use Rattle.lw_reading.specs.Reading.{Reads};
 ghost use Rattle.lw_reading.specs.declared.parsed.Parsed.TheVariants.{Whole};
@@ -23,15 +24,15 @@ pub fn values_stand_apart()
 /// No two diagnostics of a document that a grammar without faults reads whole have one start and one code, whatever the other documents
 /// are. So its list rises by start and code alone.
 pub fn starts_and_codes_tell_apart()
-    ensures one { (g : Grammar) (text : List ℕ) (tree : Parts) → ((f : GrammarFault) → ¬ IsTypeFault g f) →
-        ((f : GrammarFault) → ¬ IsCheckFault g f) → Reads g text (Whole tree) →
+    ensures one { (setting : Setting) (text : List ℕ) (tree : Parts) → ((f : GrammarFault) → ¬ IsTypeFault setting.grammar f) →
+        ((f : GrammarFault) → ¬ IsCheckFault setting.grammar f) → Reads setting.grammar text (Whole tree) →
         (trees : Trees) (address : List ℕ) (diagnostic other : Diagnostic) →
-        IsDiagnosticOf g trees address tree diagnostic → IsDiagnosticOf g trees address tree other →
+        IsDiagnosticOf setting trees address tree diagnostic → IsDiagnosticOf setting trees address tree other →
         diagnostic.span.start ≡ other.span.start → diagnostic.code ≡ other.code → diagnostic ≡ other }
-    ensures list { (g : Grammar) (text : List ℕ) (tree : Parts) → ((f : GrammarFault) → ¬ IsTypeFault g f) →
-        ((f : GrammarFault) → ¬ IsCheckFault g f) → Reads g text (Whole tree) →
+    ensures list { (setting : Setting) (text : List ℕ) (tree : Parts) → ((f : GrammarFault) → ¬ IsTypeFault setting.grammar f) →
+        ((f : GrammarFault) → ¬ IsCheckFault setting.grammar f) → Reads setting.grammar text (Whole tree) →
         (trees : Trees) (address : List ℕ) (diagnostics : List Diagnostic) →
-        AreDiagnosticsOf g trees address tree diagnostics → AllPairs ComesBefore diagnostics }
+        AreDiagnosticsOf setting trees address tree diagnostics → AllPairs ComesBefore diagnostics }
 {}
 
 /// Of `part x; event x; part x` each name stands at a place of its own. In a tree in which all three stand at one place they do not
